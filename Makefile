@@ -1,0 +1,21 @@
+# The commands of this repository. Only the toolchain, make, gcc and python3 are needed.
+.PHONY: demo test examples bench program
+
+# Proves and builds the program, and runs it on its first example.
+demo:
+	@cd crates/sizing && { rt run -- replay < ../../examples/two-clients.txt; echo "status $$?"; }
+
+# The whole gate: every proof from nothing, the wrong bodies that must be refused, every test and every stored run.
+test:
+	rt ci
+
+# Runs the built program on each example, and compares what it answers.
+examples: program
+	python3 examples/check.py
+
+# Times a replay beside a plain program that only splits and counts the same lines.
+bench: program
+	python3 bench/replay.py
+
+program:
+	@cd crates/sizing && { rt run -- replay < stdin > /dev/null; true; }
