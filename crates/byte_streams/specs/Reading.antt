@@ -1,0 +1,15 @@
+-- What reading an input up to a limit does to the bytes of a source.
+use Rattle.std.specs.Prelude.{ℕ, ◌≤◌, List, length, Option, Result, Ok, Err}
+use Rattle.std.specs.Io.KnownBytes.{Consumes}
+use Rattle.byte_streams.specs.declared.reading.ReadError.{ReadError}
+use Rattle.byte_streams.specs.declared.reading.ReadError.TheVariants.{Memory, Fault}
+
+-- known bytes lose a front of at most `limit` bytes
+abbrev pub ConsumesAtMost : Option (List ℕ) → Option (List ℕ) → ℕ → Type 0
+ConsumesAtMost old new limit = (front : List ℕ) × Consumes old new front × (length front ≤ limit)
+
+-- how many calls of the source failed while an input was read
+abbrev pub fault_count : {T : Type 0} → Result T ReadError → ℕ
+fault_count (Ok _) = 0
+fault_count (Err Memory) = 0
+fault_count (Err Fault) = 1

@@ -1,0 +1,11 @@
+-- What a sink over a std writer shows of itself.
+use Rattle.std.specs.Prelude.{ℕ}
+use Rattle.byte_streams.specs.declared.std_sink.StdSink.{StdSink}
+
+-- the writer that it writes to
+abbrev pub writer_of : {W : Type 0} → StdSink W → W
+writer_of sink = sink.writer
+
+-- how many calls have failed
+abbrev pub failure_count : {W : Type 0} → StdSink W → ℕ
+failure_count sink = sink.failures.exact.value

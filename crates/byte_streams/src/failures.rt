@@ -1,0 +1,62 @@
+//! How many calls of a stream have failed.
+ghost use Rattle.std.specs.Prelude.{◌≡◌, ℕ, ◌+◌, ◌-◌, ◌^◌, min};
+ghost use Rattle.std.specs.Borrow.{ftrue};
+
+use std::marker::Model;
+
+/// A number that contracts alone see. It takes no bytes, so it never overflows. Nothing in memory
+/// holds it: `Failures` ties it to what the program counts.
+#[derive(Drop)]
+pub(crate) struct GhostCount {
+    pub ghost value: { ℕ },
+}
+
+impl Model for GhostCount {
+    ghost also_owns = { λ _. ftrue };
+}
+
+impl GhostCount {
+    pub(crate) fn zero() -> GhostCount
+        ensures { result.value ≡ 0 }
+    {
+        GhostCount {}
+    }
+
+    pub(crate) fn next(&self) -> GhostCount
+        ensures { result.value ≡ self.now.value + 1 }
+    {
+        GhostCount {}
+    }
+}
+
+/// How many calls have failed: exactly in contracts, and up to `u64::MAX` when the program runs.
+#[derive(Drop)]
+pub(crate) struct Failures {
+    pub(crate) exact: GhostCount,
+    seen: u64,
+    ghost agree: { seen ≡ min exact.value (2 ^ 64 - 1) },
+}
+
+impl Failures {
+    pub(crate) fn none() -> Failures
+        ensures { result.exact.value ≡ 0 }
+    {
+        Failures {
+            exact: GhostCount::zero(),
+            seen: 0,
+        }
+    }
+
+    pub(crate) fn raise(&mut self)
+        ensures { self.new.exact.value ≡ self.old.exact.value + 1 }
+    {
+        self.exact = self.exact.next();
+        self.seen = self.seen.saturating_add(1);
+    }
+
+    pub(crate) fn seen(&self) -> u64
+        ensures { result ≡ min self.now.exact.value (2 ^ 64 - 1) }
+    {
+        self.seen
+    }
+}

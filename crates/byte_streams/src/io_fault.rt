@@ -1,0 +1,15 @@
+//! The failure of one call of a source or a sink.
+use std::error::Error;
+use std::fmt;
+
+/// A source could not be read, or a sink could not be written. It says no more than that.
+#[derive(Clone, Copy, Debug, PartialEq, Eq)]
+pub struct IoFault;
+
+impl fmt::Display for IoFault {
+    fn fmt<W: fmt::Write>(&self, f: &mut fmt::Formatter<W>) -> fmt::Result {
+        write!(f, "input or output failed")
+    }
+}
+
+impl Error for IoFault {}

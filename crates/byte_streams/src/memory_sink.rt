@@ -1,0 +1,104 @@
+//! A sink that keeps what it is given in memory, for tests.
+ghost use Rattle.std.specs.Prelude.{◌≡◌, ◌+◌, ◌-◌, ◌<◌, ◌^◌, ◌++◌, min, [], Some, None, IfOk, OnErr, is_ok, if◌then◌else◌, length, take, IsErr};
+ghost use Rattle.std.specs.Io.{WritesAtMost};
+ghost use Rattle.std.specs.Io.KnownBytes.{WriteAppends};
+ghost use Rattle.byte_streams.specs.ScriptedFault.{calls_after};
+
+use crate::failures::Failures;
+use crate::scripted_fault::ScriptedFault;
+use crate::{IoFault, Sink};
+use std::alloc::Global;
+
+/// Keeps the bytes that it is given, in the order in which they come.
+#[derive(Drop)]
+pub struct MemorySink {
+    bytes: Vec<u8>,
+    most: usize,
+    fault: ScriptedFault,
+    failures: Failures,
+}
+
+impl MemorySink {
+    ghost use Rattle.byte_streams.specs.MemorySink.{written_to, most_of, calls_before_fault, failure_count};
+
+    /// Takes all bytes of a call, and fails only where memory is refused.
+    pub fn new(alloc: Global) -> MemorySink
+        ensures written { written_to result ≡ [] }
+        ensures most { most_of result ≡ 2 ^ 64 - 1 }
+        ensures fault { calls_before_fault result ≡ None }
+        ensures failures { failure_count result ≡ 0 }
+    {
+        MemorySink {
+            bytes: Vec::new(alloc),
+            most: usize::MAX,
+            fault: ScriptedFault::never(),
+            failures: Failures::none(),
+        }
+    }
+
+    /// The same sink, which takes at most `most` bytes in a call. With 0 each call that has a byte
+    /// to write fails.
+    pub fn at_most(mut self, most: usize) -> MemorySink
+        ensures written { written_to result ≡ written_to self }
+        ensures most { most_of result ≡ most }
+        ensures fault { calls_before_fault result ≡ calls_before_fault self }
+        ensures failures { failure_count result ≡ failure_count self }
+    {
+        self.most = most;
+        self
+    }
+
+    /// The same sink, one call of which fails: the one after `calls` calls that don't.
+    pub fn failing_after(mut self, calls: u64) -> MemorySink
+        ensures written { written_to result ≡ written_to self }
+        ensures most { most_of result ≡ most_of self }
+        ensures fault { calls_before_fault result ≡ Some calls }
+        ensures failures { failure_count result ≡ failure_count self }
+    {
+        self.fault = ScriptedFault::after(calls);
+        self
+    }
+
+    /// What was written so far.
+    pub fn written(&self) -> &[u8]
+        ensures { result.now ≡ written_to self.now }
+    {
+        self.bytes.as_slice()
+    }
+
+    /// How many calls have failed.
+    pub fn failures(&self) -> u64
+        ensures { result ≡ min (failure_count self.now) (2 ^ 64 - 1) }
+    {
+        self.failures.seen()
+    }
+}
+
+impl Sink for MemorySink {
+    ghost use Rattle.byte_streams.specs.MemorySink.{written_to, most_of, calls_before_fault, failure_count};
+
+    ghost written = { λ sink. Some (written_to sink) };
+
+    ghost failures = { failure_count };
+
+    fn write(&mut self, bytes: &[u8]) -> Result<usize, IoFault>
+        ensures bound { WritesAtMost result bytes.now }
+        ensures some { 0 < length bytes.now → IfOk result (λ count. 0 < count) }
+        ensures bytes { WriteAppends (Some (written_to self.old)) (Some (written_to self.new)) result bytes.now }
+        ensures failed { failure_count self.new
+            ≡ failure_count self.old + (if is_ok result then 0 else 1) }
+        ensures count { IfOk result (λ count. count ≡ min (length bytes.now) (most_of self.old)) }
+        ensures fault { calls_before_fault self.old ≡ Some 0 → IsErr result }
+        ensures calls { calls_before_fault self.new ≡ calls_after (calls_before_fault self.old) }
+        ensures most { most_of self.new ≡ most_of self.old }
+    {
+        let is_due = self.fault.is_due();
+        let count = bytes.len().min(self.most);
+        let takes_none = count == 0 && !bytes.is_empty();
+        if is_due || takes_none || self.bytes.extend_from_slice(&bytes[..count]).is_err() {
+            self.failures.raise();
+            return Err(IoFault);
+        }
+        Ok(count)
+    }
+}

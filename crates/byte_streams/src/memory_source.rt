@@ -1,0 +1,108 @@
+//! A source over bytes in memory, for tests.
+ghost use Rattle.std.specs.Prelude.{◌≡◌, ◌+◌, ◌-◌, ◌<◌, ◌^◌, ◌↔◌, min, Some, None, Ok, IsErr, IfOk, OnErr, is_ok, if◌then◌else◌, length, take, drop, ◌++◌};
+ghost use Rattle.std.specs.Io.{ReadsAtMost};
+ghost use Rattle.std.specs.Io.KnownBytes.{ReadConsumes};
+ghost use Rattle.byte_streams.specs.ScriptedFault.{calls_after};
+
+use crate::failures::Failures;
+use crate::scripted_fault::ScriptedFault;
+use crate::{IoFault, Source};
+
+/// Gives the bytes that it was made of, once, from their front.
+#[derive(Drop)]
+pub struct MemorySource<'a> {
+    rest: &'a [u8],
+    most: usize,
+    fault: ScriptedFault,
+    failures: Failures,
+    ghost some: { 0 < most },
+}
+
+impl<'a> MemorySource<'a> {
+    ghost use Rattle.byte_streams.specs.MemorySource.{left, most_of, calls_before_fault, failure_count};
+
+    /// Gives `bytes`, as many in a call as find room, and never fails.
+    pub fn new(bytes: &'a [u8]) -> MemorySource<'a>
+        ensures left { left result ≡ bytes.now }
+        ensures most { most_of result ≡ 2 ^ 64 - 1 }
+        ensures fault { calls_before_fault result ≡ None }
+        ensures failures { failure_count result ≡ 0 }
+    {
+        MemorySource {
+            rest: bytes,
+            most: usize::MAX,
+            fault: ScriptedFault::never(),
+            failures: Failures::none(),
+        }
+    }
+
+    /// The same source, which gives at most `most` bytes in a call.
+    pub fn at_most(mut self, most: usize) -> MemorySource<'a>
+        requires { 0 < most }
+        ensures left { left result ≡ left self.entry }
+        ensures most { most_of result ≡ most }
+        ensures fault { calls_before_fault result ≡ calls_before_fault self.entry }
+        ensures failures { failure_count result ≡ failure_count self.entry }
+    {
+        self.most = most;
+        self
+    }
+
+    /// The same source, one call of which fails: the one after `calls` calls that don't.
+    pub fn failing_after(mut self, calls: u64) -> MemorySource<'a>
+        ensures left { left result ≡ left self.entry }
+        ensures most { most_of result ≡ most_of self.entry }
+        ensures fault { calls_before_fault result ≡ Some calls }
+        ensures failures { failure_count result ≡ failure_count self.entry }
+    {
+        self.fault = ScriptedFault::after(calls);
+        self
+    }
+
+    /// The bytes that were not read yet.
+    pub fn remaining(&self) -> &'a [u8]
+        ensures { result.now ≡ left self.now }
+    {
+        self.rest
+    }
+
+    /// How many calls have failed.
+    pub fn failures(&self) -> u64
+        ensures { result ≡ min (failure_count self.now) (2 ^ 64 - 1) }
+    {
+        self.failures.seen()
+    }
+}
+
+impl Source for MemorySource<'_> {
+    ghost use Rattle.byte_streams.specs.MemorySource.{left, most_of, calls_before_fault, failure_count};
+
+    ghost remaining = { λ source. Some (left source) };
+
+    ghost failures = { failure_count };
+
+    fn read(&mut self, piece: &mut [u8]) -> Result<usize, IoFault>
+        ensures bound { ReadsAtMost result piece.new }
+        ensures bytes { ReadConsumes (Some (left self.old)) (Some (left self.new)) result piece.new }
+        ensures failed { failure_count self.new
+            ≡ failure_count self.old + (if is_ok result then 0 else 1) }
+        ensures count { IfOk result (λ count.
+            count ≡ min (length piece.old) (min (most_of self.old) (length (left self.old)))) }
+        ensures copied { IfOk result (λ count.
+            piece.new ≡ take count (left self.old) ++ drop count piece.old) }
+        ensures fault { IsErr result ↔ (calls_before_fault self.old ≡ Some 0) }
+        ensures calls { calls_before_fault self.new ≡ calls_after (calls_before_fault self.old) }
+        ensures untouched { OnErr result (piece.new ≡ piece.old) }
+        ensures most { most_of self.new ≡ most_of self.old }
+    {
+        if self.fault.is_due() {
+            self.failures.raise();
+            return Err(IoFault);
+        }
+        let count = piece.len().min(self.most).min(self.rest.len());
+        let (front, rest) = self.rest.split_at(count);
+        piece[..count].copy_from_slice(front);
+        self.rest = rest;
+        Ok(count)
+    }
+}

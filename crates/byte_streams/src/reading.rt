@@ -1,0 +1,131 @@
+//! Sources of bytes, and how a whole input is read up to a limit.
+ghost use Rattle.std.specs.Prelude.{◌≡◌, ℕ, ◌+◌, ◌≤◌, ◌<◌, List, Option, IfOk, IfSome, OnOk, OnErr, Some, is_ok, if◌then◌else◌, take, drop, vec_len};
+ghost use Rattle.std.specs.Io.{ReadsAtMost};
+ghost use Rattle.std.specs.Io.KnownBytes.{Consumes, IsAtEnd, Keeps, ReadConsumes};
+ghost use Rattle.byte_streams.specs.Reading.{ConsumesAtMost, fault_count};
+ghost use Rattle.byte_streams.specs.declared.reading.ReadError.TheVariants.{Fault, Memory};
+
+use crate::IoFault;
+use std::alloc::{AllocError, Global};
+use std::error::Error;
+use std::fmt;
+
+/// Where bytes come from.
+pub trait Source {
+    // The bytes that calls will give from here on, where they are known.
+    ghost remaining: { Self → Option (List ℕ) };
+
+    // How many calls have failed.
+    ghost failures: { Self → ℕ };
+
+    /// Puts the next bytes into the front of `piece`, and answers how many: 0 for a piece with room
+    /// only at the end of the input. After a fault no byte is lost.
+    fn read(&mut self, piece: &mut [u8]) -> Result<usize, IoFault>
+        ensures bound { ReadsAtMost result piece.new }
+        ensures bytes { ReadConsumes (remaining self.old) (remaining self.new) result piece.new }
+        ensures failed { failures self.new ≡ failures self.old + (if is_ok result then 0 else 1) };
+}
+
+/// Why an input was not read.
+#[derive(Clone, Copy, Debug, PartialEq, Eq)]
+pub enum ReadError {
+    /// There was no memory for its bytes.
+    Memory,
+    /// A call of the source failed.
+    Fault,
+}
+
+impl fmt::Display for ReadError {
+    fn fmt<W: fmt::Write>(&self, f: &mut fmt::Formatter<W>) -> fmt::Result {
+        match self {
+            ReadError::Memory => write!(f, "out of memory"),
+            ReadError::Fault => write!(f, "the input could not be read"),
+        }
+    }
+}
+
+impl Error for ReadError {}
+
+impl From<AllocError> for ReadError {
+    ghost from_gives = { λ _ error. error ≡ Memory };
+
+    fn from(_error: AllocError) -> ReadError {
+        ReadError::Memory
+    }
+}
+
+impl From<IoFault> for ReadError {
+    ghost from_gives = { λ _ error. error ≡ Fault };
+
+    fn from(_fault: IoFault) -> ReadError {
+        ReadError::Fault
+    }
+}
+
+/// The room that is made for the first bytes of an input.
+const FIRST_ROOM: usize = 4096;
+
+/// Reads until the end of the input, or until `limit` bytes are there.
+///
+/// Each turn but the last reads at least one byte. Fails with `Memory` where the bytes find no room,
+/// and with `Fault` where a call of the source fails; at most `limit` bytes are gone from it then.
+pub fn read_up_to<S: Source>(
+    alloc: Global,
+    source: &mut S,
+    limit: usize,
+) -> Result<Vec<u8>, ReadError>
+    ensures within { IfOk result (λ bytes. vec_len bytes ≤ limit) }
+    ensures front { IfOk result (λ bytes. IfSome (S.remaining source.old)
+        (λ input. bytes.items ≡ take limit input)) }
+    ensures rest { OnOk result (IfSome (S.remaining source.old)
+        (λ input. S.remaining source.new ≡ Some (drop limit input))) }
+    ensures at_most { ConsumesAtMost (S.remaining source.old) (S.remaining source.new) limit }
+    ensures failed { S.failures source.new ≡ S.failures source.old + fault_count result }
+{
+    let mut bytes = Vec::new(alloc);
+    let mut filled = 0;
+    while filled < limit {
+        make_room(&mut bytes, filled, limit)?;
+        let count = read_at(source, &mut bytes, filled)?;
+        if count == 0 {
+            break;
+        }
+        filled += count;
+    }
+    bytes.truncate(filled);
+    Ok(bytes)
+}
+
+// Makes `bytes` longer than `filled`, by zeros, and no longer than `limit`. It doubles, so that all
+// growths together write at most a few times the input's length.
+fn make_room(bytes: &mut Vec<u8>, filled: usize, limit: usize) -> Result<(), AllocError>
+    requires filled { filled ≤ vec_len bytes.old }
+    requires below { filled < limit }
+    requires within { vec_len bytes.old ≤ limit }
+    ensures room { IfOk result (λ _. filled < vec_len bytes.new) }
+    ensures grows { vec_len bytes.old ≤ vec_len bytes.new }
+    ensures within { vec_len bytes.new ≤ limit }
+    ensures kept { take filled bytes.new.items ≡ take filled bytes.old.items }
+{
+    if filled == bytes.len() {
+        let end = filled.saturating_mul(2).max(FIRST_ROOM).min(limit);
+        bytes.resize(end, 0)?;
+    }
+    Ok(())
+}
+
+// One read into `bytes` after `filled`.
+fn read_at<S: Source>(source: &mut S, bytes: &mut Vec<u8>, filled: usize) -> Result<usize, IoFault>
+    requires { filled < vec_len bytes.old }
+    ensures kept { take filled bytes.new.items ≡ take filled bytes.old.items }
+    ensures same_len { vec_len bytes.new ≡ vec_len bytes.old }
+    ensures fits { IfOk result (λ count. filled + count ≤ vec_len bytes.new) }
+    ensures ok { IfOk result (λ count. Consumes (S.remaining source.old) (S.remaining source.new)
+        (take count (drop filled bytes.new.items))) }
+    ensures end { IfOk result (λ count. count ≡ 0 → IsAtEnd (S.remaining source.new)) }
+    ensures err { OnErr result (Keeps (S.remaining source.old) (S.remaining source.new)) }
+    ensures failed { S.failures source.new
+        ≡ S.failures source.old + (if is_ok result then 0 else 1) }
+{
+    source.read(&mut bytes[filled..])
+}

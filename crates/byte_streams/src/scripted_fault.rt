@@ -1,0 +1,43 @@
+//! One call that is to fail, for tests.
+ghost use Rattle.std.specs.Prelude.{◌≡◌, ◌-◌, None, Some, IsTrue, ◌↔◌};
+ghost use Rattle.byte_streams.specs.ScriptedFault.{calls_after};
+
+/// How many calls succeed before one fails; `None` where none is still to fail.
+#[derive(Clone, Copy)]
+pub(crate) struct ScriptedFault {
+    pub(crate) calls_before: Option<u64>,
+}
+
+impl ScriptedFault {
+    pub(crate) const fn never() -> ScriptedFault
+        ensures { result.calls_before ≡ None }
+    {
+        ScriptedFault { calls_before: None }
+    }
+
+    pub(crate) const fn after(calls: u64) -> ScriptedFault
+        ensures { result.calls_before ≡ Some calls }
+    {
+        ScriptedFault {
+            calls_before: Some(calls),
+        }
+    }
+
+    /// Whether this call is the one that fails. Only one does: from then on none is to fail.
+    pub(crate) fn is_due(&mut self) -> bool
+        ensures due { IsTrue result ↔ (self.old.calls_before ≡ Some 0) }
+        ensures left { self.new.calls_before ≡ calls_after self.old.calls_before }
+    {
+        match self.calls_before {
+            None => false,
+            Some(0) => {
+                self.calls_before = None;
+                true
+            }
+            Some(calls) => {
+                self.calls_before = Some(calls - 1);
+                false
+            }
+        }
+    }
+}

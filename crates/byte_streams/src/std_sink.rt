@@ -1,0 +1,76 @@
+//! A sink over any std writer.
+ghost use Rattle.std.specs.Prelude.{◌≡◌, ◌<◌, IfOk, length};
+ghost use Rattle.std.specs.Io.{WritesAtMost};
+ghost use Rattle.std.specs.Io.KnownBytes.{WriteAppends};
+
+use crate::failures::Failures;
+use crate::std_source::TRIES;
+use crate::{IoFault, Sink};
+use std::io::{ErrorKind, Write};
+
+/// Writes to `W`. What was written is known where `W` tells it.
+#[derive(Drop)]
+pub struct StdSink<W> {
+    writer: W,
+    failures: Failures,
+}
+
+impl<W: Write> StdSink<W> {
+    ghost use Rattle.byte_streams.specs.StdSink.{writer_of, failure_count};
+
+    /// A sink that passes each byte on to `writer`.
+    pub fn new(writer: W) -> StdSink<W>
+        ensures writer { writer_of result ≡ writer }
+        ensures failures { failure_count result ≡ 0 }
+    {
+        StdSink {
+            writer,
+            failures: Failures::none(),
+        }
+    }
+
+    /// The writer, as the calls left it. One that holds bytes back is still to be flushed.
+    pub fn into_inner(self) -> W
+        ensures { result ≡ writer_of self }
+    {
+        self.writer
+    }
+}
+
+impl<W: Write> Sink for StdSink<W> {
+    ghost use Rattle.byte_streams.specs.StdSink.{writer_of, failure_count};
+
+    ghost written = { λ sink. W.contents (writer_of sink) };
+
+    ghost failures = { failure_count };
+
+    /// An interrupted call is made again, up to a million times. Any other error is a fault, and so
+    /// is a writer that takes no byte where there is one.
+    fn write(&mut self, bytes: &[u8]) -> Result<usize, IoFault> {
+        let outcome = write_retrying(&mut self.writer, bytes);
+        if outcome.is_err() {
+            self.failures.raise();
+        }
+        outcome
+    }
+}
+
+// One write, made again where a signal interrupts it.
+fn write_retrying<W: Write>(writer: &mut W, bytes: &[u8]) -> Result<usize, IoFault>
+    ensures bound { WritesAtMost result bytes.now }
+    ensures some { 0 < length bytes.now → IfOk result (λ count. 0 < count) }
+    ensures bytes { WriteAppends (W.contents writer.old) (W.contents writer.new) result bytes.now }
+{
+    for _ in 0..TRIES {
+        match writer.write(bytes) {
+            Ok(0) if !bytes.is_empty() => return Err(IoFault),
+            Ok(count) => return Ok(count),
+            Err(error) => {
+                if error.kind() != ErrorKind::Interrupted {
+                    return Err(IoFault);
+                }
+            }
+        }
+    }
+    Err(IoFault)
+}

@@ -1,0 +1,75 @@
+//! A source over any std reader.
+ghost use Rattle.std.specs.Prelude.{◌≡◌};
+ghost use Rattle.std.specs.Io.{ReadsAtMost};
+ghost use Rattle.std.specs.Io.KnownBytes.{ReadConsumes};
+
+use crate::failures::Failures;
+use crate::{IoFault, Source};
+use std::io::{ErrorKind, Read};
+
+/// How often one call asks a reader or a writer that was interrupted.
+pub(crate) const TRIES: u32 = 1_000_000;
+
+/// Reads from `R`. What remains is known where `R` tells it.
+#[derive(Drop)]
+pub struct StdSource<R> {
+    reader: R,
+    failures: Failures,
+}
+
+impl<R: Read> StdSource<R> {
+    ghost use Rattle.byte_streams.specs.StdSource.{reader_of, failure_count};
+
+    /// A source of what `reader` has left.
+    pub fn new(reader: R) -> StdSource<R>
+        ensures reader { reader_of result ≡ reader }
+        ensures failures { failure_count result ≡ 0 }
+    {
+        StdSource {
+            reader,
+            failures: Failures::none(),
+        }
+    }
+
+    /// The reader, as the calls left it.
+    pub fn into_inner(self) -> R
+        ensures { result ≡ reader_of self }
+    {
+        self.reader
+    }
+}
+
+impl<R: Read> Source for StdSource<R> {
+    ghost use Rattle.byte_streams.specs.StdSource.{reader_of, failure_count};
+
+    ghost remaining = { λ source. R.remaining (reader_of source) };
+
+    ghost failures = { failure_count };
+
+    /// An interrupted call is made again, up to a million times. Any other error is a fault.
+    fn read(&mut self, piece: &mut [u8]) -> Result<usize, IoFault> {
+        let outcome = read_retrying(&mut self.reader, piece);
+        if outcome.is_err() {
+            self.failures.raise();
+        }
+        outcome
+    }
+}
+
+// One read, made again where a signal interrupts it.
+fn read_retrying<R: Read>(reader: &mut R, piece: &mut [u8]) -> Result<usize, IoFault>
+    ensures bound { ReadsAtMost result piece.new }
+    ensures bytes { ReadConsumes (R.remaining reader.old) (R.remaining reader.new) result piece.new }
+{
+    for _ in 0..TRIES {
+        match reader.read(piece) {
+            Ok(count) => return Ok(count),
+            Err(error) => {
+                if error.kind() != ErrorKind::Interrupted {
+                    return Err(IoFault);
+                }
+            }
+        }
+    }
+    Err(IoFault)
+}

@@ -1,0 +1,14 @@
+//! The words of the command line, and the command that they name.
+//!
+//! `clap` reads the words, its help and its usage faults included. What it makes of them is written
+//! out in `specs/`: `Application` says which application the program is, and `Command` says which
+//! command the words name.
+#![tactic(auto)]
+
+mod application;
+mod command;
+mod help;
+#[cfg(test)]
+mod tests;
+
+pub use command::{Command, read_words};

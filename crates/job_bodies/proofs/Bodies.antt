@@ -1,0 +1,155 @@
+-- What a well-formed plan says of its bodies, its pools and its clients.
+use Rattle.std.proofs.Common.{◌≡◌, ◌≤◌, ◌<◌, ◌+◌, ℕ, zero, suc, Bool, true, false, List, [], ◌∷◌, length, take, get_or, slice_get, Some, refl, sym, ap, subst, ◌∙◌, arith, inl, inr, zero-add}
+use Rattle.std.specs.List.{list_all, list_any, enumerate_from}
+use Rattle.std.proofs.lemmas.Bool.{and_parts, ltb-true, leb-true, eq-eqb, not-true, both_ways, cases_lt}
+use Rattle.std.proofs.lemmas.List.{length-take-le, get_or-take, get_or_past}
+use Rattle.std.proofs.lemmas.List.Folds.{list_any_at}
+use Rattle.std.proofs.lemmas.Option.{slice_get_within, slice_get-get_or, get_or_from_slice_get}
+use Rattle.job_bodies.specs.declared.action.Action.{Action}
+use Rattle.job_bodies.specs.declared.action.Action.TheVariants.{Work, Submit, Get}
+use Rattle.job_bodies.specs.declared.limits.TheConstants.{MOST_ACTIONS, MOST_UNITS}
+use Rattle.job_bodies.specs.Plan.{Pool, Plan, no_pool, no_class, no_client, pool_at, class_at, client_at, submits, gets}
+use Rattle.job_bodies.specs.WellFormed.{is_within, is_lawful_action, is_lawful_body, is_lawful_pool, is_lawful_class, is_lawful_client, IsWellFormed}
+
+-- work is of a lawful length, a submit names a class, a get stands behind a submit at the position that it names, and
+-- no two gets name one submit
+pub record IsLawful (plan : Plan) (body : List Action) : Type 0 where
+  pub short : length body ≤ MOST_ACTIONS
+  pub work : (i u : ℕ) → slice_get body i ≡ Some (Work u) → (1 ≤ u) × (u ≤ MOST_UNITS)
+  pub submit : (i k : ℕ) → slice_get body i ≡ Some (Submit k) → k < length plan.classes
+  pub behind : (g t : ℕ) → slice_get body g ≡ Some (Get t) → t < g
+  pub of_submit : (g t : ℕ) → slice_get body g ≡ Some (Get t) → submits (slice_get body t) ≡ true
+  pub once : (g h t : ℕ) → g < h → slice_get body g ≡ Some (Get t) → slice_get body h ≡ Some (Get t) → ⊥
+
+-- every body is lawful, every class has a pool, and every size and count is in its range
+pub record IsOrdered (plan : Plan) : Type 0 where
+  pub classes : (k : ℕ) → IsLawful plan (class_at plan k).body
+  pub clients : (c : ℕ) → IsLawful plan (client_at plan c).body
+  pub pools : (k : ℕ) → k < length plan.classes → (class_at plan k).pool < length plan.pools
+  pub core : (p : ℕ) → p < length plan.pools → 1 ≤ (pool_at plan p).core
+  pub max : (p : ℕ) → p < length plan.pools → (pool_at plan p).core ≤ (pool_at plan p).max
+  pub most_max : (p : ℕ) → p < length plan.pools → (pool_at plan p).max ≤ MOST_UNITS
+  pub queue : (p : ℕ) → p < length plan.pools → 1 ≤ (pool_at plan p).queue
+  pub most_queue : (p : ℕ) → p < length plan.pools → (pool_at plan p).queue ≤ MOST_UNITS
+  pub count : (c : ℕ) → c < length plan.clients → 1 ≤ (client_at plan c).count
+  pub most_count : (c : ℕ) → c < length plan.clients → (client_at plan c).count ≤ MOST_UNITS
+
+-- both bounds
+pub within_bounds : (low high n : ℕ) → is_within low high n ≡ true → (low ≤ n) × (n ≤ high)
+within_bounds low high n h =
+    let p = and_parts _ _ h in
+    (leb-true low n p.0, leb-true n high p.1)
+
+-- a test that all elements pass, at one of them
+pub list_all_get : {X : Type 0} (test : X → Bool) (xs : List X) (i : ℕ) (x : X) → list_all test xs ≡ true → slice_get xs i ≡ Some x → test x ≡ true
+list_all_get test [] i x h e = cc
+list_all_get test (y ∷ xs) zero x h e =
+    let same : y ≡ x = cc in
+    ap test (sym same) ∙ (and_parts _ _ h).0
+list_all_get test (y ∷ xs) (suc i) x h e = list_all_get test xs i x (and_parts (test y) _ h).1 e
+
+-- the same, where the test sees the element's place too
+pub list_all_enumerated : {X : Type 0} (test : ℕ × X → Bool) (n : ℕ) (xs : List X) (i : ℕ) (x : X) → list_all test (enumerate_from n xs) ≡ true → slice_get xs i ≡ Some x → test (n + i, x) ≡ true
+list_all_enumerated test n [] i x h e = cc
+list_all_enumerated test n (y ∷ xs) zero x h e =
+    let same : y ≡ x = cc in
+    let place : n + 0 ≡ n = omega arith in
+    rw (place, ← same) (and_parts _ _ h).0
+list_all_enumerated test n (y ∷ xs) (suc i) x h e =
+    let place : n + suc i ≡ n + 1 + i = omega arith in
+    rw place (list_all_enumerated test (n + 1) xs i x (and_parts (test (n, y)) _ h).1 e)
+
+-- the action at each position of a lawful body is lawful there
+pub lawful_action : (classes : ℕ) (body : List Action) (i : ℕ) (action : Action) → is_lawful_body classes body ≡ true → slice_get body i ≡ Some action → is_lawful_action classes body i action ≡ true
+lawful_action classes body i action h e =
+    let test : ℕ × Action → Bool = λ entry. is_lawful_action classes body entry.0 entry.1 in
+    let found : is_lawful_action classes body (0 + i) action ≡ true = list_all_enumerated test 0 body i action (and_parts _ _ h).1 e in
+    subst (λ (j : ℕ). is_lawful_action classes body j action ≡ true) (zero-add i) found
+
+-- no earlier get names the submit
+none_before : (body : List Action) (g h t : ℕ) → g < h → h < length body → slice_get body g ≡ Some (Get t) → list_any (gets t) (take h body) ≡ true
+none_before body g h t earlier inside e =
+    let long : length (take h body) ≡ h = length-take-le h body (omega arith) in
+    let there : get_or (take h body) g (Get t) ≡ Get t = get_or-take h body g (Get t) earlier ∙ get_or_from_slice_get body g (Get t) (Get t) e in
+    let names : gets t (get_or (take h body) g (Get t)) ≡ true = ap (gets t) there ∙ eq-eqb t t refl in
+    list_any_at (gets t) (take h body) g (Get t) (omega arith) names
+
+-- what a lawful get says
+record IsLawfulGet (body : List Action) (g t : ℕ) : Type 0 where
+  behind : t < g
+  of_submit : submits (slice_get body t) ≡ true
+  first : list_any (gets t) (take g body) ≡ false
+
+lawful_get : (classes : ℕ) (body : List Action) (g t : ℕ) → is_lawful_body classes body ≡ true → slice_get body g ≡ Some (Get t) → IsLawfulGet body g t
+lawful_get classes body g t h e =
+    let p = and_parts _ _ (lawful_action classes body g (Get t) h e) in
+    let q = and_parts _ _ p.0 in
+    record { behind = ltb-true t g q.0; of_submit = q.1; first = not-true _ p.1 }
+
+pub lawful_body : (plan : Plan) (body : List Action) → is_lawful_body (length plan.classes) body ≡ true → IsLawful plan body
+lawful_body plan body h = record {
+  short = leb-true _ _ (and_parts _ _ h).0;
+  work = λ i u e. within_bounds 1 MOST_UNITS u (lawful_action _ body i (Work u) h e);
+  submit = λ i k e. ltb-true _ _ (lawful_action _ body i (Submit k) h e);
+  behind = λ g t e. (lawful_get _ body g t h e).behind;
+  of_submit = λ g t e. (lawful_get _ body g t h e).of_submit;
+  once = λ g h' t earlier e f. both_ways _ (lawful_get _ body h' t h f).first (none_before body g h' t earlier (slice_get_within body h' _ f) e);
+}
+
+-- an empty body is lawful
+empty_body : (plan : Plan) → IsLawful plan []
+empty_body plan = lawful_body plan [] refl
+
+class_body : (plan : Plan) → IsWellFormed plan → (k : ℕ) → IsLawful plan (class_at plan k).body
+class_body plan w k = elim (cases_lt k (length plan.classes)) [
+  | inl inside ↦ lawful_body plan _ (and_parts _ _ (list_all_get (is_lawful_class plan) plan.classes k _ w.classes (slice_get-get_or plan.classes k no_class inside))).1
+  | inr past ↦ let e : class_at plan k ≡ no_class = get_or_past plan.classes k no_class past in
+      rw e (empty_body plan)
+]
+
+client_body : (plan : Plan) → IsWellFormed plan → (c : ℕ) → IsLawful plan (client_at plan c).body
+client_body plan w c = elim (cases_lt c (length plan.clients)) [
+  | inl inside ↦ lawful_body plan _ (and_parts _ _ (list_all_get (is_lawful_client plan) plan.clients c _ w.clients (slice_get-get_or plan.clients c no_client inside))).1
+  | inr past ↦ let e : client_at plan c ≡ no_client = get_or_past plan.clients c no_client past in
+      rw e (empty_body plan)
+]
+
+-- the sizes of a pool
+record AreLawfulSizes (pool : Pool) : Type 0 where
+  core : 1 ≤ pool.core
+  max : pool.core ≤ pool.max
+  most_max : pool.max ≤ MOST_UNITS
+  queue : 1 ≤ pool.queue
+  most_queue : pool.queue ≤ MOST_UNITS
+
+pool_sizes : (plan : Plan) → IsWellFormed plan → (p : ℕ) → p < length plan.pools → AreLawfulSizes (pool_at plan p)
+pool_sizes plan w p inside =
+    let sizes = (and_parts _ _ (list_all_get is_lawful_pool plan.pools p _ w.pools (slice_get-get_or plan.pools p no_pool inside))).1 in
+    let threads_and_queue = and_parts _ _ sizes in
+    let core_and_max = and_parts _ _ threads_and_queue.0 in
+    let core = within_bounds 1 MOST_UNITS _ core_and_max.0 in
+    let max = within_bounds (pool_at plan p).core MOST_UNITS _ core_and_max.1 in
+    let queue = within_bounds 1 MOST_UNITS _ threads_and_queue.1 in
+    record { core = core.0; max = max.0; most_max = max.1; queue = queue.0; most_queue = queue.1 }
+
+class_pool : (plan : Plan) → IsWellFormed plan → (k : ℕ) → k < length plan.classes → (class_at plan k).pool < length plan.pools
+class_pool plan w k inside =
+    ltb-true _ _ (and_parts _ _ (and_parts _ _ (list_all_get (is_lawful_class plan) plan.classes k _ w.classes (slice_get-get_or plan.classes k no_class inside))).0).1
+
+client_count : (plan : Plan) → IsWellFormed plan → (c : ℕ) → c < length plan.clients → (1 ≤ (client_at plan c).count) × ((client_at plan c).count ≤ MOST_UNITS)
+client_count plan w c inside =
+    within_bounds 1 MOST_UNITS _ (and_parts _ _ (and_parts _ _ (list_all_get (is_lawful_client plan) plan.clients c _ w.clients (slice_get-get_or plan.clients c no_client inside))).0).1
+
+pub ordered : (plan : Plan) → IsWellFormed plan → IsOrdered plan
+ordered plan w = record {
+  classes = class_body plan w;
+  clients = client_body plan w;
+  pools = class_pool plan w;
+  core = λ p inside. (pool_sizes plan w p inside).core;
+  max = λ p inside. (pool_sizes plan w p inside).max;
+  most_max = λ p inside. (pool_sizes plan w p inside).most_max;
+  queue = λ p inside. (pool_sizes plan w p inside).queue;
+  most_queue = λ p inside. (pool_sizes plan w p inside).most_queue;
+  count = λ c inside. (client_count plan w c inside).0;
+  most_count = λ c inside. (client_count plan w c inside).1;
+}

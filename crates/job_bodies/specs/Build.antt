@@ -1,0 +1,43 @@
+-- What `Plan::build` answers: the plan of these lists, or the first fault.
+use Rattle.std.specs.Prelude.{nat_le, List, length, take, map, Result, Ok}
+use Rattle.readings.specs.Reading.{◌>>=◌, holds_or, check_each}
+use Rattle.job_bodies.specs.declared.fault.PlanFault.{PlanFault}
+use Rattle.job_bodies.specs.declared.fault.Part.TheVariants as part
+use Rattle.job_bodies.specs.declared.fault_number.TheConstants.{TOO_MANY}
+use Rattle.job_bodies.specs.declared.limits.TheConstants.{MOST_POOLS, MOST_CLASSES, MOST_CLIENTS}
+use Rattle.job_bodies.specs.Plan.{Pool, Class, Client, Plan}
+use Rattle.job_bodies.specs.Checks.{at_text, check_pool, check_class, check_client, check_length, check_body}
+
+-- the lists that were given, as a plan
+abbrev pub given : List Pool → List Class → List Client → Plan
+given pools classes clients = record { pools = pools; classes = classes; clients = clients }
+
+-- no list is too long
+abbrev pub check_counts : Plan → Result (Unit {0}) PlanFault
+check_counts plan =
+    holds_or (nat_le (length plan.pools) MOST_POOLS) (at_text TOO_MANY) >>= λ _.
+    holds_or (nat_le (length plan.classes) MOST_CLASSES) (at_text TOO_MANY) >>= λ _.
+    holds_or (nat_le (length plan.clients) MOST_CLIENTS) (at_text TOO_MANY)
+
+-- no body is too long
+abbrev pub check_lengths : Plan → Result (Unit {0}) PlanFault
+check_lengths plan =
+    check_each (λ index class. check_length part.Class index class.body) 0 plan.classes >>= λ _.
+    check_each (λ index client. check_length part.Client index client.body) 0 plan.clients
+
+-- names and numbers, entry by entry
+abbrev pub check_entries : Plan → Result (Unit {0}) PlanFault
+check_entries plan =
+    check_each (λ index. check_pool (take index (map (λ pool. pool.name) plan.pools)) index) 0 plan.pools >>= λ _.
+    check_each (λ index. check_class (length plan.pools) (take index (map (λ class. class.name) plan.classes)) index) 0 plan.classes >>= λ _.
+    check_each (λ index. check_client (take index (map (λ client. client.name) plan.clients)) index) 0 plan.clients
+
+-- bodies, action by action
+abbrev pub check_bodies : Plan → Result (Unit {0}) PlanFault
+check_bodies plan =
+    check_each (λ index class. check_body (length plan.classes) part.Class index class.body) 0 plan.classes >>= λ _.
+    check_each (λ index client. check_body (length plan.classes) part.Client index client.body) 0 plan.clients
+
+-- the plan, or its first fault
+abbrev pub build : Plan → Result Plan PlanFault
+build plan = check_counts plan >>= λ _. check_lengths plan >>= λ _. check_entries plan >>= λ _. check_bodies plan >>= λ _. Ok plan

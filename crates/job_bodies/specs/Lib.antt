@@ -1,0 +1,5 @@
+pub mod Plan
+pub mod WellFormed
+pub mod Checks
+pub mod Build
+pub mod FaultText

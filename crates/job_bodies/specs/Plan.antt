@@ -1,0 +1,65 @@
+-- Plans: pools of threads, classes of jobs and kinds of clients, each class and kind with a body of actions.
+use Rattle.std.specs.Prelude.{ℕ, Bool, false, true, ◌==◌, List, [], Option, Some, slice_index_or, slice_get}
+use Rattle.job_bodies.specs.declared.action.Action.{Action}
+use Rattle.job_bodies.specs.declared.action.Action.TheVariants.{Submit, Get}
+
+pub record Pool : Type 0 where
+  pub name : List ℕ
+  pub core : ℕ
+  pub max : ℕ
+  pub queue : ℕ
+
+pub record Class : Type 0 where
+  pub name : List ℕ
+  pub pool : ℕ
+  pub body : List Action
+
+-- a kind of clients
+pub record Client : Type 0 where
+  pub name : List ℕ
+  pub count : ℕ
+  pub repeat : Bool
+  pub body : List Action
+
+pub record Plan : Type 0 where
+  pub pools : List Pool
+  pub classes : List Class
+  pub clients : List Client
+
+-- what stands past the end of a list of the plan
+abbrev pub no_pool : Pool
+no_pool = record { name = []; core = 0; max = 0; queue = 0 }
+
+abbrev pub no_class : Class
+no_class = record { name = []; pool = 0; body = [] }
+
+abbrev pub no_client : Client
+no_client = record { name = []; count = 0; repeat = false; body = [] }
+
+abbrev pub pool_at : Plan → ℕ → Pool
+pool_at plan p = slice_index_or plan.pools p no_pool
+
+abbrev pub class_at : Plan → ℕ → Class
+class_at plan k = slice_index_or plan.classes k no_class
+
+abbrev pub client_at : Plan → ℕ → Client
+client_at plan c = slice_index_or plan.clients c no_client
+
+-- is it a submit?
+abbrev pub submits : Option Action → Bool
+submits (Some (Submit k)) = true
+submits _ = false
+
+-- the class that a submit names
+abbrev pub class_of_submit : Option Action → ℕ
+class_of_submit (Some (Submit k)) = k
+class_of_submit _ = 0
+
+-- the class of the job that a Get(t) of this body waits for
+abbrev pub class_got : List Action → ℕ → ℕ
+class_got body t = class_of_submit (slice_get body t)
+
+-- is it a get of the submit at position t?
+abbrev pub gets : ℕ → Action → Bool
+gets t (Get u) = t == u
+gets t _ = false

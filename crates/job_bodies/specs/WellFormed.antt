@@ -1,0 +1,65 @@
+-- Well-formed plans: the sizes that ThreadPoolExecutor and ArrayBlockingQueue allow, within this project's limits,
+-- lawful names that are distinct in their list, and bodies whose submits and gets name what is there.
+use Rattle.std.specs.Prelude.{◌≤◌, ℕ, Bool, true, not, ◌==◌, ◌&&◌, ◌||◌, nat_lt, nat_le, List, [], ◌∷◌, length, map, take, slice_index, slice_get, IsTrue}
+use Rattle.std.specs.List.{list_all, list_any, enumerate_from}
+use Rattle.std.specs.Str.{bytes_eq}
+use Rattle.job_bodies.specs.declared.action.Action.{Action}
+use Rattle.job_bodies.specs.declared.action.Action.TheVariants.{Work, Submit, Get}
+use Rattle.job_bodies.specs.declared.limits.TheConstants.{MOST_POOLS, MOST_CLASSES, MOST_CLIENTS, MOST_ACTIONS, MOST_UNITS, MOST_NAME_BYTES}
+use Rattle.job_bodies.specs.Plan.{Pool, Class, Client, Plan, submits, gets}
+
+abbrev pub is_within : ℕ → ℕ → ℕ → Bool
+is_within low high n = nat_le low n && nat_le n high
+
+-- a to z
+abbrev pub is_letter : ℕ → Bool
+is_letter b = is_within 97 122 b
+
+-- a to z, 0 to 9 or _
+abbrev pub is_name_byte : ℕ → Bool
+is_name_byte b = is_letter b || is_within 48 57 b || b == 95
+
+-- a letter, and name bytes behind it
+abbrev pub is_lawful_name : List ℕ → Bool
+is_lawful_name name = is_within 1 MOST_NAME_BYTES (length name) && is_letter (slice_index name 0) && list_all is_name_byte name
+
+abbrev pub are_distinct : List (List ℕ) → Bool
+are_distinct [] = true
+are_distinct (x ∷ xs) = not (list_any (bytes_eq x) xs) && are_distinct xs
+
+-- core at least 1, max at least core, a queue of at least 1, none above the limit
+abbrev pub has_lawful_sizes : Pool → Bool
+has_lawful_sizes pool = is_within 1 MOST_UNITS pool.core && is_within pool.core MOST_UNITS pool.max && is_within 1 MOST_UNITS pool.queue
+
+abbrev pub is_lawful_pool : Pool → Bool
+is_lawful_pool pool = is_lawful_name pool.name && has_lawful_sizes pool
+
+-- a get at position i names an earlier submit of its body that no earlier get names
+abbrev pub is_lawful_get : List Action → ℕ → ℕ → Bool
+is_lawful_get body i t = nat_lt t i && submits (slice_get body t) && not (list_any (gets t) (take i body))
+
+-- the action that stands at position i of the body, where so many classes are declared
+abbrev pub is_lawful_action : ℕ → List Action → ℕ → Action → Bool
+is_lawful_action classes body i (Work u) = is_within 1 MOST_UNITS u
+is_lawful_action classes body i (Submit k) = nat_lt k classes
+is_lawful_action classes body i (Get t) = is_lawful_get body i t
+
+abbrev pub is_lawful_body : ℕ → List Action → Bool
+is_lawful_body classes body = nat_le (length body) MOST_ACTIONS && list_all (λ entry. is_lawful_action classes body entry.0 entry.1) (enumerate_from 0 body)
+
+abbrev pub is_lawful_class : Plan → Class → Bool
+is_lawful_class plan class = is_lawful_name class.name && nat_lt class.pool (length plan.pools) && is_lawful_body (length plan.classes) class.body
+
+abbrev pub is_lawful_client : Plan → Client → Bool
+is_lawful_client plan client = is_lawful_name client.name && is_within 1 MOST_UNITS client.count && is_lawful_body (length plan.classes) client.body
+
+pub record IsWellFormed (plan : Plan) : Type 0 where
+  pub few_pools : length plan.pools ≤ MOST_POOLS
+  pub few_classes : length plan.classes ≤ MOST_CLASSES
+  pub few_clients : length plan.clients ≤ MOST_CLIENTS
+  pub pool_names : IsTrue (are_distinct (map (λ pool. pool.name) plan.pools))
+  pub class_names : IsTrue (are_distinct (map (λ class. class.name) plan.classes))
+  pub client_names : IsTrue (are_distinct (map (λ client. client.name) plan.clients))
+  pub pools : IsTrue (list_all is_lawful_pool plan.pools)
+  pub classes : IsTrue (list_all (is_lawful_class plan) plan.classes)
+  pub clients : IsTrue (list_all (is_lawful_client plan) plan.clients)

@@ -1,0 +1,128 @@
+//! The checks of a plan's lists, in the order of their faults.
+
+ghost use Rattle.std.specs.Prelude.{◌≡◌, List, length, map, take};
+ghost use Rattle.readings.specs.Reading.{check_each};
+ghost use Rattle.job_bodies.specs.declared.fault.Part.TheVariants as part;
+ghost use Rattle.job_bodies.specs.Plan as spec;
+ghost use Rattle.job_bodies.specs.Checks.{check_pool, check_class, check_client, check_length, check_body};
+ghost use Rattle.job_bodies.specs.Build.{given, check_counts, check_lengths, check_entries, check_bodies};
+
+use crate::checks::{check_body, check_class, check_client, check_length, check_pool, holds_or};
+use crate::fault_number::TOO_MANY;
+use crate::limits::{MOST_CLASSES, MOST_CLIENTS, MOST_POOLS};
+use crate::{Class, Client, Part, PlanFault, Pool};
+
+/// No list is too long.
+pub(crate) fn check_counts(
+    pools: &[Pool],
+    classes: &[Class],
+    clients: &[Client],
+) -> Result<(), PlanFault>
+    ensures { result ≡ check_counts (given pools.now classes.now clients.now) }
+{
+    let few_pools = pools.len() <= MOST_POOLS;
+    holds_or(few_pools, PlanFault::at_text(TOO_MANY))?;
+    let few_classes = classes.len() <= MOST_CLASSES;
+    holds_or(few_classes, PlanFault::at_text(TOO_MANY))?;
+    let few_clients = clients.len() <= MOST_CLIENTS;
+    holds_or(few_clients, PlanFault::at_text(TOO_MANY))
+}
+
+#[tactic(auto, using(crate::proofs::Loops::check_each_turn))]
+fn check_class_lengths(classes: &[Class]) -> Result<(), PlanFault>
+    ensures { result ≡ check_each (λ index class. check_length part.Class index class.body) 0 classes.now }
+{
+    for (index, class) in classes.iter().enumerate() {
+        check_length(Part::Class, index, &class.body)?;
+    }
+    Ok(())
+}
+
+#[tactic(auto, using(crate::proofs::Loops::check_each_turn))]
+fn check_client_lengths(clients: &[Client]) -> Result<(), PlanFault>
+    ensures { result ≡ check_each (λ index client. check_length part.Client index client.body) 0 clients.now }
+{
+    for (index, client) in clients.iter().enumerate() {
+        check_length(Part::Client, index, &client.body)?;
+    }
+    Ok(())
+}
+
+/// No body is too long.
+pub(crate) fn check_lengths(classes: &[Class], clients: &[Client]) -> Result<(), PlanFault>
+    ensures { (pools : List spec.Pool) → result ≡ check_lengths (given pools classes.now clients.now) }
+{
+    check_class_lengths(classes)?;
+    check_client_lengths(clients)
+}
+
+#[tactic(auto, using(crate::proofs::Loops::check_each_turn))]
+fn check_pools(pools: &[Pool]) -> Result<(), PlanFault>
+    ensures { result ≡ check_each (λ index. check_pool (take index (map (λ pool. pool.name) pools.now)) index) 0 pools.now }
+{
+    for index in 0..pools.len() {
+        check_pool(pools, index)?;
+    }
+    Ok(())
+}
+
+#[tactic(auto, using(crate::proofs::Loops::check_each_turn))]
+fn check_classes(pools: usize, classes: &[Class]) -> Result<(), PlanFault>
+    ensures { result ≡ check_each (λ index. check_class pools (take index (map (λ class. class.name) classes.now)) index) 0 classes.now }
+{
+    for index in 0..classes.len() {
+        check_class(pools, classes, index)?;
+    }
+    Ok(())
+}
+
+#[tactic(auto, using(crate::proofs::Loops::check_each_turn))]
+fn check_clients(clients: &[Client]) -> Result<(), PlanFault>
+    ensures { result ≡ check_each (λ index. check_client (take index (map (λ client. client.name) clients.now)) index) 0 clients.now }
+{
+    for index in 0..clients.len() {
+        check_client(clients, index)?;
+    }
+    Ok(())
+}
+
+/// Names and numbers are lawful, entry by entry.
+pub(crate) fn check_entries(
+    pools: &[Pool],
+    classes: &[Class],
+    clients: &[Client],
+) -> Result<(), PlanFault>
+    ensures { result ≡ check_entries (given pools.now classes.now clients.now) }
+{
+    check_pools(pools)?;
+    check_classes(pools.len(), classes)?;
+    check_clients(clients)
+}
+
+#[tactic(auto, using(crate::proofs::Loops::check_each_turn))]
+fn check_class_bodies(classes: &[Class]) -> Result<(), PlanFault>
+    ensures { result ≡ check_each (λ index class. check_body (length classes.now) part.Class index class.body) 0 classes.now }
+{
+    for (index, class) in classes.iter().enumerate() {
+        check_body(classes.len(), Part::Class, index, &class.body)?;
+    }
+    Ok(())
+}
+
+#[tactic(auto, using(crate::proofs::Loops::check_each_turn))]
+fn check_client_bodies(classes: usize, clients: &[Client]) -> Result<(), PlanFault>
+    ensures { result ≡ check_each (λ index client. check_body classes part.Client index client.body) 0 clients.now }
+{
+    for (index, client) in clients.iter().enumerate() {
+        check_body(classes, Part::Client, index, &client.body)?;
+    }
+    Ok(())
+}
+
+/// Bodies are lawful, action by action.
+pub(crate) fn check_bodies(classes: &[Class], clients: &[Client]) -> Result<(), PlanFault>
+    ensures { (pools : List spec.Pool) → result ≡ check_bodies (given pools classes.now clients.now) }
+{
+    check_class_bodies(classes)?;
+    check_client_bodies(classes.len(), clients)
+}

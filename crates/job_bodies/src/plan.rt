@@ -1,0 +1,163 @@
+//! The plan of a service: its pools of threads, the classes of its jobs, and its kinds of clients.
+
+ghost use Rattle.std.specs.Prelude.{◌≡◌, ◌↔◌, IsOk, IfOk, string_bytes};
+ghost use Rattle.job_bodies.specs.Plan as spec;
+ghost use Rattle.job_bodies.specs.WellFormed.{IsWellFormed, has_lawful_sizes};
+ghost use Rattle.job_bodies.specs.Build.{given, build};
+
+use crate::build::{check_bodies, check_counts, check_entries, check_lengths};
+use crate::limits::{MOST_UNITS, is_within};
+use crate::{Action, PlanFault};
+use std::alloc::Global;
+use std::marker::Model;
+
+/// A pool of threads before an array queue, as Java's `ThreadPoolExecutor` over an `ArrayBlockingQueue` with the default
+/// handler, `AbortPolicy`: a job that comes while fewer than `core` threads are there starts a thread; else it is queued
+/// where the queue has room; else it starts a thread where fewer than `max` are there; else it is refused.
+///
+/// The constructors' ranges are those of the Javadoc (a maximum of at least 1 and of at least core, a capacity of at
+/// least 1), and narrower in two ways: core is at least 1, and no size is above [`MOST_UNITS`].
+#[derive(Debug, Drop)]
+pub struct Pool {
+    /// What the pool is called, in plans and in answers.
+    pub name: String,
+    /// The core pool size in threads: from 1 to `max`. So many threads are made one by one as jobs come, and stay.
+    pub core: u64,
+    /// The maximum pool size in threads: from `core` to 1,000,000.
+    pub max: u64,
+    /// The capacity of the queue in jobs: from 1 to 1,000,000.
+    pub queue: u64,
+}
+
+impl Model for Pool {
+    ghost Value = { spec.Pool };
+
+    ghost view = { λ p. record { name = string_bytes p.name; core = p.core; max = p.max; queue = p.queue } };
+}
+
+impl Pool {
+    /// Whether the sizes are in their ranges: core from 1, maximum from core, queue from 1, each up to 1,000,000.
+    pub fn has_lawful_sizes(&self) -> bool
+        ensures { result ≡ has_lawful_sizes self.now }
+    {
+        is_within(1, MOST_UNITS, self.core)
+            && is_within(self.core, MOST_UNITS, self.max)
+            && is_within(1, MOST_UNITS, self.queue)
+    }
+}
+
+/// A class of jobs: each job of the class runs in one pool, and does what the body says.
+#[derive(Debug, Drop)]
+pub struct Class {
+    /// What the class is called, in plans and in answers.
+    pub name: String,
+    /// The number of the pool that runs the jobs, counted from 0 in the plan's order.
+    pub pool: usize,
+    /// What a job does, from its start to its end: at most 256 actions.
+    pub body: Vec<Action>,
+}
+
+impl Model for Class {
+    ghost Value = { spec.Class };
+
+    ghost view = { λ k. record { name = string_bytes k.name; pool = k.pool; body = k.body.items } };
+}
+
+/// A kind of clients, which stand outside the pools and submit jobs to them.
+#[derive(Debug, Drop)]
+pub struct Client {
+    /// What the kind is called, in plans and in answers.
+    pub name: String,
+    /// How many clients of the kind there are: from 1 to 1,000,000.
+    pub count: u64,
+    /// Whether each of them begins its body again at its end.
+    pub repeat: bool,
+    /// What a client does: at most 256 actions.
+    pub body: Vec<Action>,
+}
+
+impl Model for Client {
+    ghost Value = { spec.Client };
+
+    ghost view = { λ c. record { name = string_bytes c.name; count = c.count; repeat = c.repeat; body = c.body.items } };
+}
+
+/// A well-formed plan.
+///
+/// Of every plan that there is: each limit holds; each name is lawful, and no two entries of one list share theirs; each
+/// class names a pool that there is, and each submit a class; each get names a submit earlier in its body, which no other
+/// get names.
+#[derive(Debug, Drop)]
+pub struct Plan {
+    pools: Vec<Pool>,
+    classes: Vec<Class>,
+    clients: Vec<Client>,
+}
+
+impl Model for Plan {
+    ghost Value = { spec.Plan };
+
+    ghost view = { λ p. record { pools = p.pools.items; classes = p.classes.items; clients = p.clients.items } };
+
+    ghost invariant = { λ p. IsWellFormed (given p.pools.items p.classes.items p.clients.items) };
+}
+
+impl Plan {
+    /// The plan of these lists, or the first fault that they have. It takes no memory, and a refusal lets go of the
+    /// lists.
+    ///
+    /// # Errors
+    ///
+    /// In this order, each fault at its entry and, where an action is wrong, at its action:
+    ///
+    /// 1. 2 at the text: a list is too long (pools, classes, clients).
+    /// 2. 2: a body is too long (classes, then clients).
+    /// 3. Entry by entry, pools, then classes, then clients: 6 for a name that is not lawful, 7 for one that an earlier
+    ///    entry of the list has; then 8 for a pool's size, 9 for a class's pool that there is not, 8 for a client's count.
+    /// 4. Action by action, classes, then clients: 8 for a length of work out of its range, 10 for a submit of a class
+    ///    that there is not, 13 for a get of what is no earlier submit or of a submit that an earlier get names.
+    pub fn build(
+        _alloc: Global,
+        pools: Vec<Pool>,
+        classes: Vec<Class>,
+        clients: Vec<Client>,
+    ) -> Result<Plan, PlanFault>
+        ensures exact { result ≡ build (given pools.items classes.items clients.items) }
+        ensures lists { IfOk result (λ plan. plan ≡ given pools.items classes.items clients.items) }
+        ensures well_formed { IsOk result ↔ IsWellFormed (given pools.items classes.items clients.items) }
+    {
+        check_counts(&pools, &classes, &clients)?;
+        check_lengths(&classes, &clients)?;
+        check_entries(&pools, &classes, &clients)?;
+        check_bodies(&classes, &clients)?;
+        Ok(Plan {
+            pools,
+            classes,
+            clients,
+        })
+    }
+
+    /// The pools, in the plan's order: at most 64.
+    pub fn pools(&self) -> &[Pool]
+        ensures value { result.now ≡ self.now.pools }
+        ensures well_formed { IsWellFormed self.now }
+    {
+        self.pools.as_slice()
+    }
+
+    /// The classes of jobs, in the plan's order: at most 256.
+    pub fn classes(&self) -> &[Class]
+        ensures value { result.now ≡ self.now.classes }
+        ensures well_formed { IsWellFormed self.now }
+    {
+        self.classes.as_slice()
+    }
+
+    /// The kinds of clients, in the plan's order: at most 256.
+    pub fn clients(&self) -> &[Client]
+        ensures value { result.now ≡ self.now.clients }
+        ensures well_formed { IsWellFormed self.now }
+    {
+        self.clients.as_slice()
+    }
+}

@@ -1,0 +1,7 @@
+-- An element of a list.
+use Rattle.std.specs.Prelude.{List, ◌∷◌}
+
+-- x stands in the list
+pub data In {X : Type 0} (x : X) : List X → Type 0 where
+  here : {xs : List X} → In x (x ∷ xs)
+  there : {y : X} {xs : List X} → In x xs → In x (y ∷ xs)

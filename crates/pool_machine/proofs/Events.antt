@@ -1,0 +1,42 @@
+-- What each event of a pool tells of the pool before it and the pool after it.
+use Rattle.std.proofs.Common.{◌≡◌, ℕ, suc, ◌<◌, ◌≤◌, ◌⊎◌, ◌∷◌, length, Some, arith}
+use Rattle.std.proofs.lemmas.Grind.{common_steps}
+use Rattle.pool_machine.specs.declared.offer.Offer.TheVariants.{Started, Queued, Refused}
+use Rattle.pool_machine.specs.PoolState.{PoolView, answer, taken, retired}
+
+-- a pool that starts a thread is below core or below its maximum
+pub started_below : (pool : PoolView) → answer pool ≡ Started → (pool.threads < pool.core) ⊎ (pool.threads < pool.max)
+started_below pool e = grind (arith, common_steps)
+
+-- a pool that queues a job has its core threads, and room in the queue
+pub queued_at_core : (pool : PoolView) → answer pool ≡ Queued → (pool.core ≤ pool.threads) × (length pool.queue < pool.capacity)
+queued_at_core pool e = grind (arith, common_steps)
+
+-- a pool that refuses a job has a full queue, and no room for a thread
+pub refused_when_full : (pool : PoolView) → answer pool ≡ Refused → (pool.capacity ≤ length pool.queue) × (pool.max ≤ pool.threads)
+refused_when_full pool e = grind (arith, common_steps)
+
+-- an idle worker goes to the queue's head, and nothing else changes
+pub record Takes (pool after : PoolView) (job : ℕ) : Type 0 where
+  pub idle : pool.idle ≡ suc after.idle
+  pub queue : pool.queue ≡ job ∷ after.queue
+  pub core : after.core ≡ pool.core
+  pub max : after.max ≡ pool.max
+  pub capacity : after.capacity ≡ pool.capacity
+  pub threads : after.threads ≡ pool.threads
+
+pub taken_takes : (pool after : PoolView) (job : ℕ) → taken pool ≡ Some (job, after) → Takes pool after job
+taken_takes pool after job e = grind (arith, common_steps)
+
+-- an idle worker of a pool above core ends, and nothing else changes
+pub record Retires (pool after : PoolView) : Type 0 where
+  pub above_core : pool.core < pool.threads
+  pub idle : pool.idle ≡ suc after.idle
+  pub threads : pool.threads ≡ suc after.threads
+  pub core : after.core ≡ pool.core
+  pub max : after.max ≡ pool.max
+  pub capacity : after.capacity ≡ pool.capacity
+  pub queue : after.queue ≡ pool.queue
+
+pub retired_retires : (pool after : PoolView) → retired pool ≡ Some after → Retires pool after
+retired_retires pool after e = grind (arith, common_steps)

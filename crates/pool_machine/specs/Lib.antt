@@ -1,0 +1,2 @@
+pub mod PoolState
+pub mod Laws

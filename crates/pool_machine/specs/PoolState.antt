@@ -1,0 +1,70 @@
+-- One pool by itself: what it shows, and the four things that can happen to it. The rules are those of
+-- ThreadPoolExecutor: core and maximum sizes, queuing, rejected tasks.
+use Rattle.std.specs.Prelude.{ℕ, zero, suc, ◌+◌, ◌-◌, ◌≤◌, nat_lt, if◌then◌else◌, List, [], ◌∷◌, ◌++◌, length, Option, None, Some}
+use Rattle.job_bodies.specs.declared.limits.TheConstants.{MOST_UNITS}
+use Rattle.job_bodies.specs.Plan.{Pool}
+use Rattle.pool_machine.specs.declared.offer.Offer.{Offer}
+use Rattle.pool_machine.specs.declared.offer.Offer.TheVariants.{Started, Queued, Refused}
+
+-- a pool's sizes, its threads, how many of them are idle, and the numbers of the jobs in its queue, the head first
+pub record PoolView : Type 0 where
+  pub core : ℕ
+  pub max : ℕ
+  pub capacity : ℕ
+  pub threads : ℕ
+  pub idle : ℕ
+  pub queue : List ℕ
+
+-- how a pool begins: with no threads and an empty queue
+abbrev pub new_pool : Pool → PoolView
+new_pool pool = record { core = pool.core; max = pool.max; capacity = pool.queue; threads = 0; idle = 0; queue = [] }
+
+-- what the pool answers to a job that is offered to it: below core a new thread starts it, else it is queued, else
+-- below the maximum a new thread starts it, else it is refused
+abbrev pub answer : PoolView → Offer
+answer pool =
+    if nat_lt pool.threads pool.core then Started
+    else (if nat_lt (length pool.queue) pool.capacity then Queued
+    else (if nat_lt pool.threads pool.max then Started
+    else Refused))
+
+-- the pool after it gave this answer to the job
+abbrev pub after_answer : PoolView → ℕ → Offer → PoolView
+after_answer pool job Started = record pool { threads = pool.threads + 1 }
+after_answer pool job Queued = record pool { queue = pool.queue ++ job ∷ [] }
+after_answer pool job Refused = pool
+
+-- the pool after the job was offered to it
+abbrev pub offered : PoolView → ℕ → PoolView
+offered pool job = after_answer pool job (answer pool)
+
+abbrev pub taken_from : PoolView → ℕ → List ℕ → Option (ℕ × PoolView)
+taken_from pool (suc idle) (job ∷ queue) = Some (job, record pool { idle = idle; queue = queue })
+taken_from pool _ _ = None
+
+-- an idle worker takes the queue's head: the job, and the pool after that; None where no worker is idle or the queue is empty
+abbrev pub taken : PoolView → Option (ℕ × PoolView)
+taken pool = taken_from pool pool.idle pool.queue
+
+-- a busy worker is idle from now on
+abbrev pub finished : PoolView → PoolView
+finished pool = record pool { idle = pool.idle + 1 }
+
+abbrev pub retired_of : PoolView → ℕ → Option PoolView
+retired_of pool zero = None
+retired_of pool (suc idle) = if nat_lt pool.core pool.threads then Some (record pool { threads = pool.threads - 1; idle = idle }) else None
+
+-- an idle worker ends: the pool after that; None where no worker is idle or threads are not above core
+abbrev pub retired : PoolView → Option PoolView
+retired pool = retired_of pool pool.idle
+
+-- what holds of every pool: its sizes are lawful, and neither its threads nor its queue grow past them
+pub record IsSound (pool : PoolView) : Type 0 where
+  pub some_core : 1 ≤ pool.core
+  pub core_within_max : pool.core ≤ pool.max
+  pub max_within_limit : pool.max ≤ MOST_UNITS
+  pub some_capacity : 1 ≤ pool.capacity
+  pub capacity_within_limit : pool.capacity ≤ MOST_UNITS
+  pub idle_within_threads : pool.idle ≤ pool.threads
+  pub threads_within_max : pool.threads ≤ pool.max
+  pub queue_within_capacity : length pool.queue ≤ pool.capacity

@@ -1,0 +1,11 @@
+//! One bounded thread pool, as `ThreadPoolExecutor` behaves with an `ArrayBlockingQueue` and
+//! `AbortPolicy`.
+#![tactic(auto)]
+
+mod laws;
+mod offer;
+mod pool_state;
+
+pub use laws::{pools_stay_sound, queues_only_at_core, sizes_stay};
+pub use offer::Offer;
+pub use pool_state::PoolState;

@@ -1,0 +1,18 @@
+-- Steps that follow one another.
+use Rattle.std.proofs.Common.{◌≡◌, Bool, true, false, Option, None, Some, Result, Ok, Err, refl}
+use Rattle.readings.specs.Reading.{◌>>=◌, holds_or, some_or}
+
+-- what two steps gave, the first one gave to the second
+pub bind_ok : {A B F : Type 0} (r : Result A F) (f : A → Result B F) (y : B) → (r >>= f) ≡ Ok y → (x : A) × (r ≡ Ok x) × (f x ≡ Ok y)
+bind_ok (Ok x) f y e = (x, refl, e)
+bind_ok (Err fault) f y e = absurd cc
+
+-- a test that has no fault holds
+pub holds_ok : {F : Type 0} (b : Bool) (fault : F) → holds_or b fault ≡ Ok tt → b ≡ true
+holds_ok true fault e = refl
+holds_ok false fault e = absurd cc
+
+-- a value that has no fault is there
+pub some_ok : {A F : Type 0} (o : Option A) (fault : F) (x : A) → some_or o fault ≡ Ok x → o ≡ Some x
+some_ok (Some y) fault x e = cc
+some_ok None fault x e = absurd cc
