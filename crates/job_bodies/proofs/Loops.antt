@@ -1,26 +1,12 @@
 -- A check of each element, as a loop makes it.
-use Rattle.std.proofs.Common.{take, ◌≡◌, ◌≤◌, ◌<◌, ◌+◌, ℕ, Bool, ◌||◌, List, [], ◌∷◌, map, length, get_or, drop, Result, Ok, Err, refl, ap, ◌∙◌, sym}
+use Rattle.std.proofs.Common.{take, ◌≡◌, ◌<◌, ◌+◌, ℕ, Bool, ◌||◌, List, [], ◌∷◌, map, length, get_or, drop, Result, refl, ap, ◌∙◌}
 use Rattle.std.specs.List.{list_any}
-use Rattle.std.proofs.lemmas.List.{at_drop_more, at_drop_all, take-map}
+use Rattle.std.proofs.lemmas.List.{at_drop_more, take-map}
 use Rattle.readings.specs.Reading.{◌>>=◌, check_each}
 
 -- one turn: the element at this place, and then the rest
 pub check_each_turn : {X F : Type 0} (check : ℕ → X → Result (Unit {0}) F) (i : ℕ) (xs : List X) (d : X) → i < length xs → check_each check i (drop i xs) ≡ (check i (get_or xs i d) >>= λ _. check_each check (i + 1) (drop (i + 1) xs))
 check_each_turn check i xs d inside = at_drop_more (check_each check i) xs i d inside
-
--- behind the last element there is no fault
-pub check_each_done : {X F : Type 0} (check : ℕ → X → Result (Unit {0}) F) (i : ℕ) (xs : List X) → length xs ≤ i → check_each check i (drop i xs) ≡ Ok tt
-check_each_done check i xs past = at_drop_all (check_each check i) xs i past
-
--- the element passed, so its rest gives what it gave
-pub check_each_passed : {X F : Type 0} (check : ℕ → X → Result (Unit {0}) F) (i : ℕ) (xs : List X) (d : X) → i < length xs → check i (get_or xs i d) ≡ Ok tt → check_each check (i + 1) (drop (i + 1) xs) ≡ check_each check i (drop i xs)
-check_each_passed check i xs d inside passed =
-    sym (check_each_turn check i xs d inside ∙ ap (λ (r : Result (Unit {0}) _). r >>= λ _. check_each check (i + 1) (drop (i + 1) xs)) passed)
-
--- the element's fault is the fault of the list
-pub check_each_failed : {X F : Type 0} (check : ℕ → X → Result (Unit {0}) F) (i : ℕ) (xs : List X) (d : X) (fault : F) → i < length xs → check i (get_or xs i d) ≡ Err fault → check_each check i (drop i xs) ≡ Err fault
-check_each_failed check i xs d fault inside failed =
-    check_each_turn check i xs d inside ∙ ap (λ (r : Result (Unit {0}) _). r >>= λ _. check_each check (i + 1) (drop (i + 1) xs)) failed
 
 -- whether some element's image passes
 pub list_any_of_map : {X Y : Type 0} (test : Y → Bool) (f : X → Y) (xs : List X) → list_any test (map f xs) ≡ list_any (λ x. test (f x)) xs

@@ -7,7 +7,8 @@ ghost use Rattle.job_bodies.specs.Plan as spec;
 ghost use Rattle.job_bodies.specs.Checks.{check_pool, check_class, check_client, check_length, check_body};
 ghost use Rattle.job_bodies.specs.Build.{given, check_counts, check_lengths, check_entries, check_bodies};
 
-use crate::checks::{check_body, check_class, check_client, check_length, check_pool, holds_or};
+use crate::checks::{check_body, check_class, check_client, check_length, check_pool};
+use crate::fault::holds_or;
 use crate::fault_number::TOO_MANY;
 use crate::limits::{MOST_CLASSES, MOST_CLIENTS, MOST_POOLS};
 use crate::{Class, Client, Part, PlanFault, Pool};
@@ -58,7 +59,8 @@ pub(crate) fn check_lengths(classes: &[Class], clients: &[Client]) -> Result<(),
 
 #[tactic(auto, using(crate::proofs::Loops::check_each_turn))]
 fn check_pools(pools: &[Pool]) -> Result<(), PlanFault>
-    ensures { result ≡ check_each (λ index. check_pool (take index (map (λ pool. pool.name) pools.now)) index) 0 pools.now }
+    ensures { let names = map (λ pool. pool.name) pools.now in
+        result ≡ check_each (λ index. check_pool (take index names) index) 0 pools.now }
 {
     for index in 0..pools.len() {
         check_pool(pools, index)?;
@@ -68,7 +70,8 @@ fn check_pools(pools: &[Pool]) -> Result<(), PlanFault>
 
 #[tactic(auto, using(crate::proofs::Loops::check_each_turn))]
 fn check_classes(pools: usize, classes: &[Class]) -> Result<(), PlanFault>
-    ensures { result ≡ check_each (λ index. check_class pools (take index (map (λ class. class.name) classes.now)) index) 0 classes.now }
+    ensures { let names = map (λ class. class.name) classes.now in
+        result ≡ check_each (λ index. check_class pools (take index names) index) 0 classes.now }
 {
     for index in 0..classes.len() {
         check_class(pools, classes, index)?;
@@ -78,7 +81,8 @@ fn check_classes(pools: usize, classes: &[Class]) -> Result<(), PlanFault>
 
 #[tactic(auto, using(crate::proofs::Loops::check_each_turn))]
 fn check_clients(clients: &[Client]) -> Result<(), PlanFault>
-    ensures { result ≡ check_each (λ index. check_client (take index (map (λ client. client.name) clients.now)) index) 0 clients.now }
+    ensures { let names = map (λ client. client.name) clients.now in
+        result ≡ check_each (λ index. check_client (take index names) index) 0 clients.now }
 {
     for index in 0..clients.len() {
         check_client(clients, index)?;
@@ -101,7 +105,8 @@ pub(crate) fn check_entries(
 
 #[tactic(auto, using(crate::proofs::Loops::check_each_turn))]
 fn check_class_bodies(classes: &[Class]) -> Result<(), PlanFault>
-    ensures { result ≡ check_each (λ index class. check_body (length classes.now) part.Class index class.body) 0 classes.now }
+    ensures { let count = length classes.now in
+        result ≡ check_each (λ index class. check_body count part.Class index class.body) 0 classes.now }
 {
     for (index, class) in classes.iter().enumerate() {
         check_body(classes.len(), Part::Class, index, &class.body)?;

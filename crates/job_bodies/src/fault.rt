@@ -1,6 +1,7 @@
 //! Why a plan is refused, and where.
 
 ghost use Rattle.std.specs.Prelude.{◌≡◌};
+ghost use Rattle.readings.specs.Reading.{holds_or};
 ghost use Rattle.job_bodies.specs.Checks.{at_text, at_entry, at_action};
 
 /// The part of a plan that a fault speaks of.
@@ -65,4 +66,11 @@ impl PlanFault {
             action: Some(action),
         }
     }
+}
+
+/// Nothing where the test holds, and the fault where it does not.
+pub(crate) fn holds_or(holds: bool, fault: PlanFault) -> Result<(), PlanFault>
+    ensures { result ≡ holds_or holds fault }
+{
+    if holds { Ok(()) } else { Err(fault) }
 }

@@ -83,3 +83,5 @@ impl fmt::Display for PlanFault {
         write!(f, "fault {} {name}{entry}{position}", self.number)
     }
 }
+
+impl std::error::Error for PlanFault {}

@@ -1,21 +1,26 @@
-//! The names of pools, classes and clients.
+//! The names of pools, classes and clients: which are lawful, and which are new in their list.
 
-ghost use Rattle.std.specs.Prelude.{◌≡◌};
-ghost use Rattle.std.specs.List.{list_all};
+ghost use Rattle.std.specs.Prelude.{◌≡◌, ◌≤◌, ℕ, List, length, map, take};
+ghost use Rattle.std.specs.List.{list_all, list_any};
+ghost use Rattle.std.specs.Str.{bytes_eq};
 ghost use Rattle.job_bodies.specs.WellFormed.{is_letter, is_name_byte, is_lawful_name};
+ghost use Rattle.job_bodies.specs.Checks.{check_name};
 
+use crate::fault::holds_or;
+use crate::fault_number::{BAD_NAME, DOUBLE_NAME};
 use crate::limits::{MOST_NAME_BYTES, is_within};
+use crate::{Class, Client, Part, PlanFault, Pool};
 
 fn is_letter(byte: u8) -> bool
     ensures { result ≡ is_letter byte }
 {
-    is_within(97, 122, u64::from(byte))
+    byte.is_ascii_lowercase()
 }
 
 fn is_name_byte(byte: u8) -> bool
     ensures { result ≡ is_name_byte byte }
 {
-    is_letter(byte) || is_within(48, 57, u64::from(byte)) || byte == b'_'
+    is_letter(byte) || byte.is_ascii_digit() || byte == b'_'
 }
 
 fn are_name_bytes(bytes: &[u8]) -> bool
@@ -33,4 +38,59 @@ pub fn is_lawful_name(name: &str) -> bool
     is_within(1, MOST_NAME_BYTES as u64, bytes.len() as u64)
         && is_letter(bytes[0])
         && are_name_bytes(bytes)
+}
+
+/// What has a name of its own in its list.
+pub(crate) trait Named {
+    ghost name_of: { Self → List ℕ };
+
+    fn name(&self) -> &str
+        ensures { result.now ≡ name_of self.now };
+}
+
+impl Named for Pool {
+    ghost name_of = { λ pool. pool.name };
+
+    fn name(&self) -> &str {
+        self.name.as_str()
+    }
+}
+
+impl Named for Class {
+    ghost name_of = { λ class. class.name };
+
+    fn name(&self) -> &str {
+        self.name.as_str()
+    }
+}
+
+impl Named for Client {
+    ghost name_of = { λ client. client.name };
+
+    fn name(&self) -> &str {
+        self.name.as_str()
+    }
+}
+
+fn has_name<T: Named>(entries: &[T], name: &str) -> bool
+    ensures { result ≡ list_any (λ entry. bytes_eq name.now (T.name_of entry)) entries.now }
+{
+    entries.iter().any(|entry| name == entry.name())
+}
+
+/// The name at this place of its list is lawful and none of the names before it.
+#[tactic(auto, using(crate::proofs::Loops::list_any_of_names))]
+pub(crate) fn check_name<T: Named>(
+    entries: &[T],
+    part: Part,
+    index: usize,
+    name: &str,
+) -> Result<(), PlanFault>
+    requires { index ≤ length entries.now }
+    ensures { result ≡ check_name (take index (map T.name_of entries.now)) part index name.now }
+{
+    let lawful = is_lawful_name(name);
+    holds_or(lawful, PlanFault::at_entry(part, index, BAD_NAME))?;
+    let new = !has_name(&entries[..index], name);
+    holds_or(new, PlanFault::at_entry(part, index, DOUBLE_NAME))
 }

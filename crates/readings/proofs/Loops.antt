@@ -1,5 +1,5 @@
 -- Loops that read or check one element after another.
-use Rattle.std.proofs.Common.{◌≡◌, ℕ, zero, suc, ◌+◌, ◌<◌, ◌≤◌, List, [], ◌∷◌, ◌++◌, length, get_or, drop, map, slice_get, Option, Some, None, Result, Ok, Err, refl, sym, ap, ◌∙◌, append_assoc, add-one, arith}
+use Rattle.std.proofs.Common.{◌≡◌, ℕ, zero, suc, ◌+◌, ◌<◌, ◌≤◌, List, [], ◌∷◌, ◌++◌, length, get_or, take, drop, map, slice_get, Option, Some, None, Result, Ok, Err, refl, sym, ap, ◌∙◌, append_assoc, add-one, arith}
 use Rattle.std.proofs.lemmas.List.{append-nil, at_drop_all, length-map}
 use Rattle.readings.specs.Reading.{◌>>=◌, check_each, read_each}
 use Rattle.readings.specs.declared.read_error.ReadError.{ReadError}
@@ -35,6 +35,12 @@ pub at_index_seen : {X Y : Type 0} (view : X → Y) (xs : List X) (i : ℕ) (x :
 at_index_seen view [] i x within e = absurd (omega arith)
 at_index_seen view (y ∷ xs) zero x within e = ap (λ (z : _). Some (view z)) (sym e)
 at_index_seen view (y ∷ xs) (suc i) x within e = at_index_seen view xs i x (omega arith) e
+
+-- the same, of an element that the loop copies
+pub at_index_copied : {X Y : Type 0} (view : X → Y) (xs : List X) (i : ℕ) (d : X) → i < length xs → slice_get (map view xs) i ≡ Some (view (get_or xs i d))
+at_index_copied view [] i d within = absurd (omega arith)
+at_index_copied view (y ∷ xs) zero d within = refl
+at_index_copied view (y ∷ xs) (suc i) d within = at_index_copied view xs i d (omega arith)
 
 regroup : {Y F : Type 0} (front : List Y) (y : Y) (read : Result (List Y) F) → with_front front (read >>= λ ys. Ok (y ∷ ys)) ≡ with_front (front ++ y ∷ []) read
 regroup front y (Ok ys) = ap (λ (zs : List _). Ok zs) (simp append_assoc)
@@ -92,3 +98,16 @@ checks_end check xs i past so_far = sym so_far.rest ∙ at_drop_all (λ (ys : Li
 pub reads_end_seen : {V X Y F : Type 0} (view : V → X) (read : ℕ → X → Result Y F) (values : List V) (i : ℕ) (front : List Y) → length values ≤ i → Reads read (map view values) i front
     → read_each read 0 (map view values) ≡ Ok front
 reads_end_seen view read values i front past so_far = reads_end read (map view values) i front (rw length-map past) so_far
+
+-- nothing is checked yet
+pub checks_begin : {X F : Type 0} (check : ℕ → X → Result (Unit {0}) F) (xs : List X) → Checks check xs 0
+checks_begin check xs = record { rest = refl }
+
+images_next : {X Y : Type 0} (f : X → Y) (xs : List X) (i : ℕ) (x : X) → slice_get xs i ≡ Some x → take (suc i) (map f xs) ≡ take i (map f xs) ++ f x ∷ []
+images_next f [] i x e = absurd cc
+images_next f (y ∷ xs) zero x e = let same : y ≡ x = cc in rw same refl
+images_next f (y ∷ xs) (suc i) x e = ap (λ (zs : List _). f y ∷ zs) (images_next f xs i x e)
+
+-- the images of the elements so far, with one more
+pub images_more : {X Y : Type 0} (f : X → Y) (xs : List X) (i : ℕ) (x : X) → slice_get xs i ≡ Some x → take (i + 1) (map f xs) ≡ take i (map f xs) ++ f x ∷ []
+images_more f xs i x here = rw add-one (images_next f xs i x here)

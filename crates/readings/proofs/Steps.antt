@@ -1,6 +1,9 @@
 -- Steps that follow one another.
 use Rattle.std.proofs.Common.{◌≡◌, Bool, true, false, Option, None, Some, Result, Ok, Err, refl}
+use Rattle.readings.specs.declared.read_error.ReadError.{ReadError}
+use Rattle.readings.specs.declared.read_error.ReadError.TheVariants.{Memory, Fault}
 use Rattle.readings.specs.Reading.{◌>>=◌, holds_or, some_or}
+use Rattle.readings.specs.Given.{Fails}
 
 -- what two steps gave, the first one gave to the second
 pub bind_ok : {A B F : Type 0} (r : Result A F) (f : A → Result B F) (y : B) → (r >>= f) ≡ Ok y → (x : A) × (r ≡ Ok x) × (f x ≡ Ok y)
@@ -16,3 +19,8 @@ holds_ok false fault e = absurd cc
 pub some_ok : {A F : Type 0} (o : Option A) (fault : F) (x : A) → some_or o fault ≡ Ok x → o ≡ Some x
 some_ok (Some y) fault x e = cc
 some_ok None fault x e = absurd cc
+
+-- a step's error ends the steps
+pub fails_first : {A B F : Type 0} (error : ReadError F) (r : Result A F) (next : A → Result B F) → Fails error r → Fails error (r >>= next)
+fails_first Memory r next h = tt
+fails_first (Fault fault) r next h = rw h refl

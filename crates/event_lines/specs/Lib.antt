@@ -1,0 +1,4 @@
+pub mod Pieces
+pub mod Number
+pub mod EventLine
+pub mod AnswerLine

@@ -1,0 +1,14 @@
+pub mod View
+pub mod Changes
+pub mod Children
+pub mod Threads
+pub mod Moves
+pub mod Submits
+pub mod Older
+pub mod Finishes
+pub mod Pools
+pub mod Commute
+pub mod Settling
+pub mod Waiting
+pub mod Dead
+pub mod Reached

@@ -1,0 +1,5 @@
+pub mod LiveView
+pub mod ViewStep
+pub mod Waiting
+pub mod Answers
+pub mod Laws

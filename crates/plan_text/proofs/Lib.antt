@@ -1,0 +1,5 @@
+pub mod Tables
+pub mod Places
+pub mod Numbers
+pub mod Filling
+mod Samples

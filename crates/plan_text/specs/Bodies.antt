@@ -1,0 +1,53 @@
+-- Bodies, action by action: classes get their places, gets the positions of their submits.
+use Rattle.std.specs.Prelude.{ℕ, nat_lt, is_none, List, length, map, take, Option, Some, Result, Ok}
+use Rattle.readings.specs.Reading.{◌>>=◌, holds_or, some_or, read_each}
+use Rattle.job_bodies.specs.declared.action.Action.{Action}
+use Rattle.job_bodies.specs.declared.action.Action.TheVariants.{Work, Submit, Get}
+use Rattle.job_bodies.specs.declared.fault.PlanFault.{PlanFault}
+use Rattle.job_bodies.specs.declared.fault.Part.{Part}
+use Rattle.job_bodies.specs.declared.fault.Part.TheVariants as part
+use Rattle.job_bodies.specs.declared.fault_number.TheConstants.{NO_SUCH_CLASS, BAD_ACTION, SLOT_OPEN, SLOT_EMPTY}
+use Rattle.job_bodies.specs.Plan.{Class, Client}
+use Rattle.job_bodies.specs.Checks.{at_action}
+use Rattle.plan_text.specs.Entries.{ClassEntry, ClientEntry}
+use Rattle.plan_text.specs.Checks.{place_of}
+use Rattle.plan_text.specs.Orders.{Order, work, submit, submit_as, get, order_of}
+use Rattle.plan_text.specs.Slots.{filled}
+
+-- the place of the class that an action names
+abbrev pub class_named : List (List ℕ) → (ℕ → PlanFault) → List ℕ → Result ℕ PlanFault
+class_named classes fault name =
+    holds_or (nat_lt (place_of classes name) (length classes)) (fault NO_SUCH_CLASS) >>= λ _. Ok (place_of classes name)
+
+-- the action of an order, where slots tells what fills each slot
+abbrev pub action_of : List (List ℕ) → (List ℕ → Option ℕ) → (ℕ → PlanFault) → Order → Result Action PlanFault
+action_of classes slots fault (work units) = Ok (Work units)
+action_of classes slots fault (submit class) = class_named classes fault class >>= λ k. Ok (Submit k)
+action_of classes slots fault (submit_as class slot) =
+    class_named classes fault class >>= λ k. holds_or (is_none (slots slot)) (fault SLOT_OPEN) >>= λ _. Ok (Submit k)
+action_of classes slots fault (get slot) = some_or (slots slot) (fault SLOT_EMPTY) >>= λ t. Ok (Get t)
+
+-- the action of a text, where slots tells what fills each slot
+unfoldable pub action_at : List (List ℕ) → (List ℕ → Option ℕ) → (ℕ → PlanFault) → List ℕ → Result Action PlanFault
+action_at classes slots fault text =
+    some_or (order_of text) (fault BAD_ACTION) >>= λ order. action_of classes slots fault order
+
+-- the action of the text at position i of a body, with the slots as the texts before it leave them
+abbrev pub action_among : List (List ℕ) → Part → ℕ → List (List ℕ) → ℕ → List ℕ → Result Action PlanFault
+action_among classes part index texts i text = action_at classes (filled (take i texts)) (at_action part index i) text
+
+-- the actions of a body
+unfoldable pub body_of : List (List ℕ) → Part → ℕ → List (List ℕ) → Result (List Action) PlanFault
+body_of classes part index texts = read_each (action_among classes part index texts) 0 texts
+
+-- a class with its body
+abbrev pub class_of : List (List ℕ) → List (List ℕ) → ℕ → ClassEntry → Result Class PlanFault
+class_of pools classes index class =
+    body_of classes part.Class index class.body >>= λ body.
+    Ok (record { name = class.name; pool = place_of pools class.pool; body = body })
+
+-- a client with its body
+abbrev pub client_of : List (List ℕ) → ℕ → ClientEntry → Result Client PlanFault
+client_of classes index client =
+    body_of classes part.Client index client.body >>= λ body.
+    Ok (record { name = client.name; count = client.count; repeat = client.repeat; body = body })

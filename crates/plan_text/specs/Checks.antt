@@ -1,0 +1,45 @@
+-- Names and numbers: each name is lawful and new in its list, each number in its range, each class's pool there.
+use Rattle.std.specs.Prelude.{ℕ, List, [], length, map, take, Result, Ok}
+use Rattle.std.specs.List.{position_or_len}
+use Rattle.std.specs.Str.{bytes_eq}
+use Rattle.readings.specs.Reading.{◌>>=◌, check_each}
+use Rattle.job_bodies.specs.declared.fault.PlanFault.{PlanFault}
+use Rattle.job_bodies.specs.Plan.{Pool, Class, Client}
+use Rattle.job_bodies.specs.Checks.{check_pool, check_class, check_client}
+use Rattle.plan_text.specs.Entries.{ClassEntry, ClientEntry}
+
+-- the names of a list, in order
+abbrev pub pool_names : List Pool → List (List ℕ)
+pool_names pools = map (λ pool. pool.name) pools
+
+abbrev pub class_names : List ClassEntry → List (List ℕ)
+class_names classes = map (λ class. class.name) classes
+
+abbrev pub client_names : List ClientEntry → List (List ℕ)
+client_names clients = map (λ client. client.name) clients
+
+-- the place of a name in its list, or the length where it isn't there
+abbrev pub place_of : List (List ℕ) → List ℕ → ℕ
+place_of names name = position_or_len (λ known. bytes_eq name known) names
+
+-- a class without its body, its pool by its place among the names
+abbrev pub class_head : List (List ℕ) → ClassEntry → Class
+class_head pools class = record { name = class.name; pool = place_of pools class.pool; body = [] }
+
+-- a client without its body
+abbrev pub client_head : ClientEntry → Client
+client_head client = record { name = client.name; count = client.count; repeat = client.repeat; body = [] }
+
+-- the names of the pools, where their names and sizes are lawful
+unfoldable pub check_pools : List Pool → Result (List (List ℕ)) PlanFault
+check_pools pools = check_each (λ index. check_pool (take index (pool_names pools)) index) 0 pools >>= λ _. Ok (pool_names pools)
+
+-- the names of the classes, where their names are lawful and their pools are among these
+unfoldable pub check_classes : List (List ℕ) → List ClassEntry → Result (List (List ℕ)) PlanFault
+check_classes pools classes =
+    check_each (λ index class. check_class (length pools) (take index (class_names classes)) index (class_head pools class)) 0 classes >>= λ _.
+    Ok (class_names classes)
+
+-- the names and counts of the clients are lawful
+unfoldable pub check_clients : List ClientEntry → Result (Unit {0}) PlanFault
+check_clients clients = check_each (λ index client. check_client (take index (client_names clients)) index (client_head client)) 0 clients

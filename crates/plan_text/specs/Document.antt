@@ -1,0 +1,54 @@
+-- The document as TOML: its length, its bytes, and its keys at the top.
+use Rattle.std.specs.Prelude.{ℕ, Bool, true, false, ◌==◌, ◌&&◌, nat_le, if◌then◌else◌, List, [], ◌∷◌, length, codes, Option, None, Some, option_map, Result, Ok, Err}
+use Rattle.std.specs.List.{list_any}
+use Rattle.std.specs.Str.{bytes_eq, is_utf8}
+use Rattle.toml.specs.Data.{Data, as_array, Items, no_items, item, Members, no_members, member, get_member}
+use Rattle.toml.specs.Parse.{parse_document}
+use Rattle.readings.specs.Reading.{◌>>=◌, holds_or, some_or}
+use Rattle.job_bodies.specs.declared.fault.PlanFault.{PlanFault}
+use Rattle.job_bodies.specs.declared.fault_number.TheConstants.{NOT_TOML, TOO_MANY, UNKNOWN_KEY, WRONG_TYPE}
+use Rattle.job_bodies.specs.Checks.{at_text}
+use Rattle.plan_text.specs.declared.document.TheConstants.{MOST_TEXT_BYTES}
+
+-- every key of the table is one of these
+abbrev pub has_only : List (List ℕ) → Members → Bool
+has_only keys no_members = true
+has_only keys (member key value rest) = list_any (λ known. bytes_eq known key) keys && has_only keys rest
+
+-- the elements of an array
+abbrev pub elements : Items → List Data
+elements no_items = []
+elements (item value rest) = value ∷ elements rest
+
+-- the elements of a value that is an array
+abbrev pub as_list : Data → Option (List Data)
+as_list value = option_map elements (as_array value)
+
+-- bytes that are a text in UTF-8
+abbrev pub text_of : List ℕ → Result (List ℕ) PlanFault
+text_of bytes = holds_or (is_utf8 bytes) (at_text NOT_TOML) >>= λ _. Ok bytes
+
+-- the table that a text is, as TOML
+abbrev pub table_of : List ℕ → Result Members PlanFault
+table_of text = some_or (parse_document text) (at_text NOT_TOML)
+
+-- the table of a document that is not too long, and has no other keys than a plan's
+unfoldable pub document_of : List ℕ → Result Members PlanFault
+document_of bytes =
+    holds_or (nat_le (length bytes) MOST_TEXT_BYTES) (at_text TOO_MANY) >>= λ _.
+    text_of bytes >>= λ text.
+    table_of text >>= λ document.
+    holds_or (has_only (codes "pool" ∷ codes "class" ∷ codes "client" ∷ []) document) (at_text UNKNOWN_KEY) >>= λ _.
+    Ok document
+
+-- the list that a value at the top is, none where there is none
+abbrev pub list_of : Option Data → Result (List Data) PlanFault
+list_of None = Ok []
+list_of (Some value) = some_or (as_list value) (at_text WRONG_TYPE)
+
+-- the list at a key, of at most so many entries
+unfoldable pub list_at : List ℕ → ℕ → Members → Result (List Data) PlanFault
+list_at key most document =
+    list_of (get_member key document) >>= λ values.
+    holds_or (nat_le (length values) most) (at_text TOO_MANY) >>= λ _.
+    Ok values

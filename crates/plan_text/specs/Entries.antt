@@ -1,0 +1,69 @@
+-- The entries of a plan's text by their shapes: each key is there and of its type.
+use Rattle.std.specs.Prelude.{ℕ, Bool, List, [], ◌∷◌, codes, Result, Ok}
+use Rattle.toml.specs.Data.{Data, Members}
+use Rattle.readings.specs.Reading.{◌>>=◌, read_each}
+use Rattle.job_bodies.specs.declared.fault.PlanFault.{PlanFault}
+use Rattle.job_bodies.specs.declared.fault.Part.TheVariants as part
+use Rattle.job_bodies.specs.declared.limits.TheConstants.{MOST_POOLS, MOST_CLASSES, MOST_CLIENTS}
+use Rattle.job_bodies.specs.Plan.{Pool}
+use Rattle.plan_text.specs.Document.{list_at}
+use Rattle.plan_text.specs.Entry.{table_at, text_at, number_at, flag_at, texts_at}
+
+-- a class as its text gives it: its pool by name, its actions as texts
+pub record ClassEntry : Type 0 where
+  pub name : List ℕ
+  pub pool : List ℕ
+  pub body : List (List ℕ)
+
+-- a kind of clients as its text gives it
+pub record ClientEntry : Type 0 where
+  pub name : List ℕ
+  pub count : ℕ
+  pub repeat : Bool
+  pub body : List (List ℕ)
+
+-- all entries of a text
+pub record Entries : Type 0 where
+  pub pools : List Pool
+  pub classes : List ClassEntry
+  pub clients : List ClientEntry
+
+-- a pool
+unfoldable pub pool_at : ℕ → Data → Result Pool PlanFault
+pool_at index value =
+    table_at part.Pool index (codes "name" ∷ codes "core" ∷ codes "max" ∷ codes "queue" ∷ []) value >>= λ table.
+    text_at part.Pool index table (codes "name") >>= λ name.
+    number_at part.Pool index table (codes "core") >>= λ core.
+    number_at part.Pool index table (codes "max") >>= λ max.
+    number_at part.Pool index table (codes "queue") >>= λ queue.
+    Ok (record { name = name; core = core; max = max; queue = queue })
+
+-- a class
+unfoldable pub class_at : ℕ → Data → Result ClassEntry PlanFault
+class_at index value =
+    table_at part.Class index (codes "name" ∷ codes "pool" ∷ codes "body" ∷ []) value >>= λ table.
+    text_at part.Class index table (codes "name") >>= λ name.
+    text_at part.Class index table (codes "pool") >>= λ pool.
+    texts_at part.Class index table (codes "body") >>= λ body.
+    Ok (record { name = name; pool = pool; body = body })
+
+-- a kind of clients
+unfoldable pub client_at : ℕ → Data → Result ClientEntry PlanFault
+client_at index value =
+    table_at part.Client index (codes "name" ∷ codes "count" ∷ codes "repeat" ∷ codes "body" ∷ []) value >>= λ table.
+    text_at part.Client index table (codes "name") >>= λ name.
+    number_at part.Client index table (codes "count") >>= λ count.
+    flag_at part.Client index table (codes "repeat") >>= λ repeat.
+    texts_at part.Client index table (codes "body") >>= λ body.
+    Ok (record { name = name; count = count; repeat = repeat; body = body })
+
+-- the entries of a document: first the three lists, then each entry's shape
+unfoldable pub entries_of : Members → Result Entries PlanFault
+entries_of document =
+    list_at (codes "pool") MOST_POOLS document >>= λ pools.
+    list_at (codes "class") MOST_CLASSES document >>= λ classes.
+    list_at (codes "client") MOST_CLIENTS document >>= λ clients.
+    read_each pool_at 0 pools >>= λ pools.
+    read_each class_at 0 classes >>= λ classes.
+    read_each client_at 0 clients >>= λ clients.
+    Ok (record { pools = pools; classes = classes; clients = clients })

@@ -1,0 +1,78 @@
+-- The grammar of an action: `work N`, `submit CLASS`, `submit CLASS as SLOT` and `get SLOT`.
+use Rattle.std.specs.Prelude.{ℕ, Bool, ◌==◌, ◌&&◌, not, nat_lt, if◌then◌else◌, List, length, codes, Option, None, Some, option_map, option_and_then, slice_index}
+use Rattle.std.specs.List.{list_all, position_or_len, before_first, after_first}
+use Rattle.std.specs.Str.{bytes_eq}
+use Rattle.std.specs.Str.Parse.{digits_value}
+use Rattle.job_bodies.specs.declared.limits.TheConstants.{MOST_UNITS}
+use Rattle.job_bodies.specs.WellFormed.{is_lawful_name, is_within}
+use Rattle.plan_text.specs.declared.order.Order as read
+use Rattle.plan_text.specs.declared.order.Order.TheVariants.{Work, Submit, SubmitAs, Get}
+
+-- an action as its text gives it: classes and slots by name
+pub data Order : Type 0 where
+  work : ℕ → Order
+  submit : List ℕ → Order
+  submit_as : List ℕ → List ℕ → Order
+  get : List ℕ → Order
+
+-- an order of the code, its names without where they stand
+abbrev pub order_view : read.Order → Order
+order_view (Work units) = work units
+order_view (Submit class) = submit class.now
+order_view (SubmitAs class slot) = submit_as class.now slot.now
+order_view (Get slot) = get slot.now
+
+infixl 10 ◌>>?◌
+abbrev pub ◌>>?◌ : {A B : Type 0} → Option A → (A → Option B) → Option B
+o >>? f = option_and_then f o
+
+-- what stands before and after the first space
+abbrev pub split_space : List ℕ → Option (List ℕ × List ℕ)
+split_space text =
+    if nat_lt (position_or_len (λ b. b == 32) text) (length text)
+    then Some (before_first (λ b. b == 32) text, after_first (λ b. b == 32) text) else None
+
+-- the text, where it is a name
+abbrev pub name_of : List ℕ → Option (List ℕ)
+name_of text = if is_lawful_name text then Some text else None
+
+-- 0 to 9
+abbrev pub is_digit : ℕ → Bool
+is_digit b = is_within 48 57 b
+
+abbrev pub are_digits : List ℕ → Bool
+are_digits bytes = list_all is_digit bytes
+
+-- one digit or more, the first of which is not 0
+abbrev pub is_decimal : List ℕ → Bool
+is_decimal digits = not (length digits == 0) && not (slice_index digits 0 == 48) && are_digits digits
+
+-- the length of a piece of work: a decimal number from 1 to the limit
+unfoldable pub units_of : List ℕ → Option ℕ
+units_of text = if is_decimal text && is_within 1 MOST_UNITS (digits_value 10 text) then Some (digits_value 10 text) else None
+
+-- a submit that fills a slot, from its class and what stands after the class
+unfoldable pub submit_as_of : List ℕ → List ℕ → Option Order
+submit_as_of class text =
+    split_space text >>? λ words.
+    if bytes_eq words.0 (codes "as") then (name_of class >>? λ class. name_of words.1 >>? λ slot. Some (submit_as class slot)) else None
+
+-- a submit, from what stands after its verb
+abbrev pub submit_parts : List ℕ → Option (List ℕ × List ℕ) → Option Order
+submit_parts text None = name_of text >>? λ class. Some (submit class)
+submit_parts text (Some words) = submit_as_of words.0 words.1
+
+unfoldable pub submit_of : List ℕ → Option Order
+submit_of text = submit_parts text (split_space text)
+
+-- the order of a verb, from what stands after it
+unfoldable pub order_of_verb : List ℕ → List ℕ → Option Order
+order_of_verb verb text =
+    if bytes_eq verb (codes "work") then (units_of text >>? λ units. Some (work units))
+    else if bytes_eq verb (codes "submit") then submit_of text
+    else if bytes_eq verb (codes "get") then (name_of text >>? λ slot. Some (get slot))
+    else None
+
+-- the order that a text gives
+unfoldable pub order_of : List ℕ → Option Order
+order_of text = split_space text >>? λ words. order_of_verb words.0 words.1

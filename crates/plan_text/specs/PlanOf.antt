@@ -1,0 +1,24 @@
+-- The plan of a text: the document, the entries' shapes, names and numbers, and then the bodies.
+use Rattle.std.specs.Prelude.{ℕ, List, Result, Ok}
+use Rattle.readings.specs.Reading.{◌>>=◌, read_each}
+use Rattle.job_bodies.specs.declared.fault.PlanFault.{PlanFault}
+use Rattle.job_bodies.specs.Plan.{Plan}
+use Rattle.job_bodies.specs.Build.{given, build}
+use Rattle.plan_text.specs.Document.{document_of}
+use Rattle.plan_text.specs.Entries.{Entries, entries_of}
+use Rattle.plan_text.specs.Checks.{check_pools, check_classes, check_clients}
+use Rattle.plan_text.specs.Bodies.{class_of, client_of}
+
+-- the plan of entries
+unfoldable pub plan_of_entries : Entries → Result Plan PlanFault
+plan_of_entries entries =
+    check_pools entries.pools >>= λ pool_names.
+    check_classes pool_names entries.classes >>= λ class_names.
+    check_clients entries.clients >>= λ _.
+    read_each (class_of pool_names class_names) 0 entries.classes >>= λ classes.
+    read_each (client_of class_names) 0 entries.clients >>= λ clients.
+    build (given entries.pools classes clients)
+
+-- the plan that the bytes are the text of, or the first fault
+unfoldable pub plan_of : List ℕ → Result Plan PlanFault
+plan_of bytes = document_of bytes >>= λ document. entries_of document >>= λ entries. plan_of_entries entries

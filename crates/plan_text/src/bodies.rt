@@ -1,0 +1,203 @@
+//! Bodies, action by action: classes get their places, gets the positions of their submits.
+
+ghost use Rattle.std.specs.Prelude.{◌≡◌, List, ℕ, map, OnOk, IfOk, Some};
+ghost use Rattle.readings.specs.Reading.{read_each};
+ghost use Rattle.readings.specs.Given.{Gives};
+ghost use Rattle.job_bodies.specs.Checks.{at_action};
+ghost use Rattle.plan_text.specs.Bodies as spec;
+ghost use Rattle.plan_text.specs.Orders.{order_of, order_view};
+ghost use Rattle.plan_text.specs.Slots.{position_in, filled_by};
+
+use crate::entries::{ClassEntry, ClientEntry, PoolEntry};
+use crate::fault::TextError;
+use crate::names::Names;
+use crate::order::{Order, order_of};
+use crate::slots::Slots;
+use job_bodies::fault_number::{BAD_ACTION, NO_SUCH_CLASS, SLOT_EMPTY, SLOT_OPEN};
+use job_bodies::{Action, Class, Client, Part, PlanFault, Pool};
+use readings::ReadError;
+use std::alloc::{AllocError, Global};
+
+/// An action of an entry's body, and where it stands.
+#[derive(Clone, Copy)]
+struct Place {
+    part: Part,
+    index: usize,
+    action: usize,
+}
+
+impl Place {
+    fn refuses(self, number: u8) -> TextError
+        ensures { result ≡ ReadError.Fault (at_action self.part self.index self.action number) }
+    {
+        ReadError::Fault(PlanFault::at_action(self.part, self.index, self.action, number))
+    }
+}
+
+fn class_named(classes: &Names, place: Place, name: &str) -> Result<usize, TextError>
+    ensures { Gives (λ class. class) result (spec.class_named classes.now (at_action place.part place.index place.action) name.now) }
+{
+    let class = classes.place(name);
+    if class >= classes.len() {
+        return Err(place.refuses(NO_SUCH_CLASS));
+    }
+    Ok(class)
+}
+
+fn action_of<'a>(
+    classes: &Names<'a>,
+    slots: &mut Slots<'a>,
+    place: Place,
+    order: Order<'a>,
+) -> Result<Action, TextError>
+    ensures action { Gives (λ action. action) result (spec.action_of classes.now (position_in slots.old) (at_action place.part place.index place.action) (order_view order.entry)) }
+    ensures slots { OnOk result ((slot : List ℕ) → position_in slots.new slot ≡ filled_by slot place.action (position_in slots.old slot) (Some (order_view order.entry))) }
+{
+    match order {
+        Order::Work(units) => Ok(Action::Work(units)),
+        Order::Submit(class) => {
+            let class = class_named(classes, place, class)?;
+            Ok(Action::Submit(class))
+        }
+        Order::SubmitAs(class, slot) => {
+            let class = class_named(classes, place, class)?;
+            if slots.filled(slot).is_some() {
+                return Err(place.refuses(SLOT_OPEN));
+            }
+            slots.fill(slot, place.action)?;
+            Ok(Action::Submit(class))
+        }
+        Order::Get(slot) => {
+            let Some(submit) = slots.filled(slot) else {
+                return Err(place.refuses(SLOT_EMPTY));
+            };
+            slots.empty(slot);
+            Ok(Action::Get(submit))
+        }
+    }
+}
+
+#[tactic(auto, unfolding(crate::specs::Bodies::action_at))]
+fn action_at<'a>(
+    classes: &Names<'a>,
+    slots: &mut Slots<'a>,
+    place: Place,
+    text: &'a str,
+) -> Result<Action, TextError>
+    ensures action { Gives (λ action. action) result (spec.action_at classes.now (position_in slots.old) (at_action place.part place.index place.action) text.now) }
+    ensures slots { OnOk result ((slot : List ℕ) → position_in slots.new slot ≡ filled_by slot place.action (position_in slots.old slot) (order_of text.now)) }
+{
+    match order_of(text) {
+        Some(order) => action_of(classes, slots, place, order),
+        None => Err(place.refuses(BAD_ACTION)),
+    }
+}
+
+fn body_of<'a>(
+    alloc: Global,
+    classes: &Names<'a>,
+    part: Part,
+    index: usize,
+    texts: &[&'a str],
+) -> Result<Vec<Action>, TextError>
+    ensures { Gives (λ body. body.items) result (spec.body_of classes.now part index (map (λ text. text.now) texts.now)) }
+{
+    let mut slots = Slots::new(alloc);
+    let mut body = Vec::new(alloc);
+    for (position, text) in texts.iter().enumerate() {
+        let place = Place {
+            part,
+            index,
+            action: position,
+        };
+        let action = action_at(classes, &mut slots, place, text)?;
+        body.push(action)?;
+    }
+    Ok(body)
+}
+
+fn class_of<'a>(
+    alloc: Global,
+    pools: &Names<'a>,
+    classes: &Names<'a>,
+    index: usize,
+    class: &ClassEntry<'a>,
+) -> Result<Class, TextError>
+    ensures { Gives (λ class. class) result (spec.class_of pools.now classes.now index class.now) }
+{
+    let body = body_of(alloc, classes, Part::Class, index, &class.body)?;
+    let name = String::from_str(alloc, class.name)?;
+    Ok(Class {
+        name,
+        pool: pools.place(class.pool),
+        body,
+    })
+}
+
+fn client_of<'a>(
+    alloc: Global,
+    classes: &Names<'a>,
+    index: usize,
+    client: &ClientEntry<'a>,
+) -> Result<Client, TextError>
+    ensures { Gives (λ client. client) result (spec.client_of classes.now index client.now) }
+{
+    let body = body_of(alloc, classes, Part::Client, index, &client.body)?;
+    let name = String::from_str(alloc, client.name)?;
+    Ok(Client {
+        name,
+        count: client.count,
+        repeat: client.repeat,
+        body,
+    })
+}
+
+/// The pools of these entries.
+pub fn pools_of(alloc: Global, entries: &[PoolEntry]) -> Result<Vec<Pool>, AllocError>
+    ensures { IfOk result (λ pools. pools.items ≡ entries.now) }
+{
+    let mut pools = Vec::new(alloc);
+    for entry in entries {
+        let name = String::from_str(alloc, entry.name)?;
+        pools.push(Pool {
+            name,
+            core: entry.core,
+            max: entry.max,
+            queue: entry.queue,
+        })?;
+    }
+    Ok(pools)
+}
+
+/// The classes of these entries, with their bodies.
+pub fn classes_of<'a>(
+    alloc: Global,
+    pools: &Names<'a>,
+    names: &Names<'a>,
+    entries: &[ClassEntry<'a>],
+) -> Result<Vec<Class>, TextError>
+    ensures { Gives (λ classes. classes.items) result (read_each (spec.class_of pools.now names.now) 0 entries.now) }
+{
+    let mut classes = Vec::new(alloc);
+    for (index, entry) in entries.iter().enumerate() {
+        let class = class_of(alloc, pools, names, index, entry)?;
+        classes.push(class)?;
+    }
+    Ok(classes)
+}
+
+/// The clients of these entries, with their bodies.
+pub fn clients_of<'a>(
+    alloc: Global,
+    names: &Names<'a>,
+    entries: &[ClientEntry<'a>],
+) -> Result<Vec<Client>, TextError>
+    ensures { Gives (λ clients. clients.items) result (read_each (spec.client_of names.now) 0 entries.now) }
+{
+    let mut clients = Vec::new(alloc);
+    for (index, entry) in entries.iter().enumerate() {
+        let client = client_of(alloc, names, index, entry)?;
+        clients.push(client)?;
+    }
+    Ok(clients)
+}

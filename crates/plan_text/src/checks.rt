@@ -1,0 +1,128 @@
+//! Names and numbers: each name is lawful and new in its list, each number in its range, each class's pool there.
+
+ghost use Rattle.std.specs.Prelude.{◌≡◌, ◌++◌, ◌∷◌, [], OnOk, length};
+ghost use Rattle.readings.specs.Given.{Gives};
+ghost use Rattle.job_bodies.specs.WellFormed as lawful;
+ghost use Rattle.job_bodies.specs.Checks as checks;
+ghost use Rattle.plan_text.specs.Checks as spec;
+
+use crate::entries::{ClassEntry, ClientEntry, PoolEntry};
+use crate::fault::TextError;
+use crate::names::Names;
+use job_bodies::fault_number::{BAD_NAME, BAD_NUMBER, DOUBLE_NAME, NO_SUCH_POOL};
+use job_bodies::{MOST_UNITS, Part, PlanFault, is_lawful_name, is_within};
+use readings::ReadError;
+use std::alloc::Global;
+
+/// Adds an entry's name to the earlier names of its list.
+fn check_name<'a>(
+    names: &mut Names<'a>,
+    part: Part,
+    index: usize,
+    name: &'a str,
+) -> Result<(), TextError>
+    ensures check { Gives (λ _. tt) result (checks.check_name names.old part index name.now) }
+    ensures names { OnOk result (names.new ≡ names.old ++ name.now ∷ []) }
+{
+    if !is_lawful_name(name) {
+        return Err(ReadError::Fault(PlanFault::at_entry(part, index, BAD_NAME)));
+    }
+    if !names.add(name)? {
+        return Err(ReadError::Fault(PlanFault::at_entry(part, index, DOUBLE_NAME)));
+    }
+    Ok(())
+}
+
+fn has_lawful_sizes(pool: &PoolEntry) -> bool
+    ensures { result ≡ lawful.has_lawful_sizes pool.now }
+{
+    is_within(1, MOST_UNITS, pool.core)
+        && is_within(pool.core, MOST_UNITS, pool.max)
+        && is_within(1, MOST_UNITS, pool.queue)
+}
+
+fn check_pool<'a>(
+    names: &mut Names<'a>,
+    index: usize,
+    pool: &PoolEntry<'a>,
+) -> Result<(), TextError>
+    ensures check { Gives (λ _. tt) result (checks.check_pool names.old index pool.now) }
+    ensures names { OnOk result (names.new ≡ names.old ++ pool.now.name ∷ []) }
+{
+    check_name(names, Part::Pool, index, pool.name)?;
+    if !has_lawful_sizes(pool) {
+        return Err(ReadError::Fault(PlanFault::at_entry(Part::Pool, index, BAD_NUMBER)));
+    }
+    Ok(())
+}
+
+fn check_class<'a>(
+    pools: &Names<'a>,
+    names: &mut Names<'a>,
+    index: usize,
+    class: &ClassEntry<'a>,
+) -> Result<(), TextError>
+    ensures check { Gives (λ _. tt) result (checks.check_class (length pools.now) names.old index (spec.class_head pools.now class.now)) }
+    ensures names { OnOk result (names.new ≡ names.old ++ class.now.name ∷ []) }
+{
+    check_name(names, Part::Class, index, class.name)?;
+    if pools.place(class.pool) >= pools.len() {
+        return Err(ReadError::Fault(PlanFault::at_entry(Part::Class, index, NO_SUCH_POOL)));
+    }
+    Ok(())
+}
+
+fn check_client<'a>(
+    names: &mut Names<'a>,
+    index: usize,
+    client: &ClientEntry<'a>,
+) -> Result<(), TextError>
+    ensures check { Gives (λ _. tt) result (checks.check_client names.old index (spec.client_head client.now)) }
+    ensures names { OnOk result (names.new ≡ names.old ++ client.now.name ∷ []) }
+{
+    check_name(names, Part::Client, index, client.name)?;
+    if !is_within(1, MOST_UNITS, client.count) {
+        return Err(ReadError::Fault(PlanFault::at_entry(Part::Client, index, BAD_NUMBER)));
+    }
+    Ok(())
+}
+
+/// The names of the pools, where their names and sizes are lawful.
+#[tactic(auto, unfolding(crate::specs::Checks::check_pools))]
+pub fn check_pools<'a>(alloc: Global, pools: &[PoolEntry<'a>]) -> Result<Names<'a>, TextError>
+    ensures { Gives (λ names. names) result (spec.check_pools pools.now) }
+{
+    let mut names = Names::new(alloc);
+    for (index, pool) in pools.iter().enumerate() {
+        check_pool(&mut names, index, pool)?;
+    }
+    Ok(names)
+}
+
+/// The names of the classes, where their names are lawful and their pools are among these.
+#[tactic(auto, unfolding(crate::specs::Checks::check_classes))]
+pub fn check_classes<'a>(
+    alloc: Global,
+    pools: &Names<'a>,
+    classes: &[ClassEntry<'a>],
+) -> Result<Names<'a>, TextError>
+    ensures { Gives (λ names. names) result (spec.check_classes pools.now classes.now) }
+{
+    let mut names = Names::new(alloc);
+    for (index, class) in classes.iter().enumerate() {
+        check_class(pools, &mut names, index, class)?;
+    }
+    Ok(names)
+}
+
+/// The clients' names and counts are lawful.
+#[tactic(auto, unfolding(crate::specs::Checks::check_clients))]
+pub fn check_clients(alloc: Global, clients: &[ClientEntry]) -> Result<(), TextError>
+    ensures { Gives (λ _. tt) result (spec.check_clients clients.now) }
+{
+    let mut names = Names::new(alloc);
+    for (index, client) in clients.iter().enumerate() {
+        check_client(&mut names, index, client)?;
+    }
+    Ok(())
+}

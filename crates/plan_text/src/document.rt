@@ -1,0 +1,114 @@
+//! The document as TOML: its length, its bytes, and its keys at the top.
+
+ghost use Rattle.std.specs.Prelude.{◌≡◌, map, option_map, string_bytes};
+ghost use Rattle.std.specs.BTreeMap.{keys};
+ghost use Rattle.std.specs.List.{list_any, list_all};
+ghost use Rattle.std.specs.Str.{bytes_eq};
+ghost use Rattle.toml.specs.Data.{get_member};
+ghost use Rattle.toml.specs.View.{view, table_view};
+ghost use Rattle.readings.specs.Given.{Gives};
+ghost use Rattle.plan_text.specs.Document as spec;
+
+use crate::fault::TextError;
+use job_bodies::PlanFault;
+use job_bodies::fault_number::{NOT_TOML, TOO_MANY, UNKNOWN_KEY, WRONG_TYPE};
+use readings::ReadError;
+use std::alloc::Global;
+use toml::{Table, Value};
+
+/// The most bytes of a plan's text.
+pub const MOST_TEXT_BYTES: usize = 1_048_576;
+
+/// The document's table, which has no other keys than a plan's.
+#[tactic(auto, unfolding(crate::specs::Document::document_of))]
+pub fn document_of(alloc: Global, bytes: &[u8]) -> Result<Table, TextError>
+    ensures { Gives table_view result (spec.document_of bytes.now) }
+{
+    if bytes.len() > MOST_TEXT_BYTES {
+        return Err(ReadError::Fault(PlanFault::at_text(TOO_MANY)));
+    }
+    let text = text_of(bytes)?;
+    let document = table_of(alloc, text)?;
+    if !has_only(&document, &["pool", "class", "client"]) {
+        return Err(ReadError::Fault(PlanFault::at_text(UNKNOWN_KEY)));
+    }
+    Ok(document)
+}
+
+fn text_of(bytes: &[u8]) -> Result<&str, TextError>
+    ensures { Gives (λ text. text.now) result (spec.text_of bytes.now) }
+{
+    match std::str::from_utf8(bytes) {
+        Ok(text) => Ok(text),
+        Err(_) => Err(ReadError::Fault(PlanFault::at_text(NOT_TOML))),
+    }
+}
+
+fn table_of(alloc: Global, text: &str) -> Result<Table, TextError>
+    ensures { Gives table_view result (spec.table_of text.now) }
+{
+    match toml::table_from_str(alloc, text) {
+        Ok(table) => Ok(table),
+        Err(error) => {
+            if error.is_memory() {
+                Err(ReadError::Memory)
+            } else {
+                Err(ReadError::Fault(PlanFault::at_text(NOT_TOML)))
+            }
+        }
+    }
+}
+
+/// Whether every key of the table is one of these.
+pub fn has_only(table: &Table, keys: &[&str]) -> bool
+    ensures { result ≡ spec.has_only (map (λ key. key.now) keys.now) (table_view table.now) }
+{
+    are_among(table, keys)
+}
+
+fn are_among(table: &Table, known: &[&str]) -> bool
+    ensures { result ≡ list_all (λ key. list_any (λ k. bytes_eq k.now (string_bytes key)) known.now) (keys table.now) }
+{
+    table.keys().all(|key| known.contains(&key.as_str()))
+}
+
+/// The value at a key.
+pub fn value_at<'a>(table: &'a Table, key: &str) -> Option<&'a Value>
+    ensures { option_map (λ value. view value.now) result ≡ get_member key.now (table_view table.now) }
+{
+    table.get(key)
+}
+
+/// The elements of a value that is an array.
+pub fn list_in(value: &Value) -> Option<&[Value]>
+    ensures { option_map (λ values. map view values.now) result ≡ spec.as_list (view value.now) }
+{
+    match value.as_array() {
+        Some(values) => Some(values.as_slice()),
+        None => None,
+    }
+}
+
+/// The entries of a list at the top, none where its key is absent.
+#[tactic(auto, unfolding(crate::specs::Document::list_at))]
+pub fn list_at<'a>(document: &'a Table, key: &str, most: usize) -> Result<&'a [Value], TextError>
+    ensures { Gives (λ values. map view values.now) result (spec.list_at key.now most (table_view document.now)) }
+{
+    let values = list_of(value_at(document, key))?;
+    if values.len() > most {
+        return Err(ReadError::Fault(PlanFault::at_text(TOO_MANY)));
+    }
+    Ok(values)
+}
+
+fn list_of(value: Option<&Value>) -> Result<&[Value], TextError>
+    ensures { Gives (λ values. map view values.now) result (spec.list_of (option_map (λ value. view value.now) value.entry)) }
+{
+    let Some(value) = value else {
+        return Ok(&[]);
+    };
+    match list_in(value) {
+        Some(values) => Ok(values),
+        None => Err(ReadError::Fault(PlanFault::at_text(WRONG_TYPE))),
+    }
+}

@@ -1,0 +1,175 @@
+//! The entries of a plan's text by their shapes: each key is there and of its type.
+
+ghost use Rattle.std.specs.Prelude.{◌≡◌, map};
+ghost use Rattle.toml.specs.View.{view, table_view};
+ghost use Rattle.readings.specs.Reading.{read_each};
+ghost use Rattle.readings.specs.Given.{Gives};
+ghost use Rattle.job_bodies.specs.Plan as plan;
+ghost use Rattle.plan_text.specs.Entries as spec;
+
+use crate::document::list_at;
+use crate::entry::Entry;
+use crate::fault::TextError;
+use job_bodies::{MOST_CLASSES, MOST_CLIENTS, MOST_POOLS, Part};
+use std::alloc::Global;
+use std::marker::Model;
+use toml::{Table, Value};
+
+/// A pool as its text gives it.
+#[derive(Drop)]
+pub struct PoolEntry<'a> {
+    pub name: &'a str,
+    pub core: u64,
+    pub max: u64,
+    pub queue: u64,
+}
+
+impl<'a> Model for PoolEntry<'a> {
+    ghost Value = { plan.Pool };
+
+    ghost view = { λ p. record { name = p.name.now; core = p.core; max = p.max; queue = p.queue } };
+}
+
+/// A class of jobs as its text gives it, its pool by name.
+#[derive(Drop)]
+pub struct ClassEntry<'a> {
+    pub name: &'a str,
+    pub pool: &'a str,
+    pub body: Vec<&'a str>,
+}
+
+impl<'a> Model for ClassEntry<'a> {
+    ghost Value = { spec.ClassEntry };
+
+    ghost view = { λ k. record { name = k.name.now; pool = k.pool.now; body = map (λ text. text.now) k.body.items } };
+}
+
+/// A kind of clients as its text gives it.
+#[derive(Drop)]
+pub struct ClientEntry<'a> {
+    pub name: &'a str,
+    pub count: u64,
+    pub repeat: bool,
+    pub body: Vec<&'a str>,
+}
+
+impl<'a> Model for ClientEntry<'a> {
+    ghost Value = { spec.ClientEntry };
+
+    ghost view = { λ c. record { name = c.name.now; count = c.count; repeat = c.repeat; body = map (λ text. text.now) c.body.items } };
+}
+
+/// A document's entries.
+#[derive(Drop)]
+pub struct Entries<'a> {
+    pub pools: Vec<PoolEntry<'a>>,
+    pub classes: Vec<ClassEntry<'a>>,
+    pub clients: Vec<ClientEntry<'a>>,
+}
+
+impl<'a> Model for Entries<'a> {
+    ghost Value = { spec.Entries };
+
+    ghost view = { λ e. record { pools = e.pools.items; classes = e.classes.items; clients = e.clients.items } };
+}
+
+#[tactic(auto, unfolding(crate::specs::Entries::pool_at))]
+fn pool_at(index: usize, value: &Value) -> Result<PoolEntry<'_>, TextError>
+    ensures { Gives (λ pool. pool) result (spec.pool_at index (view value.now)) }
+{
+    let entry = Entry::of(value, Part::Pool, index, &["name", "core", "max", "queue"])?;
+    let name = entry.text("name")?;
+    let core = entry.number("core")?;
+    let max = entry.number("max")?;
+    let queue = entry.number("queue")?;
+    Ok(PoolEntry {
+        name,
+        core,
+        max,
+        queue,
+    })
+}
+
+#[tactic(auto, unfolding(crate::specs::Entries::class_at))]
+fn class_at(alloc: Global, index: usize, value: &Value) -> Result<ClassEntry<'_>, TextError>
+    ensures { Gives (λ class. class) result (spec.class_at index (view value.now)) }
+{
+    let entry = Entry::of(value, Part::Class, index, &["name", "pool", "body"])?;
+    let name = entry.text("name")?;
+    let pool = entry.text("pool")?;
+    let body = entry.texts(alloc, "body")?;
+    Ok(ClassEntry { name, pool, body })
+}
+
+#[tactic(auto, unfolding(crate::specs::Entries::client_at))]
+fn client_at(alloc: Global, index: usize, value: &Value) -> Result<ClientEntry<'_>, TextError>
+    ensures { Gives (λ client. client) result (spec.client_at index (view value.now)) }
+{
+    let entry = Entry::of(
+        value,
+        Part::Client,
+        index,
+        &["name", "count", "repeat", "body"],
+    )?;
+    let name = entry.text("name")?;
+    let count = entry.number("count")?;
+    let repeat = entry.flag("repeat")?;
+    let body = entry.texts(alloc, "body")?;
+    Ok(ClientEntry {
+        name,
+        count,
+        repeat,
+        body,
+    })
+}
+
+fn pools_of(alloc: Global, values: &[Value]) -> Result<Vec<PoolEntry<'_>>, TextError>
+    ensures { Gives (λ pools. pools.items) result (read_each spec.pool_at 0 (map view values.now)) }
+{
+    let mut pools = Vec::new(alloc);
+    for (index, value) in values.iter().enumerate() {
+        let pool = pool_at(index, value)?;
+        pools.push(pool)?;
+    }
+    Ok(pools)
+}
+
+fn classes_of(alloc: Global, values: &[Value]) -> Result<Vec<ClassEntry<'_>>, TextError>
+    ensures { Gives (λ classes. classes.items) result (read_each spec.class_at 0 (map view values.now)) }
+{
+    let mut classes = Vec::new(alloc);
+    for (index, value) in values.iter().enumerate() {
+        let class = class_at(alloc, index, value)?;
+        classes.push(class)?;
+    }
+    Ok(classes)
+}
+
+fn clients_of(alloc: Global, values: &[Value]) -> Result<Vec<ClientEntry<'_>>, TextError>
+    ensures { Gives (λ clients. clients.items) result (read_each spec.client_at 0 (map view values.now)) }
+{
+    let mut clients = Vec::new(alloc);
+    for (index, value) in values.iter().enumerate() {
+        let client = client_at(alloc, index, value)?;
+        clients.push(client)?;
+    }
+    Ok(clients)
+}
+
+/// The entries of a document: first the three lists, then each entry's shape.
+#[tactic(auto, unfolding(crate::specs::Entries::entries_of))]
+pub fn entries_of(alloc: Global, document: &Table) -> Result<Entries<'_>, TextError>
+    ensures { Gives (λ entries. entries) result (spec.entries_of (table_view document.now)) }
+{
+    let pools = list_at(document, "pool", MOST_POOLS)?;
+    let classes = list_at(document, "class", MOST_CLASSES)?;
+    let clients = list_at(document, "client", MOST_CLIENTS)?;
+    let pools = pools_of(alloc, pools)?;
+    let classes = classes_of(alloc, classes)?;
+    let clients = clients_of(alloc, clients)?;
+    Ok(Entries {
+        pools,
+        classes,
+        clients,
+    })
+}

@@ -1,0 +1,58 @@
+//! Names of a list, numbered in order of appearance.
+
+ghost use Rattle.std.specs.Prelude.{◌≡◌, ◌++◌, ◌∷◌, [], List, ℕ, map, not, length, if◌then◌else◌, IfOk};
+ghost use Rattle.std.specs.List.{list_any, position_or_len};
+ghost use Rattle.std.specs.Str.{bytes_eq};
+
+use indexmap::IndexSet;
+use std::alloc::{AllocError, Global};
+use std::marker::Model;
+
+/// The distinct names of a list, each with its place.
+#[derive(Drop)]
+pub struct Names<'a> {
+    names: IndexSet<&'a str>,
+}
+
+impl<'a> Model for Names<'a> {
+    ghost Value = { List (List ℕ) };
+
+    ghost view = { λ n. map (λ name. name.now) n.names.keys };
+}
+
+impl<'a> Names<'a> {
+    /// No names.
+    pub fn new(alloc: Global) -> Names<'a>
+        ensures { result ≡ [] }
+    {
+        Names {
+            names: IndexSet::new(alloc),
+        }
+    }
+
+    /// Adds a name at the end, where it is new, and answers whether it is.
+    pub fn add(&mut self, name: &'a str) -> Result<bool, AllocError>
+        ensures is_new { IfOk result (λ is_new. is_new ≡ not (list_any (bytes_eq name.now) self.old)) }
+        ensures names { IfOk result (λ is_new. self.new ≡ (if is_new then self.old ++ name.now ∷ [] else self.old)) }
+    {
+        let is_new = self.names.insert(name)?;
+        Ok(is_new)
+    }
+
+    /// The place of a name, or how many names there are where it is none of them.
+    pub fn place(&self, name: &str) -> usize
+        ensures { result ≡ position_or_len (bytes_eq name.now) self.now }
+    {
+        match self.names.get_index_of(name) {
+            Some(place) => place,
+            None => self.names.len(),
+        }
+    }
+
+    /// How many names there are.
+    pub fn len(&self) -> usize
+        ensures { result ≡ length self.now }
+    {
+        self.names.len()
+    }
+}

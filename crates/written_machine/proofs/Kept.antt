@@ -1,0 +1,49 @@
+-- What every reached state keeps.
+use Rattle.std.proofs.Common.{◌≡◌, ◌≢◌, ℕ, ◌+◌, ◌<◌, ◌≤◌, List, length, get_or, Some, All}
+use Rattle.std.specs.List.{slice_get, count_by}
+use Rattle.numbered_lists.specs.Places.{places_where, last_of}
+use Rattle.job_bodies.specs.declared.action.Action.{Action}
+use Rattle.job_bodies.specs.declared.action.Action.TheVariants as action
+use Rattle.job_bodies.specs.Plan.{Plan, Pool, pool_at, class_got}
+use Rattle.written_machine.specs.declared.parent.Parent.{Parent}
+use Rattle.written_machine.specs.declared.parent.Parent.TheVariants as parent
+use Rattle.written_machine.specs.State.{Stage, State, Made, PoolPart, no_job, job_at, pool_part, is_made_by, is_busy_in, is_queued_in}
+use Rattle.written_machine.specs.Step.{point}
+
+-- n is a job that the actor can have made: a job's children have greater numbers than it
+abbrev pub IsAfter : Parent → ℕ → Type 0
+IsAfter (parent.Client c) n = Unit {0}
+IsAfter (parent.Job j) n = j < n
+
+-- the actor's latest job from position t is of class k, and was not claimed
+pub record HasChild (jobs : List Made) (a : Parent) (t k : ℕ) : Type 0 where
+  pub number : ℕ
+  pub is_child : last_of (places_where (is_made_by a t) jobs) ≡ Some number
+  pub of_class : (get_or jobs number no_job).class ≡ k
+  pub unclaimed : (get_or jobs number no_job).stage ≢ Stage.Claimed
+  pub later : IsAfter a number
+
+-- an actor at position i of its body: each get that is still to come finds its job, if the submit was passed
+pub record ActorKept (jobs : List Made) (a : Parent) (body : List Action) (i : ℕ) : Type 0 where
+  pub inside : i ≤ length body
+  pub ready : (g t : ℕ) → i ≤ g → t < i → slice_get body g ≡ Some (action.Get t) → HasChild jobs a t (class_got body t)
+
+-- a pool's state, the numbers of its queued jobs, and how many of its jobs are at work
+pub record PoolKept (pool : Pool) (part : PoolPart) (places : List ℕ) (busy : ℕ) : Type 0 where
+  pub queue : part.queue ≡ places
+  pub within_max : part.idle + busy ≤ pool.max
+  pub within_queue : length part.queue ≤ pool.queue
+  pub core : 1 ≤ length part.queue → pool.core ≤ part.idle + busy
+
+abbrev pub places : Plan → List Made → ℕ → List ℕ
+places plan jobs p = places_where (is_queued_in plan p) jobs
+
+abbrev pub busy_jobs : Plan → List Made → ℕ → ℕ
+busy_jobs plan jobs p = count_by (is_busy_in plan p) jobs
+
+pub record Kept (plan : Plan) (s : State) : Type 0 where
+  pub classes : All (λ job. job.class < length plan.classes) s.jobs
+  pub parents : (j : ℕ) → j < length s.jobs → IsAfter (job_at s j).parent j
+  pub as_many : length s.pools ≡ length plan.pools
+  pub pools : (p : ℕ) → p < length plan.pools → PoolKept (pool_at plan p) (pool_part s p) (places plan s.jobs p) (busy_jobs plan s.jobs p)
+  pub actors : (a : Parent) (body : List Action) (i : ℕ) → point plan s a ≡ Some (record { body = body; position = i }) → ActorKept s.jobs a body i

@@ -1,0 +1,63 @@
+-- What each event leaves of a pool.
+use Rattle.std.proofs.Common.{◌≡◌, ◌≢◌, ℕ, suc, ◌+◌, ◌<◌, ◌≤◌, Bool, true, false, cond, inl, inr, List, [], ◌∷◌, ◌++◌, length, refl, sym, ap, subst, arith}
+use Rattle.std.proofs.lemmas.Bool.{cases_eq}
+use Rattle.std.proofs.lemmas.List.{length_push, get_or-set_same, get_or-set_other}
+use Rattle.job_bodies.specs.Plan.{Plan, Pool, pool_at}
+use Rattle.written_machine.specs.State.{State, Made, PoolPart, no_pool_part, pool_part}
+use Rattle.written_machine.proofs.Events.{with_part}
+use Rattle.written_machine.proofs.Kept.{PoolKept, places, busy_jobs}
+
+pub same_pool : (pool : Pool) (part part' : PoolPart) (ns ns' : List ℕ) (busy busy' : ℕ) → part' ≡ part → ns' ≡ ns → busy' ≡ busy → PoolKept pool part ns busy → PoolKept pool part' ns' busy'
+same_pool pool part part' ns ns' busy busy' same_part same_places same_busy kept = rw (same_part, same_places, same_busy) kept
+
+-- one more job may be at work
+pub started_pool : (pool : Pool) (part : PoolPart) (ns : List ℕ) (busy : ℕ) (here : Bool) → PoolKept pool part ns busy → (here ≡ true → part.idle + busy < pool.max) → PoolKept pool part ns (busy + cond here 1 0)
+started_pool pool part ns busy true kept room =
+    let below = room refl in
+    record { queue = kept.queue; within_max = omega arith; within_queue = kept.within_queue; core = λ some. let core = kept.core some in omega arith }
+started_pool pool part ns busy false kept room =
+    record { queue = kept.queue; within_max = omega (arith, kept.within_max); within_queue = kept.within_queue; core = λ some. let core = kept.core some in omega arith }
+
+pub queued_pool : (pool : Pool) (part : PoolPart) (ns : List ℕ) (busy n : ℕ) → PoolKept pool part ns busy → pool.core ≤ part.idle + busy → length part.queue < pool.queue
+    → PoolKept pool (record { queue = part.queue ++ n ∷ []; idle = part.idle }) (ns ++ n ∷ []) busy
+queued_pool pool part ns busy n kept at_core room = record {
+  queue = ap (λ (queue : List ℕ). queue ++ n ∷ []) kept.queue;
+  within_max = kept.within_max;
+  within_queue = omega (arith, length_push part.queue n);
+  core = λ some. at_core;
+}
+
+pub taken_pool : (pool : Pool) (part : PoolPart) (ns ns' : List ℕ) (busy j : ℕ) (queue : List ℕ) (idle : ℕ) → PoolKept pool part ns busy → part.queue ≡ j ∷ queue → part.idle ≡ suc idle → queue ≡ ns'
+    → PoolKept pool (record { queue = queue; idle = idle }) ns' (busy + 1)
+taken_pool pool part ns ns' busy j queue idle kept is_queue is_idle others =
+    let long : length part.queue ≡ suc (length queue) = ap length is_queue in
+    let core = kept.core (omega arith) in
+    record { queue = others; within_max = omega (arith, kept.within_max); within_queue = omega (arith, kept.within_queue); core = λ some. omega arith }
+
+pub finished_pool : (pool : Pool) (part : PoolPart) (ns : List ℕ) (busy busy' : ℕ) → PoolKept pool part ns busy → busy' + 1 ≡ busy → PoolKept pool (record { queue = part.queue; idle = part.idle + 1 }) ns busy'
+finished_pool pool part ns busy busy' kept fewer =
+    record { queue = kept.queue; within_max = omega (arith, kept.within_max); within_queue = kept.within_queue; core = λ some. let core = kept.core some in omega arith }
+
+pub retired_pool : (pool : Pool) (part : PoolPart) (ns : List ℕ) (busy idle : ℕ) → PoolKept pool part ns busy → part.idle ≡ suc idle → pool.core < part.idle + busy
+    → PoolKept pool (record { queue = part.queue; idle = idle }) ns busy
+retired_pool pool part ns busy idle kept is_idle above_core =
+    record { queue = kept.queue; within_max = omega (arith, kept.within_max); within_queue = kept.within_queue; core = λ some. omega arith }
+
+abbrev pub PoolIsKept : Plan → List Made → ℕ → PoolPart → Type 0
+PoolIsKept plan jobs p part = PoolKept (pool_at plan p) part (places plan jobs p) (busy_jobs plan jobs p)
+
+-- pool q as the event left it, and the others as they were
+pub pools_with_part : (plan : Plan) (s : State) (q : ℕ) (queue : List ℕ) (idle : ℕ) → length s.pools ≡ length plan.pools
+    → (q < length plan.pools → PoolIsKept plan s.jobs q (record { queue = queue; idle = idle }))
+    → ((p : ℕ) → p < length plan.pools → p ≢ q → PoolIsKept plan s.jobs p (pool_part s p))
+    → (p : ℕ) → p < length plan.pools → PoolIsKept plan s.jobs p (pool_part (with_part q queue idle s) p)
+pools_with_part plan s q queue idle as_many here elsewhere p inside = elim (cases_eq p q) [
+  | inl same ↦
+      let exists : q < length plan.pools = omega arith in
+      let is_part : pool_part (with_part q queue idle s) q ≡ record { queue = queue; idle = idle } = get_or-set_same s.pools q (record { queue = queue; idle = idle }) no_pool_part (omega arith) in
+      let kept : PoolIsKept plan s.jobs q (pool_part (with_part q queue idle s) q) = subst (PoolIsKept plan s.jobs q) (sym is_part) (here exists) in
+      subst (λ (x : ℕ). PoolIsKept plan s.jobs x (pool_part (with_part q queue idle s) x)) (sym same) kept
+  | inr other ↦
+      let is_part : pool_part (with_part q queue idle s) p ≡ pool_part s p = get_or-set_other s.pools q p (record { queue = queue; idle = idle }) no_pool_part other in
+      subst (PoolIsKept plan s.jobs p) (sym is_part) (elsewhere p inside other)
+]

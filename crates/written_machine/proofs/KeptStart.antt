@@ -1,0 +1,48 @@
+-- The start keeps what every reached state keeps.
+use Rattle.std.proofs.Common.{◌≡◌, ℕ, zero, suc, ◌<◌, ⊎_elim, List, [], replicate, slice_get, Some, refl, sym, ap, subst, ◌∙◌, arith}
+use Rattle.std.specs.List.{enumerate_from}
+use Rattle.std.proofs.lemmas.List.{length-map, get_or-map}
+use Rattle.numbered_lists.specs.In.{In}
+use Rattle.numbered_lists.proofs.Members.{not_In_nil, In-cons_cases, In-slice_get, In-flat_map_from}
+use Rattle.job_bodies.specs.declared.action.Action.{Action}
+use Rattle.job_bodies.specs.Plan.{Plan, Pool, no_pool, pool_at}
+use Rattle.written_machine.specs.declared.client_state.ClientState.{ClientState}
+use Rattle.written_machine.specs.declared.parent.Parent.{Parent}
+use Rattle.written_machine.specs.declared.parent.Parent.TheVariants as parent
+use Rattle.written_machine.specs.State.{PoolPart, no_pool_part}
+use Rattle.written_machine.specs.Reach.{new_clients, start}
+use Rattle.written_machine.proofs.Standing.{standing_made, client_standing}
+use Rattle.written_machine.proofs.Kept.{ActorKept, PoolKept, Kept}
+use Rattle.written_machine.proofs.Actors.{Stands}
+use Rattle.written_machine.proofs.KeptActors.{actor_begins}
+
+-- ---- the start
+
+In-replicate : {X : Type 0} (n : ℕ) (x y : X) → In y (replicate n x) → y ≡ x
+In-replicate zero x y i = absurd (not_In_nil i)
+In-replicate (suc n) x y i = ⊎_elim (λ first. first) (λ later. In-replicate n x y later) (In-cons_cases i)
+
+start_position : (plan : Plan) (c : ℕ) (client : ClientState) → slice_get (start plan).clients c ≡ Some client → client.position ≡ 0
+start_position plan c client e =
+    let found = In-flat_map_from new_clients (enumerate_from 0 plan.clients) (In-slice_get (start plan).clients c client e) in
+    ap (λ (x : ClientState). x.position) (In-replicate found.0.1.count (record { kind = found.0.0; position = 0 }) client found.2)
+
+start_actor : (plan : Plan) (a : Parent) (body : List Action) (i : ℕ) → Stands plan (start plan) a body i → ActorKept [] a body i
+start_actor plan (parent.Client c) body i stands =
+    let client = client_standing plan (slice_get (start plan).clients c) body i stands in
+    subst (ActorKept [] (parent.Client c) body) (sym (start_position plan c client.0 client.1) ∙ client.3) (actor_begins [] (parent.Client c) body)
+start_actor plan (parent.Job j) body i stands =
+    let made : j < 0 = standing_made plan (start plan) j body i stands in
+    absurd (omega arith)
+
+start_pool : (pool : Pool) → PoolKept pool no_pool_part [] 0
+start_pool pool = record { queue = refl; within_max = omega arith; within_queue = omega arith; core = λ some. absurd (omega arith) }
+
+pub kept_start : (plan : Plan) → Kept plan (start plan)
+kept_start plan = record {
+  classes = λ k d inside. absurd (omega arith);
+  parents = λ j inside. absurd (omega arith);
+  as_many = length-map plan.pools (λ pool. no_pool_part);
+  pools = λ p inside. subst (λ (part : PoolPart). PoolKept (pool_at plan p) part [] 0) (sym (get_or-map (λ (pool : Pool). no_pool_part) plan.pools p no_pool no_pool_part inside)) (start_pool (pool_at plan p));
+  actors = start_actor plan;
+}

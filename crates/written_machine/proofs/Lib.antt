@@ -1,0 +1,16 @@
+pub mod Events
+pub mod Standing
+pub mod Kept
+pub mod Stages
+pub mod Queues
+pub mod KeptPools
+pub mod Children
+pub mod Actors
+pub mod KeptActors
+pub mod KeptStart
+pub mod KeptSubmits
+pub mod KeptStep
+pub mod Reached
+pub mod WaitingSets
+pub mod ReachedLaws
+pub mod WorkedReplays

@@ -1,0 +1,156 @@
+-- The pools' queues and threads, as the list of jobs tells them.
+use Rattle.std.proofs.Common.{◌≡◌, ◌≢◌, ℕ, ◌+◌, ◌<◌, ◌≤◌, Bool, true, false, cond, ◌&&◌, eqb, inl, inr, List, [], ◌∷◌, ◌++◌, length, get_or, Some, refl, sym, ap, subst, ◌∙◌, arith, append-nil}
+use Rattle.std.proofs.lemmas.Bool.{false≢true, cases_lt, and_parts, and_from, and_left, and_right, eqb-true, eq-eqb, ne_eqb}
+use Rattle.std.proofs.lemmas.List.{get_or_past}
+use Rattle.std.proofs.lemmas.List.Sums.{sum_by_push}
+use Rattle.numbered_lists.specs.In.{In}
+use Rattle.numbered_lists.specs.Places.{cons_if}
+use Rattle.numbered_lists.proofs.Places.{places_where_push, places_where-set_same, first_where, In-places_where}
+use Rattle.numbered_lists.proofs.Sums.{count_by-set}
+use Rattle.job_bodies.specs.declared.action.Action.{Action}
+use Rattle.job_bodies.specs.Plan.{Plan}
+use Rattle.job_bodies.proofs.Bodies.{IsOrdered}
+use Rattle.written_machine.specs.declared.parent.Parent.{Parent}
+use Rattle.written_machine.specs.declared.parent.Parent.TheVariants as parent
+use Rattle.written_machine.specs.State.{Stage, State, Made, PoolPart, no_job, no_pool_part, job_at, pool_part, pool_of, is_at, is_queued, is_busy_in, is_queued_in}
+use Rattle.written_machine.specs.Step.{point, moved_jobs}
+use Rattle.written_machine.proofs.Standing.{stage_of_standing, standing_made, job_made}
+use Rattle.written_machine.proofs.Kept.{Kept, places, busy_jobs}
+use Rattle.written_machine.proofs.Stages.{staged}
+
+-- ---- what stands in a queue
+
+pub queued_stage : (stage : Stage) → is_queued stage ≡ true → stage ≡ Stage.Queued
+queued_stage Stage.Queued e = refl
+queued_stage (Stage.At i) e = absurd (false≢true e)
+queued_stage Stage.Done e = absurd (false≢true e)
+queued_stage Stage.Claimed e = absurd (false≢true e)
+
+pub Queued≢Claimed : {stage : Stage} → stage ≡ Stage.Queued → stage ≢ Stage.Claimed
+Queued≢Claimed queued claimed = cc
+
+-- the head of a queue is a job that is queued in that pool, and the rest are the others
+pub record IsHead (plan : Plan) (s : State) (p j : ℕ) (rest : List ℕ) : Type 0 where
+  pub exists : p < length plan.pools
+  pub inside : j < length s.jobs
+  pub queued : (job_at s j).stage ≡ Stage.Queued
+  pub of_pool : pool_of plan (job_at s j).class ≡ p
+  pub others : (stage : Stage) → is_queued stage ≡ false → rest ≡ places plan (staged s.jobs j stage) p
+
+pub pool_exists : (s : State) (p j : ℕ) (rest : List ℕ) → (pool_part s p).queue ≡ j ∷ rest → p < length s.pools
+pool_exists s p j rest e = elim (cases_lt p (length s.pools)) [
+  | inl inside ↦ inside
+  | inr past ↦
+      let none : (pool_part s p).queue ≡ [] = ap (λ (part : PoolPart). part.queue) (get_or_past s.pools p no_pool_part past) in
+      absurd cc
+]
+
+pub head_of_queue : (plan : Plan) (s : State) (p j : ℕ) (rest : List ℕ) → Kept plan s → (pool_part s p).queue ≡ j ∷ rest → IsHead plan s p j rest
+head_of_queue plan s p j rest kept e =
+    let found : p < length s.pools = pool_exists s p j rest e in
+    let exists : p < length plan.pools = omega (arith, kept.as_many) in
+    let first = first_where (is_queued_in plan p) s.jobs j rest (sym (kept.pools p exists).queue ∙ e) in
+    let parts = and_parts (is_queued (job_at s j).stage) (eqb (pool_of plan (job_at s j).class) p) (first.passes no_job) in
+    record {
+      exists = exists;
+      inside = first.inside;
+      queued = queued_stage (job_at s j).stage parts.0;
+      of_pool = eqb-true (pool_of plan (job_at s j).class) p parts.1;
+      others = λ stage gone. sym (first.without (record (job_at s j) { stage = stage }) (and_left (is_queued stage) (eqb (pool_of plan (job_at s j).class) p) gone));
+    }
+
+-- the pool of a job that was made
+pub pool_of_made : (plan : Plan) (s : State) (j : ℕ) → IsOrdered plan → Kept plan s → j < length s.jobs → pool_of plan (job_at s j).class < length plan.pools
+pool_of_made plan s j ordered kept inside = ordered.pools (job_at s j).class (kept.classes j no_job inside)
+
+-- a job that is queued stands in its pool's queue
+pub In-queue : (plan : Plan) (s : State) (j : ℕ) → IsOrdered plan → Kept plan s → (job_at s j).stage ≡ Stage.Queued → In j (pool_part s (pool_of plan (job_at s j).class)).queue
+In-queue plan s j ordered kept queued =
+    let p = pool_of plan (job_at s j).class in
+    let inside = job_made s j (Queued≢Claimed queued) in
+    let passes : is_queued_in plan p (job_at s j) ≡ true = and_from (is_queued (job_at s j).stage) (eqb p p) (ap is_queued queued) (eq-eqb p p refl) in
+    subst (In j) (sym (kept.pools p (pool_of_made plan s j ordered kept inside)).queue) (In-places_where (is_queued_in plan p) s.jobs j no_job inside passes)
+
+length-In : (ns : List ℕ) (n : ℕ) → In n ns → 1 ≤ length ns
+length-In [] n i = elim i [ ]
+length-In (m ∷ ns) n i = omega arith
+
+pub queued_in_queue : (plan : Plan) (s : State) (j : ℕ) → IsOrdered plan → Kept plan s → (job_at s j).stage ≡ Stage.Queued → 1 ≤ length (pool_part s (pool_of plan (job_at s j).class)).queue
+queued_in_queue plan s j ordered kept queued = length-In (pool_part s (pool_of plan (job_at s j).class)).queue j (In-queue plan s j ordered kept queued)
+
+-- ---- queues after a change of the jobs
+
+-- a stage that is queued as the old one was leaves each queue
+pub places-staged : (plan : Plan) (jobs : List Made) (j : ℕ) (stage : Stage) (p : ℕ) → is_queued stage ≡ is_queued (get_or jobs j no_job).stage → places plan (staged jobs j stage) p ≡ places plan jobs p
+places-staged plan jobs j stage p same =
+    places_where-set_same (is_queued_in plan p) jobs j (record (get_or jobs j no_job) { stage = stage }) no_job (ap (λ (b : Bool). b && eqb (pool_of plan (get_or jobs j no_job).class) p) same)
+
+pub places-moved : (plan : Plan) (s : State) (a : Parent) (body : List Action) (i i' p : ℕ) → point plan s a ≡ Some (record { body = body; position = i }) → places plan (moved_jobs a i' s) p ≡ places plan s.jobs p
+places-moved plan s (parent.Client c) body i i' p stands = refl
+places-moved plan s (parent.Job j) body i i' p stands =
+    places-staged plan s.jobs j (Stage.At i') p (sym (ap is_queued (stage_of_standing plan (job_at s j).class (job_at s j).stage body i stands).0))
+
+pub places_push : (plan : Plan) (jobs : List Made) (job : Made) (p : ℕ) → places plan (jobs ++ job ∷ []) p ≡ places plan jobs p ++ cons_if (is_queued_in plan p job) (length jobs) []
+places_push plan jobs job p = places_where_push (is_queued_in plan p) jobs job
+
+pub places_push_same : (plan : Plan) (jobs : List Made) (job : Made) (p : ℕ) → is_queued_in plan p job ≡ false → places plan (jobs ++ job ∷ []) p ≡ places plan jobs p
+places_push_same plan jobs job p elsewhere =
+    places_push plan jobs job p ∙ ap (λ (b : Bool). places plan jobs p ++ cons_if b (length jobs) []) elsewhere ∙ append-nil (places plan jobs p)
+
+-- ---- jobs at work after a change of the jobs
+
+abbrev pub one_if : Bool → ℕ
+one_if b = cond b 1 0
+
+-- the count of a pool goes by whether the job was at work there, and is
+pub busy-staged : (plan : Plan) (jobs : List Made) (j : ℕ) (stage : Stage) (p : ℕ) → j < length jobs
+    → busy_jobs plan (staged jobs j stage) p + one_if (is_busy_in plan p (get_or jobs j no_job)) ≡ busy_jobs plan jobs p + one_if (is_at stage && eqb (pool_of plan (get_or jobs j no_job).class) p)
+busy-staged plan jobs j stage p inside = count_by-set (is_busy_in plan p) jobs j (record (get_or jobs j no_job) { stage = stage }) no_job inside
+
+pub busy-staged_same : (plan : Plan) (jobs : List Made) (j : ℕ) (stage : Stage) (p : ℕ) → j < length jobs → is_at stage ≡ is_at (get_or jobs j no_job).stage → busy_jobs plan (staged jobs j stage) p ≡ busy_jobs plan jobs p
+busy-staged_same plan jobs j stage p inside same =
+    let in_pool = eqb (pool_of plan (get_or jobs j no_job).class) p in
+    let as_before : one_if (is_at stage && in_pool) ≡ one_if (is_at (get_or jobs j no_job).stage && in_pool) = ap (λ (b : Bool). one_if (b && in_pool)) same in
+    omega (arith, busy-staged plan jobs j stage p inside, as_before)
+
+pub busy-moved : (plan : Plan) (s : State) (a : Parent) (body : List Action) (i i' p : ℕ) → point plan s a ≡ Some (record { body = body; position = i }) → busy_jobs plan (moved_jobs a i' s) p ≡ busy_jobs plan s.jobs p
+busy-moved plan s (parent.Client c) body i i' p stands = refl
+busy-moved plan s (parent.Job j) body i i' p stands =
+    busy-staged_same plan s.jobs j (Stage.At i') p (standing_made plan s j body i stands) (sym (ap is_at (stage_of_standing plan (job_at s j).class (job_at s j).stage body i stands).0))
+
+pub busy_push : (plan : Plan) (jobs : List Made) (job : Made) (p : ℕ) → busy_jobs plan (jobs ++ job ∷ []) p ≡ busy_jobs plan jobs p + one_if (is_busy_in plan p job)
+busy_push plan jobs job p = sum_by_push (λ (x : Made). one_if (is_busy_in plan p x)) jobs job
+
+-- ---- the pools that are not the job's
+
+pub places-staged_elsewhere : (plan : Plan) (jobs : List Made) (j : ℕ) (stage : Stage) (p : ℕ) → pool_of plan (get_or jobs j no_job).class ≢ p → places plan (staged jobs j stage) p ≡ places plan jobs p
+places-staged_elsewhere plan jobs j stage p other =
+    let elsewhere = ne_eqb (pool_of plan (get_or jobs j no_job).class) p other in
+    places_where-set_same (is_queued_in plan p) jobs j (record (get_or jobs j no_job) { stage = stage }) no_job
+    (and_right (is_queued stage) (eqb (pool_of plan (get_or jobs j no_job).class) p) elsewhere ∙ sym (and_right (is_queued (get_or jobs j no_job).stage) (eqb (pool_of plan (get_or jobs j no_job).class) p) elsewhere))
+
+pub busy-staged_elsewhere : (plan : Plan) (jobs : List Made) (j : ℕ) (stage : Stage) (p : ℕ) → j < length jobs → pool_of plan (get_or jobs j no_job).class ≢ p → busy_jobs plan (staged jobs j stage) p ≡ busy_jobs plan jobs p
+busy-staged_elsewhere plan jobs j stage p inside other =
+    let in_pool = eqb (pool_of plan (get_or jobs j no_job).class) p in
+    let elsewhere : in_pool ≡ false = ne_eqb (pool_of plan (get_or jobs j no_job).class) p other in
+    let before : one_if (is_at (get_or jobs j no_job).stage && in_pool) ≡ 0 = ap one_if (and_right (is_at (get_or jobs j no_job).stage) in_pool elsewhere) in
+    let after : one_if (is_at stage && in_pool) ≡ 0 = ap one_if (and_right (is_at stage) in_pool elsewhere) in
+    omega (arith, busy-staged plan jobs j stage p inside, before, after)
+
+-- ---- the pool of the job
+
+pub busy-staged_fewer : (plan : Plan) (jobs : List Made) (j : ℕ) (stage : Stage) → j < length jobs → is_at (get_or jobs j no_job).stage ≡ true → is_at stage ≡ false
+    → busy_jobs plan (staged jobs j stage) (pool_of plan (get_or jobs j no_job).class) + 1 ≡ busy_jobs plan jobs (pool_of plan (get_or jobs j no_job).class)
+busy-staged_fewer plan jobs j stage inside was is =
+    let p = pool_of plan (get_or jobs j no_job).class in
+    let before : one_if (is_at (get_or jobs j no_job).stage && eqb p p) ≡ 1 = ap one_if (and_from (is_at (get_or jobs j no_job).stage) (eqb p p) was (eq-eqb p p refl)) in
+    let after : one_if (is_at stage && eqb p p) ≡ 0 = ap one_if (and_left (is_at stage) (eqb p p) is) in
+    omega (arith, busy-staged plan jobs j stage p inside, before, after)
+
+pub busy-staged_more : (plan : Plan) (jobs : List Made) (j : ℕ) (stage : Stage) (p : ℕ) → j < length jobs → pool_of plan (get_or jobs j no_job).class ≡ p → is_at (get_or jobs j no_job).stage ≡ false → is_at stage ≡ true
+    → busy_jobs plan (staged jobs j stage) p ≡ busy_jobs plan jobs p + 1
+busy-staged_more plan jobs j stage p inside of_pool was is =
+    let in_pool = eqb (pool_of plan (get_or jobs j no_job).class) p in
+    let before : one_if (is_at (get_or jobs j no_job).stage && in_pool) ≡ 0 = ap one_if (and_left (is_at (get_or jobs j no_job).stage) in_pool was) in
+    let after : one_if (is_at stage && in_pool) ≡ 1 = ap one_if (and_from (is_at stage) in_pool is (eq-eqb (pool_of plan (get_or jobs j no_job).class) p of_pool)) in
+    omega (arith, busy-staged plan jobs j stage p inside, before, after)

@@ -1,0 +1,43 @@
+-- What holds at the start and stays through every event holds in every reached state.
+use Rattle.std.proofs.Common.{◌≡◌, List, [], ◌∷◌, Option, Some, None, refl, subst}
+use Rattle.std.proofs.lemmas.Option.{same_Some}
+use Rattle.job_bodies.specs.Plan.{Plan}
+use Rattle.job_bodies.specs.WellFormed.{IsWellFormed}
+use Rattle.job_bodies.proofs.Bodies.{ordered}
+use Rattle.written_machine.specs.declared.event.Event.{Event}
+use Rattle.written_machine.specs.declared.event.Outcome.{Outcome}
+use Rattle.written_machine.specs.State.{State}
+use Rattle.written_machine.specs.Step.{step}
+use Rattle.written_machine.specs.Reach.{start, state_after, replay, IsReached}
+use Rattle.written_machine.proofs.Events.{Happens, happens}
+use Rattle.written_machine.proofs.Kept.{Kept}
+use Rattle.written_machine.proofs.KeptStart.{kept_start}
+use Rattle.written_machine.proofs.KeptStep.{kept_step}
+
+-- the fact goes from each state to the states after its events
+abbrev pub StaysThrough : Plan → (State → Type 0) → Type 0
+StaysThrough plan holds = (s : State) (e : Event) (s' : State) (o : Outcome) → holds s → Happens plan s e s' o → holds s'
+
+-- after an impossible event there is no state
+pub replay_none : (plan : Plan) (events : List Event) → replay plan None events ≡ None
+replay_none plan [] = refl
+replay_none plan (e ∷ events) = refl
+
+after_event : (plan : Plan) (holds : State → Type 0) → StaysThrough plan holds → (s : State) (e : Event) (events : List Event) (s' : State) → ((next : State) → holds next → replay plan (Some next) events ≡ Some s' → holds s')
+    → holds s → (found : Option (State × Outcome)) → step plan s e ≡ found → replay plan (state_after found) events ≡ Some s' → holds s'
+after_event plan holds stays s e events s' onward held None is_step replayed =
+    let none : replay plan None events ≡ None = replay_none plan events in
+    absurd cc
+after_event plan holds stays s e events s' onward held (Some (next, o)) is_step replayed = onward next (stays s e next o held (happens plan s e next o is_step)) replayed
+
+pub replay_keeps : (plan : Plan) (holds : State → Type 0) → StaysThrough plan holds → (events : List Event) (s s' : State) → holds s → replay plan (Some s) events ≡ Some s' → holds s'
+replay_keeps plan holds stays [] s s' held replayed = subst holds (same_Some s s' replayed) held
+replay_keeps plan holds stays (e ∷ events) s s' held replayed =
+    after_event plan holds stays s e events s' (λ next held' rest. replay_keeps plan holds stays events next s' held' rest) held (step plan s e) refl replayed
+
+pub reached_keeps : (plan : Plan) (holds : State → Type 0) → holds (start plan) → StaysThrough plan holds → (s : State) → IsReached plan s → holds s
+reached_keeps plan holds at_start stays s reached = replay_keeps plan holds stays reached.0 (start plan) s at_start reached.1
+
+pub kept : (plan : Plan) (s : State) → IsWellFormed plan → IsReached plan s → Kept plan s
+kept plan s well_formed reached =
+    reached_keeps plan (Kept plan) (kept_start plan) (λ s₁ e s₂ o held happened. kept_step plan s₁ s₂ o (ordered plan well_formed) held happened) s reached

@@ -1,0 +1,92 @@
+-- The list of jobs after one of them came to another stage, and after one more was made.
+use Rattle.std.proofs.Common.{◌≡◌, ◌≢◌, ℕ, zero, suc, ◌<◌, inl, inr, List, [], ◌∷◌, ◌++◌, length, get_or, set, All, refl, sym, ap, subst, arith}
+use Rattle.std.proofs.lemmas.Bool.{cases_lt}
+use Rattle.std.proofs.lemmas.List.{length-set, length_push, get_or-set_same, get_or-set_other, get_or_append_left, get_or_push}
+use Rattle.std.proofs.lemmas.List.Elements.{All-push}
+use Rattle.numbered_lists.specs.Places.{places_where, last_of}
+use Rattle.numbered_lists.proofs.Places.{places_where-set_same}
+use Rattle.written_machine.specs.declared.parent.Parent.{Parent}
+use Rattle.written_machine.specs.declared.parent.Parent.TheVariants as parent
+use Rattle.written_machine.specs.State.{Stage, State, Made, no_job, is_made_by}
+use Rattle.written_machine.specs.Step.{moved_jobs}
+use Rattle.written_machine.proofs.Kept.{IsAfter}
+
+-- the jobs, with job j at this stage
+abbrev pub staged : List Made → ℕ → Stage → List Made
+staged jobs j stage = set jobs j (record (get_or jobs j no_job) { stage = stage })
+
+pub length-staged : (jobs : List Made) (j : ℕ) (stage : Stage) → length (staged jobs j stage) ≡ length jobs
+length-staged jobs j stage = length-set jobs j (record (get_or jobs j no_job) { stage = stage })
+
+pub stage-staged : (jobs : List Made) (j : ℕ) (stage : Stage) → j < length jobs → (get_or (staged jobs j stage) j no_job).stage ≡ stage
+stage-staged jobs j stage inside = ap (λ (job : Made). job.stage) (get_or-set_same jobs j (record (get_or jobs j no_job) { stage = stage }) no_job inside)
+
+-- the other jobs are as they were
+pub get_or-staged_other : (jobs : List Made) (j : ℕ) (stage : Stage) (n : ℕ) (d : Made) → n ≢ j → get_or (staged jobs j stage) n d ≡ get_or jobs n d
+get_or-staged_other jobs j stage n d other = get_or-set_other jobs j n (record (get_or jobs j no_job) { stage = stage }) d other
+
+pub class-staged : (jobs : List Made) (j : ℕ) (stage : Stage) (n : ℕ) (d : Made) → (get_or (staged jobs j stage) n d).class ≡ (get_or jobs n d).class
+class-staged [] j stage n d = refl
+class-staged (x ∷ xs) zero stage zero d = refl
+class-staged (x ∷ xs) zero stage (suc n) d = refl
+class-staged (x ∷ xs) (suc j) stage zero d = refl
+class-staged (x ∷ xs) (suc j) stage (suc n) d = class-staged xs j stage n d
+
+pub parent-staged : (jobs : List Made) (j : ℕ) (stage : Stage) (n : ℕ) (d : Made) → (get_or (staged jobs j stage) n d).parent ≡ (get_or jobs n d).parent
+parent-staged [] j stage n d = refl
+parent-staged (x ∷ xs) zero stage zero d = refl
+parent-staged (x ∷ xs) zero stage (suc n) d = refl
+parent-staged (x ∷ xs) (suc j) stage zero d = refl
+parent-staged (x ∷ xs) (suc j) stage (suc n) d = parent-staged xs j stage n d
+
+-- an actor's latest job is the same
+pub child-stage : (jobs : List Made) (a : Parent) (t j : ℕ) (stage : Stage) → last_of (places_where (is_made_by a t) (staged jobs j stage)) ≡ last_of (places_where (is_made_by a t) jobs)
+child-stage jobs a t j stage = ap last_of (places_where-set_same (is_made_by a t) jobs j (record (get_or jobs j no_job) { stage = stage }) no_job refl)
+
+-- ---- after an actor moved
+
+pub length-moved : (s : State) (a : Parent) (i : ℕ) → length (moved_jobs a i s) ≡ length s.jobs
+length-moved s (parent.Client c) i = refl
+length-moved s (parent.Job j) i = length-staged s.jobs j (Stage.At i)
+
+pub child-moved : (s : State) (b : Parent) (i : ℕ) (a : Parent) (t : ℕ) → last_of (places_where (is_made_by a t) (moved_jobs b i s)) ≡ last_of (places_where (is_made_by a t) s.jobs)
+child-moved s (parent.Client c) i a t = refl
+child-moved s (parent.Job j) i a t = child-stage s.jobs a t j (Stage.At i)
+
+-- ---- the classes of the jobs
+
+abbrev pub HaveClasses : ℕ → List Made → Type 0
+HaveClasses classes jobs = All (λ job. job.class < classes) jobs
+
+pub classes_staged : (classes : ℕ) (jobs : List Made) (j : ℕ) (stage : Stage) → HaveClasses classes jobs → HaveClasses classes (staged jobs j stage)
+classes_staged classes jobs j stage each n d inside =
+    subst (λ (k : ℕ). k < classes) (sym (class-staged jobs j stage n d)) (each n d (omega (arith, length-staged jobs j stage)))
+
+pub classes_moved : (classes : ℕ) (s : State) (a : Parent) (i : ℕ) → HaveClasses classes s.jobs → HaveClasses classes (moved_jobs a i s)
+classes_moved classes s (parent.Client c) i each = each
+classes_moved classes s (parent.Job j) i each = classes_staged classes s.jobs j (Stage.At i) each
+
+pub classes_pushed : (classes : ℕ) (jobs : List Made) (job : Made) → HaveClasses classes jobs → job.class < classes → HaveClasses classes (jobs ++ job ∷ [])
+classes_pushed classes jobs job each inside = All-push (λ (x : Made). x.class < classes) jobs job each inside
+
+-- ---- the makers of the jobs
+
+-- each job has a greater number than its maker
+abbrev pub HaveParents : List Made → Type 0
+HaveParents jobs = (j : ℕ) → j < length jobs → IsAfter (get_or jobs j no_job).parent j
+
+pub parents_staged : (jobs : List Made) (j : ℕ) (stage : Stage) → HaveParents jobs → HaveParents (staged jobs j stage)
+parents_staged jobs j stage each n inside =
+    subst (λ (a : Parent). IsAfter a n) (sym (parent-staged jobs j stage n no_job)) (each n (omega (arith, length-staged jobs j stage)))
+
+pub parents_moved : (s : State) (a : Parent) (i : ℕ) → HaveParents s.jobs → HaveParents (moved_jobs a i s)
+parents_moved s (parent.Client c) i each = each
+parents_moved s (parent.Job j) i each = parents_staged s.jobs j (Stage.At i) each
+
+pub parents_pushed : (jobs : List Made) (job : Made) → HaveParents jobs → IsAfter job.parent (length jobs) → HaveParents (jobs ++ job ∷ [])
+parents_pushed jobs job each after n inside = elim (cases_lt n (length jobs)) [
+  | inl earlier ↦ subst (λ (x : Made). IsAfter x.parent n) (sym (get_or_append_left jobs (job ∷ []) no_job n earlier)) (each n earlier)
+  | inr past ↦
+      let last : length jobs ≡ n = omega (arith, length_push jobs job) in
+      subst (λ (x : Made). IsAfter x.parent n) (sym (get_or_push jobs job no_job n last)) (subst (IsAfter job.parent) last after)
+]

@@ -1,0 +1,49 @@
+-- What holds in every reached state of a well-formed plan.
+use Rattle.std.specs.Prelude.{◌≡◌, ◌≢◌, ◌<◌, ◌≤◌, ◌↔◌, ⊤, ℕ, IsTrue, List, length, Some, slice_get}
+use Rattle.job_bodies.specs.declared.action.Action.{Action}
+use Rattle.job_bodies.specs.declared.action.Action.TheVariants.{Get}
+use Rattle.job_bodies.specs.Plan.{Plan, pool_at, class_got}
+use Rattle.job_bodies.specs.WellFormed.{IsWellFormed}
+use Rattle.written_machine.specs.declared.parent.Parent.{Parent}
+use Rattle.written_machine.specs.declared.parent.Parent.TheVariants.{Client, Job}
+use Rattle.written_machine.specs.State.{State, Stage, job_at, pool_part, threads, child}
+use Rattle.written_machine.specs.Step.{point}
+use Rattle.written_machine.specs.Reach.{IsReached}
+use Rattle.written_machine.specs.Waiting.{IsWaitingSet, is_waiting_set}
+
+-- the fact holds of every well-formed plan and every state that it reaches
+abbrev pub HoldsWhereReached : (Plan → State → Type 0) → Type 0
+HoldsWhereReached holds = (plan : Plan) (s : State) → IsWellFormed plan → IsReached plan s → holds plan s
+
+-- the pool has no more threads than its max, and no more queued jobs than its queue holds
+pub record KeepsSizes (plan : Plan) (s : State) (p : ℕ) : Type 0 where
+  pub within_max : threads plan s p ≤ (pool_at plan p).max
+  pub within_queue : length (pool_part s p).queue ≤ (pool_at plan p).queue
+
+abbrev pub PoolsKeepTheirSizes : Type 0
+PoolsKeepTheirSizes = HoldsWhereReached (λ plan s. (p : ℕ) → p < length plan.pools → KeepsSizes plan s p)
+
+-- where a job waits in a pool's queue, the pool has at least core threads
+abbrev pub QueuesOnlyAtCore : Type 0
+QueuesOnlyAtCore = HoldsWhereReached (λ plan s. (p : ℕ) → p < length plan.pools → 1 ≤ length (pool_part s p).queue → (pool_at plan p).core ≤ threads plan s p)
+
+-- a job's children have greater numbers than it
+abbrev pub IsLater : Parent → ℕ → Type 0
+IsLater (Client c) n = ⊤
+IsLater (Job j) n = j < n
+
+-- the actor's latest job from position t is of class k, was not claimed, and is later than the actor
+pub record HasLatest (s : State) (a : Parent) (t k : ℕ) : Type 0 where
+  pub number : ℕ
+  pub is_child : child s a t ≡ Some number
+  pub of_class : (job_at s number).class ≡ k
+  pub unclaimed : (job_at s number).stage ≢ Stage.Claimed
+  pub later : IsLater a number
+
+-- an actor that stands at a get has a latest job there, of the class that the submit names
+abbrev pub GetsHaveChildren : Type 0
+GetsHaveChildren = HoldsWhereReached (λ plan s. (a : Parent) (body : List Action) (i t : ℕ) → point plan s a ≡ Some (record { body = body; position = i }) → slice_get body i ≡ Some (Get t) → HasLatest s a t (class_got body t))
+
+-- the test for a waiting set says what the words say
+abbrev pub WaitingSetsAreTested : Type 0
+WaitingSetsAreTested = (plan : Plan) (s : State) (members : List ℕ) → IsTrue (is_waiting_set plan s members) ↔ IsWaitingSet plan s members

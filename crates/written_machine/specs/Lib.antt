@@ -1,0 +1,6 @@
+pub mod State
+pub mod Step
+pub mod Reach
+pub mod Waiting
+pub mod Safe
+pub mod Laws

@@ -1,0 +1,50 @@
+-- The states that a list of events reaches from the start.
+use Rattle.std.specs.Prelude.{◌≡◌, ℕ, List, [], ◌∷◌, map, replicate, Option, Some, None}
+use Rattle.std.specs.List.{flat_map, enumerate_from}
+use Rattle.job_bodies.specs.Plan.{Plan, Client}
+use Rattle.written_machine.specs.declared.client_state.ClientState.{ClientState}
+use Rattle.written_machine.specs.declared.event.Event.{Event}
+use Rattle.written_machine.specs.declared.event.Outcome.{Outcome}
+use Rattle.written_machine.specs.State.{State, no_pool_part}
+use Rattle.written_machine.specs.Step.{step}
+
+-- the clients of a numbered kind, at the start
+abbrev pub new_clients : ℕ × Client → List ClientState
+new_clients entry = replicate entry.1.count (record { kind = entry.0; position = 0 })
+
+-- no jobs, no workers, empty queues, each kind's clients at 0, no refusals
+abbrev pub start : Plan → State
+start plan = record {
+  jobs = [];
+  pools = map (λ pool. no_pool_part) plan.pools;
+  clients = flat_map new_clients (enumerate_from 0 plan.clients);
+  refusals = 0;
+}
+
+abbrev pub state_after : Option (State × Outcome) → Option State
+state_after None = None
+state_after (Some x) = Some x.0
+
+-- the state after the events, or None where one of them is not possible
+abbrev pub replay : Plan → Option State → List Event → Option State
+replay plan s [] = s
+replay plan None (e ∷ events) = None
+replay plan (Some s) (e ∷ events) = replay plan (state_after (step plan s e)) events
+
+abbrev pub outcome_of : Option (State × Outcome) → Option Outcome
+outcome_of None = None
+outcome_of (Some x) = Some x.1
+
+-- what comes of each event of the list; nothing is possible after an event that is not
+abbrev pub outcomes : Plan → Option State → List Event → List (Option Outcome)
+outcomes plan s [] = []
+outcomes plan None (e ∷ events) = None ∷ outcomes plan None events
+outcomes plan (Some s) (e ∷ events) = let x = step plan s e in outcome_of x ∷ outcomes plan (state_after x) events
+
+-- the list of events reaches the state
+abbrev pub Reaches : Plan → List Event → State → Type 0
+Reaches plan events s = replay plan (Some (start plan)) events ≡ Some s
+
+-- some list of events reaches the state
+abbrev pub IsReached : Plan → State → Type 0
+IsReached plan s = (events : List Event) × Reaches plan events s

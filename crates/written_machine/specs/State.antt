@@ -1,0 +1,102 @@
+-- States of a plan: every job ever made, the pools' queues and idle workers, and where the clients stand.
+use Rattle.std.specs.Prelude.{ℕ, ◌+◌, ◌==◌, ◌&&◌, Bool, true, false, List, [], Option, slice_index_or, count_by}
+use Rattle.numbered_lists.specs.Places.{places_where, last_of}
+use Rattle.job_bodies.specs.Plan.{Pool, Plan, pool_at, class_at}
+use Rattle.pool_machine.specs.PoolState.{PoolView}
+use Rattle.written_machine.specs.declared.client_state.ClientState.{ClientState}
+use Rattle.written_machine.specs.declared.parent.Parent.{Parent}
+use Rattle.written_machine.specs.declared.parent.Parent.TheVariants.{Client, Job}
+
+abbrev pub same_parent : Parent → Parent → Bool
+same_parent (Client a) (Client b) = a == b
+same_parent (Job a) (Job b) = a == b
+same_parent _ _ = false
+
+-- how far a job is: in its pool's queue, at a position of its body, finished, or finished and got
+pub data Stage : Type 0 where
+  Queued : Stage
+  At : ℕ → Stage
+  Done : Stage
+  Claimed : Stage
+
+-- a job that was made: its class, who made it, the position of the submit, and how far it is
+pub record Made : Type 0 where
+  pub class : ℕ
+  pub parent : Parent
+  pub slot : ℕ
+  pub stage : Stage
+
+-- a pool's queue of job numbers, and its idle workers
+pub record PoolPart : Type 0 where
+  pub queue : List ℕ
+  pub idle : ℕ
+
+pub record State : Type 0 where
+  pub jobs : List Made
+  pub pools : List PoolPart
+  pub clients : List ClientState
+  pub refusals : ℕ
+
+-- what stands past the end of a list of the state; a job that is not claimed was made
+abbrev pub no_pool_part : PoolPart
+no_pool_part = record { queue = []; idle = 0 }
+
+abbrev pub no_job : Made
+no_job = record { class = 0; parent = Client 0; slot = 0; stage = Claimed }
+
+abbrev pub no_client_state : ClientState
+no_client_state = record { kind = 0; position = 0 }
+
+abbrev pub job_at : State → ℕ → Made
+job_at s j = slice_index_or s.jobs j no_job
+
+abbrev pub pool_part : State → ℕ → PoolPart
+pool_part s p = slice_index_or s.pools p no_pool_part
+
+abbrev pub client_state : State → ℕ → ClientState
+client_state s c = slice_index_or s.clients c no_client_state
+
+abbrev pub is_at : Stage → Bool
+is_at (At i) = true
+is_at _ = false
+
+abbrev pub is_queued : Stage → Bool
+is_queued Queued = true
+is_queued _ = false
+
+-- queued, or at a position
+abbrev pub is_unfinished : Stage → Bool
+is_unfinished Queued = true
+is_unfinished (At i) = true
+is_unfinished _ = false
+
+-- the pool of a job's class
+abbrev pub pool_of : Plan → ℕ → ℕ
+pool_of plan k = (class_at plan k).pool
+
+abbrev pub is_busy_in : Plan → ℕ → Made → Bool
+is_busy_in plan p job = is_at job.stage && pool_of plan job.class == p
+
+abbrev pub is_queued_in : Plan → ℕ → Made → Bool
+is_queued_in plan p job = is_queued job.stage && pool_of plan job.class == p
+
+-- how many jobs of the pool's classes are at work
+abbrev pub busy : Plan → State → ℕ → ℕ
+busy plan s p = count_by (is_busy_in plan p) s.jobs
+
+abbrev pub threads : Plan → State → ℕ → ℕ
+threads plan s p = (pool_part s p).idle + busy plan s p
+
+-- one pool of the state by itself
+abbrev pub pool_view : Pool → PoolPart → ℕ → PoolView
+pool_view pool part threads = record { core = pool.core; max = pool.max; capacity = pool.queue; threads = threads; idle = part.idle; queue = part.queue }
+
+abbrev pub pool_seen : Plan → State → ℕ → PoolView
+pool_seen plan s p = pool_view (pool_at plan p) (pool_part s p) (threads plan s p)
+
+abbrev pub is_made_by : Parent → ℕ → Made → Bool
+is_made_by a t job = same_parent a job.parent && t == job.slot
+
+-- the latest job that the actor made at position t, if it made one
+abbrev pub child : State → Parent → ℕ → Option ℕ
+child s a t = last_of (places_where (is_made_by a t) s.jobs)

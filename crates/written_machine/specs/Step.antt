@@ -1,0 +1,131 @@
+-- One event of a state: what comes of it, and the state after it.
+use Rattle.std.specs.Prelude.{ℕ, ◌+◌, List, [], ◌∷◌, ◌++◌, length, Option, Some, None, slice_get, slice_set, if◌then◌else◌}
+use Rattle.std.specs.Option.{option_map}
+use Rattle.job_bodies.specs.declared.action.Action.{Action}
+use Rattle.job_bodies.specs.declared.action.Action.TheVariants.{Work, Submit, Get}
+use Rattle.job_bodies.specs.Plan.{Plan, class_at, client_at}
+use Rattle.pool_machine.specs.declared.offer.Offer.{Offer}
+use Rattle.pool_machine.specs.declared.offer.Offer.TheVariants as offer
+use Rattle.pool_machine.specs.PoolState.{PoolView, answer, after_answer, taken, finished, retired}
+use Rattle.written_machine.specs.declared.client_state.ClientState.{ClientState}
+use Rattle.written_machine.specs.declared.parent.Parent.{Parent}
+use Rattle.written_machine.specs.declared.parent.Parent.TheVariants as parent
+use Rattle.written_machine.specs.declared.event.Event.{Event}
+use Rattle.written_machine.specs.declared.event.Event.TheVariants.{Client, Job, Take, Retire}
+use Rattle.written_machine.specs.declared.event.Outcome.{Outcome}
+use Rattle.written_machine.specs.declared.event.Outcome.TheVariants.{Started, Queued, Refused, Worked, Got, Looped, Finished, Took, Retired}
+use Rattle.written_machine.specs.State as state
+use Rattle.written_machine.specs.State.{Stage, Made, State, job_at, client_state, pool_of, pool_seen, child}
+
+-- ---- where an actor stands
+
+-- a body, and a position in it
+pub record Point : Type 0 where
+  pub body : List Action
+  pub position : ℕ
+
+abbrev pub point_of_client : Plan → ClientState → Point
+point_of_client plan client = record { body = (client_at plan client.kind).body; position = client.position }
+
+abbrev pub point_of_job : Plan → ℕ → Stage → Option Point
+point_of_job plan k (state.Stage.At i) = Some (record { body = (class_at plan k).body; position = i })
+point_of_job plan k _ = None
+
+-- None for an actor that there is not, and for a job that is not at a position
+abbrev pub point : Plan → State → Parent → Option Point
+point plan s (parent.Client c) = option_map (point_of_client plan) (slice_get s.clients c)
+point plan s (parent.Job j) = point_of_job plan (job_at s j).class (job_at s j).stage
+
+-- ---- the changes of a state
+
+abbrev pub with_stage : ℕ → Stage → State → State
+with_stage j stage s = record s { jobs = slice_set s.jobs j (record (job_at s j) { stage = stage }) }
+
+-- the jobs, and the clients, after the actor came to position i
+abbrev pub moved_jobs : Parent → ℕ → State → List Made
+moved_jobs (parent.Client c) i s = s.jobs
+moved_jobs (parent.Job j) i s = slice_set s.jobs j (record (job_at s j) { stage = state.Stage.At i })
+
+abbrev pub moved_clients : Parent → ℕ → State → List ClientState
+moved_clients (parent.Client c) i s = slice_set s.clients c (record (client_state s c) { position = i })
+moved_clients (parent.Job j) i s = s.clients
+
+abbrev pub with_position : Parent → ℕ → State → State
+with_position a i s = record s { jobs = moved_jobs a i s; clients = moved_clients a i s }
+
+abbrev pub with_job : Made → State → State
+with_job job s = record s { jobs = s.jobs ++ job ∷ [] }
+
+-- the pool's queue and idle workers as this view has them; its threads are those and the jobs at work
+abbrev pub with_pool : ℕ → PoolView → State → State
+with_pool p pool s = record s { pools = slice_set s.pools p (record { queue = pool.queue; idle = pool.idle }) }
+
+-- ---- the events of an actor
+
+abbrev pub new_job : ℕ → Parent → ℕ → Stage → Made
+new_job k a i stage = record { class = k; parent = a; slot = i; stage = stage }
+
+-- the submit of a job of class k by an actor at position i, as the pool answers it
+abbrev pub answered : Plan → State → Parent → ℕ → ℕ → Offer → State × Outcome
+answered plan s a i k offer.Started =
+    (with_job (new_job k a i (state.Stage.At 0)) (with_position a (i + 1) s), Started (length s.jobs))
+answered plan s a i k offer.Queued = (
+  with_pool (pool_of plan k) (after_answer (pool_seen plan s (pool_of plan k)) (length s.jobs) offer.Queued)
+      (with_job (new_job k a i state.Stage.Queued) (with_position a (i + 1) s)),
+  Queued (length s.jobs),
+)
+answered plan s a i k offer.Refused = (record s { refusals = s.refusals + 1 }, Refused (pool_of plan k))
+
+abbrev pub submitted : Plan → State → Parent → ℕ → ℕ → State × Outcome
+submitted plan s a i k = answered plan s a i k (answer (pool_seen plan s (pool_of plan k)))
+
+-- the get of job j, which is so far, by an actor at position i
+abbrev pub got : State → Parent → ℕ → ℕ → Stage → Option (State × Outcome)
+got s a i j state.Stage.Done = Some (with_stage j state.Stage.Claimed (with_position a (i + 1) s), Got j)
+got s a i j _ = None
+
+abbrev pub got_child : State → Parent → ℕ → Option ℕ → Option (State × Outcome)
+got_child s a i None = None
+got_child s a i (Some j) = got s a i j (job_at s j).stage
+
+-- job j of a pool is done, and its worker is idle
+abbrev pub finished_job : Plan → State → ℕ → ℕ → State
+finished_job plan s j p = with_pool p (finished (pool_seen plan s p)) (with_stage j state.Stage.Done s)
+
+abbrev pub looped : Plan → State → ℕ → Option ClientState → Option (State × Outcome)
+looped plan s c None = None
+looped plan s c (Some client) = if (client_at plan client.kind).repeat then Some (with_position (parent.Client c) 0 s, Looped) else None
+
+-- at the end of its body a job finishes, and a client begins again where its kind repeats
+abbrev pub ended : Plan → State → Parent → Option (State × Outcome)
+ended plan s (parent.Client c) = looped plan s c (slice_get s.clients c)
+ended plan s (parent.Job j) = Some (finished_job plan s j (pool_of plan (job_at s j).class), Finished j)
+
+-- an actor at position i, with the action that stands there
+abbrev pub acted : Plan → State → Parent → ℕ → Option Action → Option (State × Outcome)
+acted plan s a i None = ended plan s a
+acted plan s a i (Some (Work u)) = Some (with_position a (i + 1) s, Worked u)
+acted plan s a i (Some (Submit k)) = Some (submitted plan s a i k)
+acted plan s a i (Some (Get t)) = got_child s a i (child s a t)
+
+abbrev pub stepped : Plan → State → Parent → Option Point → Option (State × Outcome)
+stepped plan s a None = None
+stepped plan s a (Some at) = acted plan s a at.position (slice_get at.body at.position)
+
+-- ---- the events of a pool
+
+-- the head of the queue starts
+abbrev pub took : State → ℕ → Option (ℕ × PoolView) → Option (State × Outcome)
+took s p None = None
+took s p (Some x) = Some (with_pool p x.1 (with_stage x.0 (state.Stage.At 0) s), Took x.0)
+
+abbrev pub let_go : State → ℕ → Option PoolView → Option (State × Outcome)
+let_go s p None = None
+let_go s p (Some pool) = Some (with_pool p pool s, Retired)
+
+-- the state and the outcome after the event, or None where the event is not possible
+abbrev pub step : Plan → State → Event → Option (State × Outcome)
+step plan s (Client c) = stepped plan s (parent.Client c) (point plan s (parent.Client c))
+step plan s (Job j) = stepped plan s (parent.Job j) (point plan s (parent.Job j))
+step plan s (Take p) = took s p (taken (pool_seen plan s p))
+step plan s (Retire p) = let_go s p (retired (pool_seen plan s p))

@@ -1,0 +1,72 @@
+-- Sets of jobs that wait only for their own members (Java Concurrency in Practice, 8.1.1, for any number of pools).
+use Rattle.std.specs.Prelude.{◌≡◌, ℕ, ◌==◌, ◌&&◌, not, Bool, true, false, IsTrue, List, [], ◌∷◌, Option, Some, None, slice_get}
+use Rattle.std.specs.List.{list_all, list_any}
+use Rattle.numbered_lists.specs.Places.{places_where}
+use Rattle.job_bodies.specs.declared.action.Action.{Action}
+use Rattle.job_bodies.specs.declared.action.Action.TheVariants.{Get}
+use Rattle.job_bodies.specs.Plan.{Plan, class_at}
+use Rattle.written_machine.specs.declared.parent.Parent.{Parent}
+use Rattle.written_machine.specs.declared.parent.Parent.TheVariants as parent
+use Rattle.written_machine.specs.State.{Stage, State, job_at, pool_part, pool_of, is_busy_in, child}
+use Rattle.written_machine.specs.State.Stage.{Queued, At}
+
+-- ---- in words
+
+abbrev pub is_member : List ℕ → ℕ → Bool
+is_member members j = list_any (λ member. member == j) members
+
+abbrev pub IsMember : List ℕ → ℕ → Type 0
+IsMember members j = IsTrue (is_member members j)
+
+-- the job at position i of its body stands at a get whose job is a member
+pub record WaitsAtGet (plan : Plan) (s : State) (members : List ℕ) (j i : ℕ) : Type 0 where
+  pub submit : ℕ
+  pub stands : slice_get (class_at plan (job_at s j).class).body i ≡ Some (Get submit)
+  pub child_number : ℕ
+  pub is_child : child s (parent.Job j) submit ≡ Some child_number
+  pub member : IsMember members child_number
+
+-- no worker of the queued job's pool is idle, and every job at work in that pool is a member
+pub record WaitsInQueue (plan : Plan) (s : State) (members : List ℕ) (j : ℕ) : Type 0 where
+  pub none_idle : (pool_part s (pool_of plan (job_at s j).class)).idle ≡ 0
+  pub all_at_work : (n : ℕ) → IsTrue (is_busy_in plan (pool_of plan (job_at s j).class) (job_at s n)) → IsMember members n
+
+-- an unfinished job that waits for members alone; a job that is done waits for nothing
+abbrev pub WaitsAs : Plan → State → List ℕ → ℕ → Stage → Type 0
+WaitsAs plan s members j Queued = WaitsInQueue plan s members j
+WaitsAs plan s members j (At i) = WaitsAtGet plan s members j i
+WaitsAs plan s members j _ = ⊥
+
+-- the members are some unfinished jobs, and each of them waits for members alone
+pub record IsWaitingSet (plan : Plan) (s : State) (members : List ℕ) : Type 0 where
+  pub first : ℕ
+  pub not_empty : IsMember members first
+  pub each : (j : ℕ) → IsMember members j → WaitsAs plan s members j (job_at s j).stage
+
+-- ---- as a test
+
+abbrev pub is_some_member : List ℕ → Option ℕ → Bool
+is_some_member members None = false
+is_some_member members (Some j) = is_member members j
+
+-- an actor with this action before it stands at a get whose job is a member
+abbrev pub waits_at : State → List ℕ → Parent → Option Action → Bool
+waits_at s members a (Some (Get t)) = is_some_member members (child s a t)
+waits_at s members a _ = false
+
+abbrev pub waits_as : Plan → State → List ℕ → ℕ → ℕ → Stage → Bool
+waits_as plan s members j k Queued =
+    (pool_part s (pool_of plan k)).idle == 0 && list_all (is_member members) (places_where (is_busy_in plan (pool_of plan k)) s.jobs)
+waits_as plan s members j k (At i) = waits_at s members (parent.Job j) (slice_get (class_at plan k).body i)
+waits_as plan s members j k _ = false
+
+abbrev pub waits : Plan → State → List ℕ → ℕ → Bool
+waits plan s members j = waits_as plan s members j (job_at s j).class (job_at s j).stage
+
+abbrev pub is_none : List ℕ → Bool
+is_none [] = true
+is_none (j ∷ js) = false
+
+-- the numbers, taken as a set, are a waiting set
+abbrev pub is_waiting_set : Plan → State → List ℕ → Bool
+is_waiting_set plan s members = not (is_none members) && list_all (waits plan s members) members

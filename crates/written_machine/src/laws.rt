@@ -1,0 +1,33 @@
+//! Laws of the machine, each the contract of a function with nothing to do.
+
+ghost use Rattle.written_machine.specs.Laws.{
+  PoolsKeepTheirSizes,
+  QueuesOnlyAtCore,
+  GetsHaveChildren,
+  WaitingSetsAreTested,
+};
+
+/// In every state that a well-formed plan reaches, each pool has at most as many threads as its maximum, and at most as
+/// many jobs in its queue as the queue holds.
+pub fn pools_keep_their_sizes()
+    ensures { PoolsKeepTheirSizes }
+{}
+
+/// In every state that a well-formed plan reaches, a pool in whose queue a job waits has at least core threads: jobs are
+/// queued only from core on, and core threads never end.
+pub fn queues_only_at_core()
+    ensures { QueuesOnlyAtCore }
+{}
+
+/// In every state that a well-formed plan reaches, an actor that stands at a get finds the job that the get waits for:
+/// the latest that it made at the submit which the get names, of the class which that submit names, not claimed yet, and
+/// with a greater number than the actor's own where the actor is a job.
+pub fn gets_have_children()
+    ensures { GetsHaveChildren }
+{}
+
+/// The test for a waiting set passes exactly at the lists of jobs that are waiting sets: at least one job, each of them
+/// queued or at a get, and each waiting for members of the list alone.
+pub fn waiting_sets_are_tested()
+    ensures { WaitingSetsAreTested }
+{}

@@ -1,0 +1,15 @@
+//! The machine as it is written down: what a state of a plan is, what an event does to it, and which states a list of
+//! events reaches. The definitions stand in `specs/`, and nothing here runs.
+#![tactic(auto)]
+
+mod client_state;
+mod event;
+mod laws;
+mod parent;
+
+pub use client_state::ClientState;
+pub use event::{Event, Outcome};
+pub use laws::{
+    gets_have_children, pools_keep_their_sizes, queues_only_at_core, waiting_sets_are_tested,
+};
+pub use parent::Parent;
