@@ -2,4 +2,8 @@ pub mod Tables
 pub mod Places
 pub mod Numbers
 pub mod Filling
+pub mod OnLiterals
 mod Samples
+mod Fillings
+mod BodyLaws
+mod Buildable

@@ -1,14 +1,12 @@
 -- The numbers of actions.
-use Rattle.std.proofs.Common.{◌≡◌, ℕ, ◌<◌, ◌≤◌, ◌^◌, Bool, true, false, not, ◌&&◌, ◌==◌, nat_le, List, length, Result, Ok, Err, refl, arith, rules, inl, inr}
-use Rattle.std.specs.Prelude.{slice_index}
-use Rattle.std.specs.List.{list_all}
+use Rattle.std.proofs.Common.{◌≡◌, ℕ, ◌<◌, true, false, not, ◌==◌, nat_le, List, length, Result, Ok, Err, arith, rules, inl, inr}
 use Rattle.std.specs.Str.Parse.{digits_value, ParsesUnsigned}
 use Rattle.std.proofs.lemmas.Bool.{cases_Bool, and_parts, leb-true}
 use Rattle.std.proofs.lemmas.Bool.Decides.{nat_tests}
 use Rattle.std.proofs.lemmas.Str.Parse.{IsNumeralModel, numerals_by_value, parse_gives}
 use Rattle.job_bodies.specs.declared.limits.TheConstants.{MOST_UNITS}
 use Rattle.job_bodies.specs.WellFormed.{is_within}
-use Rattle.plan_text.specs.Orders.{is_digit, are_digits, is_decimal}
+use Rattle.plan_text.specs.Orders.{are_digits, is_decimal}
 
 digits_are : IsNumeralModel (λ digits. are_digits digits ≡ true) (digits_value 10)
 digits_are = numerals_by_value _ (search rules)
@@ -23,9 +21,9 @@ too_large {E} text e decimal parsed =
     let some = (and_parts (not (length text == 0)) _ parts.0).0 in
     elim (cases_Bool (is_within 1 MOST_UNITS (digits_value 10 text))) [
       | inl within ↦
-        let small = (and_parts _ (nat_le (digits_value 10 text) MOST_UNITS) within).1 in
-        let failed : Result ℕ E = Err e in
-        let gives : failed ≡ Ok (digits_value 10 text) = parse_gives digits_are 32 text failed parsed parts.1 (not_empty text some) (omega (arith, leb-true _ _ small)) in
-        absurd cc
+          let small = (and_parts _ (nat_le (digits_value 10 text) MOST_UNITS) within).1 in
+          let failed : Result ℕ E = Err e in
+          let gives : failed ≡ Ok (digits_value 10 text) = parse_gives digits_are 32 text failed parsed parts.1 (not_empty text some) (omega (arith, leb-true _ _ small)) in
+          absurd cc
       | inr past ↦ past
     ]

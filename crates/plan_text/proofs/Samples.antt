@@ -1,19 +1,11 @@
 -- Texts whose plans or faults are known, computed from the definitions.
-use Rattle.std.proofs.Common.{◌≡◌, ℕ, List, [], ◌∷◌, ◌++◌, true, Some, None, Result, Ok, Err, codes, refl}
-use Rattle.std.specs.Str.{chars, is_utf8}
-use Rattle.toml.proofs.OnLiterals.{toml_on_literals}
+use Rattle.std.proofs.Common.{◌≡◌, ℕ, List, [], ◌∷◌, ◌++◌, true, Ok, Err, codes, refl}
 use Rattle.job_bodies.specs.declared.action.Action.TheVariants.{Work, Submit, Get}
-use Rattle.job_bodies.specs.declared.fault.PlanFault.{PlanFault}
 use Rattle.job_bodies.specs.declared.fault.Part.TheVariants as part
 use Rattle.job_bodies.specs.Plan.{Plan}
 use Rattle.job_bodies.specs.Checks.{at_text, at_entry, at_action}
-use Rattle.plan_text.specs.Document.{document_of, list_at}
-use Rattle.plan_text.specs.Entry.{table_at, text_at, number_at, flag_at, texts_at}
-use Rattle.plan_text.specs.Entries.{pool_at, class_at, client_at, entries_of}
-use Rattle.plan_text.specs.Checks.{check_pools, check_classes, check_clients}
-use Rattle.plan_text.specs.Orders.{units_of, submit_as_of, submit_of, order_of_verb, order_of}
-use Rattle.plan_text.specs.Bodies.{action_at, body_of}
-use Rattle.plan_text.specs.PlanOf.{plan_of_entries, plan_of}
+use Rattle.plan_text.specs.PlanOf.{plan_of}
+use Rattle.plan_text.proofs.OnLiterals.{plan_on_literals}
 
 abbrev pool : List ℕ
 pool = codes "[[pool]]\nname = \"p\"\ncore = 1\nmax = 1\nqueue = 2\n"
@@ -40,7 +32,7 @@ again = record {
 
 -- a pool, a class and two clients that submit and get
 one_of_each : plan_of (pool ++ class ++ client) ≡ Ok plan
-unfolding toml_on_literals chars is_utf8 document_of list_at table_at text_at number_at flag_at texts_at pool_at class_at client_at entries_of check_pools check_classes check_clients units_of submit_as_of submit_of order_of_verb order_of action_at body_of plan_of_entries plan_of
+unfolding plan_on_literals
 one_of_each = refl
 
 abbrev client_of : List ℕ → List ℕ
@@ -48,30 +40,30 @@ client_of body = codes "[[client]]\nname = \"c\"\ncount = 2\nbody = [" ++ body +
 
 -- the slot is empty again after its get
 empty_slot : plan_of (pool ++ class ++ client_of (codes "\"submit a as x\", \"get x\", \"get x\"")) ≡ Err (at_action part.Client 0 2 13)
-unfolding toml_on_literals chars is_utf8 document_of list_at table_at text_at number_at flag_at texts_at pool_at class_at client_at entries_of check_pools check_classes check_clients units_of submit_as_of submit_of order_of_verb order_of action_at body_of plan_of_entries plan_of
+unfolding plan_on_literals
 empty_slot = refl
 
 -- the slot is filled already
 open_slot : plan_of (pool ++ class ++ client_of (codes "\"submit a as x\", \"submit a as x\"")) ≡ Err (at_action part.Client 0 1 12)
-unfolding toml_on_literals chars is_utf8 document_of list_at table_at text_at number_at flag_at texts_at pool_at class_at client_at entries_of check_pools check_classes check_clients units_of submit_as_of submit_of order_of_verb order_of action_at body_of plan_of_entries plan_of
+unfolding plan_on_literals
 open_slot = refl
 
 -- a slot that was emptied may be filled again
 slot_again : plan_of (pool ++ class ++ codes "[[client]]\nname = \"c\"\ncount = 2\nrepeat = true\nbody = [\"submit a as x\", \"get x\", \"submit a as x\", \"get x\"]\n") ≡ Ok again
-unfolding toml_on_literals chars is_utf8 document_of list_at table_at text_at number_at flag_at texts_at pool_at class_at client_at entries_of check_pools check_classes check_clients units_of submit_as_of submit_of order_of_verb order_of action_at body_of plan_of_entries plan_of
+unfolding plan_on_literals
 slot_again = refl
 
 -- a maximum below core
 small_maximum : plan_of (codes "[[pool]]\nname = \"p\"\ncore = 2\nmax = 1\nqueue = 2\n") ≡ Err (at_entry part.Pool 0 8)
-unfolding toml_on_literals chars is_utf8 document_of list_at table_at text_at number_at flag_at texts_at pool_at class_at client_at entries_of check_pools check_classes check_clients units_of submit_as_of submit_of order_of_verb order_of action_at body_of plan_of_entries plan_of
+unfolding plan_on_literals
 small_maximum = refl
 
 -- no work
 no_work : plan_of (pool ++ codes "[[class]]\nname = \"a\"\npool = \"p\"\nbody = [\"work 0\"]\n") ≡ Err (at_action part.Class 0 0 11)
-unfolding toml_on_literals chars is_utf8 document_of list_at table_at text_at number_at flag_at texts_at pool_at class_at client_at entries_of check_pools check_classes check_clients units_of submit_as_of submit_of order_of_verb order_of action_at body_of plan_of_entries plan_of
+unfolding plan_on_literals
 no_work = refl
 
 -- no text
 no_text : plan_of (255 ∷ []) ≡ Err (at_text 1)
-unfolding toml_on_literals chars is_utf8 document_of list_at table_at text_at number_at flag_at texts_at pool_at class_at client_at entries_of check_pools check_classes check_clients units_of submit_as_of submit_of order_of_verb order_of action_at body_of plan_of_entries plan_of
+unfolding plan_on_literals
 no_text = refl

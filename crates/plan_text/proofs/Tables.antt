@@ -1,5 +1,5 @@
 -- The tables and arrays of `toml`, as its values hold them.
-use Rattle.std.proofs.Common.{◌≡◌, Bool, ◌&&◌, ℕ, List, [], ◌∷◌, map, Option, Some, String, Bor, Global, string_bytes, refl, ap, ◌∙◌}
+use Rattle.std.proofs.Common.{◌≡◌, ℕ, List, [], ◌∷◌, map, String, Bor, Global, string_bytes, refl, ap}
 use Rattle.std.specs.List.{list_any, list_all}
 use Rattle.std.specs.Map.{keys_of}
 use Rattle.std.specs.Str.{bytes_eq}

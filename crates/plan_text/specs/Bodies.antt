@@ -1,5 +1,5 @@
 -- Bodies, action by action: classes get their places, gets the positions of their submits.
-use Rattle.std.specs.Prelude.{ℕ, nat_lt, is_none, List, length, map, take, Option, Some, Result, Ok}
+use Rattle.std.specs.Prelude.{ℕ, nat_lt, is_none, List, length, take, Option, Result, Ok}
 use Rattle.readings.specs.Reading.{◌>>=◌, holds_or, some_or, read_each}
 use Rattle.job_bodies.specs.declared.action.Action.{Action}
 use Rattle.job_bodies.specs.declared.action.Action.TheVariants.{Work, Submit, Get}

@@ -1,10 +1,10 @@
 -- The entries of a plan's text by their shapes: each key is there and of its type.
-use Rattle.std.specs.Prelude.{ℕ, Bool, List, [], ◌∷◌, codes, Result, Ok}
+use Rattle.std.specs.Prelude.{◌≡◌, ℕ, Bool, true, nat_le, List, [], ◌∷◌, length, slice_get, codes, Some, Result, Ok}
 use Rattle.toml.specs.Data.{Data, Members}
 use Rattle.readings.specs.Reading.{◌>>=◌, read_each}
 use Rattle.job_bodies.specs.declared.fault.PlanFault.{PlanFault}
 use Rattle.job_bodies.specs.declared.fault.Part.TheVariants as part
-use Rattle.job_bodies.specs.declared.limits.TheConstants.{MOST_POOLS, MOST_CLASSES, MOST_CLIENTS}
+use Rattle.job_bodies.specs.declared.limits.TheConstants.{MOST_POOLS, MOST_CLASSES, MOST_CLIENTS, MOST_ACTIONS}
 use Rattle.job_bodies.specs.Plan.{Pool}
 use Rattle.plan_text.specs.Document.{list_at}
 use Rattle.plan_text.specs.Entry.{table_at, text_at, number_at, flag_at, texts_at}
@@ -27,6 +27,14 @@ pub record Entries : Type 0 where
   pub pools : List Pool
   pub classes : List ClassEntry
   pub clients : List ClientEntry
+
+-- no list and no body is too long
+pub record AreWithinLimits (entries : Entries) : Type 0 where
+  pub few_pools : nat_le (length entries.pools) MOST_POOLS ≡ true
+  pub few_classes : nat_le (length entries.classes) MOST_CLASSES ≡ true
+  pub few_clients : nat_le (length entries.clients) MOST_CLIENTS ≡ true
+  pub classes : (i : ℕ) (class : ClassEntry) → slice_get entries.classes i ≡ Some class → nat_le (length class.body) MOST_ACTIONS ≡ true
+  pub clients : (i : ℕ) (client : ClientEntry) → slice_get entries.clients i ≡ Some client → nat_le (length client.body) MOST_ACTIONS ≡ true
 
 -- a pool
 unfoldable pub pool_at : ℕ → Data → Result Pool PlanFault

@@ -1,5 +1,5 @@
 -- One entry of a list: a table with known keys, whose values have known types.
-use Rattle.std.specs.Prelude.{ℕ, ℤ, pos, negsuc, Bool, false, nat_le, List, length, Option, None, Some, Result, Ok, Err}
+use Rattle.std.specs.Prelude.{ℕ, ℤ, pos, negsuc, Bool, false, nat_le, List, length, Option, None, Some, Result, Ok}
 use Rattle.toml.specs.Data.{Data, Members, get_member, as_str, as_integer, as_bool, as_table}
 use Rattle.readings.specs.Reading.{◌>>=◌, holds_or, some_or, read_each}
 use Rattle.job_bodies.specs.declared.fault.PlanFault.{PlanFault}

@@ -1,5 +1,5 @@
 -- The grammar of an action: `work N`, `submit CLASS`, `submit CLASS as SLOT` and `get SLOT`.
-use Rattle.std.specs.Prelude.{ℕ, Bool, ◌==◌, ◌&&◌, not, nat_lt, if◌then◌else◌, List, length, codes, Option, None, Some, option_map, option_and_then, slice_index}
+use Rattle.std.specs.Prelude.{ℕ, Bool, ◌==◌, ◌&&◌, not, nat_lt, if◌then◌else◌, List, length, codes, Option, None, Some, option_and_then, slice_index}
 use Rattle.std.specs.List.{list_all, position_or_len, before_first, after_first}
 use Rattle.std.specs.Str.{bytes_eq}
 use Rattle.std.specs.Str.Parse.{digits_value}

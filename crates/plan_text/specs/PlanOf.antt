@@ -3,7 +3,6 @@ use Rattle.std.specs.Prelude.{ℕ, List, Result, Ok}
 use Rattle.readings.specs.Reading.{◌>>=◌, read_each}
 use Rattle.job_bodies.specs.declared.fault.PlanFault.{PlanFault}
 use Rattle.job_bodies.specs.Plan.{Plan}
-use Rattle.job_bodies.specs.Build.{given, build}
 use Rattle.plan_text.specs.Document.{document_of}
 use Rattle.plan_text.specs.Entries.{Entries, entries_of}
 use Rattle.plan_text.specs.Checks.{check_pools, check_classes, check_clients}
@@ -17,7 +16,7 @@ plan_of_entries entries =
     check_clients entries.clients >>= λ _.
     read_each (class_of pool_names class_names) 0 entries.classes >>= λ classes.
     read_each (client_of class_names) 0 entries.clients >>= λ clients.
-    build (given entries.pools classes clients)
+    Ok (record { pools = entries.pools; classes = classes; clients = clients })
 
 -- the plan that the bytes are the text of, or the first fault
 unfoldable pub plan_of : List ℕ → Result Plan PlanFault

@@ -2,7 +2,7 @@
 use Rattle.std.specs.Prelude.{ℕ, ◌+◌, if◌then◌else◌, List, [], ◌∷◌, Option, None, Some}
 use Rattle.std.specs.Map.{lookup}
 use Rattle.std.specs.Str.{bytes_eq}
-use Rattle.plan_text.specs.Orders.{Order, work, submit, submit_as, get, order_of}
+use Rattle.plan_text.specs.Orders.{Order, submit_as, get, order_of}
 
 -- the position that fills a slot, among the filled slots
 abbrev pub position_in : List (List ℕ × ℕ) → List ℕ → Option ℕ

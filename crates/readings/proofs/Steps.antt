@@ -5,10 +5,22 @@ use Rattle.readings.specs.declared.read_error.ReadError.TheVariants.{Memory, Fau
 use Rattle.readings.specs.Reading.{◌>>=◌, holds_or, some_or}
 use Rattle.readings.specs.Given.{Fails}
 
+abbrev pub given : {A F : Type 0} → A → Result A F
+given x = Ok x
+
+-- what was given is one value
+pub given_same : {A F : Type 0} (x y : A) → given {F = F} x ≡ given y → x ≡ y
+given_same x y e = cc
+
 -- what two steps gave, the first one gave to the second
 pub bind_ok : {A B F : Type 0} (r : Result A F) (f : A → Result B F) (y : B) → (r >>= f) ≡ Ok y → (x : A) × (r ≡ Ok x) × (f x ≡ Ok y)
 bind_ok (Ok x) f y e = (x, refl, e)
 bind_ok (Err fault) f y e = absurd cc
+
+-- the same, for a proof that goes on with what the first step gave
+pub bind_ok_then : {A B F P : Type 0} (r : Result A F) (f : A → Result B F) (y : B) → (r >>= f) ≡ Ok y → ((x : A) → r ≡ Ok x → f x ≡ Ok y → P) → P
+bind_ok_then (Ok x) f y e next = next x refl e
+bind_ok_then (Err fault) f y e next = absurd cc
 
 -- a test that has no fault holds
 pub holds_ok : {F : Type 0} (b : Bool) (fault : F) → holds_or b fault ≡ Ok tt → b ≡ true

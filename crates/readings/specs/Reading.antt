@@ -1,5 +1,5 @@
 -- A reading gives a value, or the first fault. Steps follow one another, and the first fault ends them.
-use Rattle.std.specs.Prelude.{◌≡◌, ℕ, suc, ◌+◌, Bool, if◌then◌else◌, List, [], ◌∷◌, Option, None, Some, Result, Ok, Err}
+use Rattle.std.specs.Prelude.{ℕ, ◌+◌, Bool, if◌then◌else◌, List, [], ◌∷◌, Option, None, Some, Result, Ok, Err}
 
 -- the second step reads with what the first one gave
 infixl 10 ◌>>=◌

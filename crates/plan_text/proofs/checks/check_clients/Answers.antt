@@ -1,12 +1,9 @@
-use Rattle.std.proofs.Common.{◌≡◌, ◌≤◌, ◌∙◌, ◌++◌, ◌∷◌, [], List, ℕ, length, take, Result, Ok, sym, ap, subst, arith}
+use Rattle.std.proofs.Common.{◌≡◌, ◌∙◌, ◌++◌, ◌∷◌, [], List, ℕ, Ok, sym, ap, subst}
 use Rattle.std.proofs.lemmas.Result.{err_from_is_err_and}
-use Rattle.std.proofs.lemmas.List.{take_all, length-map}
-use Rattle.readings.specs.Reading.{◌>>=◌}
 use Rattle.readings.specs.Given.{Fails}
-use Rattle.readings.proofs.Steps.{fails_first}
 use Rattle.readings.proofs.Loops.{at_index, checks_begin, checks_more, checks_stop, checks_end, images_more}
 use Rattle.job_bodies.specs.Checks.{check_client}
-use Rattle.plan_text.specs.Checks.{check_clients, client_names, client_head}
+use Rattle.plan_text.specs.Checks.{check_clients, client_head}
 use Rattle.plan_text.proofs.checks.check_clients.Goals as goal
 
 pub loop-index-init : goal.loop-index-init

@@ -1,4 +1,4 @@
-use Rattle.std.proofs.Common.{◌≡◌, length, take}
+use Rattle.std.proofs.Common.{◌≡◌, take}
 use Rattle.readings.proofs.Loops.{Checks}
 use Rattle.job_bodies.specs.Checks as checks
 use Rattle.plan_text.specs.Checks.{client_names, client_head}

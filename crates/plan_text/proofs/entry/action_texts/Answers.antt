@@ -1,10 +1,8 @@
-use Rattle.std.proofs.Common.{◌≡◌, ◌++◌, ◌∷◌, [], List, ℕ, Bor, map, slice_get, Some, refl, arith, rules, length, ◌≤◌}
+use Rattle.std.proofs.Common.{◌≡◌, ◌++◌, ◌∷◌, [], List, ℕ, Bor, map}
 use Rattle.std.proofs.lemmas.List.{map_push}
 use Rattle.std.proofs.lemmas.Result.{err_from_is_err_and}
 use Rattle.toml.specs.View.{view}
-use Rattle.toml.specs.Data.{Data}
 use Rattle.readings.proofs.Loops.{at_index_seen, reads_begin, reads_more, reads_stop, reads_end_seen}
-use Rattle.plan_text.specs.Entry as spec
 use Rattle.plan_text.proofs.entry.action_texts.Goals as goal
 
 abbrev now : Bor (List ℕ) → List ℕ

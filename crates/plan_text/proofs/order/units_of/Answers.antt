@@ -1,4 +1,4 @@
-use Rattle.std.proofs.Common.{◌≡◌, true, refl, sym, ◌∙◌}
+use Rattle.std.proofs.Common.{◌≡◌, true, refl}
 use Rattle.plan_text.specs.Orders.{is_decimal, units_of}
 use Rattle.plan_text.proofs.Numbers.{too_large}
 use Rattle.plan_text.proofs.order.units_of.Goals as goal

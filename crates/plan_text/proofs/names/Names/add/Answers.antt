@@ -1,4 +1,4 @@
-use Rattle.std.proofs.Common.{◌≡◌, List, ℕ, Bor, not, cond, map, refl, sym, ap, ◌∙◌}
+use Rattle.std.proofs.Common.{List, ℕ, Bor, not, map, sym, ap, ◌∙◌}
 use Rattle.std.specs.List.{list_any}
 use Rattle.std.specs.Str.{bytes_eq}
 use Rattle.job_bodies.proofs.Loops.{list_any_of_map}

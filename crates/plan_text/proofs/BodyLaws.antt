@@ -1,0 +1,229 @@
+-- The bodies that are read are lawful.
+use Rattle.std.proofs.Common.{◌≡◌, ℕ, zero, suc, ◌<◌, true, false, ◌==◌, ◌&&◌, nat_lt, List, [], ◌∷◌, length, take, slice_get, Option, None, Some, Result, Ok, codes, refl, sym, ap, subst, ◌∙◌, arith, inl, inr}
+use Rattle.std.specs.Prelude.{option_and_then, is_none}
+use Rattle.std.specs.List.{list_any}
+use Rattle.std.specs.Str.{bytes_eq}
+use Rattle.std.specs.Str.Parse.{digits_value}
+use Rattle.std.proofs.lemmas.Bool.{cases_Bool, and_parts, and_from, lt-ltb, eqb-true, not_from_false}
+use Rattle.std.proofs.lemmas.Option.{option_and_then_some, cond_some, slice_get_within}
+use Rattle.readings.specs.Reading.{holds_or, some_or}
+use Rattle.readings.proofs.Steps.{bind_ok, holds_ok, some_ok}
+use Rattle.readings.proofs.Laws.{read_length, read_at}
+use Rattle.job_bodies.specs.declared.action.Action.{Action}
+use Rattle.job_bodies.specs.declared.action.Action.TheVariants.{Work, Submit, Get}
+use Rattle.job_bodies.specs.declared.fault.PlanFault.{PlanFault}
+use Rattle.job_bodies.specs.declared.fault.Part.{Part}
+use Rattle.job_bodies.specs.declared.limits.TheConstants.{MOST_UNITS}
+use Rattle.job_bodies.specs.Plan.{submits, gets}
+use Rattle.job_bodies.specs.WellFormed.{is_within, is_lawful_get, is_lawful_action}
+use Rattle.job_bodies.specs.Checks.{at_action, check_action, check_body}
+use Rattle.job_bodies.proofs.Passing.{test_passes, each_passes, list_any_from}
+use Rattle.plan_text.specs.Checks.{place_of}
+use Rattle.plan_text.specs.Orders.{Order, work, submit, submit_as, get, name_of, is_decimal, units_of, split_space, submit_as_of, submit_parts, submit_of, order_of_verb, order_of}
+use Rattle.plan_text.specs.Slots.{filled}
+use Rattle.plan_text.specs.Bodies.{class_named, action_of, action_at, action_among, body_of}
+use Rattle.plan_text.proofs.Fillings.{HasOrder, fills}
+
+-- ---- the units of a piece of work
+units_within : (text : List ℕ) (units : ℕ) → units_of text ≡ Some units → is_within 1 MOST_UNITS units ≡ true
+unfolding units_of
+units_within text units e =
+    let found = cond_some (is_decimal text && is_within 1 MOST_UNITS (digits_value 10 text)) _ _ e in
+    let within = (and_parts (is_decimal text) _ found.0).1 in
+    subst (λ (n : ℕ). is_within 1 MOST_UNITS n ≡ true) found.1 within
+
+name_no_work : (text : List ℕ) (made : List ℕ → Order) (units : ℕ) → ((name : List ℕ) → made name ≡ work units → ⊥) → option_and_then (λ name. Some (made name)) (name_of text) ≡ Some (work units) → ⊥
+name_no_work text made units other e = option_and_then_some _ (name_of text) _ e (λ name here h. let same : made name ≡ work units = cc in other name same)
+
+submit_as_no_work : (class text : List ℕ) (units : ℕ) → submit_as_of class text ≡ Some (work units) → ⊥
+unfolding submit_as_of
+submit_as_no_work class text units e =
+    option_and_then_some _ (split_space text) _ e (λ words here h.
+    elim (cases_Bool (bytes_eq words.0 (codes "as"))) [
+      | inl word ↦ option_and_then_some _ (name_of class) _ (rw word at h) (λ name there g. name_no_work words.1 (submit_as name) units (λ slot k. cc) g)
+      | inr other ↦ let none = rw other at h in cc
+    ])
+
+submit_no_work : (text : List ℕ) (parts : Option (List ℕ × List ℕ)) (units : ℕ) → submit_parts text parts ≡ Some (work units) → ⊥
+submit_no_work text None units e = name_no_work text submit units (λ name k. cc) e
+submit_no_work text (Some words) units e = submit_as_no_work words.0 words.1 units e
+
+verb_within : (verb text : List ℕ) (units : ℕ) → order_of_verb verb text ≡ Some (work units) → is_within 1 MOST_UNITS units ≡ true
+unfolding order_of_verb submit_of
+verb_within verb text units e =
+    elim (cases_Bool (bytes_eq verb (codes "work"))) [
+      | inl is_work ↦ option_and_then_some _ (units_of text) _ (rw is_work at e) (λ found here h. let same : found ≡ units = cc in subst (λ (n : ℕ). is_within 1 MOST_UNITS n ≡ true) same (units_within text found here))
+      | inr no_work ↦
+          let second = rw no_work at e in
+          elim (cases_Bool (bytes_eq verb (codes "submit"))) [
+            | inl is_submit ↦ absurd (submit_no_work text (split_space text) units (rw is_submit at second))
+            | inr no_submit ↦
+                let third = rw no_submit at second in
+                elim (cases_Bool (bytes_eq verb (codes "get"))) [
+                  | inl is_get ↦ absurd (name_no_work text get units (λ name k. cc) (rw is_get at third))
+                  | inr no_get ↦ let none = rw no_get at third in absurd cc
+                ]
+          ]
+    ]
+
+order_within : (text : List ℕ) (units : ℕ) → order_of text ≡ Some (work units) → is_within 1 MOST_UNITS units ≡ true
+unfolding order_of
+order_within text units e = option_and_then_some _ (split_space text) _ e (λ words here h. verb_within words.0 words.1 units h)
+
+-- ---- what an order gave
+abbrev IsOf : ℕ → (List ℕ → Option ℕ) → Order → Action → Type 0
+IsOf classes slots (work units) action = Work units ≡ action
+IsOf classes slots (submit class) action = (k : ℕ) × (Submit k ≡ action) × (nat_lt k classes ≡ true)
+IsOf classes slots (submit_as class slot) action = (k : ℕ) × (Submit k ≡ action) × (nat_lt k classes ≡ true)
+IsOf classes slots (get slot) action = (t : ℕ) × (Get t ≡ action) × (slots slot ≡ Some t)
+
+abbrev given : Action → Result Action PlanFault
+given x = Ok x
+
+action_is : (x y : Action) → given x ≡ given y → x ≡ y
+action_is x y e = cc
+
+class_there : (classes : List (List ℕ)) (fault : ℕ → PlanFault) (name : List ℕ) (k : ℕ) → class_named classes fault name ≡ Ok k → nat_lt k (length classes) ≡ true
+class_there classes fault name k e =
+    let found = bind_ok (holds_or (nat_lt (place_of classes name) (length classes)) _) _ _ e in
+    let there = holds_ok _ _ found.1 in
+    let same : place_of classes name ≡ k = cc in
+    subst (λ (n : ℕ). nat_lt n (length classes) ≡ true) same there
+
+is_of : (classes : List (List ℕ)) (slots : List ℕ → Option ℕ) (fault : ℕ → PlanFault) (order : Order) (action : Action) → action_of classes slots fault order ≡ Ok action → IsOf (length classes) slots order action
+is_of classes slots fault (work units) action e = action_is _ _ e
+is_of classes slots fault (submit class) action e =
+    let found = bind_ok (class_named classes fault class) _ _ e in
+    (found.0, action_is _ _ found.2, class_there classes fault class found.0 found.1)
+is_of classes slots fault (submit_as class slot) action e =
+    let found = bind_ok (class_named classes fault class) _ _ e in
+    let open_slot = bind_ok (holds_or (is_none (slots slot)) _) _ _ found.2 in
+    (found.0, action_is _ _ open_slot.2, class_there classes fault class found.0 found.1)
+is_of classes slots fault (get slot) action e =
+    let found = bind_ok (some_or (slots slot) _) _ _ e in
+    (found.0, action_is _ _ found.2, some_ok (slots slot) _ found.0 found.1)
+
+-- the action at a place of a body, with its order
+record Comes (classes : ℕ) (texts : List (List ℕ)) (i : ℕ) (action : Action) : Type 0 where
+  within : i < length texts
+  order : Order
+  ordered : HasOrder texts i order
+  is : IsOf classes (filled (take i texts)) order action
+
+comes : (classes : List (List ℕ)) (part : Part) (index : ℕ) (texts : List (List ℕ)) (body : List Action) (i : ℕ) (action : Action) → body_of classes part index texts ≡ Ok body → slice_get body i ≡ Some action
+    → Comes (length classes) texts i action
+unfolding body_of action_at
+comes classes part index texts body i action e here =
+    let found = read_at (action_among classes part index texts) texts body i action e here in
+    let order = bind_ok (some_or (order_of found.0) _) _ _ found.2 in
+    record {
+      within = slice_get_within texts i found.0 found.1;
+      order = order.0;
+      ordered = record { text = found.0; here = found.1; gives = some_ok (order_of found.0) _ order.0 order.1 };
+      is = is_of classes (filled (take i texts)) (at_action part index i) order.0 action order.2;
+    }
+
+-- ---- the order at a place is one
+order_is : (x y : Option Order) (a b : Order) → x ≡ Some a → y ≡ Some b → x ≡ y → a ≡ b
+order_is x y a b p q e = cc
+
+same_order : (texts : List (List ℕ)) (i : ℕ) (a b : Order) → HasOrder texts i a → HasOrder texts i b → a ≡ b
+same_order texts i a b p q =
+    let here = p.here in
+    let there = q.here in
+    let same : p.text ≡ q.text = cc in
+    order_is (order_of p.text) (order_of q.text) a b p.gives q.gives (ap order_of same)
+
+-- an element of a front of the list
+taken : {X : Type 0} (xs : List X) (i j : ℕ) (x : X) → slice_get (take i xs) j ≡ Some x → (j < i) × (slice_get xs j ≡ Some x)
+taken [] zero j x e = absurd cc
+taken [] (suc i) j x e = absurd cc
+taken (y ∷ xs) zero j x e = absurd cc
+taken (y ∷ xs) (suc i) zero x e = (omega arith, e)
+taken (y ∷ xs) (suc i) (suc j) x e =
+    let rest = taken xs i j x e in
+    (omega (arith, rest.0), rest.1)
+
+-- there is an element at a place of the list
+there_is : {X : Type 0} (xs : List X) (i : ℕ) → i < length xs → (x : X) × (slice_get xs i ≡ Some x)
+there_is [] i within = absurd (omega arith)
+there_is (x ∷ xs) zero within = (x, refl)
+there_is (x ∷ xs) (suc i) within = there_is xs i (omega arith)
+
+-- what came of a submit that fills a slot
+comes_submit : (classes : ℕ) (slots : List ℕ → Option ℕ) (order : Order) (class slot : List ℕ) (action : Action) → order ≡ submit_as class slot → IsOf classes slots order action → (k : ℕ) × (Submit k ≡ action)
+comes_submit classes slots order class slot action same is =
+    let at = subst (λ (o : Order). IsOf classes slots o action) same is in
+    (at.0, at.1)
+
+-- no action that came of this order gets t
+abbrev GetsNot : ℕ → (List ℕ → Option ℕ) → Order → ℕ → Action → Type 0
+GetsNot classes slots order t action = IsOf classes slots order action → ((slot : List ℕ) → order ≡ get slot → slots slot ≡ Some t → ⊥) → gets t action ≡ false
+
+gets_not : (classes : ℕ) (slots : List ℕ → Option ℕ) (order : Order) (t : ℕ) (action : Action) → GetsNot classes slots order t action
+gets_not classes slots (work units) t action is none = subst (λ (a : Action). gets t a ≡ false) is refl
+gets_not classes slots (submit class) t action is none = subst (λ (a : Action). gets t a ≡ false) is.1 refl
+gets_not classes slots (submit_as class slot) t action is none = subst (λ (a : Action). gets t a ≡ false) is.1 refl
+gets_not classes slots (get slot) t action is none =
+    subst (λ (a : Action). gets t a ≡ false) is.1 (elim (cases_Bool (t == is.0)) [
+      | inl same ↦
+          let t-is : t ≡ is.0 = eqb-true t is.0 same in
+          absurd (none slot refl (rw t-is is.2))
+      | inr other ↦ other
+    ])
+
+-- it has as many actions as there are texts
+pub body_length : (classes : List (List ℕ)) (part : Part) (index : ℕ) (texts : List (List ℕ)) (body : List Action) → body_of classes part index texts ≡ Ok body → length body ≡ length texts
+unfolding body_of
+body_length classes part index texts body e = read_length (action_among classes part index texts) 0 texts body e
+
+-- a get that was read is lawful
+lawful_get : (classes : List (List ℕ)) (part : Part) (index : ℕ) (texts : List (List ℕ)) (body : List Action) (i t : ℕ) (slot : List ℕ) → body_of classes part index texts ≡ Ok body → i < length texts
+    → HasOrder texts i (get slot) → filled (take i texts) slot ≡ Some t → is_lawful_get body i t ≡ true
+lawful_get classes part index texts body i t slot e within ordered at =
+    let f = fills texts i slot t (omega arith) at in
+    let long : length body ≡ length texts = body_length classes part index texts body e in
+    let b = there_is body t (omega (arith, f.before)) in
+    let c = comes classes part index texts body t b.0 e b.1 in
+    let made = comes_submit (length classes) (filled (take t texts)) c.order f.class slot b.0 (same_order texts t c.order (submit_as f.class slot) c.ordered f.submitted) c.is in
+    let submit-is : slice_get body t ≡ Some (Submit made.0) = rw made.1 b.1 in
+    let submitted : submits (slice_get body t) ≡ true = rw submit-is refl in
+    let once : list_any (gets t) (take i body) ≡ false = list_any_from (gets t) (take i body) (λ j action here.
+    let place = taken body i j action here in
+    let d = comes classes part index texts body j action e place.1 in
+    gets_not (length classes) (filled (take j texts)) d.order t action d.is (λ other same there.
+    let g = fills texts j other t (omega (arith, place.0)) there in
+    let one = same_order texts t (submit_as f.class slot) (submit_as g.class other) f.submitted g.submitted in
+    let slot-is : slot ≡ other = cc in
+    f.since j g.before place.0 (subst (λ (o : Order). HasOrder texts j o) (same ∙ ap get (sym slot-is)) d.ordered))) in
+    and_from _ _ (and_from _ _ (lt-ltb t i f.before) submitted) (not_from_false _ once)
+
+-- the action of an order is lawful
+lawful_by : (classes : List (List ℕ)) (part : Part) (index : ℕ) (texts : List (List ℕ)) (body : List Action) (i : ℕ) (action : Action) (order : Order) → body_of classes part index texts ≡ Ok body → i < length texts
+    → HasOrder texts i order → IsOf (length classes) (filled (take i texts)) order action → is_lawful_action (length classes) body i action ≡ true
+lawful_by classes part index texts body i action (work units) e within ordered is =
+    subst (λ (a : Action). is_lawful_action (length classes) body i a ≡ true) is (order_within ordered.text units ordered.gives)
+lawful_by classes part index texts body i action (submit class) e within ordered is =
+    subst (λ (a : Action). is_lawful_action (length classes) body i a ≡ true) is.1 is.2
+lawful_by classes part index texts body i action (submit_as class slot) e within ordered is =
+    subst (λ (a : Action). is_lawful_action (length classes) body i a ≡ true) is.1 is.2
+lawful_by classes part index texts body i action (get slot) e within ordered is =
+    subst (λ (a : Action). is_lawful_action (length classes) body i a ≡ true) is.1 (lawful_get classes part index texts body i is.0 slot e within ordered is.2)
+
+lawful_actions : (classes : List (List ℕ)) (part : Part) (index : ℕ) (texts : List (List ℕ)) (body : List Action) → body_of classes part index texts ≡ Ok body
+    → (i : ℕ) (action : Action) → slice_get body i ≡ Some action → is_lawful_action (length classes) body i action ≡ true
+lawful_actions classes part index texts body e i action here =
+    let c = comes classes part index texts body i action e here in
+    lawful_by classes part index texts body i action c.order e c.within c.ordered c.is
+
+action_passes : (classes : ℕ) (part : Part) (index : ℕ) (body : List Action) (i : ℕ) (action : Action) → is_lawful_action classes body i action ≡ true → check_action classes part index body i action ≡ Ok tt
+action_passes classes part index body i (Work u) h = test_passes _ _ h
+action_passes classes part index body i (Submit k) h = test_passes _ _ h
+action_passes classes part index body i (Get t) h = test_passes _ _ h
+
+-- a body that was read passes the checks of a plan's bodies, at whatever entry
+pub body_passes : (classes : List (List ℕ)) (part : Part) (index : ℕ) (texts : List (List ℕ)) (body : List Action) → body_of classes part index texts ≡ Ok body
+    → (n : ℕ) (at : Part) (place : ℕ) → n ≡ length classes → check_body n at place body ≡ Ok tt
+body_passes classes part index texts body e n at place same =
+    each_passes (check_action n at place body) body (λ i action here.
+    action_passes n at place body i action (rw same (lawful_actions classes part index texts body e i action here)))

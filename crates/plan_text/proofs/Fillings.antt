@@ -1,0 +1,89 @@
+-- A filled slot was filled by a submit of that slot, and no get emptied it since.
+use Rattle.std.proofs.Common.{◌≡◌, ℕ, zero, suc, ◌<◌, ◌≤◌, List, [], ◌∷◌, length, take, slice_get, Option, None, Some, refl, sym, ap, subst, ◌∙◌, arith, add-one, inl, inr, ◌⊎◌}
+use Rattle.std.specs.Str.{bytes_eq}
+use Rattle.std.proofs.lemmas.Bool.{cases_Bool, cases_lt}
+use Rattle.std.proofs.lemmas.Slice.Eq.{bytes_eq-Decides}
+use Rattle.plan_text.specs.Orders.{Order, work, submit, submit_as, get, order_of}
+use Rattle.plan_text.specs.Slots.{filled_by, filled}
+use Rattle.plan_text.proofs.Filling.{filled_more}
+
+-- the order of the text at place i
+pub record HasOrder (texts : List (List ℕ)) (i : ℕ) (order : Order) : Type 0 where
+  pub text : List ℕ
+  pub here : slice_get texts i ≡ Some text
+  pub gives : order_of text ≡ Some order
+
+-- the submit at t filled the slot before place i, and no get emptied it since
+pub record Fills (texts : List (List ℕ)) (i : ℕ) (slot : List ℕ) (t : ℕ) : Type 0 where
+  pub before : t < i
+  pub class : List ℕ
+  pub submitted : HasOrder texts t (submit_as class slot)
+  pub since : (j : ℕ) → t < j → j < i → HasOrder texts j (get slot) → ⊥
+
+-- the last order of the slot is this one, or it is an earlier one and this one empties nothing
+abbrev FilledHere : List ℕ → ℕ → Option ℕ → Option Order → ℕ → Type 0
+FilledHere slot i before order t =
+    ((t ≡ i) × (class : List ℕ) × (order ≡ Some (submit_as class slot))) ⊎ ((before ≡ Some t) × (order ≡ Some (get slot) → ⊥))
+
+filled_here : (slot : List ℕ) (i : ℕ) (before : Option ℕ) (order : Option Order) (t : ℕ) → filled_by slot i before order ≡ Some t → FilledHere slot i before order t
+filled_here slot i before None t e = inr (e, λ h. cc)
+filled_here slot i before (Some (work units)) t e = inr (e, λ h. cc)
+filled_here slot i before (Some (submit class)) t e = inr (e, λ h. cc)
+filled_here slot i before (Some (submit_as class name)) t e =
+    elim (cases_Bool (bytes_eq name slot)) [
+      | inl same ↦
+          let now = rw same at e in
+          let name-is : name ≡ slot = (bytes_eq-Decides name slot).0 same in
+          inl (cc, class, ap (λ (s : List ℕ). Some (submit_as class s)) name-is)
+      | inr other ↦ inr (rw other at e, λ h. cc)
+    ]
+filled_here slot i before (Some (get name)) t e =
+    elim (cases_Bool (bytes_eq name slot)) [
+      | inl same ↦ let now = rw same at e in absurd cc
+      | inr other ↦
+          let apart : Some (get name) ≡ Some (get slot) → ⊥ = λ h.
+          let name-is : name ≡ slot = cc in
+          let same = (bytes_eq-Decides name slot).1 name-is in
+          cc in
+          inr (rw other at e, apart)
+    ]
+
+-- the text at a place of the list
+text_at : (texts : List (List ℕ)) (i : ℕ) → i < length texts → (text : List ℕ) × (slice_get texts i ≡ Some text)
+text_at [] i within = absurd (omega arith)
+text_at (text ∷ texts) zero within = (text, refl)
+text_at (text ∷ texts) (suc i) within = text_at texts i (omega arith)
+
+same_text : (texts : List (List ℕ)) (i : ℕ) (x y : List ℕ) → slice_get texts i ≡ Some x → slice_get texts i ≡ Some y → x ≡ y
+same_text texts i x y a b = cc
+
+no_get_here : (texts : List (List ℕ)) (slot : List ℕ) (i : ℕ) (text : List ℕ) → slice_get texts i ≡ Some text → (order_of text ≡ Some (get slot) → ⊥) → HasOrder texts i (get slot) → ⊥
+no_get_here texts slot i text here apart has = apart (rw (same_text texts i text has.text here has.here) has.gives)
+
+fills_more : (texts : List (List ℕ)) (i : ℕ) (slot : List ℕ) (t : ℕ) → Fills texts i slot t → (HasOrder texts i (get slot) → ⊥) → Fills texts (suc i) slot t
+fills_more texts i slot t fills none = record {
+  before = omega (arith, fills.before);
+  class = fills.class;
+  submitted = fills.submitted;
+  since = λ j after within.
+      elim (cases_lt j i) [
+        | inl lt ↦ fills.since j after lt
+        | inr ge ↦ let same : i ≡ j = omega arith in subst (λ (k : ℕ). HasOrder texts k (get slot) → ⊥) same none
+      ];
+}
+
+-- what fills a slot at place i
+pub fills : (texts : List (List ℕ)) (i : ℕ) (slot : List ℕ) (t : ℕ) → i ≤ length texts → filled (take i texts) slot ≡ Some t → Fills texts i slot t
+fills texts zero slot t within e = absurd cc
+fills texts (suc i) slot t within e =
+    let text = text_at texts i (omega arith) in
+    let next : filled (take (suc i) texts) slot ≡ filled_by slot i (filled (take i texts) slot) (order_of text.0) = rw (← add-one) (filled_more slot texts i text.0 text.1) in
+    elim (filled_here slot i (filled (take i texts) slot) (order_of text.0) t (sym next ∙ e)) [
+      | inl here ↦ record {
+        before = omega (arith, here.0);
+        class = here.1;
+        submitted = record { text = text.0; here = rw here.0 text.1; gives = here.2 };
+        since = λ j after within has. absurd (omega (arith, here.0));
+      }
+      | inr earlier ↦ fills_more texts i slot t (fills texts i slot t (omega arith) earlier.0) (no_get_here texts slot i text.0 text.1 earlier.1)
+    ]
