@@ -1,5 +1,5 @@
 -- A text before and behind its first space.
-use Rattle.std.proofs.Common.{◌≡◌, ℕ, ◌+◌, ◌-◌, ◌≤◌, List, length, take, drop, position, Option, Some, None, refl, sym, ap, ◌∙◌}
+use Rattle.std.proofs.Common.{◌≡◌, ℕ, ◌+◌, ◌-◌, List, length, take, drop, position, Some, None, refl}
 use Rattle.std.proofs.lemmas.List.{take_rest}
 use Rattle.event_lines.specs.Pieces.{split_space, is_space}
 

@@ -1,5 +1,5 @@
 -- The place of a name in a list of named things.
-use Rattle.std.proofs.Common.{◌≡◌, ℕ, ◌+◌, Bool, true, false, List, [], ◌∷◌, map, length, position, refl, ap}
+use Rattle.std.proofs.Common.{◌≡◌, Bool, List, [], ◌∷◌, map, position, refl}
 use Rattle.std.specs.List.{position_or_len}
 use Rattle.std.proofs.lemmas.List.{length-map}
 

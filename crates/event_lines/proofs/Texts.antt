@@ -1,5 +1,5 @@
 -- Texts that a loop reads, one at each place.
-use Rattle.std.proofs.Common.{◌≡◌, ℕ, zero, suc, ◌+◌, ◌<◌, List, [], ◌∷◌, length, get_or, map, slice_get, Option, Some, None, option_map, Result, Err, Ok, Bor, refl, sym, ap, ◌∙◌, arith}
+use Rattle.std.proofs.Common.{◌≡◌, ℕ, zero, suc, ◌+◌, ◌<◌, List, [], ◌∷◌, length, get_or, map, slice_get, Option, Some, None, Err, Ok, Bor, refl, sym, ap, arith}
 use Rattle.readings.specs.Reading.{some_or, read_each}
 use Rattle.event_lines.specs.Number.{number_of}
 use Rattle.event_lines.specs.Pieces.{words_of, lines_of}

@@ -7,7 +7,12 @@ use job_bodies::Plan;
 use std::alloc::AllocError;
 use written_machine::Outcome;
 
-/// Answers an event that was possible, at line `number`, counted from 1.
+/// Answers an event that was possible, at line `number`, counted from 1, as `7: queued job 2`. The plan has the names of
+/// the pools.
+///
+/// # Errors
+///
+/// [`AllocError`] where memory runs out.
 pub fn push_outcome(
     text: &mut String,
     plan: &Plan,
@@ -44,14 +49,22 @@ fn push_refused(
     writeln!(text, "{number}: refused by {name}")
 }
 
-/// Answers an event that was not possible, at line `number`, counted from 1.
+/// Answers an event that was not possible, at line `number`, counted from 1, as `7: not possible`.
+///
+/// # Errors
+///
+/// [`AllocError`] where memory runs out.
 pub fn push_not_possible(text: &mut String, number: usize) -> Result<(), AllocError>
     ensures { OnOk result (string_bytes text.new ≡ string_bytes text.old ++ numbered number not_possible_text) }
 {
     writeln!(text, "{number}: not possible")
 }
 
-/// Answers whether the jobs of line `number`, counted from 1, wait for each other alone.
+/// Answers whether the jobs of line `number`, counted from 1, wait for each other alone, as `7: stuck yes`.
+///
+/// # Errors
+///
+/// [`AllocError`] where memory runs out.
 pub fn push_stuck(text: &mut String, number: usize, stuck: bool) -> Result<(), AllocError>
     ensures { OnOk result (string_bytes text.new ≡ string_bytes text.old ++ numbered number (stuck_text stuck)) }
 {
@@ -59,7 +72,11 @@ pub fn push_stuck(text: &mut String, number: usize, stuck: bool) -> Result<(), A
     writeln!(text, "{number}: stuck {answer}")
 }
 
-/// Ends a replay: how many jobs were refused, and how many were not finished.
+/// Ends a replay: how many jobs were refused, and how many were not finished, as `refusals 0, unfinished 2`.
+///
+/// # Errors
+///
+/// [`AllocError`] where memory runs out.
 pub fn push_summary(text: &mut String, refusals: u64, unfinished: u64) -> Result<(), AllocError>
     ensures { OnOk result (string_bytes text.new ≡ string_bytes text.old ++ summary refusals unfinished) }
 {

@@ -21,7 +21,9 @@ pub enum EventLine {
     Stuck(Vec<usize>),
 }
 
-/// The lines of a text, each `client N`, `job N`, `take POOL`, `retire POOL` or `stuck N N ..`.
+/// The lines of a text, each `client N`, `job N`, `take POOL`, `retire POOL` or `stuck N N ..`. A number is at most
+/// [`MOST_NUMBER`](crate::MOST_NUMBER), and has no leading zero; a pool is one of the plan's, by its name. The last
+/// newline may be missing.
 ///
 /// # Errors
 ///

@@ -1,4 +1,8 @@
-//! The lines of a replay: those that say what happens, and those that answer what came of it.
+//! The lines of a replay: those that say what happens (`client 0`, `take p`, `stuck 0 1`), and those that answer what came
+//! of it (`1: started job 0`).
+//!
+//! [`read_event_lines`] reads a whole text before anything happens. The answers are put one after another behind a text,
+//! each with the number of the line that it answers.
 #![tactic(auto)]
 
 mod answer_line;
@@ -6,6 +10,9 @@ mod event_line;
 mod number;
 mod pieces;
 
-pub use answer_line::{push_outcome, push_stuck, push_summary, push_not_possible};
+pub use answer_line::{push_not_possible, push_outcome, push_stuck, push_summary};
 pub use event_line::{EventLine, read_event_lines};
 pub use number::MOST_NUMBER;
+
+#[cfg(test)]
+mod tests;

@@ -13,17 +13,16 @@ pub fn lines_of(alloc: Global, text: &[u8]) -> Result<Vec<&[u8]>, AllocError>
     if text.is_empty() {
         return Ok(Vec::new(alloc));
     }
-    without_last_newline(text).split(|byte| *byte == b'\n').collect(alloc)
+    without_last_newline(text)
+        .split(|byte| *byte == b'\n')
+        .collect(alloc)
 }
 
 #[tactic(auto, unfolding(crate::specs::Pieces::without_last_newline))]
 fn without_last_newline(text: &[u8]) -> &[u8]
     ensures { result.now ≡ spec.without_last_newline text.now }
 {
-    match text.strip_suffix(b"\n") {
-        Some(front) => front,
-        None => text,
-    }
+    text.strip_suffix(b"\n").unwrap_or(text)
 }
 
 /// What stands before and after the first space.

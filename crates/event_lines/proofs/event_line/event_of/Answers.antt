@@ -1,4 +1,4 @@
-use Rattle.std.proofs.Common.{◌≡◌, codes, refl, sym, ◌∙◌, rules, arith}
+use Rattle.std.proofs.Common.{◌≡◌, codes, rules, arith}
 use Rattle.std.proofs.lemmas.Slice.Eq.{text_from_reads}
 use Rattle.event_lines.specs.EventLine.{event_of}
 use Rattle.event_lines.proofs.event_line.event_of.Goals as goal

@@ -2,7 +2,7 @@ use Rattle.std.proofs.Common.{◌≡◌, ◌≤◌, length, map, sym, arith}
 use Rattle.std.proofs.lemmas.List.{length-map}
 use Rattle.event_lines.specs.Number.{number_of}
 use Rattle.event_lines.specs.Pieces.{words_of}
-use Rattle.event_lines.proofs.Members.{all_begin, all_more, all_stop, all_end}
+use Rattle.event_lines.proofs.Members.{all_more, all_stop, all_end}
 use Rattle.event_lines.proofs.Texts.{now, text_at, stuck_none, stuck_some}
 use Rattle.event_lines.proofs.event_line.stuck_line.Goals as goal
 

@@ -1,5 +1,4 @@
-use Rattle.std.proofs.Common.{◌≡◌, ◌+◌, ◌*◌, true, false, sym, refl, arith}
-use Rattle.event_lines.specs.Number.{is_decimal}
+use Rattle.std.proofs.Common.{◌+◌, ◌*◌, sym}
 use Rattle.event_lines.proofs.Numbers.{digit_at, digits_more, none_refused, none_past, number_read}
 use Rattle.event_lines.proofs.number.number_of.Goals as goal
 
