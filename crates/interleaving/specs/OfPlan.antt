@@ -1,0 +1,24 @@
+-- Views of a plan, and what holds of them.
+use Rattle.std.specs.Prelude.{◌≡◌, ◌<◌, length, IfSome}
+use Rattle.job_bodies.specs.Plan.{Plan}
+use Rattle.written_machine.specs.declared.parent.Parent.{Parent}
+use Rattle.written_machine.specs.declared.parent.Parent.TheVariants as parent
+use Rattle.written_machine.specs.State.{State, pool_of}
+use Rattle.written_machine.specs.Reach.{IsReached}
+use Rattle.live_views.specs.declared.job_view.JobView.{JobView}
+use Rattle.live_views.specs.LiveView.{View, live_view}
+use Rattle.live_views.specs.ViewStep.{live_job, pool_in}
+
+-- it is the live view of a state that some list of events reaches
+abbrev pub IsOf : Plan → View → Type 0
+IsOf plan view = (s : State) × IsReached plan s × (live_view plan s ≡ view)
+
+-- a worker of the job's pool is busy
+pub record HasWorker (plan : Plan) (view : View) (job : JobView) : Type 0 where
+  pub pool : pool_of plan job.class < length view.pools
+  pub busy : (pool_in view (pool_of plan job.class)).idle < (pool_in view (pool_of plan job.class)).threads
+
+-- where the actor is a live job, a worker of its pool is busy
+abbrev pub IsAtWork : Plan → View → Parent → Type 0
+IsAtWork plan view (parent.Client c) = Unit {0}
+IsAtWork plan view (parent.Job j) = IfSome (live_job view.jobs j) (HasWorker plan view)

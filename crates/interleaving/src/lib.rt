@@ -1,0 +1,21 @@
+//! The running machine of a plan: many bounded thread pools, the clients that submit to them, and the live jobs.
+#![tactic(auto)]
+
+mod changes;
+mod clients;
+mod finish;
+mod get;
+mod index;
+mod jobs;
+mod moves;
+mod place;
+mod plans;
+mod pools;
+mod step;
+mod stuck;
+mod submit;
+mod world;
+
+pub use live_views::{JobView, Phase};
+pub use world::World;
+pub use written_machine::{ClientState, Event, Outcome, Parent};

@@ -1,0 +1,47 @@
+//! What a world looks up in its plan.
+
+ghost use Rattle.std.specs.Prelude.{◌≡◌, slice_index_or};
+ghost use Rattle.job_bodies.specs.Plan.{no_class, no_client, client_at};
+ghost use Rattle.written_machine.specs.State.{pool_of};
+
+use job_bodies::{Action, Class, Client, Plan};
+
+/// The pool of the class of this number; 0 where there is no such class.
+pub(crate) fn pool_of(plan: &Plan, class: usize) -> usize
+    ensures { result ≡ pool_of plan.now class }
+{
+    match plan.classes().get(class) {
+        Some(class) => class.pool,
+        None => 0,
+    }
+}
+
+/// The body of the class of this number; empty where there is no such class.
+pub(crate) fn body_of_class(classes: &[Class], class: usize) -> &[Action]
+    ensures { result.now ≡ (slice_index_or classes.now class no_class).body }
+{
+    match classes.get(class) {
+        Some(class) => &class.body,
+        None => &[],
+    }
+}
+
+/// The body of the kind of clients of this number; empty where there is no such kind.
+pub(crate) fn body_of_kind(kinds: &[Client], kind: usize) -> &[Action]
+    ensures { result.now ≡ (slice_index_or kinds.now kind no_client).body }
+{
+    match kinds.get(kind) {
+        Some(kind) => &kind.body,
+        None => &[],
+    }
+}
+
+/// Whether clients of this kind repeat their body; false where there is no such kind.
+pub(crate) fn repeats(plan: &Plan, kind: usize) -> bool
+    ensures { result ≡ (client_at plan.now kind).repeat }
+{
+    match plan.clients().get(kind) {
+        Some(kind) => kind.repeat,
+        None => false,
+    }
+}

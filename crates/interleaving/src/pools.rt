@@ -1,0 +1,57 @@
+//! The events of a pool.
+
+ghost use Rattle.std.specs.Prelude.{◌≡◌, length, map, All, IsTrue, IfOk};
+ghost use Rattle.job_bodies.specs.WellFormed.{IsWellFormed, has_lawful_sizes};
+ghost use Rattle.pool_machine.specs.PoolState.{new_pool, taken, retired};
+ghost use Rattle.live_views.specs.ViewStep.{pool_in, take_in, retire_in};
+
+use crate::World;
+use crate::changes::set_phase;
+use job_bodies::{Plan, Pool};
+use live_views::Phase;
+use pool_machine::PoolState;
+use std::alloc::{AllocError, Global};
+use written_machine::Outcome;
+
+/// Each pool, with no threads and an empty queue.
+pub(crate) fn new_pools(alloc: Global, pools: &[Pool]) -> Result<Vec<PoolState>, AllocError>
+    requires { All (λ pool. IsTrue (has_lawful_sizes pool)) pools.now }
+    ensures { IfOk result (λ new. new.items ≡ map new_pool pools.now) }
+{
+    let mut new = Vec::with_capacity(alloc, pools.len())?;
+    for pool in pools.iter() {
+        new.push(PoolState::new(alloc, pool))?;
+    }
+    Ok(new)
+}
+
+impl World {
+    ghost use Rattle.interleaving.specs.Answers.{AreOf};
+
+    /// An idle worker of the pool takes the head of its queue.
+    pub(crate) fn take(&mut self, plan: &Plan, pool: usize) -> Option<Outcome>
+        requires { length self.old.pools ≡ length plan.now.pools }
+        ensures value { AreOf (take_in self.old pool (taken (pool_in self.old pool))) self.old result self.new }
+        ensures well_formed { IsWellFormed plan.now }
+    {
+        if pool >= plan.pools().len() {
+            return None;
+        }
+        let number = self.pools[pool].take()?;
+        set_phase(&mut self.jobs, number, Phase::At(0));
+        Some(Outcome::Took(number))
+    }
+
+    /// An idle worker of the pool ends.
+    pub(crate) fn retire(&mut self, plan: &Plan, pool: usize) -> Option<Outcome>
+        requires { length self.old.pools ≡ length plan.now.pools }
+        ensures value { AreOf (retire_in self.old pool (retired (pool_in self.old pool))) self.old result self.new }
+        ensures well_formed { IsWellFormed plan.now }
+    {
+        if pool < plan.pools().len() && self.pools[pool].retire() {
+            Some(Outcome::Retired)
+        } else {
+            None
+        }
+    }
+}

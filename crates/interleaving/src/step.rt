@@ -1,0 +1,81 @@
+//! One event of a world.
+
+ghost use Rattle.std.specs.Prelude.{◌≡◌, IfOk, OnErr};
+ghost use Rattle.job_bodies.specs.WellFormed.{IsWellFormed};
+ghost use Rattle.written_machine.specs.State.{State};
+ghost use Rattle.written_machine.specs.Reach.{IsReached};
+ghost use Rattle.live_views.specs.LiveView.{live_view};
+ghost use Rattle.live_views.specs.ViewStep.{step_actor, point_in};
+ghost use Rattle.live_views.specs.Answers.{AnswersAs};
+
+use crate::World;
+use crate::moves::move_actor;
+use job_bodies::{Action, Plan};
+use std::alloc::AllocError;
+use written_machine::{Event, Outcome, Parent};
+
+impl World {
+    ghost use Rattle.interleaving.specs.Answers.{AreOf, AnswersIn};
+    ghost use Rattle.interleaving.specs.OfPlan.{IsOf};
+
+    /// Makes the event, if it is possible, and says what came of it: None where it is not possible.
+    ///
+    /// An event is of one actor or of one pool: an actor does its next action, an idle worker takes the head of its
+    /// pool's queue, or an idle worker ends. What is not possible changes nothing.
+    ///
+    /// # Errors
+    ///
+    /// `AllocError` where a submit finds no memory, or the count of jobs or of refusals stands at its greatest value. The
+    /// world is then unchanged.
+    pub fn step(&mut self, plan: &Plan, event: Event) -> Result<Option<Outcome>, AllocError>
+        requires { IsOf plan.now self.old }
+
+        // What comes of the event is what the written machine says, in each state that is seen so.
+        ensures answered { IfOk result (λ answer. (s : State) → IsReached plan.now s → live_view plan.now s ≡ self.old → AnswersAs plan.now s event answer self.new) }
+        ensures in_view { IfOk result (λ answer. AnswersIn plan.now self.old event answer self.new) }
+
+        // Whatever came of it, the world is still of this plan.
+        ensures of_plan { IsOf plan.now self.new }
+        ensures well_formed { IsWellFormed plan.now }
+        ensures error_unchanged { OnErr result (self.new ≡ self.old) }
+    {
+        self.act(plan, event)
+    }
+
+    // The event, as it is defined on views.
+    fn act(&mut self, plan: &Plan, event: Event) -> Result<Option<Outcome>, AllocError>
+        requires { IsOf plan.now self.old }
+        ensures answered { IfOk result (λ answer. AnswersIn plan.now self.old event answer self.new) }
+        ensures well_formed { IsWellFormed plan.now }
+        ensures error_unchanged { OnErr result (self.new ≡ self.old) }
+    {
+        match event {
+            Event::Client(client) => self.step_actor(plan, Parent::Client(client)),
+            Event::Job(number) => self.step_actor(plan, Parent::Job(number)),
+            Event::Take(pool) => Ok(self.take(plan, pool)),
+            Event::Retire(pool) => Ok(self.retire(plan, pool)),
+        }
+    }
+
+    fn step_actor(&mut self, plan: &Plan, actor: Parent) -> Result<Option<Outcome>, AllocError>
+        requires { IsOf plan.now self.old }
+        ensures answered { IfOk result (λ answer. AreOf (step_actor plan.now self.old actor (point_in plan.now self.old actor)) self.old answer self.new) }
+        ensures well_formed { IsWellFormed plan.now }
+        ensures error_unchanged { OnErr result (self.new ≡ self.old) }
+    {
+        let Some(place) = self.place(plan, actor) else {
+            return Ok(None);
+        };
+        match place.action {
+            None => Ok(self.end(plan, actor)),
+            Some(Action::Work(units)) => {
+                move_actor(&mut self.jobs, &mut self.clients, actor, place.position + 1);
+                Ok(Some(Outcome::Worked(units)))
+            }
+            Some(Action::Submit(class)) => {
+                Ok(Some(self.submit(plan, actor, place.position, class)?))
+            }
+            Some(Action::Get(slot)) => Ok(self.get(actor, place.position, slot)),
+        }
+    }
+}

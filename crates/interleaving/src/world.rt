@@ -1,0 +1,119 @@
+//! A world: the state of a plan's machine as far as it can still be asked for.
+
+ghost use Rattle.std.specs.Prelude.{◌≡◌, ◌<◌, length, count_by, slice_get, Some, IfOk};
+ghost use Rattle.std.specs.Option.{option_map};
+ghost use Rattle.live_views.specs.LiveView.{live_view};
+ghost use Rattle.live_views.specs.ViewStep.{live_job, is_unfinished_job};
+ghost use Rattle.job_bodies.specs.Plan as spec;
+ghost use Rattle.written_machine.specs.State.{State, is_unfinished};
+ghost use Rattle.written_machine.specs.Reach.{start};
+
+use crate::clients::new_clients;
+use crate::jobs;
+use crate::pools::new_pools;
+use job_bodies::Plan;
+use live_views::JobView;
+use pool_machine::PoolState;
+use std::alloc::{AllocError, Global};
+use std::marker::Model;
+use written_machine::ClientState;
+
+/// A plan's pools, clients and live jobs, and how many submits were refused.
+///
+/// A job is live while it is queued or at work, and while it is done and its parent may still get it. Of the others only
+/// their number is kept, so a world grows by one place for each job that is made.
+#[derive(Debug, Drop)]
+pub struct World {
+    // By number; None where the job is not live any more.
+    pub(crate) jobs: Vec<Option<JobView>>,
+    pub(crate) pools: Vec<PoolState>,
+    pub(crate) clients: Vec<ClientState>,
+    pub(crate) refusals: u64,
+    // No job below this number is live.
+    pub(crate) first_live: usize,
+    // For each client a number from which on no live job is one that the client made.
+    pub(crate) ends: Vec<usize>,
+}
+
+impl Model for World {
+    ghost use Rattle.live_views.specs.LiveView.{View};
+
+    ghost Value = { View };
+
+    ghost view = { λ w. record { jobs = w.jobs.items; pools = w.pools.items; clients = w.clients.items; refusals = w.refusals } };
+
+    ghost use Rattle.interleaving.specs.Index.{IsIndexed};
+
+    ghost invariant = { λ w. IsIndexed w.jobs.items w.clients.items w.first_live w.ends.items };
+}
+
+impl World {
+    ghost use Rattle.interleaving.specs.OfPlan.{IsOf};
+
+    /// The plan's world before its first event: no jobs, no threads, each client at the start of its body.
+    ///
+    /// # Errors
+    ///
+    /// `AllocError` where there is no memory for the pools and the clients.
+    #[tactic(auto, using(live_views::proofs::Reached::starts_seen))]
+    pub fn start(alloc: Global, plan: &Plan) -> Result<World, AllocError>
+        ensures value { IfOk result (λ world. world ≡ live_view plan.now (start plan.now)) }
+        ensures of_plan { IfOk result (λ world. IsOf plan.now world) }
+    {
+        let pools = new_pools(alloc, plan.pools())?;
+        let clients = new_clients(alloc, plan.clients())?;
+        let ends = vec![in alloc; 0; clients.len()]?;
+        Ok(World {
+            jobs: Vec::new(alloc),
+            pools,
+            clients,
+            refusals: 0,
+            first_live: 0,
+            ends,
+        })
+    }
+
+    /// How many submits were refused.
+    pub fn refusals(&self) -> u64
+        ensures { result ≡ self.now.refusals }
+    {
+        self.refusals
+    }
+
+    /// How many jobs are queued or at work.
+    pub fn unfinished(&self) -> u64
+        ensures value { (plan : spec.Plan) (s : State) → live_view plan s ≡ self.now → result ≡ count_by (λ job. is_unfinished job.stage) s.jobs }
+        ensures in_view { result ≡ count_by is_unfinished_job self.now.jobs }
+    {
+        jobs::unfinished(&self.jobs) as u64
+    }
+
+    /// How many jobs were ever made.
+    pub fn made(&self) -> usize
+        ensures { result ≡ length self.now.jobs }
+    {
+        self.jobs.len()
+    }
+
+    /// The pool of this number.
+    pub fn pool(&self, pool: usize) -> &PoolState
+        requires { pool < length self.now.pools }
+        ensures { slice_get self.now.pools pool ≡ Some result.now }
+    {
+        &self.pools[pool]
+    }
+
+    /// Where the client of this number stands in its body; None where there is no such client.
+    pub fn client(&self, client: usize) -> Option<usize>
+        ensures { result ≡ option_map (λ client. client.position) (slice_get self.now.clients client) }
+    {
+        Some(self.clients.get(client)?.position)
+    }
+
+    /// The live job of this number; None where the number is not of a live job.
+    pub fn job(&self, job: usize) -> Option<JobView>
+        ensures { result ≡ live_job self.now.jobs job }
+    {
+        jobs::live_job(&self.jobs, job)
+    }
+}
