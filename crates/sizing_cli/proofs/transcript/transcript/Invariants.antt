@@ -1,0 +1,5 @@
+use Rattle.sizing_cli.proofs.Answering.{IsSoFar}
+use Rattle.sizing_cli.proofs.transcript.transcript.Given as goal
+
+abbrev pub invariant-loop-index : goal.invariant-loop-index
+invariant-loop-index l = IsSoFar l.plan l.lines l.world l.answer l.index

@@ -1,0 +1,6 @@
+pub mod Bundle
+pub mod Answer
+pub mod Transcript
+pub mod Report
+pub mod ServeFault
+pub mod SoFar

@@ -1,0 +1,73 @@
+//! An answer: its text, and the status that goes with it.
+
+ghost use Rattle.std.specs.Prelude.{◌≡◌, ◌≢◌, ◌++◌, [], ◌∷◌, IfOk, string_bytes};
+ghost use Rattle.job_bodies.specs.FaultText.{fault_line};
+ghost use Rattle.sizing_cli.specs.Answer as spec;
+
+use crate::Status;
+use job_bodies::PlanFault;
+use std::alloc::{AllocError, Global};
+use std::marker::Model;
+
+/// What is written, and how the program ends then.
+#[derive(Debug, Drop)]
+pub struct Answer {
+    pub text: String,
+    pub status: Status,
+}
+
+impl Model for Answer {
+    ghost Value = { spec.Answer };
+
+    ghost view = { λ answer. record { text = string_bytes answer.text; status = answer.status } };
+}
+
+impl Answer {
+    /// The answer before its first line.
+    pub fn empty(alloc: Global) -> Answer
+        ensures { result ≡ record { text = []; status = Status.Done } }
+    {
+        Answer {
+            text: String::new(alloc),
+            status: Status::Done,
+        }
+    }
+}
+
+/// The answer to an input without a line `%%`.
+pub fn no_separator(alloc: Global) -> Result<Answer, AllocError>
+    ensures { IfOk result (λ answer. answer ≡ spec.no_separator) }
+{
+    fault(String::from_str(alloc, "fault 50 NoSeparator")?)
+}
+
+/// The answer to an input, or to event lines, of too many bytes.
+pub fn input_too_long(alloc: Global) -> Result<Answer, AllocError>
+    ensures { IfOk result (λ answer. answer ≡ spec.input_too_long) }
+{
+    fault(String::from_str(alloc, "fault 52 InputTooLong")?)
+}
+
+/// The answer to event lines of which this one, counted from 1, is bad.
+pub fn bad_event(alloc: Global, line: usize) -> Result<Answer, AllocError>
+    ensures { IfOk result (λ answer. answer ≡ spec.bad_event line) }
+{
+    fault(format!(in alloc; "fault 51 BadEvent at line {line}")?)
+}
+
+/// The answer to a plan text with this fault.
+pub fn plan_fault(alloc: Global, plan_fault: PlanFault) -> Result<Answer, AllocError>
+    ensures { IfOk result (λ answer. answer ≡ spec.fault (fault_line plan_fault)) }
+{
+    fault(format!(in alloc; "{plan_fault}")?)
+}
+
+fn fault(mut line: String) -> Result<Answer, AllocError>
+    ensures { IfOk result (λ answer. answer ≡ spec.fault (string_bytes line)) }
+{
+    line.push('\n')?;
+    Ok(Answer {
+        text: line,
+        status: Status::BadText,
+    })
+}

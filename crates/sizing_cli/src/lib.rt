@@ -1,0 +1,16 @@
+//! The program from bytes to bytes: it reads its whole input, makes its whole answer, and only then writes it.
+#![tactic(auto)]
+
+mod answer;
+mod bundle;
+mod limits;
+mod report;
+mod serve;
+mod status;
+mod transcript;
+
+pub use byte_streams::{IoFault, MemorySink, MemorySource, Sink, Source, StdSink, StdSource};
+pub use command_line::{Command, read_words};
+pub use limits::{MOST_EVENT_BYTES, MOST_INPUT_BYTES};
+pub use serve::serve_alone;
+pub use status::{ServeFault, Status};
