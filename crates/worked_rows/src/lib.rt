@@ -1,0 +1,13 @@
+//! Tests that cross the crates: small plans, what is asked of them, and the answers by hand.
+#![tactic(auto)]
+
+#[cfg(test)]
+mod faults;
+#[cfg(test)]
+mod plans;
+#[cfg(test)]
+mod replays;
+#[cfg(test)]
+mod served;
+#[cfg(test)]
+mod streams;
