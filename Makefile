@@ -1,5 +1,5 @@
 # The commands of this repository. Only the toolchain, make, gcc and python3 are needed.
-.PHONY: demo test examples bench program
+.PHONY: demo test examples checks bench program
 
 # Proves and builds the program, and runs it on its first example.
 demo:
@@ -12,6 +12,10 @@ test:
 # Runs the built program on each example, and compares what it answers.
 examples: program
 	python3 examples/check.py
+
+# Refuses each growth of the built program's memory in turn: fault 20 or the right answer, never another.
+checks: program
+	python3 checks/refused_growths.py
 
 # Times a replay beside a plain program that only splits and counts the same lines.
 bench: program

@@ -1,0 +1,42 @@
+/* Reads standard input, splits it into lines and the lines into words, and prints how many of each there are.
+   It is the yardstick of replay.py: the least that a program could do with the same bytes. */
+
+#include <errno.h>
+#include <stdio.h>
+#include <stdlib.h>
+#include <unistd.h>
+
+enum { MOST_BYTES = 2097155 };
+
+static size_t read_all(char *bytes, size_t room)
+{
+    size_t length = 0;
+    while (length < room) {
+        ssize_t got = read(STDIN_FILENO, bytes + length, room - length);
+        if (got == 0)
+            break;
+        if (got > 0)
+            length += (size_t)got;
+        else if (errno != EINTR)
+            exit(3);
+    }
+    return length;
+}
+
+int main(void)
+{
+    char *bytes = malloc(MOST_BYTES);
+    if (bytes == NULL)
+        return 3;
+    size_t length = read_all(bytes, MOST_BYTES);
+    size_t lines = 0, words = 0;
+    int in_word = 0;
+    for (size_t i = 0; i < length; i++) {
+        int in_gap = bytes[i] == ' ' || bytes[i] == '\n';
+        words += !in_gap && !in_word;
+        in_word = !in_gap;
+        lines += bytes[i] == '\n';
+    }
+    printf("lines %zu, words %zu\n", lines, words);
+    return 0;
+}

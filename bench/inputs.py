@@ -1,0 +1,109 @@
+"""The inputs of the benchmark. The model of machine.py makes each event as it is added, so all are possible."""
+
+from machine import Class, Client, Machine, Plan, Pool
+
+SEPARATOR = "%%\n"
+# The nested jobs: so many clients at most, and so many threads. A wave of clients takes one thread each, so that some
+# are left for the inner jobs.
+WAVE = 4000
+THREADS = 5000
+
+
+class Script:
+    """A replay's input and its answer, built event by event."""
+
+    def __init__(self, name, plan, room):
+        self.name = name
+        self.plan = plan.text()
+        self.machine = Machine(plan)
+        self.room = room
+        self.events = []
+        self.answers = []
+        self.most_unfinished = 0
+
+    def do(self, event):
+        """Adds an event."""
+        outcome = self.machine.happen(event)
+        if outcome is None or outcome.startswith("refused"):
+            raise AssertionError(f"{event} at {len(self.events) + 1}: {outcome}")
+        self.events.append(event)
+        self.answers.append(f"{len(self.events)}: {outcome}")
+        self.room -= len(event) + 1
+        if self.room < 0:
+            raise AssertionError("the event lines are too long")
+        self.most_unfinished = max(self.most_unfinished, self.machine.unfinished)
+
+    def input(self):
+        """What the program reads."""
+        return (self.plan + SEPARATOR + "".join(f"{event}\n" for event in self.events)).encode()
+
+    def answer(self):
+        """What the program must print."""
+        return "".join(f"{line}\n" for line in [*self.answers, self.machine.summary()]).encode()
+
+
+def one_looping_client(room):
+    """One client that submits a job to a pool of one thread and waits for it, for as many rounds as there is room."""
+    plan = Plan(
+        pools=[Pool("p", 1, 1, 1)],
+        classes=[Class("a", "p", ["work 1"])],
+        clients=[Client("c", 1, True, ["submit a as x", "get x"])],
+    )
+    script = Script("one looping client", plan, room)
+    job = 0
+    while script.room >= len(f"client 0\ntake p\njob {job}\njob {job}\nclient 0\nclient 0\n"):
+        script.do("client 0")
+        if job > 0:
+            script.do("take p")
+        script.do(f"job {job}")
+        script.do(f"job {job}")
+        script.do("client 0")
+        script.do("client 0")
+        job += 1
+    return script
+
+
+def nested_jobs(room):
+    """Waves of clients, each of which submits an outer job that submits an inner one to the same pool and waits for it.
+
+    All the outer jobs of a wave are at work before the first inner one is done.
+    """
+    plan = Plan(
+        pools=[Pool("p", THREADS, THREADS, 1000000)],
+        classes=[Class("outer", "p", ["submit inner as x", "get x"]), Class("inner", "p", ["work 1"])],
+        clients=[Client("c", WAVE, True, ["submit outer as x", "get x"])],
+    )
+    script = Script("nested jobs", plan, room)
+    while True:
+        jobs = len(script.machine.jobs) + 2 * WAVE
+        for_one = 3 * len(f"client {WAVE}\n") + 5 * len(f"job {jobs}\n") + 2 * len("take p\n")
+        clients = range(min(WAVE, script.room // for_one))
+        if not clients:
+            return script
+        wave(script, clients)
+
+
+def wave(script, clients):
+    for client in clients:
+        script.do(f"client {client}")
+    outer = [script.machine.clients[client].made["x"] for client in clients]
+    take_queued(script, outer)
+    for job in outer:
+        script.do(f"job {job}")
+    for job in [script.machine.jobs[job].made["x"] for job in outer]:
+        take_queued(script, [job])
+        script.do(f"job {job}")
+        script.do(f"job {job}")
+    for job in outer:
+        script.do(f"job {job}")
+        script.do(f"job {job}")
+    for client in clients:
+        script.do(f"client {client}")
+        script.do(f"client {client}")
+
+
+def take_queued(script, jobs):
+    """Idle workers take those of these jobs that are queued."""
+    for job in jobs:
+        if script.machine.jobs[job].phase == "queued":
+            script.do("take p")

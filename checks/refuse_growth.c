@@ -1,0 +1,107 @@
+/* A shared object that LD_PRELOAD puts before a program, and that refuses one growth of its memory: it has one call of
+   malloc, calloc, realloc, reallocarray, posix_memalign, aligned_alloc or mmap fail as it does where memory ran out.
+   The calls are counted from 1, and only those behind this object's constructor, which the loader calls when the C
+   library has started, right before main.
+
+   REFUSE_AT     the number of the call to refuse; none is refused if it is 0 or too large
+   REFUSE_TOLD   a file, to which are added a line "counting" at the start, and a line with the refused call's name */
+
+#define _GNU_SOURCE
+#include <errno.h>
+#include <fcntl.h>
+#include <stdatomic.h>
+#include <stdbool.h>
+#include <stdlib.h>
+#include <string.h>
+#include <sys/mman.h>
+#include <sys/syscall.h>
+#include <unistd.h>
+
+/* The C library's own, by the names that nobody takes from it. */
+extern void *__libc_malloc(size_t);
+extern void *__libc_calloc(size_t, size_t);
+extern void *__libc_realloc(void *, size_t);
+extern void *__libc_memalign(size_t, size_t);
+
+static atomic_bool counting;
+static atomic_ullong calls;
+static unsigned long long refused_call;
+
+/* Adds to the file of what is told. It takes no memory. Where that is impossible, the program ends. */
+static void tell(const char *line)
+{
+    const char *path = getenv("REFUSE_TOLD");
+    int file = path == NULL ? -1 : open(path, O_WRONLY | O_APPEND);
+    ssize_t size = strlen(line);
+    if (file < 0 || write(file, line, size) != size || close(file) < 0)
+        abort();
+}
+
+__attribute__((constructor)) static void start(void)
+{
+    const char *number = getenv("REFUSE_AT");
+    refused_call = number == NULL ? 0 : strtoull(number, NULL, 10);
+    tell("counting\n");
+    counting = true;
+}
+
+/* Counts a call, and says whether it is the one to refuse. */
+static bool refused(const char *line)
+{
+    if (!counting || ++calls != refused_call)
+        return false;
+    tell(line);
+    errno = ENOMEM;
+    return true;
+}
+
+void *malloc(size_t size)
+{
+    return refused("malloc\n") ? NULL : __libc_malloc(size);
+}
+
+void *calloc(size_t count, size_t size)
+{
+    return refused("calloc\n") ? NULL : __libc_calloc(count, size);
+}
+
+void *realloc(void *memory, size_t size)
+{
+    return refused("realloc\n") ? NULL : __libc_realloc(memory, size);
+}
+
+void *reallocarray(void *memory, size_t count, size_t size)
+{
+    size_t whole;
+    if (refused("reallocarray\n"))
+        return NULL;
+    if (__builtin_mul_overflow(count, size, &whole)) {
+        errno = ENOMEM;
+        return NULL;
+    }
+    return __libc_realloc(memory, whole);
+}
+
+int posix_memalign(void **memory, size_t alignment, size_t size)
+{
+    if (alignment % sizeof(void *) != 0 || (alignment & (alignment - 1)) != 0 || alignment == 0)
+        return EINVAL;
+    void *taken = refused("posix_memalign\n") ? NULL : __libc_memalign(alignment, size);
+    if (taken == NULL)
+        return ENOMEM;
+    *memory = taken;
+    return 0;
+}
+
+void *aligned_alloc(size_t alignment, size_t size)
+{
+    return refused("aligned_alloc\n") ? NULL : __libc_memalign(alignment, size);
+}
+
+void *mmap(void *place, size_t size, int protection, int flags, int file, off_t offset)
+{
+    return refused("mmap\n") ? MAP_FAILED : (void *)syscall(SYS_mmap, place, size, protection, flags, file, offset);
+}
+
+void *mmap64(void *place, size_t size, int protection, int flags, int file, off64_t offset)
+    __attribute__((alias("mmap")));

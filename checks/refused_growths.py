@@ -1,0 +1,135 @@
+#!/usr/bin/env python3
+"""Refuses each growth of the memory of `sizing replay` in turn, on three examples. README.md says what that shows.
+
+A run in which the N-th growth is refused must end with fault 20 and no answer, or with the example's own answer and
+status. N goes from 1 to the first that a run doesn't reach.
+
+The program is crates/sizing/out/sizing, or the one that the environment variable SIZING names.
+
+Exit status: 0 where all runs end so, 1 where one doesn't, 2 where nothing can be shown.
+"""
+
+import os
+import shutil
+import subprocess
+import sys
+import tempfile
+from collections import Counter
+from dataclasses import dataclass
+from itertools import count
+from pathlib import Path
+from typing import Optional
+
+HERE = Path(__file__).resolve().parent
+BUILT = HERE.parent / "crates" / "sizing" / "out" / "sizing"
+EXAMPLES = HERE.parent / "examples"
+NAMES = ["two-clients", "cross-pools", "there-and-back"]
+SHARED_OBJECT = "refuse_growth.so"
+SECONDS = 10
+
+
+class Unable(Exception):
+    """Nothing can be shown."""
+
+
+@dataclass(frozen=True)
+class Ended:
+    """How a run ended. The status is less than 0 where a signal ended it, and None where it didn't end in time."""
+
+    status: Optional[int]
+    printed: bytes
+    complained: bytes
+
+
+OUT_OF_MEMORY = Ended(3, b"", b"fault 20 Memory\n")
+
+
+def main():
+    program = Path(os.environ.get("SIZING") or BUILT).resolve()
+    try:
+        if not os.access(program, os.X_OK) or not program.is_file():
+            raise Unable(f"there is no program at {program}: run `make program` at the top of the repository")
+        with tempfile.TemporaryDirectory() as folder:
+            compile_object(Path(folder))
+            wrong = sum(sweep(Path(folder), program, name) for name in NAMES)
+    except Unable as why:
+        print(why, file=sys.stderr)
+        return 2
+    return 1 if wrong else 0
+
+
+def compile_object(folder):
+    if shutil.which("gcc") is None:
+        raise Unable("gcc is needed, and there is none")
+    words = ["gcc", "-O2", "-shared", "-fPIC", "-o", folder / SHARED_OBJECT, HERE / "refuse_growth.c"]
+    if subprocess.run(words).returncode != 0:
+        raise Unable("gcc doesn't compile refuse_growth.c")
+
+
+def sweep(folder, program, name):
+    """Refuses each growth of an example's replay in turn, and prints what it finds; how many runs end wrongly."""
+    right = right_end(name)
+    ended, _ = run(folder, program, name, 0)
+    if ended != right:
+        raise Unable(f"{name}: with no growth refused, {shown(ended)}")
+    calls, ends = Counter(), Counter()
+    for number in count(1):
+        ended, call = run(folder, program, name, number)
+        if call is None:
+            break
+        calls[call] += 1
+        end = {OUT_OF_MEMORY: "fault 20", right: "the right answer"}.get(ended, "wrong")
+        ends[end] += 1
+        if end == "wrong":
+            print(f"{name}, growth {number} ({call}): {shown(ended)}", flush=True)
+    if not calls:
+        raise Unable(f"{name}: the program makes no call that could be refused")
+    if ended != right:
+        print(f"{name}, growth {number} (not reached): {shown(ended)}", flush=True)
+        ends["wrong"] += 1
+    each_call = ", ".join(f"{call} {times}" for call, times in sorted(calls.items()))
+    each_end = ", ".join(f"{end} {ends[end]}" for end in ("fault 20", "the right answer", "wrong"))
+    print(f"{name}: {sum(calls.values())} growths refused ({each_call}): {each_end}", flush=True)
+    return ends["wrong"]
+
+
+def right_end(name):
+    try:
+        return Ended(int((EXAMPLES / f"{name}.status").read_text()), (EXAMPLES / f"{name}.answer").read_bytes(), b"")
+    except (OSError, ValueError) as error:
+        raise Unable(f"the example {name} can't be read: {error}")
+
+
+def run(folder, program, name, number):
+    """How a replay ends in which the growth of this number is refused; and the refused call, None if none was."""
+    told = folder / "told"
+    told.write_bytes(b"")
+    settings = {"LD_PRELOAD": f"./{SHARED_OBJECT}", "REFUSE_AT": str(number), "REFUSE_TOLD": str(told)}
+    try:
+        with open(EXAMPLES / f"{name}.txt", "rb") as given:
+            done = subprocess.run(
+                [program, "replay"], stdin=given, capture_output=True, cwd=folder, env=settings, timeout=SECONDS
+            )
+        ended = Ended(done.returncode, done.stdout, done.stderr)
+    except subprocess.TimeoutExpired as late:
+        ended = Ended(None, late.stdout or b"", late.stderr or b"")
+    except OSError as error:
+        raise Unable(f"the program can't be run: {error}")
+    lines = told.read_text().split()
+    if not lines:
+        raise Unable(f"{SHARED_OBJECT} isn't in the program: is that statically linked? {name}: {shown(ended)}")
+    return ended, lines[1] if len(lines) > 1 else None
+
+
+def shown(ended):
+    if ended.status is None:
+        how = f"it doesn't end within {SECONDS} seconds"
+    elif ended.status < 0:
+        how = f"signal {-ended.status} ends it"
+    else:
+        how = f"it ends with status {ended.status}"
+    return f"{how}, standard output {ended.printed!r}, standard error {ended.complained!r}"
+
+
+if __name__ == "__main__":
+    sys.exit(main())
