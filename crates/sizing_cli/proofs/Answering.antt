@@ -59,10 +59,13 @@ pub happened_so : (plan : Plan) (s : State) (after : View) (number : ℕ) (event
     → IsReached plan s → AnswersAs plan s event (Some outcome) after
     → new.text ≡ old.text ++ numbered number (outcome_text (pool_names plan) outcome) → new.status ≡ cond (is_refusal outcome) Refused old.status
     → HappenedIn plan s after number event old new true
-happened_so plan s after number event outcome old new reached answers text status =
-    (answers.0, reached_by_step plan s answers.0 event outcome reached answers.1, sym answers.2,
-      λ rest. behind-line old new (numbered number (outcome_text (pool_names plan) outcome)) (is_refusal outcome) (rest answers.0) text status
-      ∙ sym (ap (λ (x : Option (State × Outcome)). behind old (happened plan s number x rest)) answers.1))
+happened_so plan s after number event outcome old new reached answers text status = (
+  answers.0,
+  reached_by_step plan s answers.0 event outcome reached answers.1,
+  sym answers.2,
+  λ rest. behind-line old new (numbered number (outcome_text (pool_names plan) outcome)) (is_refusal outcome) (rest answers.0) text status
+      ∙ sym (ap (λ (x : Option (State × Outcome)). behind old (happened plan s number x rest)) answers.1),
+)
 
 -- the two ways in which the status is kept
 pub happened_refused : (plan : Plan) (s : State) (after : View) (number : ℕ) (event : Event) (outcome : Outcome) (old new : Answer)
@@ -83,10 +86,11 @@ pub not_happened : (plan : Plan) (s : State) (after : View) (number : ℕ) (even
     → AnswersAs plan s event None after
     → new.text ≡ old.text ++ numbered number not_possible_text → new.status ≡ Refused
     → HappenedIn plan s after number event old new false
-not_happened plan s after number event old new answers text status =
-    (sym answers.1,
-      λ rest. behind-line old new (numbered number not_possible_text) true (ending s) text status
-      ∙ sym (ap (λ (x : Option (State × Outcome)). behind old (happened plan s number x rest)) answers.0))
+not_happened plan s after number event old new answers text status = (
+  sym answers.1,
+  λ rest. behind-line old new (numbered number not_possible_text) true (ending s) text status
+      ∙ sym (ap (λ (x : Option (State × Outcome)). behind old (happened plan s number x rest)) answers.0),
+)
 
 -- ---- the lines so far
 
@@ -118,7 +122,7 @@ so_far_happened plan lines before after old new index event d line inside there 
       reached = after_it.1;
       live = after_it.2;
       whole = after_it.3 (λ s'. transcript plan s' (index + 1 + 1) rest)
-        ∙ (sym (ap (λ (x : List Line). behind old (transcript plan s (index + 1) x)) cut) ∙ so_far.whole);
+          ∙ (sym (ap (λ (x : List Line). behind old (transcript plan s (index + 1) x)) cut) ∙ so_far.whole);
     }
 
 -- an event that was not possible ends the answer
@@ -148,7 +152,7 @@ so_far_asked plan lines world old new index members d line inside there is so_fa
       reached = so_far.reached;
       live = so_far.live;
       whole = asks s so_far.reached so_far.live (transcript plan s (index + 1 + 1) rest)
-        ∙ (sym (ap (λ (x : List Line). behind old (transcript plan s (index + 1) x)) cut) ∙ so_far.whole);
+          ∙ (sym (ap (λ (x : List Line). behind old (transcript plan s (index + 1) x)) cut) ∙ so_far.whole);
     }
 
 -- no line is left

@@ -18,8 +18,8 @@ pub report-take : (command : Command) (input : List ℕ) → report command (tak
 report-take Replay input =
     elim (cases_lt (MOST_INPUT_BYTES + 1) (length input)) [
       | inl long ↦
-        let cut : length (take (MOST_INPUT_BYTES + 1) input) ≡ MOST_INPUT_BYTES + 1 = length-take-le (MOST_INPUT_BYTES + 1) input (omega arith) in
-        too_long (take (MOST_INPUT_BYTES + 1) input) (omega arith) ∙ sym (too_long input (omega arith))
+          let cut : length (take (MOST_INPUT_BYTES + 1) input) ≡ MOST_INPUT_BYTES + 1 = length-take-le (MOST_INPUT_BYTES + 1) input (omega arith) in
+          too_long (take (MOST_INPUT_BYTES + 1) input) (omega arith) ∙ sym (too_long input (omega arith))
       | inr short ↦ ap (λ (bytes : List ℕ). report Replay bytes) (take_all (MOST_INPUT_BYTES + 1) input short)
     ]
 

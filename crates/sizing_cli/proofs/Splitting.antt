@@ -32,10 +32,10 @@ split_from-found text (suc i) found inside h =
     let there : split_from (begins_line text (i + 1)) (drop (i + 1) text) ≡ Some found = rw add-one h in
     let b : ℕ = get_or text i 0 in
     let here : split_from (begins_line text i) (drop i text) ≡ Some (record { plan = b ∷ found.plan; second = found.second }) =
-        split_from-drop text i (omega arith) ∙ ap (λ (later : Option Bundle). later_or b later (split_here (begins_line text i) (drop i text))) there
+    split_from-drop text i (omega arith) ∙ ap (λ (later : Option Bundle). later_or b later (split_here (begins_line text i) (drop i text))) there
     in
     let longer : take i text ++ b ∷ found.plan ≡ take (suc i) text ++ found.plan =
-        sym (ap (λ (t : List ℕ). t ++ found.plan) (take-suc text i 0 (omega arith)) ∙ append_assoc (take i text) (b ∷ []) found.plan)
+    sym (ap (λ (t : List ℕ). t ++ found.plan) (take-suc text i 0 (omega arith)) ∙ append_assoc (take i text) (b ∷ []) found.plan)
     in
     split_from-found text i (record { plan = b ∷ found.plan; second = found.second }) (omega arith) here
     ∙ ap (λ (front : List ℕ). Some (record { plan = front; second = found.second })) longer
@@ -66,7 +66,7 @@ found_before text (suc i) second some inside none found =
     let here : second_part text i ≡ Some second = rw (← place) found in
     let nothing : split_from (begins_line text (i + 1)) (drop (i + 1) text) ≡ None = rw add-one none in
     let split : split_from (begins_line text i) (drop i text) ≡ Some (record { plan = []; second = second }) =
-        split_from-here text i (omega arith) nothing ∙ ap bundle_here here
+    split_from-here text i (omega arith) nothing ∙ ap bundle_here here
     in
     let whole = split_from-found text i (record { plan = []; second = second }) (omega arith) split in
     ap (λ (n : ℕ). Some (record { plan = take n text; second = second })) place

@@ -15,11 +15,7 @@ use job_bodies::Plan;
 use std::alloc::{AllocError, Global};
 
 /// Replays the lines from the plan's start, up to the first event that is not possible.
-pub fn transcript(
-    alloc: Global,
-    plan: &Plan,
-    lines: &[EventLine],
-) -> Result<Answer, AllocError>
+pub fn transcript(alloc: Global, plan: &Plan, lines: &[EventLine]) -> Result<Answer, AllocError>
     ensures { IfOk result (λ answer. answer ≡ spec.transcript plan.now (start plan.now) 1 (map line_seen lines.now)) }
 {
     let mut world = World::start(alloc, plan)?;

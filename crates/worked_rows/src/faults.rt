@@ -25,12 +25,18 @@ fn slot_faults(rt: HostRuntime) -> Result<(), Fail> {
 #[test]
 fn plan_faults(rt: HostRuntime) -> Result<(), Fail> {
     let plan = one_pool(rt.alloc(), 2, 1, 2, 2)?;
-    assert_eq!(rt; replayed(rt.alloc(), plan.as_str(), "")?.as_str(), "fault 8 BadNumber at pool 0/status 2/");
+    assert_eq!(rt;
+        replayed(rt.alloc(), plan.as_str(), "")?.as_str(),
+        "fault 8 BadNumber at pool 0/status 2/"
+    );
     let mut plan = String::new(rt.alloc());
     pool(&mut plan, "p", 1, 1, 2)?;
     class(&mut plan, "a", "p", "\"work 0\"")?;
     client(&mut plan, "c", 2, ONE_ASKING)?;
-    assert_eq!(rt; replayed(rt.alloc(), plan.as_str(), "")?.as_str(), "fault 11 BadAction at class 0 action 0/status 2/");
+    assert_eq!(rt;
+        replayed(rt.alloc(), plan.as_str(), "")?.as_str(),
+        "fault 11 BadAction at class 0 action 0/status 2/"
+    );
     Ok(())
 }
 
@@ -42,12 +48,22 @@ fn bad_events(rt: HostRuntime) -> Result<(), Fail> {
         ("client 0/take z", "fault 51 BadEvent at line 2/status 2/"),
         ("/client 0", "fault 51 BadEvent at line 1/status 2/"),
         ("client 01", "fault 51 BadEvent at line 1/status 2/"),
-        ("client 0/job 0/client 1000000001", "fault 51 BadEvent at line 3/status 2/"),
-        ("client 1000000000", "1: not possible/refusals 0, unfinished 0/status 1/"),
+        (
+            "client 0/job 0/client 1000000001",
+            "fault 51 BadEvent at line 3/status 2/",
+        ),
+        (
+            "client 1000000000",
+            "1: not possible/refusals 0, unfinished 0/status 1/",
+        ),
         ("stuck", "fault 51 BadEvent at line 1/status 2/"),
         ("client 0\r/", "fault 51 BadEvent at line 1/status 2/"),
     ] {
-        assert_eq!(rt; replayed(rt.alloc(), plan.as_str(), events)?.as_str(), answer, "at {events:?}");
+        assert_eq!(rt;
+            replayed(rt.alloc(), plan.as_str(), events)?.as_str(),
+            answer,
+            "at {events:?}"
+        );
     }
     Ok(())
 }
@@ -67,14 +83,24 @@ fn separators(rt: HostRuntime) -> Result<(), Fail> {
         let mut input = plan.clone()?;
         input.push_str(behind)?;
         let answered = served(rt.alloc(), input.as_str())?;
-        assert_eq!(rt; in_one_line(rt.alloc(), answered.as_str())?.as_str(), answer, "at {behind:?}");
+        assert_eq!(rt;
+            in_one_line(rt.alloc(), answered.as_str())?.as_str(),
+            answer,
+            "at {behind:?}"
+        );
     }
     Ok(())
 }
 
 #[test]
 fn empty_inputs(rt: HostRuntime) -> Result<(), Fail> {
-    assert_eq!(rt; served(rt.alloc(), "")?.as_str(), "fault 50 NoSeparator\nstatus 2\n");
-    assert_eq!(rt; served(rt.alloc(), "%%")?.as_str(), "refusals 0, unfinished 0\nstatus 0\n");
+    assert_eq!(rt;
+        served(rt.alloc(), "")?.as_str(),
+        "fault 50 NoSeparator\nstatus 2\n"
+    );
+    assert_eq!(rt;
+        served(rt.alloc(), "%%")?.as_str(),
+        "refusals 0, unfinished 0\nstatus 0\n"
+    );
     Ok(())
 }

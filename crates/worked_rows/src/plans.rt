@@ -79,15 +79,24 @@ pub fn pool(
     max: u32,
     queue: u32,
 ) -> Result<(), AllocError> {
-    writeln!(text, "[[pool]]\nname = \"{name}\"\ncore = {core}\nmax = {max}\nqueue = {queue}")
+    writeln!(
+        text,
+        "[[pool]]\nname = \"{name}\"\ncore = {core}\nmax = {max}\nqueue = {queue}"
+    )
 }
 
 /// Adds a class.
 pub fn class(text: &mut String, name: &str, pool: &str, body: &str) -> Result<(), AllocError> {
-    writeln!(text, "[[class]]\nname = \"{name}\"\npool = \"{pool}\"\nbody = [{body}]")
+    writeln!(
+        text,
+        "[[class]]\nname = \"{name}\"\npool = \"{pool}\"\nbody = [{body}]"
+    )
 }
 
 /// Adds a kind of looping clients.
 pub fn client(text: &mut String, name: &str, count: u32, body: &str) -> Result<(), AllocError> {
-    writeln!(text, "[[client]]\nname = \"{name}\"\ncount = {count}\nrepeat = true\nbody = [{body}]")
+    writeln!(
+        text,
+        "[[client]]\nname = \"{name}\"\ncount = {count}\nrepeat = true\nbody = [{body}]"
+    )
 }

@@ -10,7 +10,10 @@ const TO_THE_REFUSAL: &str = "client 0/job 0/job 0/client 0/client 0/client 0/cl
 fn two_clients_refused(rt: HostRuntime) -> Result<(), Fail> {
     let plan = one_pool(rt.alloc(), 1, 1, 1, 2)?;
     let answer = replayed(rt.alloc(), plan.as_str(), TO_THE_REFUSAL)?;
-    assert_eq!(rt; answer.as_str(), "1: started job 0/2: worked 1/3: finished job 0/4: got job 0/5: looped/6: queued job 1/7: refused by p/refusals 1, unfinished 1/status 1/");
+    assert_eq!(rt;
+        answer.as_str(),
+        "1: started job 0/2: worked 1/3: finished job 0/4: got job 0/5: looped/6: queued job 1/7: refused by p/refusals 1, unfinished 1/status 1/"
+    );
     Ok(())
 }
 
@@ -19,17 +22,22 @@ fn refused_then_queued(rt: HostRuntime) -> Result<(), Fail> {
     let plan = one_pool(rt.alloc(), 1, 1, 1, 2)?;
     let events = format!(in rt.alloc(); "{TO_THE_REFUSAL}/take p/client 1/")?;
     let answer = replayed(rt.alloc(), plan.as_str(), events.as_str())?;
-    assert_eq!(rt; answer.as_str(), "1: started job 0/2: worked 1/3: finished job 0/4: got job 0/5: looped/6: queued job 1/7: refused by p/8: took job 1/9: queued job 2/refusals 1, unfinished 2/status 1/");
+    assert_eq!(rt;
+        answer.as_str(),
+        "1: started job 0/2: worked 1/3: finished job 0/4: got job 0/5: looped/6: queued job 1/7: refused by p/8: took job 1/9: queued job 2/refusals 1, unfinished 2/status 1/"
+    );
     Ok(())
 }
 
 #[test]
 fn one_client_loops(rt: HostRuntime) -> Result<(), Fail> {
     let plan = one_pool(rt.alloc(), 1, 1, 2, 1)?;
-    let events =
-        "client 0/job 0/job 0/client 0/client 0/client 0/take p/job 1/job 1/client 0/";
+    let events = "client 0/job 0/job 0/client 0/client 0/client 0/take p/job 1/job 1/client 0/";
     let answer = replayed(rt.alloc(), plan.as_str(), events)?;
-    assert_eq!(rt; answer.as_str(), "1: started job 0/2: worked 1/3: finished job 0/4: got job 0/5: looped/6: queued job 1/7: took job 1/8: worked 1/9: finished job 1/10: got job 1/refusals 0, unfinished 0/status 0/");
+    assert_eq!(rt;
+        answer.as_str(),
+        "1: started job 0/2: worked 1/3: finished job 0/4: got job 0/5: looped/6: queued job 1/7: took job 1/8: worked 1/9: finished job 1/10: got job 1/refusals 0, unfinished 0/status 0/"
+    );
     Ok(())
 }
 
@@ -38,7 +46,10 @@ fn start_before_queue(rt: HostRuntime) -> Result<(), Fail> {
     let plan = one_pool(rt.alloc(), 2, 2, 2, 2)?;
     let events = "client 0/job 0/job 0/client 1/client 0/client 0/client 0/take p/job 1/";
     let answer = replayed(rt.alloc(), plan.as_str(), events)?;
-    assert_eq!(rt; answer.as_str(), "1: started job 0/2: worked 1/3: finished job 0/4: started job 1/5: got job 0/6: looped/7: queued job 2/8: took job 2/9: worked 1/refusals 0, unfinished 2/status 0/");
+    assert_eq!(rt;
+        answer.as_str(),
+        "1: started job 0/2: worked 1/3: finished job 0/4: started job 1/5: got job 0/6: looped/7: queued job 2/8: took job 2/9: worked 1/refusals 0, unfinished 2/status 0/"
+    );
     Ok(())
 }
 
@@ -50,12 +61,17 @@ fn no_events(rt: HostRuntime) -> Result<(), Fail> {
     Ok(())
 }
 
-const NESTED_ANSWER: &str = "1: started job 0/2: queued job 1/3: stuck yes/4: not possible/refusals 0, unfinished 2/status 1/";
+const NESTED_ANSWER: &str =
+    "1: started job 0/2: queued job 1/3: stuck yes/4: not possible/refusals 0, unfinished 2/status 1/";
 
 #[test]
 fn nested_one_worker(rt: HostRuntime) -> Result<(), Fail> {
     let plan = nested(rt.alloc(), 1, 1, 5)?;
-    let answer = replayed(rt.alloc(), plan.as_str(), "client 0/job 0/stuck 0 1/take p/")?;
+    let answer = replayed(
+        rt.alloc(),
+        plan.as_str(),
+        "client 0/job 0/stuck 0 1/take p/",
+    )?;
     assert_eq!(rt; answer.as_str(), NESTED_ANSWER);
     Ok(())
 }
@@ -64,7 +80,11 @@ fn nested_one_worker(rt: HostRuntime) -> Result<(), Fail> {
 #[test]
 fn nested_unused_max(rt: HostRuntime) -> Result<(), Fail> {
     let plan = nested(rt.alloc(), 1, 8, 5)?;
-    let answer = replayed(rt.alloc(), plan.as_str(), "client 0/job 0/stuck 0 1/take p/")?;
+    let answer = replayed(
+        rt.alloc(),
+        plan.as_str(),
+        "client 0/job 0/stuck 0 1/take p/",
+    )?;
     assert_eq!(rt; answer.as_str(), NESTED_ANSWER);
     Ok(())
 }
@@ -75,7 +95,10 @@ fn cross_pools_stuck(rt: HostRuntime) -> Result<(), Fail> {
     let plan = crossed(rt.alloc(), 1)?;
     let events = "client 0/client 1/job 0/job 1/client 2/job 4/stuck 0 1 2 3/stuck 0 1/";
     let answer = replayed(rt.alloc(), plan.as_str(), events)?;
-    assert_eq!(rt; answer.as_str(), "1: started job 0/2: started job 1/3: queued job 2/4: queued job 3/5: started job 4/6: worked 1/7: stuck yes/8: stuck no/refusals 0, unfinished 5/status 1/");
+    assert_eq!(rt;
+        answer.as_str(),
+        "1: started job 0/2: started job 1/3: queued job 2/4: queued job 3/5: started job 4/6: worked 1/7: stuck yes/8: stuck no/refusals 0, unfinished 5/status 1/"
+    );
     Ok(())
 }
 
@@ -85,15 +108,25 @@ fn retire(rt: HostRuntime) -> Result<(), Fail> {
     let plan = one_pool(rt.alloc(), 1, 2, 1, 3)?;
     let events = "client 0/client 1/client 2/job 2/job 2/retire p/job 0/job 0/retire p/";
     let answer = replayed(rt.alloc(), plan.as_str(), events)?;
-    assert_eq!(rt; answer.as_str(), "1: started job 0/2: queued job 1/3: started job 2/4: worked 1/5: finished job 2/6: retired/7: worked 1/8: finished job 0/9: not possible/refusals 0, unfinished 1/status 1/");
+    assert_eq!(rt;
+        answer.as_str(),
+        "1: started job 0/2: queued job 1/3: started job 2/4: worked 1/5: finished job 2/6: retired/7: worked 1/8: finished job 0/9: not possible/refusals 0, unfinished 1/status 1/"
+    );
     Ok(())
 }
 
 #[test]
 fn reach_counts(rt: HostRuntime) -> Result<(), Fail> {
     let plan = there_and_back(rt.alloc())?;
-    let answer = replayed(rt.alloc(), plan.as_str(), "client 0/job 0/job 1/stuck 0 1 2/")?;
-    assert_eq!(rt; answer.as_str(), "1: started job 0/2: started job 1/3: queued job 2/4: stuck yes/refusals 0, unfinished 3/status 1/");
+    let answer = replayed(
+        rt.alloc(),
+        plan.as_str(),
+        "client 0/job 0/job 1/stuck 0 1 2/",
+    )?;
+    assert_eq!(rt;
+        answer.as_str(),
+        "1: started job 0/2: started job 1/3: queued job 2/4: stuck yes/refusals 0, unfinished 3/status 1/"
+    );
     Ok(())
 }
 
@@ -103,6 +136,9 @@ fn members_are_a_set(rt: HostRuntime) -> Result<(), Fail> {
     let plan = nested(rt.alloc(), 1, 1, 5)?;
     let events = "client 0/job 0/stuck 0 0 1/stuck 0 1 7/stuck 0/";
     let answer = replayed(rt.alloc(), plan.as_str(), events)?;
-    assert_eq!(rt; answer.as_str(), "1: started job 0/2: queued job 1/3: stuck yes/4: stuck no/5: stuck no/refusals 0, unfinished 2/status 1/");
+    assert_eq!(rt;
+        answer.as_str(),
+        "1: started job 0/2: queued job 1/3: stuck yes/4: stuck no/5: stuck no/refusals 0, unfinished 2/status 1/"
+    );
     Ok(())
 }

@@ -16,7 +16,10 @@ fn a_byte_at_a_time(rt: HostRuntime) -> Result<(), Fail> {
     let mut sink = MemorySink::new(rt.alloc()).at_most(1);
     let ended = serve_alone(rt.alloc(), Command::Replay, &mut source, &mut sink);
     let answer = shown(rt.alloc(), ended, sink.written())?;
-    assert_eq!(rt; answer.as_str(), served(rt.alloc(), input.as_str())?.as_str());
+    assert_eq!(rt;
+        answer.as_str(),
+        served(rt.alloc(), input.as_str())?.as_str()
+    );
     Ok(())
 }
 
@@ -26,11 +29,17 @@ fn a_source_that_fails(rt: HostRuntime) -> Result<(), Fail> {
     let plan = one_pool(rt.alloc(), 1, 1, 1, 2)?;
     let input = bundle(rt.alloc(), plan.as_str(), EVENTS)?;
     for calls in 0..8 {
-        let mut source = MemorySource::new(input.as_bytes()).at_most(20).failing_after(calls);
+        let mut source = MemorySource::new(input.as_bytes())
+            .at_most(20)
+            .failing_after(calls);
         let mut sink = MemorySink::new(rt.alloc());
         let ended = serve_alone(rt.alloc(), Command::Replay, &mut source, &mut sink);
         let answer = shown(rt.alloc(), ended, sink.written())?;
-        assert_eq!(rt; answer.as_str(), "fault 60 ReadFailed\n", "after {calls} calls");
+        assert_eq!(rt;
+            answer.as_str(),
+            "fault 60 ReadFailed\n",
+            "after {calls} calls"
+        );
     }
     Ok(())
 }
@@ -45,8 +54,15 @@ fn a_sink_that_fails(rt: HostRuntime) -> Result<(), Fail> {
         let mut source = MemorySource::new(input.as_bytes());
         let mut sink = MemorySink::new(rt.alloc()).at_most(7).failing_after(calls);
         let ended = serve_alone(rt.alloc(), Command::Replay, &mut source, &mut sink);
-        assert_eq!(rt; shown(rt.alloc(), ended, &[])?.as_str(), "fault 61 WriteFailed\n");
-        assert_eq!(rt; sink.written().len() as u64, 7 * calls, "after {calls} calls");
+        assert_eq!(rt;
+            shown(rt.alloc(), ended, &[])?.as_str(),
+            "fault 61 WriteFailed\n"
+        );
+        assert_eq!(rt;
+            sink.written().len() as u64,
+            7 * calls,
+            "after {calls} calls"
+        );
         assert!(rt; whole.as_bytes().starts_with(sink.written()));
     }
     Ok(())

@@ -16,8 +16,8 @@ pub returns-then-not-branch : goal.returns-then-not-branch
 returns-then-not-branch c =
     if_ok_map c.ended.result _ _
     (λ whole ended. so_far_ended_early c.args.plan.now c.args.lines.now c.loop-index.world c.happen.new.world c.loop-index.answer c.happen.new.answer whole c.loop-index.index
-      c.in-Happens.event c.index-lines-index.result c.index-lines-index.result (omega arith) c.index-lines-index.is c.in-Happens.is c.loop-index.invariant
-      (rw c.if-not-branch.true at c.in_ok-happen-in-Happens.ensures) ended)
+    c.in-Happens.event c.index-lines-index.result c.index-lines-index.result (omega arith) c.index-lines-index.is c.in-Happens.is c.loop-index.invariant
+    (rw c.if-not-branch.true at c.in_ok-happen-in-Happens.ensures) ended)
     c.ended.ensures
 
 pub ask-requires : goal.ask-requires
@@ -27,13 +27,13 @@ pub loop-index-preserved : goal.loop-index-preserved
 loop-index-preserved c =
     elim c.match-line.branch [
       | in-Happens+in_ok-happen-in-Happens+else-not-branch w ↦
-        rw (w.world-is, w.answer-is)
-        (so_far_happened c.args.plan.now c.args.lines.now c.loop-index.world w.happen.new.world c.loop-index.answer w.happen.new.answer c.loop-index.index
+          rw (w.world-is, w.answer-is)
+          (so_far_happened c.args.plan.now c.args.lines.now c.loop-index.world w.happen.new.world c.loop-index.answer w.happen.new.answer c.loop-index.index
           w.in-Happens.event c.index-lines-index.result c.index-lines-index.result (omega arith) c.index-lines-index.is w.in-Happens.is c.loop-index.invariant
           (rw w.if-not-branch.false at w.in_ok-happen-in-Happens.ensures))
       | in-Stuck+in_ok-ask-in-Stuck w ↦
-        rw (w.world-is, w.answer-is)
-        (so_far_asked c.args.plan.now c.args.lines.now c.loop-index.world c.loop-index.answer w.ask.new.answer c.loop-index.index
+          rw (w.world-is, w.answer-is)
+          (so_far_asked c.args.plan.now c.args.lines.now c.loop-index.world c.loop-index.answer w.ask.new.answer c.loop-index.index
           w.deref.result.now c.index-lines-index.result c.index-lines-index.result (omega arith) c.index-lines-index.is
           (ap line_seen w.in-Stuck.is ∙ ap Stuck (sym w.deref.ensures.value)) c.loop-index.invariant w.in_ok-ask-in-Stuck.ensures)
     ]
@@ -42,5 +42,5 @@ pub returns : goal.returns
 returns c =
     if_ok_map c.ended-2.result _ _
     (λ whole ended. so_far_ended c.args.plan.now c.args.lines.now c.loop-index.world c.loop-index.answer whole c.loop-index.index (omega arith) c.loop-index.invariant
-      ended)
+    ended)
     c.ended-2.ensures
