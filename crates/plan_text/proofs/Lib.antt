@@ -7,3 +7,8 @@ mod Samples
 mod Fillings
 mod BodyLaws
 mod Buildable
+pub mod Images
+mod SpelledOrders
+mod SpelledBodies
+mod SpelledEntries
+mod SpelledPlan

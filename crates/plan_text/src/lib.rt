@@ -12,9 +12,13 @@ mod fault;
 mod names;
 mod order;
 mod plan_of;
+mod plan_values;
 mod slots;
+mod spelling;
 #[cfg(test)]
 mod tests;
+mod writer;
 
 pub use document::MOST_TEXT_BYTES;
 pub use plan_of::read_plan;
+pub use writer::write_plan;

@@ -1,5 +1,7 @@
 //! Texts of plans, and their faults.
 
+mod written;
+
 use crate::read_plan;
 use job_bodies::{Action, Part, PlanFault};
 use std::test::*;
