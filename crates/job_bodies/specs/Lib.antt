@@ -1,5 +1,6 @@
 pub mod Plan
 pub mod WellFormed
+pub mod Got
 pub mod Checks
 pub mod Build
 pub mod FaultText

@@ -1,9 +1,12 @@
 //! The checks of one entry of a plan, each with the fault that it gives.
 
-ghost use Rattle.std.specs.Prelude.{◌≡◌, ◌<◌, length, map, take, slice_index_or};
+ghost use Rattle.std.specs.Prelude.{◌≡◌, ◌<◌, ◌++◌, ◌∷◌, [], List, length, map, take, slice_index_or};
+ghost use Rattle.std.specs.List.{list_any};
+ghost use Rattle.job_bodies.specs.declared.action.Action.{Action};
 ghost use Rattle.job_bodies.specs.declared.action.Action.TheVariants.{Work};
-ghost use Rattle.job_bodies.specs.Plan.{no_pool, no_class, no_client};
+ghost use Rattle.job_bodies.specs.Plan.{no_pool, no_class, no_client, gets};
 ghost use Rattle.job_bodies.specs.WellFormed.{is_lawful_get};
+ghost use Rattle.job_bodies.specs.Got.{IsTableOf};
 ghost use Rattle.job_bodies.specs.Checks.{check_pool, check_class, check_client, check_length, check_action, check_body};
 
 use crate::fault::holds_or;
@@ -56,14 +59,43 @@ pub(crate) fn check_length(part: Part, index: usize, body: &[Action]) -> Result<
     holds_or(short, PlanFault::at_entry(part, index, TOO_MANY))
 }
 
+/// Whether one of these actions gets the submit. The table tells it at once, for all that a lawful body may name.
+fn is_got(actions: &[Action], got: &[bool; MOST_ACTIONS], submit: usize) -> bool
+    requires { IsTableOf actions.now got.now }
+    ensures { result ≡ list_any (gets submit) actions.now }
+{
+    if submit < MOST_ACTIONS {
+        got[submit]
+    } else {
+        actions.contains(&Action::Get(submit))
+    }
+}
+
+/// Makes a table of some actions one of these and this action.
+fn add_to_table(got: &mut [bool; MOST_ACTIONS], action: Action)
+    ensures { (actions : List Action) → IsTableOf actions got.old → IsTableOf (actions ++ action ∷ []) got.new }
+{
+    if let Action::Get(submit) = action {
+        if submit < MOST_ACTIONS {
+            got[submit] = true;
+        }
+    }
+}
+
 /// A get at this position names an earlier submit of its body that no earlier get names.
-fn is_lawful_get(body: &[Action], position: usize, submit: usize) -> bool
-    requires { position < length body.now }
+fn is_lawful_get(
+    body: &[Action],
+    got: &[bool; MOST_ACTIONS],
+    position: usize,
+    submit: usize,
+) -> bool
+    requires position { position < length body.now }
+    requires table { IsTableOf (take position body.now) got.now }
     ensures { result ≡ is_lawful_get body.now position submit }
 {
     submit < position
         && matches!(body[submit], Action::Submit(_))
-        && !body[..position].contains(&Action::Get(submit))
+        && !is_got(&body[..position], got, submit)
 }
 
 /// The action at this position is lawful there.
@@ -72,16 +104,18 @@ fn check_action(
     part: Part,
     index: usize,
     body: &[Action],
+    got: &[bool; MOST_ACTIONS],
     position: usize,
 ) -> Result<(), PlanFault>
-    requires { position < length body.now }
+    requires position { position < length body.now }
+    requires table { IsTableOf (take position body.now) got.now }
     ensures { let action = slice_index_or body.now position (Work 0) in
         result ≡ check_action classes part index body.now position action }
 {
     let (lawful, number) = match body[position] {
         Action::Work(units) => (is_within(1, MOST_UNITS, u64::from(units)), BAD_NUMBER),
         Action::Submit(class) => (class < classes, NO_SUCH_CLASS),
-        Action::Get(submit) => (is_lawful_get(body, position, submit), SLOT_EMPTY),
+        Action::Get(submit) => (is_lawful_get(body, got, position, submit), SLOT_EMPTY),
     };
     holds_or(lawful, PlanFault::at_action(part, index, position, number))
 }
@@ -96,8 +130,10 @@ pub(crate) fn check_body(
 ) -> Result<(), PlanFault>
     ensures { result ≡ check_body classes part index body.now }
 {
+    let mut got = [false; MOST_ACTIONS];
     for position in 0..body.len() {
-        check_action(classes, part, index, body, position)?;
+        check_action(classes, part, index, body, &got, position)?;
+        add_to_table(&mut got, body[position]);
     }
     Ok(())
 }
