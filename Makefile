@@ -1,5 +1,5 @@
 # The commands of this repository. Only the toolchain, make, gcc and python3 are needed.
-.PHONY: demo test examples checks bench program
+.PHONY: demo test examples checks bench program plan_reader
 
 # Proves and builds the program, and runs it on its first example.
 demo:
@@ -17,9 +17,14 @@ examples: program
 checks: program
 	python3 checks/refused_growths.py
 
-# Times a replay beside a plain program that only splits and counts the same lines.
-bench: program
+# Times a replay beside a plain program that only splits and counts the same lines, and the reading of a plan beside the
+# reading of its TOML alone.
+bench: program plan_reader
 	python3 bench/replay.py
+	python3 bench/read.py
 
 program:
 	@cd crates/sizing && { rt run -- replay < stdin > /dev/null; true; }
+
+plan_reader:
+	@cd crates/plan_reader && { rt run -- plan < stdin > /dev/null; true; }

@@ -1,0 +1,96 @@
+"""The texts of the benchmark of reading: plans of several shapes, each of exactly as many bytes as are wanted."""
+
+from dataclasses import dataclass
+
+from machine import Class, Client, Plan, Pool
+
+MOST_CLASSES = 256
+MOST_CLIENTS = 256
+MOST_ACTIONS = 256
+LETTERS = "abcdefghijklmnopqrstuvwxyz"
+READ = "ok"
+
+
+@dataclass
+class Text:
+    """A text, and what a reader of plans prints of it. A reader of TOML prints `ok` of each."""
+
+    name: str
+    text: str
+    printed: str
+
+
+def all_texts(size):
+    """A text of this size of each shape."""
+    return [long_names(size), half_a_comment(size), refused_at_the_end(size), full_bodies(size), no_entries(size)]
+
+
+def long_names(size):
+    """256 classes with names of 32 bytes, and bodies of submits and gets as long as there is room for."""
+    return Text("long names", filled(plan_of_long_names(size, True), size), READ)
+
+
+def half_a_comment(size):
+    """The same plan in the first half, and one comment behind it."""
+    return Text("half a comment", filled(plan_of_long_names(size // 2, True), size), READ)
+
+
+def refused_at_the_end(size):
+    """The first plan, but its very last action is a get of an empty slot."""
+    text = filled(plan_of_long_names(size, False), size)
+    return Text("refused at the end", text, "fault 13 SlotEmpty at client 0 action 1")
+
+
+def full_bodies(size):
+    """Short names and 256 actions in each body, all submits before all gets: the most actions for the bytes."""
+    slots = [first + second for first in LETTERS for second in LETTERS][:MOST_ACTIONS // 2]
+    body = [f"submit a as {slot}" for slot in slots] + [f"get {slot}" for slot in slots]
+    names = [*LETTERS, *(first + second for first in LETTERS for second in LETTERS)]
+
+    def plan(bodies):
+        classes = [Class(name, "p", body) for name in names[:min(bodies, MOST_CLASSES)]]
+        clients = [Client(name, 1, True, body) for name in names[:bodies - len(classes)]]
+        return Plan([Pool("p", 1, 1, 1)], classes, clients)
+
+    return Text("full bodies", filled(largest(plan, MOST_CLASSES + MOST_CLIENTS, size), size), READ)
+
+
+def no_entries(size):
+    """One comment and nothing else."""
+    return Text("a comment alone", filled("", size), READ)
+
+
+def plan_of_long_names(size, is_lawful):
+    names = [f"class_{number:026}" for number in range(MOST_CLASSES)]
+    slots = [f"slot_{number:027}" for number in range(MOST_ACTIONS // 2)]
+    pool = Pool(f"pool_{0:027}", 1, 1, 1)
+    last = slots[0] if is_lawful else slots[1]
+    client = Client(f"client_{0:025}", 1, True, [f"submit {names[0]} as {slots[0]}", f"get {last}"])
+
+    def plan(pairs):
+        body = []
+        for name, slot in zip(names, slots[:pairs]):
+            body += [f"submit {name} as {slot}", f"get {slot}"]
+        return Plan([pool], [Class(name, pool.name, body) for name in names], [client])
+
+    return largest(plan, MOST_ACTIONS // 2, size)
+
+
+def largest(plan, most, size):
+    """The text of the largest of these plans, from 0 to the most, that is no longer than the size."""
+    low, high = 0, most
+    while low < high:
+        middle = (low + high + 1) // 2
+        if len(plan(middle).text()) <= size:
+            low = middle
+        else:
+            high = middle - 1
+    return plan(low).text()
+
+
+def filled(text, size):
+    """The text and a comment behind it, of this size together."""
+    left = size - len(text)
+    if left < 0:
+        raise AssertionError("the plan is too long")
+    return text + ("#" * (left - 1) + "\n" if left > 0 else "")

@@ -1,0 +1,55 @@
+//! `plan_reader`: reads the text of a plan, or only its TOML. `bench/read.py` times one beside the other.
+#![tactic(auto)]
+
+ghost use Rattle.std.specs.Prelude.{◌≡◌, ◌≢◌, IsOk, OnOk, IfErr, Err};
+ghost use Rattle.job_bodies.specs.Checks.{at_text};
+ghost use Rattle.plan_text.specs.PlanOf.{plan_of};
+ghost use Rattle.plan_text.specs.Document.{table_of};
+
+use anyhow::{Result, bail};
+use job_bodies::PlanFault;
+use job_bodies::fault_number::{MEMORY, NOT_TOML};
+use plan_text::read_plan;
+use std::alloc::Global;
+use std::{env, io};
+
+/// Reads standard input to its end, and prints `ok` or the first fault of what the word of the command line names.
+fn main(rt: HostRuntime) -> Result<()> {
+    let Some(word) = env::args(&rt)?.nth(1) else {
+        bail!("usage: plan_reader plan|toml");
+    };
+    let text = io::read_to_string(rt.alloc(), rt.stdin())?;
+    let outcome = match word.as_str() {
+        "plan" => as_plan(rt.alloc(), &text),
+        "toml" => as_toml(rt.alloc(), &text),
+        _ => bail!("usage: plan_reader plan|toml"),
+    };
+    match outcome {
+        Ok(()) => println!(rt; "ok")?,
+        Err(fault) => println!(rt; "{fault}")?,
+    }
+    Ok(())
+}
+
+/// Reads the text as a plan, and lets the plan go.
+fn as_plan(alloc: Global, text: &str) -> Result<(), PlanFault>
+    ensures ok { OnOk result (IsOk (plan_of text.now)) }
+    ensures fault { IfErr result (λ fault. fault ≢ at_text MEMORY → plan_of text.now ≡ Err fault) }
+{
+    let _plan = read_plan(alloc, text.as_bytes())?;
+    Ok(())
+}
+
+/// Reads the text as TOML alone, and lets the table go.
+fn as_toml(alloc: Global, text: &str) -> Result<(), PlanFault>
+    ensures ok { OnOk result (IsOk (table_of text.now)) }
+    ensures fault { IfErr result (λ fault. fault ≢ at_text MEMORY → table_of text.now ≡ Err fault) }
+{
+    match toml::table_from_str(alloc, text) {
+        Ok(_table) => Ok(()),
+        Err(error) => {
+            let number = if error.is_memory() { MEMORY } else { NOT_TOML };
+            Err(PlanFault::at_text(number))
+        }
+    }
+}
