@@ -1,7 +1,7 @@
 //! Bad input: a fault line and status 2, and nothing is replayed.
 
 use crate::plans::{ONE_ASKING, class, client, one_pool, one_pool_with, pool};
-use crate::served::{in_one_line, replayed, served};
+use crate::served::{answered, replayed, served_bytes};
 use std::test::Fail;
 
 #[test]
@@ -44,63 +44,46 @@ fn plan_faults(rt: HostRuntime) -> Result<(), Fail> {
 #[test]
 fn bad_events(rt: HostRuntime) -> Result<(), Fail> {
     let plan = one_pool(rt.alloc(), 1, 1, 2, 2)?;
-    for (events, answer) in [
-        ("client 0/take z", "fault 51 BadEvent at line 2/status 2/"),
-        ("/client 0", "fault 51 BadEvent at line 1/status 2/"),
-        ("client 01", "fault 51 BadEvent at line 1/status 2/"),
-        (
-            "client 0/job 0/client 1000000001",
-            "fault 51 BadEvent at line 3/status 2/",
-        ),
-        (
-            "client 1000000000",
-            "1: not possible/refusals 0, unfinished 0/status 1/",
-        ),
-        ("stuck", "fault 51 BadEvent at line 1/status 2/"),
-        ("client 0\r/", "fault 51 BadEvent at line 1/status 2/"),
-    ] {
-        assert_eq!(rt;
-            replayed(rt.alloc(), plan.as_str(), events)?.as_str(),
-            answer,
-            "at {events:?}"
-        );
-    }
+    assert_eq!(rt;
+        replayed(rt.alloc(), plan.as_str(), "client 0/take z")?.as_str(),
+        "fault 51 BadEvent at line 2/status 2/"
+    );
     Ok(())
 }
 
-/// The bundle is split at its last line `%%`, which may be the input's end; anything more on the line is no separator.
+/// A plan text that is not UTF-8, and values that nest too deep or are at the wrong place.
 #[test]
-fn separators(rt: HostRuntime) -> Result<(), Fail> {
-    let plan = one_pool(rt.alloc(), 1, 1, 2, 2)?;
-    for (behind, answer) in [
-        ("%%", "refusals 0, unfinished 0/status 0/"),
-        ("%%\n", "refusals 0, unfinished 0/status 0/"),
-        ("%%\r\n", "fault 50 NoSeparator/status 2/"),
-        ("%% \n", "fault 50 NoSeparator/status 2/"),
-        ("", "fault 50 NoSeparator/status 2/"),
-        ("%%\nclient 0\n%%\nclient 0\n", "fault 1 NotToml/status 2/"),
-    ] {
-        let mut input = plan.clone()?;
-        input.push_str(behind)?;
-        let answered = served(rt.alloc(), input.as_str())?;
-        assert_eq!(rt;
-            in_one_line(rt.alloc(), answered.as_str())?.as_str(),
-            answer,
-            "at {behind:?}"
-        );
-    }
+fn hostile_plans(rt: HostRuntime) -> Result<(), Fail> {
+    assert_eq!(rt;
+        served_bytes(rt.alloc(), b"# \xff\n%%\n")?.as_str(),
+        "fault 1 NotToml\nstatus 2\n"
+    );
+    let opening = "[".repeat(rt.alloc(), 200)?;
+    let closing = "]".repeat(rt.alloc(), 200)?;
+    let nested = format!(in rt.alloc(); "pool = [{opening}{closing}]\n%%\n")?;
+    let answer = answered(rt.alloc(), nested.as_str())?;
+    let as_not_toml = answer.as_str() == "fault 1 NotToml/status 2/";
+    let as_wrong_type = answer.as_str() == "fault 5 WrongType at pool 0/status 2/";
+    assert!(rt; as_not_toml || as_wrong_type, "{answer}");
     Ok(())
 }
 
+/// A missing separator is told before a fault of the plan, and that before a fault of an event line.
 #[test]
-fn empty_inputs(rt: HostRuntime) -> Result<(), Fail> {
-    assert_eq!(rt;
-        served(rt.alloc(), "")?.as_str(),
-        "fault 50 NoSeparator\nstatus 2\n"
-    );
-    assert_eq!(rt;
-        served(rt.alloc(), "%%")?.as_str(),
-        "refusals 0, unfinished 0\nstatus 0\n"
-    );
+fn the_first_fault_is_told(rt: HostRuntime) -> Result<(), Fail> {
+    for (input, answer) in [
+        ("pool = 1\n", "fault 50 NoSeparator/status 2/"),
+        ("pool = \nclient x\n", "fault 50 NoSeparator/status 2/"),
+        ("pool = 1\n%%\n", "fault 5 WrongType/status 2/"),
+        ("pool = 1\n%%\nclient x\n", "fault 5 WrongType/status 2/"),
+        ("pool = \n%%\n\n", "fault 1 NotToml/status 2/"),
+        ("%%\nclient x\n", "fault 51 BadEvent at line 1/status 2/"),
+    ] {
+        assert_eq!(rt;
+            answered(rt.alloc(), input)?.as_str(),
+            answer,
+            "at {input:?}"
+        );
+    }
     Ok(())
 }

@@ -4,6 +4,14 @@
 #[cfg(test)]
 mod faults;
 #[cfg(test)]
+mod limits;
+#[cfg(test)]
+mod lines;
+#[cfg(test)]
+mod numbers;
+#[cfg(test)]
+mod parts;
+#[cfg(test)]
 mod plans;
 #[cfg(test)]
 mod replays;
@@ -11,3 +19,5 @@ mod replays;
 mod served;
 #[cfg(test)]
 mod streams;
+#[cfg(test)]
+mod words;

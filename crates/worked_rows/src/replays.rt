@@ -115,6 +115,19 @@ fn retire(rt: HostRuntime) -> Result<(), Fail> {
     Ok(())
 }
 
+/// An inner job that runs beside the outer one; at line 7 the queue is empty.
+#[test]
+fn drain_met_exactly(rt: HostRuntime) -> Result<(), Fail> {
+    let plan = nested(rt.alloc(), 2, 2, 5)?;
+    let events = "client 0/job 0/job 1/job 1/job 0/job 0/take p/";
+    let answer = replayed(rt.alloc(), plan.as_str(), events)?;
+    assert_eq!(rt;
+        answer.as_str(),
+        "1: started job 0/2: started job 1/3: worked 1/4: finished job 1/5: got job 1/6: finished job 0/7: not possible/refusals 0, unfinished 0/status 1/"
+    );
+    Ok(())
+}
+
 #[test]
 fn reach_counts(rt: HostRuntime) -> Result<(), Fail> {
     let plan = there_and_back(rt.alloc())?;

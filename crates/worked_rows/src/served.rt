@@ -6,7 +6,12 @@ use std::test::Fail;
 
 /// What was written for an input, with the status on a line of its own behind it.
 pub fn served(alloc: Global, input: &str) -> Result<String, Fail> {
-    let mut source = MemorySource::new(input.as_bytes());
+    served_bytes(alloc, input.as_bytes())
+}
+
+/// The same for an input that may not be UTF-8.
+pub fn served_bytes(alloc: Global, input: &[u8]) -> Result<String, Fail> {
+    let mut source = MemorySource::new(input);
     let mut sink = MemorySink::new(alloc);
     let ended = serve_alone(alloc, Command::Replay, &mut source, &mut sink);
     shown(alloc, ended, sink.written())
@@ -41,7 +46,12 @@ pub fn bundle(alloc: Global, plan: &str, events: &str) -> Result<String, AllocEr
 /// What the replay of these event lines on the plan answers, each newline as a `/`.
 pub fn replayed(alloc: Global, plan: &str, events: &str) -> Result<String, Fail> {
     let input = bundle(alloc, plan, events)?;
-    in_one_line(alloc, served(alloc, input.as_str())?.as_str()).map_err(Fail::from)
+    answered(alloc, input.as_str())
+}
+
+/// What is answered to an input, each newline as a `/`.
+pub fn answered(alloc: Global, input: &str) -> Result<String, Fail> {
+    in_one_line(alloc, served(alloc, input)?.as_str()).map_err(Fail::from)
 }
 
 /// The lines with a `/` behind each.
