@@ -1,5 +1,5 @@
 -- What reading an input up to a limit does to the bytes of a source.
-use Rattle.std.specs.Prelude.{ℕ, ◌≤◌, List, length, Option, Result, Ok, Err}
+use Rattle.std.specs.Prelude.{ℕ, ◌≤◌, List, length, codes, Option, Result, Ok, Err}
 use Rattle.std.specs.Io.KnownBytes.{Consumes}
 use Rattle.byte_streams.specs.declared.reading.ReadError.{ReadError}
 use Rattle.byte_streams.specs.declared.reading.ReadError.TheVariants.{Memory, Fault}
@@ -13,3 +13,8 @@ abbrev pub fault_count : {T : Type 0} → Result T ReadError → ℕ
 fault_count (Ok _) = 0
 fault_count (Err Memory) = 0
 fault_count (Err Fault) = 1
+
+-- what an error prints
+abbrev pub error_text : ReadError → List ℕ
+error_text Memory = codes "out of memory"
+error_text Fault = codes "the input could not be read"

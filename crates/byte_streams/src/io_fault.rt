@@ -1,4 +1,6 @@
 //! The failure of one call of a source or a sink.
+ghost use Rattle.std.specs.Prelude.{Some, codes};
+
 use std::error::Error;
 use std::fmt;
 
@@ -7,6 +9,8 @@ use std::fmt;
 pub struct IoFault;
 
 impl fmt::Display for IoFault {
+    ghost output = { λ _. Some (codes "input or output failed") };
+
     fn fmt<W: fmt::Write>(&self, f: &mut fmt::Formatter<W>) -> fmt::Result {
         write!(f, "input or output failed")
     }

@@ -2,7 +2,7 @@
 ghost use Rattle.std.specs.Prelude.{◌≡◌, ℕ, ◌+◌, ◌≤◌, ◌<◌, List, Option, IfOk, IfSome, OnOk, OnErr, Some, is_ok, if◌then◌else◌, take, drop, vec_len};
 ghost use Rattle.std.specs.Io.{ReadsAtMost};
 ghost use Rattle.std.specs.Io.KnownBytes.{Consumes, IsAtEnd, Keeps, ReadConsumes};
-ghost use Rattle.byte_streams.specs.Reading.{ConsumesAtMost, fault_count};
+ghost use Rattle.byte_streams.specs.Reading.{ConsumesAtMost, error_text, fault_count};
 ghost use Rattle.byte_streams.specs.declared.reading.ReadError.TheVariants.{Fault, Memory};
 
 use crate::IoFault;
@@ -36,6 +36,8 @@ pub enum ReadError {
 }
 
 impl fmt::Display for ReadError {
+    ghost output = { λ error. Some (error_text error) };
+
     fn fmt<W: fmt::Write>(&self, f: &mut fmt::Formatter<W>) -> fmt::Result {
         match self {
             ReadError::Memory => write!(f, "out of memory"),

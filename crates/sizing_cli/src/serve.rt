@@ -1,11 +1,11 @@
 //! Serves one input: reads it, answers it, and writes the answer.
 
-ghost use Rattle.std.specs.Prelude.{◌≡◌, ◌≢◌, ◌+◌, IfOk, IfErr, IfSome};
+ghost use Rattle.std.specs.Prelude.{◌≡◌, ◌≢◌, ◌+◌, IfOk, IfErr, IfSome, IsTrue};
 ghost use Rattle.std.specs.Io.KnownBytes.{Appends, Keeps};
 ghost use Rattle.byte_streams.specs.Reading.{ConsumesAtMost};
 ghost use Rattle.byte_streams.specs.Writing.{AppendsFront};
 ghost use Rattle.sizing_cli.specs.Report as spec;
-ghost use Rattle.sizing_cli.specs.ServeFault.{count_of};
+ghost use Rattle.sizing_cli.specs.ServeFault.{count_of, is_known};
 
 use crate::limits::MOST_INPUT_BYTES;
 use crate::report::report;
@@ -36,7 +36,8 @@ pub fn serve_alone<S: Source, K: Sink>(
         AppendsFront (K.written sink.old) (K.written sink.new) (spec.report command input).text)) }
     ensures nothing { IfErr result (λ fault. fault.number ≢ WRITE_FAILED → Keeps (K.written sink.old) (K.written sink.new)) }
 
-    // 60 and 61 come just where the source and the sink failed.
+    // No other fault than 20, 60 and 61 comes, and 60 and 61 just where the source and the sink failed.
+    ensures known { IfErr result (λ fault. IsTrue (is_known fault.number)) }
     ensures read_failed { S.failures source.new ≡ S.failures source.old + count_of READ_FAILED result }
     ensures write_failed { K.failures sink.new ≡ K.failures sink.old + count_of WRITE_FAILED result }
 

@@ -1,7 +1,7 @@
 //! How a call that serves ends.
 
-ghost use Rattle.std.specs.Prelude.{◌≡◌};
-ghost use Rattle.sizing_cli.specs.ServeFault.{fault_of_reading};
+ghost use Rattle.std.specs.Prelude.{◌≡◌, Some};
+ghost use Rattle.sizing_cli.specs.ServeFault.{fault_of_reading, name_of, fault_line};
 
 use byte_streams::{IoFault, ReadError};
 use std::alloc::AllocError;
@@ -36,7 +36,9 @@ pub struct ServeFault {
 
 impl ServeFault {
     /// The fault's name, as the program prints it.
-    fn name(self) -> &'static str {
+    fn name(self) -> &'static str
+        ensures { result.now ≡ name_of self.number }
+    {
         match self.number {
             MEMORY => "Memory",
             READ_FAILED => "ReadFailed",
@@ -77,6 +79,8 @@ impl From<IoFault> for ServeFault {
 }
 
 impl fmt::Display for ServeFault {
+    ghost output = { λ fault. Some (fault_line fault) };
+
     fn fmt<W: fmt::Write>(&self, f: &mut fmt::Formatter<W>) -> fmt::Result {
         let number = self.number;
         let name = self.name();
