@@ -1,6 +1,10 @@
+pub mod Fading
+pub mod Links
 pub mod Indexes
+pub mod Stale
 pub mod Mapped
 pub mod Reached
 pub mod OfPlan
+pub mod Left
 pub mod WaitingSets
 pub mod Raised

@@ -1,40 +1,51 @@
--- A loop that writes each job anew, one after another.
-use Rattle.std.proofs.Common.{◌≡◌, ◌≢◌, ℕ, ◌+◌, ◌<◌, ◌≤◌, ◌&&◌, false, if◌then◌else◌, List, length, map, set, get_or, Option, Some, None, ⊎_elim, refl, sym, ap, ◌∙◌, arith, length-set, ext_get_or}
+-- Jobs that are written anew, where most are left as they are.
+use Rattle.std.proofs.Common.{◌≡◌, ◌≢◌, ℕ, ◌+◌, ◌<◌, ◌≤◌, List, length, map, set, get_or, Option, None, ⊎_elim, refl, sym, ap, ◌∙◌, arith, length-set, ext_get_or}
 use Rattle.std.proofs.Math.ListN.{get_or-map}
 use Rattle.std.proofs.lemmas.Bool.{cases_lt, cases_eq}
 use Rattle.std.proofs.lemmas.List.{length-map, get_or-set_same, get_or-set_other}
-use Rattle.written_machine.specs.declared.parent.Parent.{Parent}
 use Rattle.live_views.specs.declared.job_view.JobView.{JobView}
-use Rattle.live_views.specs.ViewStep.{live_job, is_live_child, is_done, unless_stale}
+use Rattle.live_views.specs.ViewStep.{live_job}
 
--- the jobs below n are written anew, and the others are as they were
-pub record AreMapped (f : Option JobView → Option JobView) (jobs now : List (Option JobView)) (n : ℕ) : Type 0 where
-  pub long : length now ≡ length jobs
-  pub before : (k : ℕ) → k < n → live_job now k ≡ f (live_job jobs k)
-  pub behind : (k : ℕ) → n ≤ k → live_job now k ≡ live_job jobs k
-
--- where f leaves the jobs below n as they are
-pub mapped_start : (f : Option JobView → Option JobView) (jobs : List (Option JobView)) (n : ℕ) → ((k : ℕ) → k < n → f (live_job jobs k) ≡ live_job jobs k) → AreMapped f jobs jobs n
-mapped_start f jobs n same = record { long = refl; before = λ k inside. sym (same k inside); behind = λ k later. refl }
-
-pub mapped_more : (f : Option JobView → Option JobView) (jobs now : List (Option JobView)) (n : ℕ) (new : Option JobView) → n < length jobs → AreMapped f jobs now n → new ≡ f (live_job now n) → AreMapped f jobs (set now n new) (n + 1)
-mapped_more f jobs now n new inside m e = record {
-  long = length-set now n new ∙ m.long;
-  before = λ k below. ⊎_elim
-      (λ (same : k ≡ n). ap (live_job (set now n new)) same ∙ get_or-set_same now n new None (omega (arith, m.long)) ∙ e ∙ ap f (m.behind n (omega arith) ∙ ap (live_job jobs) (sym same)))
-      (λ (other : k ≢ n). get_or-set_other now n k new None other ∙ m.before k (omega arith))
-      (cases_eq k n);
-  behind = λ k later. get_or-set_other now n k new None (λ same. absurd (omega arith)) ∙ m.behind k (omega arith);
-}
-
--- where f leaves the jobs from n on as they are
-pub mapped_end : (f : Option JobView → Option JobView) (jobs now : List (Option JobView)) (n : ℕ) → f None ≡ None → AreMapped f jobs now n → ((k : ℕ) → n ≤ k → f (live_job jobs k) ≡ live_job jobs k) → now ≡ map f jobs
-mapped_end f jobs now n none m same = ext_get_or None now (map f jobs) (m.long ∙ sym (length-map jobs f)) (λ k inside. ⊎_elim (λ (below : k < n). m.before k below) (λ (later : n ≤ k). m.behind k later ∙ sym (same k later)) (cases_lt k n) ∙ sym (at k))
+-- a list with the job of each number written anew
+pub all_mapped : (f : Option JobView → Option JobView) (jobs now : List (Option JobView)) → f None ≡ None → length now ≡ length jobs → ((k : ℕ) → live_job now k ≡ f (live_job jobs k)) → now ≡ map f jobs
+all_mapped f jobs now none long each = ext_get_or None now (map f jobs) (long ∙ sym (length-map jobs f)) (λ k inside. each k ∙ sym (at k))
   where
     at : (k : ℕ) → get_or (map f jobs) k None ≡ f (live_job jobs k)
     at k = ap (get_or (map f jobs) k) (sym none) ∙ get_or-map f jobs k None
 
--- a job that is not the actor's is never stale
-pub not_stale : (a : Parent) (t : ℕ) (job : Option JobView) → is_live_child a t job ≡ false → unless_stale a t job ≡ job
-not_stale a t None e = refl
-not_stale a t (Some job) e = ap (λ b. if b && is_done job.phase then None else Some job) e
+-- where f leaves each job as it is
+pub none_mapped : (f : Option JobView → Option JobView) (jobs : List (Option JobView)) → f None ≡ None → ((k : ℕ) → f (live_job jobs k) ≡ live_job jobs k) → jobs ≡ map f jobs
+none_mapped f jobs none same = all_mapped f jobs jobs none refl (λ k. sym (same k))
+
+-- where f leaves all jobs but one as they are
+pub one_mapped : (f : Option JobView → Option JobView) (jobs : List (Option JobView)) (n : ℕ) → f None ≡ None → n < length jobs → ((k : ℕ) → k ≢ n → f (live_job jobs k) ≡ live_job jobs k) → set jobs n (f (live_job jobs n)) ≡ map f jobs
+one_mapped f jobs n none inside same = all_mapped f jobs (set jobs n (f (live_job jobs n))) none (length-set jobs n (f (live_job jobs n))) (λ k. ⊎_elim
+    (λ (here : k ≡ n). ap (live_job (set jobs n (f (live_job jobs n)))) here ∙ get_or-set_same jobs n (f (live_job jobs n)) None inside ∙ ap (λ m. f (live_job jobs m)) (sym here))
+    (λ (other : k ≢ n). get_or-set_other jobs n k (f (live_job jobs n)) None other ∙ sym (same k other))
+    (cases_eq k n))
+
+-- the jobs from n on are written anew, and the others are as they were
+pub record AreMapped (f : Option JobView → Option JobView) (jobs now : List (Option JobView)) (n : ℕ) : Type 0 where
+  pub long : length now ≡ length jobs
+  pub below : (k : ℕ) → k < n → live_job now k ≡ live_job jobs k
+  pub behind : (k : ℕ) → n ≤ k → live_job now k ≡ f (live_job jobs k)
+
+-- where f leaves the jobs from n on as they are
+pub mapped_start : (f : Option JobView → Option JobView) (jobs : List (Option JobView)) (n : ℕ) → ((k : ℕ) → n ≤ k → f (live_job jobs k) ≡ live_job jobs k) → AreMapped f jobs jobs n
+mapped_start f jobs n same = record { long = refl; below = λ k below. refl; behind = λ k behind. sym (same k behind) }
+
+-- job n is written anew, and f leaves those from the lower number on as they are
+pub mapped_more : (f : Option JobView → Option JobView) (jobs now : List (Option JobView)) (n low : ℕ) (new : Option JobView) → n < length jobs → low ≤ n → AreMapped f jobs now (n + 1) → new ≡ f (live_job now n)
+    → ((k : ℕ) → low ≤ k → k < n → f (live_job jobs k) ≡ live_job jobs k) → AreMapped f jobs (set now n new) low
+mapped_more f jobs now n low new inside lower m e same = record {
+  long = length-set now n new ∙ m.long;
+  below = λ k below. get_or-set_other now n k new None (λ here. absurd (omega arith)) ∙ m.below k (omega arith);
+  behind = λ k behind. ⊎_elim
+      (λ (here : k ≡ n). ap (live_job (set now n new)) here ∙ get_or-set_same now n new None (omega (arith, m.long)) ∙ e ∙ ap f (m.below n (omega arith)) ∙ ap (λ i. f (live_job jobs i)) (sym here))
+      (λ (other : k ≢ n). get_or-set_other now n k new None other
+      ∙ ⊎_elim (λ (before : k < n). m.below k (omega arith) ∙ sym (same k behind before)) (λ (later : n ≤ k). m.behind k (omega arith)) (cases_lt k n))
+      (cases_eq k n);
+}
+
+pub mapped_end : (f : Option JobView → Option JobView) (jobs now : List (Option JobView)) (n : ℕ) → f None ≡ None → n ≡ 0 → AreMapped f jobs now n → now ≡ map f jobs
+mapped_end f jobs now n none first m = all_mapped f jobs now none m.long (λ k. m.behind k (omega arith))

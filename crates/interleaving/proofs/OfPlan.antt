@@ -53,7 +53,7 @@ lawful_point plan view (parent.Client c) at o e = lawful_client plan (slice_get 
 lawful_point plan view (parent.Job j) at o e = lawful_job plan (live_job view.jobs j) at o e
 
 -- the point of a place
-point_of_place : (at : Option Point) (place : Place) → option_map place_at at ≡ Some place → (x : Point) × (at ≡ Some x) × (place_at x ≡ place)
+pub point_of_place : (at : Option Point) (place : Place) → option_map place_at at ≡ Some place → (x : Point) × (at ≡ Some x) × (place_at x ≡ place)
 point_of_place None place e = absurd cc
 point_of_place (Some x) place e = (x, refl, same_Some _ place e)
 

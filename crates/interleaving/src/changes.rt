@@ -1,11 +1,12 @@
 //! Jobs that change their phase, and jobs that are live no more.
 
 ghost use Rattle.std.specs.Prelude.{◌≡◌, map, slice_set, Some, None};
-ghost use Rattle.live_views.specs.ViewStep.{live_job, may_ask_for, in_phase, with_phase, unless_stale, unless_orphan, finished_or_gone};
-ghost use Rattle.interleaving.specs.Index.{NoneBefore, StandWithin, KeepsIndex};
+ghost use Rattle.written_machine.specs.declared.parent.Parent.TheVariants.{Job};
+ghost use Rattle.live_views.specs.ViewStep.{live_job, live_child, may_ask_for, in_phase, with_phase, unless_stale, unless_orphan, finished_or_gone};
+ghost use Rattle.interleaving.specs.Index.{StandBelow, NoOtherIsStale, KeepsIndex};
 
-use crate::index::Span;
-use crate::jobs::{is_done, is_live_child, is_unfinished, live_child, live_job};
+use crate::index::Link;
+use crate::jobs::{is_done, is_live_child, is_unfinished, live_job};
 use live_views::{JobView, Phase};
 use written_machine::Parent;
 
@@ -37,15 +38,25 @@ fn unless_stale(actor: Parent, slot: usize, job: Option<JobView>) -> Option<JobV
     }
 }
 
-/// The actor's done job of this position is live no more: the actor made a new one there. Its live jobs stand within the
-/// span.
-pub(crate) fn forget_stale(jobs: &mut [Option<JobView>], span: Span, actor: Parent, slot: usize)
-    requires { StandWithin jobs.old actor span.start span.end }
+/// The actor's done job of this position is live no more: the actor made a new one there. No other than its latest is
+/// done.
+pub(crate) fn forget_stale(
+    jobs: &mut [Option<JobView>],
+    latest: Option<usize>,
+    actor: Parent,
+    slot: usize,
+)
+    requires { NoOtherIsStale jobs.old latest actor slot }
     ensures jobs { jobs.new ≡ map (unless_stale actor slot) jobs.old }
     ensures index { KeepsIndex jobs.old jobs.new }
 {
-    for number in span.start..span.end {
-        jobs[number] = unless_stale(actor, slot, jobs[number]);
+    match latest {
+        Some(number) => {
+            if number < jobs.len() {
+                jobs[number] = unless_stale(actor, slot, jobs[number]);
+            }
+        }
+        None => {}
     }
 }
 
@@ -79,18 +90,17 @@ fn may_ask_for(jobs: &[Option<JobView>], actor: Parent) -> bool
     }
 }
 
-// What becomes of the job of this number as it finishes: it is live as long as its parent may ask for it. The live jobs
-// of the parent stand within the span.
+// What becomes of the job of this number as it finishes: it is live as long as its parent may ask for it, which asks for
+// the latest alone.
 fn finished_or_gone(
     jobs: &[Option<JobView>],
-    span: Span,
+    latest: Option<usize>,
     number: usize,
     job: JobView,
 ) -> Option<JobView>
-    requires { StandWithin jobs.now job.parent span.start span.end }
+    requires { latest ≡ live_child jobs.now job.parent job.slot }
     ensures { result ≡ finished_or_gone jobs.now number job }
 {
-    let latest = live_child(jobs, span, job.parent, job.slot);
     if latest == Some(number) && may_ask_for(jobs, job.parent) {
         Some(JobView {
             phase: Phase::Done,
@@ -101,32 +111,36 @@ fn finished_or_gone(
     }
 }
 
-// The done jobs of this job are live no more: it finished, and nobody asks for them. No job below the first number is
-// live.
-fn forget_orphans(jobs: &mut [Option<JobView>], first: usize, parent: usize)
-    requires { NoneBefore jobs.old first }
+// The done jobs of this job are live no more: it finished, and nobody asks for them. The links lead to its live jobs from
+// the end on.
+fn forget_orphans(jobs: &mut [Option<JobView>], links: &[Link], end: usize, parent: usize)
+    requires { StandBelow jobs.old links.now (Job parent) end }
     ensures { jobs.new ≡ map (unless_orphan parent) jobs.old }
 {
-    for number in first..jobs.len() {
+    let mut below = end;
+    while below > 0 {
+        let number = below - 1;
         jobs[number] = unless_orphan(parent, jobs[number]);
+        below = links[number].before;
     }
 }
 
-/// The job of this number finishes. The live jobs of its parent stand within the span, and no job below the first
-/// number is live.
+/// The job of this number finishes. The links lead to its live jobs from the end on, and the latest live job of its parent
+/// at its position is known.
 pub(crate) fn finish_job(
     jobs: &mut [Option<JobView>],
-    span: Span,
-    first: usize,
+    links: &[Link],
+    end: usize,
+    latest: Option<usize>,
     number: usize,
     job: JobView,
 )
     requires live { live_job jobs.old number ≡ Some job }
-    requires span { StandWithin jobs.old job.parent span.start span.end }
-    requires first { NoneBefore jobs.old first }
+    requires children { StandBelow jobs.old links.now (Job number) end }
+    requires latest { latest ≡ live_child jobs.old job.parent job.slot }
     ensures jobs { jobs.new ≡ map (unless_orphan number) (slice_set jobs.old number (finished_or_gone jobs.old number job)) }
     ensures index { KeepsIndex jobs.old jobs.new }
 {
-    jobs[number] = finished_or_gone(jobs, span, number, job);
-    forget_orphans(jobs, first, number);
+    jobs[number] = finished_or_gone(jobs, latest, number, job);
+    forget_orphans(jobs, links, end, number);
 }

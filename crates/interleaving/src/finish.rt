@@ -6,6 +6,7 @@ ghost use Rattle.live_views.specs.ViewStep.{live_job, pool_in, loop_in, finish_l
 
 use crate::World;
 use crate::changes::finish_job;
+use crate::index::end_of;
 use crate::jobs::live_job;
 use crate::plans::{pool_of, repeats};
 use job_bodies::Plan;
@@ -48,9 +49,10 @@ impl World {
         ensures { finish_live plan.now self.old number (Some job) ≡ Some (self.new, result) }
     {
         let pool = pool_of(plan, job.class);
-        let span = self.span_of(job.parent);
+        let latest = self.live_child(job.parent, job.slot);
+        let end = end_of(&self.links, &self.ends, Parent::Job(number));
         self.pools[pool].finish();
-        finish_job(&mut self.jobs, span, self.first_live, number, job);
+        finish_job(&mut self.jobs, &self.links, end, latest, number, job);
         Outcome::Finished(number)
     }
 }

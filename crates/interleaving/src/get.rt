@@ -5,7 +5,7 @@ ghost use Rattle.live_views.specs.ViewStep.{get_in, live_child};
 
 use crate::World;
 use crate::changes::forget;
-use crate::jobs::{is_done, live_child, live_job};
+use crate::jobs::{is_done, live_job};
 use crate::moves::move_actor;
 use written_machine::{Outcome, Parent};
 
@@ -17,8 +17,7 @@ impl World {
         requires { position + 1 < 2 ^ 64 }
         ensures { AreOf (get_in self.old actor position (live_child self.old.jobs actor slot)) self.old result self.new }
     {
-        let span = self.span_of(actor);
-        let number = live_child(&self.jobs, span, actor, slot)?;
+        let number = self.live_child(actor, slot)?;
         let job = live_job(&self.jobs, number)?;
         if !is_done(job.phase) {
             return None;

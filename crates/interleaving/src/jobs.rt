@@ -2,9 +2,9 @@
 
 ghost use Rattle.std.specs.Prelude.{◌≡◌, count_by};
 ghost use Rattle.live_views.specs.ViewStep.{live_job, is_live_child, live_child, is_done, is_unfinished_job};
-ghost use Rattle.interleaving.specs.Index.{StandWithin};
+ghost use Rattle.interleaving.specs.Index.{StandBelow};
 
-use crate::index::Span;
+use crate::index::Link;
 use live_views::{JobView, Phase};
 use written_machine::Parent;
 
@@ -53,20 +53,24 @@ pub(crate) fn is_live_child(actor: Parent, slot: usize, job: Option<JobView>) ->
     }
 }
 
-/// The latest live job that the actor made at this position of its body. Its live jobs stand within the span.
+/// The latest live job that the actor made at this position of its body. The links lead to its live jobs from the end on.
 pub(crate) fn live_child(
     jobs: &[Option<JobView>],
-    span: Span,
+    links: &[Link],
+    end: usize,
     actor: Parent,
     slot: usize,
 ) -> Option<usize>
-    requires { StandWithin jobs.now actor span.start span.end }
+    requires { StandBelow jobs.now links.now actor end }
     ensures { result ≡ live_child jobs.now actor slot }
 {
-    for number in (span.start..span.end).rev() {
+    let mut below = end;
+    while below > 0 {
+        let number = below - 1;
         if is_live_child(actor, slot, jobs[number]) {
             return Some(number);
         }
+        below = links[number].before;
     }
     None
 }

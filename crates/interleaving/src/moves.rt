@@ -3,6 +3,7 @@
 ghost use Rattle.std.specs.Prelude.{◌≡◌, ℕ, List};
 ghost use Rattle.live_views.specs.LiveView.{View};
 ghost use Rattle.live_views.specs.ViewStep.{moved_live_jobs, moved_live_clients};
+ghost use Rattle.interleaving.specs.declared.index.Link.{Link};
 ghost use Rattle.interleaving.specs.Index.{IsIndexed};
 
 use crate::changes::set_phase;
@@ -18,7 +19,7 @@ pub(crate) fn move_actor(
 )
     ensures jobs { (view : View) → view.jobs ≡ jobs.old → jobs.new ≡ moved_live_jobs actor position view }
     ensures clients { (view : View) → view.clients ≡ clients.old → clients.new ≡ moved_live_clients actor position view }
-    ensures index { (first : ℕ) (ends : List ℕ) → IsIndexed jobs.old clients.old first ends → IsIndexed jobs.new clients.new first ends }
+    ensures index { (links : List Link) (ends : List ℕ) → IsIndexed jobs.old clients.old links ends → IsIndexed jobs.new clients.new links ends }
 {
     match actor {
         Parent::Client(client) => {

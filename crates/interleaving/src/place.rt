@@ -1,10 +1,13 @@
 //! Where an actor stands.
 
-ghost use Rattle.std.specs.Prelude.{◌≡◌, ◌+◌, ◌<◌, ◌^◌, length, slice_get, IsSome, IfSome, OnSome};
+ghost use Rattle.std.specs.Prelude.{◌≡◌, ◌+◌, ◌<◌, ◌^◌, length, IsSome, IfSome, OnSome};
+ghost use Rattle.std.specs.List.{list_any};
+ghost use Rattle.job_bodies.specs.Plan.{submits, gets};
 ghost use Rattle.job_bodies.specs.WellFormed.{IsWellFormed};
 ghost use Rattle.std.specs.Option.{option_map};
 ghost use Rattle.written_machine.specs.declared.parent.Parent.TheVariants as parent;
 ghost use Rattle.live_views.specs.ViewStep.{point_in};
+ghost use Rattle.interleaving.specs.Place.{place_in};
 
 use crate::World;
 use crate::jobs::live_job;
@@ -18,16 +21,32 @@ use written_machine::Parent;
 pub(crate) struct Place {
     pub(crate) position: usize,
     pub(crate) action: Option<Action>,
+    // Whether it stands at a submit whose job a get of the body asks for.
+    pub(crate) asked: bool,
+}
+
+fn is_submit(action: Option<Action>) -> bool
+    ensures { result ≡ submits action }
+{
+    matches!(action, Some(Action::Submit(_)))
+}
+
+fn asks_for(body: &[Action], slot: usize) -> bool
+    ensures { result ≡ list_any (gets slot) body.now }
+{
+    body.iter().any(|action| matches!(action, Action::Get(got) if *got == slot))
 }
 
 impl Place {
     fn of(body: &[Action], position: usize) -> Place
-        ensures value { result ≡ record { position = position; action = slice_get body.now position } }
+        ensures value { result ≡ place_in body.now position }
         ensures can_move_on { IsSome result.action → position + 1 < 2 ^ 64 }
     {
+        let action = body.get(position).copied();
         Place {
             position,
-            action: body.get(position).copied(),
+            action,
+            asked: is_submit(action) && asks_for(body, position),
         }
     }
 }
@@ -60,6 +79,7 @@ impl World {
     }
 
     fn place_of_job(&self, plan: &Plan, number: usize) -> Option<Place>
+        ensures there { OnSome result (number < length self.now.jobs) }
         ensures value { result ≡ option_map place_at (point_in plan.now self.now (parent.Job number)) }
         ensures can_move_on { IfSome result (λ place. IsSome place.action → place.position + 1 < 2 ^ 64) }
         ensures well_formed { IsWellFormed plan.now }

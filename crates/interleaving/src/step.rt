@@ -73,7 +73,7 @@ impl World {
                 Ok(Some(Outcome::Worked(units)))
             }
             Some(Action::Submit(class)) => {
-                Ok(Some(self.submit(plan, actor, place.position, class)?))
+                Ok(Some(self.submit(plan, actor, place.position, class, place.asked)?))
             }
             Some(Action::Get(slot)) => Ok(self.get(actor, place.position, slot)),
         }

@@ -14,7 +14,7 @@ ghost use Rattle.live_views.specs.Waiting.{is_busy_job, waits_in_queue_of, is_wa
 ghost use Rattle.interleaving.specs.Stuck.{is_queued_job, has_queued, job_waits_unless_queued, unqueued_wait, QueuesWait};
 
 use crate::World;
-use crate::jobs::{live_child, live_job};
+use crate::jobs::live_job;
 use crate::plans::{body_of_class, pool_of};
 use job_bodies::{Action, Plan};
 use live_views::{JobView, Phase};
@@ -102,8 +102,7 @@ impl World {
     fn waits_for_member(&self, members: &[usize], number: usize, slot: usize) -> bool
         ensures { result ≡ is_some_member members.now (live_child self.now.jobs (parent.Job number) slot) }
     {
-        let actor = Parent::Job(number);
-        match live_child(&self.jobs, self.span_of(actor), actor, slot) {
+        match self.live_child(Parent::Job(number), slot) {
             Some(child) => is_member(members, child),
             None => false,
         }

@@ -9,6 +9,7 @@ ghost use Rattle.written_machine.specs.State.{State, is_unfinished};
 ghost use Rattle.written_machine.specs.Reach.{start};
 
 use crate::clients::new_clients;
+use crate::index::Link;
 use crate::jobs;
 use crate::pools::new_pools;
 use job_bodies::Plan;
@@ -21,7 +22,7 @@ use written_machine::ClientState;
 /// A plan's pools, clients and live jobs, and how many submits were refused.
 ///
 /// A job is live while it is queued or at work, and while it is done and its parent may still get it. Of the others only
-/// their number is kept, so a world grows by one place for each job that is made.
+/// their makers are kept, so a world grows by one place and one link for each job that is made.
 #[derive(Debug, Drop)]
 pub struct World {
     // By number; None where the job is not live any more.
@@ -29,9 +30,9 @@ pub struct World {
     pub(crate) pools: Vec<PoolState>,
     pub(crate) clients: Vec<ClientState>,
     pub(crate) refusals: u64,
-    // No job below this number is live.
-    pub(crate) first_live: usize,
-    // For each client a number from which on no live job is one that the client made.
+    // By number, of each job that was made: where to look for other jobs of its maker, and for those that it made.
+    pub(crate) links: Vec<Link>,
+    // For each client the number below which the live jobs that it made stand.
     pub(crate) ends: Vec<usize>,
 }
 
@@ -44,7 +45,7 @@ impl Model for World {
 
     ghost use Rattle.interleaving.specs.Index.{IsIndexed};
 
-    ghost invariant = { λ w. IsIndexed w.jobs.items w.clients.items w.first_live w.ends.items };
+    ghost invariant = { λ w. IsIndexed w.jobs.items w.clients.items w.links.items w.ends.items };
 }
 
 impl World {
@@ -68,7 +69,7 @@ impl World {
             pools,
             clients,
             refusals: 0,
-            first_live: 0,
+            links: Vec::new(alloc),
             ends,
         })
     }

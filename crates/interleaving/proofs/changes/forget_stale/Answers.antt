@@ -1,20 +1,29 @@
-use Rattle.std.proofs.Common.{◌<◌, ◌≤◌, ⊎_elim, refl, arith}
-use Rattle.std.proofs.lemmas.Bool.{cases_lt}
-use Rattle.live_views.specs.ViewStep.{live_job, unless_stale}
-use Rattle.interleaving.proofs.Mapped.{mapped_start, mapped_more, mapped_end, not_stale}
+use Rattle.std.proofs.Common.{refl, sym, ap, subst, set, map, ◌∙◌}
+use Rattle.std.proofs.lemmas.Option.{same_Some, none-some}
+use Rattle.live_views.specs.ViewStep.{unless_stale}
+use Rattle.interleaving.specs.Index.{KeepsIndex}
+use Rattle.interleaving.proofs.Mapped.{one_mapped, none_mapped}
+use Rattle.interleaving.proofs.Fading.{fading_stale}
+use Rattle.interleaving.proofs.Indexes.{keeps_fading}
+use Rattle.interleaving.proofs.Stale.{none_past}
 use Rattle.interleaving.proofs.changes.forget_stale.Goals as goal
 
-pub loop-number-init : goal.loop-number-init
-loop-number-init c = mapped_start (unless_stale c.args.actor c.args.slot) c.args.jobs.now c.args.span.start (λ k before. not_stale c.args.actor c.args.slot (live_job c.args.jobs.now k) (c.requires.none_before k c.args.slot before))
-
-pub loop-number-preserved : goal.loop-number-preserved
-loop-number-preserved c = mapped_more (unless_stale c.args.actor c.args.slot) c.args.jobs.now c.loop-number.jobs c.loop-number.number c.unless_stale.result (omega (arith, c.requires.inside)) c.loop-number.invariant c.unless_stale.ensures
-
-pub returns-clause-jobs : goal.returns-clause-jobs
-returns-clause-jobs c =
-    let a = c.args.actor in
-    let t = c.args.slot in
+pub returns-then-number-jobs-clause-jobs : goal.returns-then-number-jobs-clause-jobs
+returns-then-number-jobs-clause-jobs c =
     let jobs = c.args.jobs.now in
-    let done = c.loop-number-test.false in
-    mapped_end (unless_stale a t) jobs c.loop-number.jobs c.loop-number.number refl c.loop-number.invariant (λ k later. not_stale a t (live_job jobs k)
-    (⊎_elim (λ (before : k < c.args.span.start). c.requires.none_before k t before) (λ (after : c.args.span.start ≤ k). c.requires.none_behind k t (omega arith)) (cases_lt k c.args.span.start)))
+    let n = c.in-Some.number in
+    let f = unless_stale c.args.actor c.args.slot in
+    ap (set jobs n) c.unless_stale.ensures ∙ one_mapped f jobs n refl c.if-number-jobs.true (λ k other. c.requires k (λ e. other (same_Some k n (sym e ∙ c.in-Some.is))))
+
+pub returns-then-number-jobs-clause-index : goal.returns-then-number-jobs-clause-index
+returns-then-number-jobs-clause-index c =
+    let jobs = c.args.jobs.now in
+    let f = unless_stale c.args.actor c.args.slot in
+    subst (KeepsIndex jobs) (sym (returns-then-number-jobs-clause-jobs c)) (keeps_fading jobs (map f jobs) (fading_stale jobs c.args.actor c.args.slot))
+
+pub returns-else-number-jobs-clause-jobs : goal.returns-else-number-jobs-clause-jobs
+returns-else-number-jobs-clause-jobs c =
+    none_mapped (unless_stale c.args.actor c.args.slot) c.args.jobs.now refl (none_past c.args.jobs.now c.args.actor c.args.slot c.args.latest c.in-Some.number c.in-Some.is c.if-number-jobs.false c.requires)
+
+pub returns-in-None-clause-jobs : goal.returns-in-None-clause-jobs
+returns-in-None-clause-jobs c = none_mapped (unless_stale c.args.actor c.args.slot) c.args.jobs.now refl (λ k. c.requires k (λ e. none-some k (sym c.in-None.is ∙ e)))

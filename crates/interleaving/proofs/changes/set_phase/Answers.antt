@@ -1,7 +1,8 @@
 use Rattle.std.proofs.Common.{sym, ap, subst, set}
 use Rattle.live_views.specs.ViewStep.{with_phase}
 use Rattle.interleaving.specs.Index.{KeepsIndex}
-use Rattle.interleaving.proofs.Indexes.{keeps_fading, fading_with_phase}
+use Rattle.interleaving.proofs.Fading.{fading_with_phase}
+use Rattle.interleaving.proofs.Indexes.{keeps_fading}
 use Rattle.interleaving.proofs.changes.set_phase.Goals as goal
 
 pub returns-then-number-jobs-clause-index : goal.returns-then-number-jobs-clause-index

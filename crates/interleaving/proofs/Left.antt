@@ -1,0 +1,127 @@
+-- What reached states say of an actor's jobs: a done one is its latest, and none is left where a get asked for them.
+use Rattle.std.proofs.Common.{◌≡◌, ◌≢◌, ℕ, suc, ◌&&◌, Bool, true, false, if◌then◌else◌, List, [], ◌∷◌, slice_get, Option, Some, None, ⊎_elim, refl, sym, ap, subst, ◌∙◌, arith}
+use Rattle.std.specs.List.{list_any}
+use Rattle.std.specs.Option.{option_map}
+use Rattle.std.proofs.lemmas.Bool.{and_parts, eqb-true, false_from_ne_true, or_cases}
+use Rattle.std.proofs.lemmas.List.{get_or_default}
+use Rattle.std.proofs.lemmas.Option.{same_Some}
+use Rattle.numbered_lists.proofs.LastPlace.{last_where_none}
+use Rattle.job_bodies.specs.declared.action.Action.{Action}
+use Rattle.job_bodies.specs.declared.action.Action.TheVariants.{Work, Submit, Get}
+use Rattle.job_bodies.specs.Plan.{Plan, submits, gets}
+use Rattle.job_bodies.specs.WellFormed.{IsWellFormed}
+use Rattle.written_machine.specs.declared.parent.Parent.{Parent}
+use Rattle.written_machine.specs.State.{Stage, Made, State, job_at, is_made_by, child}
+use Rattle.written_machine.specs.State.Stage.{Queued, At, Done, Claimed}
+use Rattle.written_machine.specs.Step.{Point, point}
+use Rattle.written_machine.specs.Reach.{IsReached}
+use Rattle.written_machine.proofs.Standing.{job_made}
+use Rattle.written_machine.proofs.Children.{maker_of}
+use Rattle.live_views.specs.declared.job_view.Phase.{Phase}
+use Rattle.live_views.specs.declared.job_view.Phase.TheVariants as phase
+use Rattle.live_views.specs.declared.job_view.JobView.{JobView}
+use Rattle.live_views.specs.LiveView.{may_ask, is_number, phase_seen, job_with, View, live_view}
+use Rattle.live_views.specs.ViewStep.{live_job, is_live_child, live_child, is_done, point_in}
+use Rattle.live_views.proofs.View.{view_at, point_seen}
+use Rattle.live_views.proofs.Children.{live_child_is}
+use Rattle.live_views.proofs.Reached.{settled}
+use Rattle.interleaving.specs.declared.place.Place.{Place}
+use Rattle.interleaving.specs.Place.{place_at}
+use Rattle.interleaving.specs.Index.{DoneAreLatest}
+use Rattle.interleaving.specs.OfPlan.{IsOf}
+use Rattle.interleaving.proofs.OfPlan.{point_of_place}
+
+-- ---- a job that is done
+
+number_is : (o : Option ℕ) (k : ℕ) → is_number o k ≡ true → o ≡ Some k
+number_is None k e = absurd cc
+number_is (Some i) k e = ap Some (eqb-true i k e)
+
+done_if : (made : Made) (b : Bool) (job : JobView) → job_with made (if b then Some phase.Done else None) ≡ Some job → b ≡ true
+done_if made true job e = refl
+done_if made false job e = absurd cc
+
+not_done : (made : Made) (phase : Phase) (job : JobView) → job_with made (Some phase) ≡ Some job → is_done phase ≡ false → is_done job.phase ≡ true → ⊥
+not_done made phase job e going done =
+    let same : phase ≡ job.phase = ap (λ (x : JobView). x.phase) (same_Some _ job e) in
+    let f : false ≡ true = sym going ∙ ap is_done same ∙ done in
+    absurd cc
+
+-- it is the latest that its maker made at its position, and is seen as done
+record IsSeenDone (s : State) (k : ℕ) (made : Made) (stage : Stage) : Type 0 where
+  latest : child s made.parent made.slot ≡ Some k
+  seen : phase_seen s k made stage ≡ Some phase.Done
+
+seen_done : (s : State) (k : ℕ) (made : Made) (stage : Stage) (job : JobView) → job_with made (phase_seen s k made stage) ≡ Some job → is_done job.phase ≡ true → IsSeenDone s k made stage
+seen_done s k made Queued job e done = absurd (not_done made phase.Queued job e refl done)
+seen_done s k made (At i) job e done = absurd (not_done made (phase.At i) job e refl done)
+seen_done s k made Done job e done =
+    let asks = done_if made (may_ask s made.parent && is_number (child s made.parent made.slot) k) job e in
+    record {
+      latest = number_is (child s made.parent made.slot) k (and_parts (may_ask s made.parent) (is_number (child s made.parent made.slot) k) asks).1;
+      seen = ap (λ b. if b then Some phase.Done else None) asks;
+    }
+seen_done s k made Claimed job e done = absurd cc
+
+live_made : (a : Parent) (t : ℕ) (made : Made) (o : Option Phase) (job : JobView) → job_with made o ≡ Some job → is_live_child a t (Some job) ≡ true → is_made_by a t made ≡ true
+live_made a t made None job e live = absurd cc
+live_made a t made (Some phase) job e live = ap (is_live_child a t) e ∙ live
+
+done_in_state : (plan : Plan) (s : State) → DoneAreLatest (live_view plan s).jobs
+done_in_state plan s a t k job e live done =
+    let made = job_at s k in
+    let seen : job_with made (phase_seen s k made made.stage) ≡ Some job = sym (view_at plan s k) ∙ e in
+    let is_seen = seen_done s k made made.stage job seen done in
+    let maker = maker_of made a t (live_made a t made (phase_seen s k made made.stage) job seen live) in
+    let latest : child s a t ≡ Some k = ap (λ b. child s b t) maker.0 ∙ ap (child s made.parent) maker.1 ∙ is_seen.latest in
+    live_child_is plan s a t k phase.Done latest is_seen.seen
+
+pub done_are_latest : (plan : Plan) (view : View) → IsOf plan view → DoneAreLatest view.jobs
+done_are_latest plan view of = subst (λ (v : View). DoneAreLatest v.jobs) of.2 (done_in_state plan of.0)
+
+-- ---- jobs that a get asks for
+
+made_if : (a : Parent) (t : ℕ) (made : Made) (b : Bool) → is_live_child a t (job_with made (if b then Some phase.Done else None)) ≡ true → is_made_by a t made ≡ true
+made_if a t made true live = live
+made_if a t made false live = absurd cc
+
+live_unclaimed : (s : State) (a : Parent) (t k : ℕ) (made : Made) (stage : Stage) → is_live_child a t (job_with made (phase_seen s k made stage)) ≡ true → (is_made_by a t made ≡ true) × (stage ≢ Claimed)
+live_unclaimed s a t k made Queued live = (live, λ f. absurd cc)
+live_unclaimed s a t k made (At i) live = (live, λ f. absurd cc)
+live_unclaimed s a t k made Done live = (made_if a t made (may_ask s made.parent && is_number (child s made.parent made.slot) k) live, λ f. absurd cc)
+live_unclaimed s a t k made Claimed live = absurd cc
+
+-- where a get asks for them, none is live as the actor comes to the submit again
+none_left_at : (plan : Plan) (s : State) (a : Parent) (body : List Action) (i g : ℕ) → IsWellFormed plan → IsReached plan s → point plan s a ≡ Some (record { body = body; position = i }) → slice_get body g ≡ Some (Get i)
+    → (k : ℕ) → is_live_child a i (live_job (live_view plan s).jobs k) ≡ false
+none_left_at plan s a body i g w reached stands asks k = false_from_ne_true (is_live_child a i (live_job (live_view plan s).jobs k)) (λ live.
+    let made = job_at s k in
+    let found = live_unclaimed s a i k made made.stage (sym (ap (is_live_child a i) (view_at plan s k)) ∙ live) in
+    ⊎_elim found.1 (λ latest. absurd (omega (arith, latest.0))) (((settled plan s w reached).actors a body i stands).settled g i k asks (job_made s k found.1) found.0))
+
+get_of : (body : List Action) (t : ℕ) → list_any (gets t) body ≡ true → (g : ℕ) × (slice_get body g ≡ Some (Get t))
+get_of [] t e = absurd cc
+get_of (action ∷ body) t e = ⊎_elim (λ here. (0, ap Some (is_get action t here))) (λ later. let found = get_of body t later in (suc found.0, found.1)) (or_cases (gets t action) (list_any (gets t) body) e)
+  where
+    is_get : (action : Action) (t : ℕ) → gets t action ≡ true → action ≡ Get t
+    is_get (Work u) t e = absurd cc
+    is_get (Submit k) t e = absurd cc
+    is_get (Get u) t e = ap Get (sym (eqb-true t u e))
+
+none_left_in_state : (plan : Plan) (s : State) (a : Parent) (x : Point) → IsWellFormed plan → IsReached plan s → point_in plan (live_view plan s) a ≡ Some x → list_any (gets x.position) x.body ≡ true → live_child (live_view plan s).jobs a x.position ≡ None
+none_left_in_state plan s a x w reached stands asked =
+    let get = get_of x.body x.position asked in
+    let jobs = (live_view plan s).jobs in
+    let test = is_live_child a x.position in
+    last_where_none test jobs (λ i d inside. ap test (get_or_default jobs i d None inside) ∙ none_left_at plan s a x.body x.position get.0 w reached (sym (point_seen plan s a) ∙ stands) get.1 i)
+
+-- an actor at a submit whose job a get asks for has no live job from there
+pub none_left : (plan : Plan) (view : View) (a : Parent) (place : Place) → IsOf plan view → IsWellFormed plan → option_map place_at (point_in plan view a) ≡ Some place → place.asked ≡ true → live_child view.jobs a place.position ≡ None
+none_left plan view a place of w e asked =
+    let found = point_of_place (point_in plan view a) place e in
+    let x = found.0 in
+    let names : (submits (slice_get x.body x.position) && list_any (gets x.position) x.body) ≡ true = ap (λ (p : Place). p.asked) found.2 ∙ asked in
+    let gone : live_child view.jobs a x.position ≡ None =
+    subst (λ (v : View). point_in plan v a ≡ Some x → live_child v.jobs a x.position ≡ None) of.2
+    (λ stands. none_left_in_state plan of.0 a x w of.1 stands (and_parts (submits (slice_get x.body x.position)) (list_any (gets x.position) x.body) names).1) found.1 in
+    subst (λ n. live_child view.jobs a n ≡ None) (ap (λ (p : Place). p.position) found.2) gone
