@@ -11,7 +11,7 @@ use Rattle.job_bodies.specs.declared.action.Action.TheVariants.{Work, Submit, Ge
 use Rattle.job_bodies.specs.declared.fault.PlanFault.{PlanFault}
 use Rattle.job_bodies.specs.declared.fault.Part.{Part}
 use Rattle.job_bodies.specs.declared.fault.Part.TheVariants as part
-use Rattle.job_bodies.specs.declared.fault_number.TheConstants.{BAD_NUMBER, NO_SUCH_POOL}
+use Rattle.faults.specs.declared.number.TheConstants.{BAD_NUMBER, NO_SUCH_POOL}
 use Rattle.job_bodies.specs.declared.limits.TheConstants.{MOST_POOLS, MOST_CLASSES, MOST_ACTIONS, MOST_UNITS}
 use Rattle.job_bodies.specs.Plan.{Class, Client, Plan}
 use Rattle.job_bodies.specs.WellFormed.{is_within, is_lawful_name, has_lawful_sizes, are_distinct, is_lawful_action, is_lawful_pool, is_lawful_class, is_lawful_client, IsWellFormed}

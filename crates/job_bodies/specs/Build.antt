@@ -3,7 +3,7 @@ use Rattle.std.specs.Prelude.{nat_le, List, length, take, map, Result, Ok}
 use Rattle.readings.specs.Reading.{◌>>=◌, holds_or, check_each}
 use Rattle.job_bodies.specs.declared.fault.PlanFault.{PlanFault}
 use Rattle.job_bodies.specs.declared.fault.Part.TheVariants as part
-use Rattle.job_bodies.specs.declared.fault_number.TheConstants.{TOO_MANY}
+use Rattle.faults.specs.declared.number.TheConstants.{TOO_MANY}
 use Rattle.job_bodies.specs.declared.limits.TheConstants.{MOST_POOLS, MOST_CLASSES, MOST_CLIENTS}
 use Rattle.job_bodies.specs.Plan.{Pool, Class, Client, Plan}
 use Rattle.job_bodies.specs.Checks.{at_text, check_pool, check_class, check_client, check_length, check_body}

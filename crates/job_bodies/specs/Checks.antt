@@ -8,7 +8,7 @@ use Rattle.job_bodies.specs.declared.action.Action.TheVariants.{Work, Submit, Ge
 use Rattle.job_bodies.specs.declared.fault.PlanFault.{PlanFault}
 use Rattle.job_bodies.specs.declared.fault.Part.{Part}
 use Rattle.job_bodies.specs.declared.fault.Part.TheVariants as part
-use Rattle.job_bodies.specs.declared.fault_number.TheConstants.{TOO_MANY, BAD_NAME, DOUBLE_NAME, BAD_NUMBER, NO_SUCH_POOL, NO_SUCH_CLASS, SLOT_EMPTY}
+use Rattle.faults.specs.declared.number.TheConstants.{TOO_MANY, BAD_NAME, DOUBLE_NAME, BAD_NUMBER, NO_SUCH_POOL, NO_SUCH_CLASS, SLOT_EMPTY}
 use Rattle.job_bodies.specs.declared.limits.TheConstants.{MOST_ACTIONS, MOST_UNITS}
 use Rattle.job_bodies.specs.Plan.{Pool, Class, Client}
 use Rattle.job_bodies.specs.WellFormed.{is_lawful_name, has_lawful_sizes, is_within, is_lawful_get}

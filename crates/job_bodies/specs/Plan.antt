@@ -1,5 +1,6 @@
 -- Plans: pools of threads, classes of jobs and kinds of clients, each class and kind with a body of actions.
-use Rattle.std.specs.Prelude.{ℕ, Bool, false, true, ◌==◌, List, [], Option, Some, slice_index_or, slice_get}
+use Rattle.std.specs.Prelude.{ℕ, Bool, false, true, ◌==◌, if◌then◌else◌, List, [], map, Option, Some, slice_index_or, slice_get}
+use Rattle.std.specs.List.{list_any}
 use Rattle.job_bodies.specs.declared.action.Action.{Action}
 use Rattle.job_bodies.specs.declared.action.Action.TheVariants.{Submit, Get}
 
@@ -8,6 +9,7 @@ pub record Pool : Type 0 where
   pub core : ℕ
   pub max : ℕ
   pub queue : ℕ
+  pub prestart : Bool
 
 pub record Class : Type 0 where
   pub name : List ℕ
@@ -28,7 +30,7 @@ pub record Plan : Type 0 where
 
 -- what stands past the end of a list of the plan
 abbrev pub no_pool : Pool
-no_pool = record { name = []; core = 0; max = 0; queue = 0 }
+no_pool = record { name = []; core = 0; max = 0; queue = 0; prestart = false }
 
 abbrev pub no_class : Class
 no_class = record { name = []; pool = 0; body = [] }
@@ -44,6 +46,14 @@ class_at plan k = slice_index_or plan.classes k no_class
 
 abbrev pub client_at : Plan → ℕ → Client
 client_at plan c = slice_index_or plan.clients c no_client
+
+-- the names of the pools, in order
+abbrev pub pool_names : Plan → List (List ℕ)
+pool_names plan = map (λ pool. pool.name) plan.pools
+
+-- how many workers the pool begins with, all of them idle: core where they are started beforehand, else none
+abbrev pub first_workers : Pool → ℕ
+first_workers pool = if pool.prestart then pool.core else 0
 
 -- is it a submit?
 abbrev pub submits : Option Action → Bool
@@ -63,3 +73,7 @@ class_got body t = class_of_submit (slice_get body t)
 abbrev pub gets : ℕ → Action → Bool
 gets t (Get u) = t == u
 gets t _ = false
+
+-- does one of the actions get the submit at position t?
+abbrev pub is_got : List Action → ℕ → Bool
+is_got body t = list_any (gets t) body

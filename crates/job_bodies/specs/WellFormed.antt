@@ -6,7 +6,7 @@ use Rattle.std.specs.Str.{bytes_eq}
 use Rattle.job_bodies.specs.declared.action.Action.{Action}
 use Rattle.job_bodies.specs.declared.action.Action.TheVariants.{Work, Submit, Get}
 use Rattle.job_bodies.specs.declared.limits.TheConstants.{MOST_POOLS, MOST_CLASSES, MOST_CLIENTS, MOST_ACTIONS, MOST_UNITS, MOST_NAME_BYTES}
-use Rattle.job_bodies.specs.Plan.{Pool, Class, Client, Plan, submits, gets}
+use Rattle.job_bodies.specs.Plan.{Pool, Class, Client, Plan, submits, is_got}
 
 abbrev pub is_within : ℕ → ℕ → ℕ → Bool
 is_within low high n = nat_le low n && nat_le n high
@@ -36,7 +36,7 @@ is_lawful_pool pool = is_lawful_name pool.name && has_lawful_sizes pool
 
 -- a get at position i names an earlier submit of its body that no earlier get names
 abbrev pub is_lawful_get : List Action → ℕ → ℕ → Bool
-is_lawful_get body i t = nat_lt t i && submits (slice_get body t) && not (list_any (gets t) (take i body))
+is_lawful_get body i t = nat_lt t i && submits (slice_get body t) && not (is_got (take i body) t)
 
 -- the action that stands at position i of the body, where so many classes are declared
 abbrev pub is_lawful_action : ℕ → List Action → ℕ → Action → Bool

@@ -9,9 +9,9 @@ ghost use Rattle.job_bodies.specs.Build.{given, check_counts, check_lengths, che
 
 use crate::checks::{check_body, check_class, check_client, check_length, check_pool};
 use crate::fault::holds_or;
-use crate::fault_number::TOO_MANY;
 use crate::limits::{MOST_CLASSES, MOST_CLIENTS, MOST_POOLS};
 use crate::{Class, Client, Part, PlanFault, Pool};
+use faults::number::TOO_MANY;
 
 /// No list is too long.
 pub(crate) fn check_counts(

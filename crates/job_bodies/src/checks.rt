@@ -1,19 +1,18 @@
 //! The checks of one entry of a plan, each with the fault that it gives.
 
 ghost use Rattle.std.specs.Prelude.{◌≡◌, ◌<◌, ◌++◌, ◌∷◌, [], List, length, map, take, slice_index_or};
-ghost use Rattle.std.specs.List.{list_any};
 ghost use Rattle.job_bodies.specs.declared.action.Action.{Action};
 ghost use Rattle.job_bodies.specs.declared.action.Action.TheVariants.{Work};
-ghost use Rattle.job_bodies.specs.Plan.{no_pool, no_class, no_client, gets};
+ghost use Rattle.job_bodies.specs.Plan.{no_pool, no_class, no_client, is_got};
 ghost use Rattle.job_bodies.specs.WellFormed.{is_lawful_get};
 ghost use Rattle.job_bodies.specs.Got.{IsTableOf};
 ghost use Rattle.job_bodies.specs.Checks.{check_pool, check_class, check_client, check_length, check_action, check_body};
 
 use crate::fault::holds_or;
-use crate::fault_number::{BAD_NUMBER, NO_SUCH_CLASS, NO_SUCH_POOL, SLOT_EMPTY, TOO_MANY};
 use crate::limits::{MOST_ACTIONS, MOST_UNITS, is_within};
 use crate::names::check_name;
-use crate::{Action, Class, Client, Part, PlanFault, Pool};
+use crate::{Action, Class, Client, Part, PlanFault, Pool, is_got};
+use faults::number::{BAD_NUMBER, NO_SUCH_CLASS, NO_SUCH_POOL, SLOT_EMPTY, TOO_MANY};
 
 /// The pool at this place has a name of its own and lawful sizes.
 pub(crate) fn check_pool(pools: &[Pool], index: usize) -> Result<(), PlanFault>
@@ -59,15 +58,14 @@ pub(crate) fn check_length(part: Part, index: usize, body: &[Action]) -> Result<
     holds_or(short, PlanFault::at_entry(part, index, TOO_MANY))
 }
 
-/// Whether one of these actions gets the submit. The table tells it at once, for all that a lawful body may name.
-fn is_got(actions: &[Action], got: &[bool; MOST_ACTIONS], submit: usize) -> bool
+/// Whether one of these actions gets the submit. Their table tells it at once, for all that a lawful body may name.
+fn is_got_by(actions: &[Action], got: &[bool; MOST_ACTIONS], submit: usize) -> bool
     requires { IsTableOf actions.now got.now }
-    ensures { result ≡ list_any (gets submit) actions.now }
+    ensures { result ≡ is_got actions.now submit }
 {
-    if submit < MOST_ACTIONS {
-        got[submit]
-    } else {
-        actions.contains(&Action::Get(submit))
+    match got.get(submit) {
+        Some(got) => *got,
+        None => is_got(actions, submit),
     }
 }
 
@@ -95,7 +93,7 @@ fn is_lawful_get(
 {
     submit < position
         && matches!(body[submit], Action::Submit(_))
-        && !is_got(&body[..position], got, submit)
+        && !is_got_by(&body[..position], got, submit)
 }
 
 /// The action at this position is lawful there.

@@ -20,7 +20,7 @@ pub enum Part {
 /// The first fault of a plan: its number, and the entry and the action at which it stands, counted from 0.
 #[derive(Clone, Copy, Debug, PartialEq, Eq)]
 pub struct PlanFault {
-    /// The number of [`fault_number`](crate::fault_number): 1 to 13, or 20 for want of memory.
+    /// The fault's number: 1 to 13, or 20 where memory ran out.
     pub number: u8,
     /// The part of the plan that the fault speaks of.
     pub part: Part,

@@ -1,37 +1,11 @@
-//! The line that a fault prints.
+//! The line that a fault of a plan prints.
 
-ghost use Rattle.std.specs.Prelude.{◌≡◌, ◌++◌, Some};
-ghost use Rattle.job_bodies.specs.FaultText.{name_of, part_text, action_text, fault_line};
+ghost use Rattle.std.specs.Prelude.{Some};
+ghost use Rattle.job_bodies.specs.FaultText.{part_text, action_text, fault_line};
 
-use crate::fault_number::{
-    BAD_ACTION, BAD_NAME, BAD_NUMBER, DOUBLE_NAME, MEMORY, MISSING_KEY, NO_SUCH_CLASS,
-    NO_SUCH_POOL, NOT_TOML, SLOT_EMPTY, SLOT_OPEN, TOO_MANY, UNKNOWN_KEY, WRONG_TYPE,
-};
 use crate::{Part, PlanFault};
+use faults::Head;
 use std::fmt;
-
-/// The name of the fault with this number, as `BadName` for 6, and `Unknown` where no fault has the number.
-pub fn fault_name(number: u8) -> &'static str
-    ensures { result.now ≡ name_of number }
-{
-    match number {
-        NOT_TOML => "NotToml",
-        TOO_MANY => "TooMany",
-        UNKNOWN_KEY => "UnknownKey",
-        MISSING_KEY => "MissingKey",
-        WRONG_TYPE => "WrongType",
-        BAD_NAME => "BadName",
-        DOUBLE_NAME => "DoubleName",
-        BAD_NUMBER => "BadNumber",
-        NO_SUCH_POOL => "NoSuchPool",
-        NO_SUCH_CLASS => "NoSuchClass",
-        BAD_ACTION => "BadAction",
-        SLOT_OPEN => "SlotOpen",
-        SLOT_EMPTY => "SlotEmpty",
-        MEMORY => "Memory",
-        _ => "Unknown",
-    }
-}
 
 /// The entry of which a fault speaks.
 #[derive(Clone, Copy)]
@@ -74,13 +48,13 @@ impl fmt::Display for PlanFault {
     ghost output = { λ fault. Some (fault_line fault) };
 
     fn fmt<W: fmt::Write>(&self, f: &mut fmt::Formatter<W>) -> fmt::Result {
-        let name = fault_name(self.number);
+        let head = Head(self.number);
         let entry = Entry {
             part: self.part,
             index: self.index,
         };
         let position = Position(self.action);
-        write!(f, "fault {} {name}{entry}{position}", self.number)
+        write!(f, "{head}{entry}{position}")
     }
 }
 

@@ -9,20 +9,15 @@ mod action;
 mod build;
 mod checks;
 mod fault;
-pub mod fault_number;
 mod fault_text;
 mod limits;
 mod names;
 mod plan;
 
-pub use action::Action;
+pub use action::{Action, is_got};
 pub use fault::{Part, PlanFault};
-pub use fault_text::fault_name;
 pub use limits::{
     MOST_ACTIONS, MOST_CLASSES, MOST_CLIENTS, MOST_NAME_BYTES, MOST_POOLS, MOST_UNITS, is_within,
 };
 pub use names::is_lawful_name;
 pub use plan::{Class, Client, Plan, Pool};
-
-#[cfg(test)]
-mod tests;

@@ -7,9 +7,9 @@ ghost use Rattle.job_bodies.specs.WellFormed.{is_letter, is_name_byte, is_lawful
 ghost use Rattle.job_bodies.specs.Checks.{check_name};
 
 use crate::fault::holds_or;
-use crate::fault_number::{BAD_NAME, DOUBLE_NAME};
 use crate::limits::{MOST_NAME_BYTES, is_within};
 use crate::{Class, Client, Part, PlanFault, Pool};
+use faults::number::{BAD_NAME, DOUBLE_NAME};
 
 fn is_letter(byte: u8) -> bool
     ensures { result ≡ is_letter byte }

@@ -1,6 +1,6 @@
 //! The plan of a service: its pools of threads, the classes of its jobs, and its kinds of clients.
 
-ghost use Rattle.std.specs.Prelude.{◌≡◌, ◌↔◌, IsOk, IfOk, string_bytes};
+ghost use Rattle.std.specs.Prelude.{◌≡◌, ◌↔◌, ◌<◌, IsOk, IfOk, IsSome, IfSome, IfNone, length, string_bytes};
 ghost use Rattle.job_bodies.specs.Plan as spec;
 ghost use Rattle.job_bodies.specs.WellFormed.{IsWellFormed, has_lawful_sizes};
 ghost use Rattle.job_bodies.specs.Build.{given, build};
@@ -27,12 +27,15 @@ pub struct Pool {
     pub max: u64,
     /// The capacity of the queue in jobs: from 1 to 1,000,000.
     pub queue: u64,
+    /// Whether all core threads are started before the first job comes, as by Java's `prestartAllCoreThreads`. The first
+    /// jobs then wait in the queue, where without it they would have started threads.
+    pub prestart: bool,
 }
 
 impl Model for Pool {
     ghost Value = { spec.Pool };
 
-    ghost view = { λ p. record { name = string_bytes p.name; core = p.core; max = p.max; queue = p.queue } };
+    ghost view = { λ p. record { name = string_bytes p.name; core = p.core; max = p.max; queue = p.queue; prestart = p.prestart } };
 }
 
 impl Pool {
@@ -43,6 +46,13 @@ impl Pool {
         is_within(1, MOST_UNITS, self.core)
             && is_within(self.core, MOST_UNITS, self.max)
             && is_within(1, MOST_UNITS, self.queue)
+    }
+
+    /// How many workers the pool begins with, all of them idle: core where they are started beforehand, else none.
+    pub fn first_workers(&self) -> u64
+        ensures { result ≡ spec.first_workers self.now }
+    {
+        if self.prestart { self.core } else { 0 }
     }
 }
 
@@ -130,11 +140,19 @@ impl Plan {
         check_lengths(&classes, &clients)?;
         check_entries(&pools, &classes, &clients)?;
         check_bodies(&classes, &clients)?;
-        Ok(Plan {
+        Ok(Plan::of_well_formed(pools, classes, clients))
+    }
+
+    /// The plan of these lists, which are known to be well-formed, as by a reader that has made the checks already.
+    pub fn of_well_formed(pools: Vec<Pool>, classes: Vec<Class>, clients: Vec<Client>) -> Plan
+        requires { IsWellFormed (given pools.items classes.items clients.items) }
+        ensures { result ≡ given pools.items classes.items clients.items }
+    {
+        Plan {
             pools,
             classes,
             clients,
-        })
+        }
     }
 
     /// The pools, in the plan's order: at most 64.
@@ -159,5 +177,32 @@ impl Plan {
         ensures well_formed { IsWellFormed self.now }
     {
         self.clients.as_slice()
+    }
+
+    /// The pool of this number, counted from 0; None where there is no such pool.
+    pub fn pool_at(&self, pool: usize) -> Option<&Pool>
+        ensures found { IfSome result (λ found. found.now ≡ spec.pool_at self.now pool) }
+        ensures absent { IfNone result (spec.pool_at self.now pool ≡ spec.no_pool) }
+        ensures exists { IsSome result ↔ (pool < length self.now.pools) }
+    {
+        self.pools.get(pool)
+    }
+
+    /// The class of this number, counted from 0; None where there is no such class.
+    pub fn class_at(&self, class: usize) -> Option<&Class>
+        ensures found { IfSome result (λ found. found.now ≡ spec.class_at self.now class) }
+        ensures absent { IfNone result (spec.class_at self.now class ≡ spec.no_class) }
+        ensures exists { IsSome result ↔ (class < length self.now.classes) }
+    {
+        self.classes.get(class)
+    }
+
+    /// The kind of clients of this number, counted from 0; None where there is no such kind.
+    pub fn client_at(&self, client: usize) -> Option<&Client>
+        ensures found { IfSome result (λ found. found.now ≡ spec.client_at self.now client) }
+        ensures absent { IfNone result (spec.client_at self.now client ≡ spec.no_client) }
+        ensures exists { IsSome result ↔ (client < length self.now.clients) }
+    {
+        self.clients.get(client)
     }
 }

@@ -5,7 +5,7 @@ use Rattle.std.specs.Prelude.{IsTrue}
 use Rattle.job_bodies.specs.Plan.{Pool}
 use Rattle.job_bodies.specs.WellFormed.{has_lawful_sizes}
 use Rattle.pool_machine.specs.PoolState.{PoolView, IsSound, new_pool}
-use Rattle.pool_machine.specs.Laws.{IsKept, HasSizesOf, QueuesOnlyAtCore}
+use Rattle.pool_machine.specs.Laws.{IsKept, HasSizesOf, QueuesOnlyAtCore, LoadIsOffered}
 
 pub sizes_kept : (first : PoolView) → IsKept (HasSizesOf first)
 sizes_kept first = grind (arith, common_steps)
@@ -18,3 +18,6 @@ sound_kept = grind (arith, common_steps)
 
 pub queues_only_at_core_kept : IsKept QueuesOnlyAtCore
 queues_only_at_core_kept = grind (arith, common_steps)
+
+pub load_is_offered : LoadIsOffered
+load_is_offered = grind (arith, common_steps)

@@ -2,7 +2,7 @@
 -- ThreadPoolExecutor: core and maximum sizes, queuing, rejected tasks.
 use Rattle.std.specs.Prelude.{ℕ, zero, suc, ◌+◌, ◌-◌, ◌≤◌, nat_lt, if◌then◌else◌, List, [], ◌∷◌, ◌++◌, length, Option, None, Some}
 use Rattle.job_bodies.specs.declared.limits.TheConstants.{MOST_UNITS}
-use Rattle.job_bodies.specs.Plan.{Pool}
+use Rattle.job_bodies.specs.Plan.{Pool, first_workers}
 use Rattle.pool_machine.specs.declared.offer.Offer.{Offer}
 use Rattle.pool_machine.specs.declared.offer.Offer.TheVariants.{Started, Queued, Refused}
 
@@ -15,9 +15,9 @@ pub record PoolView : Type 0 where
   pub idle : ℕ
   pub queue : List ℕ
 
--- how a pool begins: with no threads and an empty queue
+-- how a pool begins: its first workers are idle, and its queue is empty
 abbrev pub new_pool : Pool → PoolView
-new_pool pool = record { core = pool.core; max = pool.max; capacity = pool.queue; threads = 0; idle = 0; queue = [] }
+new_pool pool = record { core = pool.core; max = pool.max; capacity = pool.queue; threads = first_workers pool; idle = first_workers pool; queue = [] }
 
 -- what the pool answers to a job that is offered to it: below core a new thread starts it, else it is queued, else
 -- below the maximum a new thread starts it, else it is refused

