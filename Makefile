@@ -1,9 +1,22 @@
-# The commands of this repository. Only the toolchain, make, gcc and python3 are needed.
-.PHONY: demo test examples checks bench program plan_reader
+# The commands of this repository. Only the toolchain (rt), make, gcc and python3 are needed.
+PREFIX ?= /usr/local
+PROGRAM = crates/sizing/out/sizing
+READER = crates/plan_reader/out/plan_reader
 
-# Proves and builds the program, and runs it on its first example.
+.PHONY: demo program install test examples checks bench plan_reader
+
+# Runs the program on its first example as it is written, before any proof: about a minute on a fresh machine.
 demo:
-	@cd crates/sizing && { rt run -- replay < ../../examples/two-clients.txt; echo "status $$?"; }
+	@examples/demo
+
+# Proves and builds the program: some ten minutes on a fresh machine, and seconds after that.
+program:
+	@tools/build sizing replay $(PROGRAM)
+
+# Proves and builds the program, and puts it where a shell finds it.
+install: program
+	install -D -m 755 $(PROGRAM) $(DESTDIR)$(PREFIX)/bin/sizing
+	@echo "sizing is in $(DESTDIR)$(PREFIX)/bin"
 
 # The whole gate: every proof from nothing, the wrong bodies that must be refused, every test and every stored run.
 test:
@@ -13,9 +26,10 @@ test:
 examples: program
 	python3 examples/check.py
 
-# Refuses each growth of the built program's memory in turn: fault 20 or the right answer, never another.
+# What no contract says of the built program: a refused growth of memory, and the ends of its streams.
 checks: program
 	python3 checks/refused_growths.py
+	python3 checks/ends_of_streams.py
 
 # Times a replay beside a plain program that only splits and counts the same lines, and the reading of a plan beside the
 # reading of its TOML alone.
@@ -23,8 +37,5 @@ bench: program plan_reader
 	python3 bench/replay.py
 	python3 bench/read.py
 
-program:
-	@cd crates/sizing && { rt run -- replay < stdin > /dev/null; true; }
-
 plan_reader:
-	@cd crates/plan_reader && { rt run -- plan < stdin > /dev/null; true; }
+	@tools/build plan_reader plan $(READER)
