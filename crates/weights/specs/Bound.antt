@@ -1,0 +1,27 @@
+-- The vector that bounds a pool's queue: a standing one or a lifetime one.
+use Rattle.std.specs.Prelude.{ℕ, List}
+use Rattle.job_bodies.specs.Plan.{Plan, pool_at}
+use Rattle.weights.specs.declared.row.Row.{Row}
+use Rattle.weights.specs.declared.bound.Bound.{Bound}
+use Rattle.weights.specs.declared.bound.Bound.TheVariants.{Standing, Lifetime}
+use Rattle.weights.specs.Vector.{Vector}
+use Rattle.weights.specs.AtGet.{AtGet, GivesBack, GivesNothing}
+use Rattle.weights.specs.Standing.{standing_rows}
+use Rattle.weights.specs.Lifetime.{lifetime_limit, lifetime_rows}
+
+abbrev pub bound_vector : Bound → Vector
+bound_vector (Standing v) = v
+bound_vector (Lifetime v) = v
+
+abbrev pub bound_at_get : Bound → AtGet
+bound_at_get (Standing v) = GivesBack
+bound_at_get (Lifetime v) = GivesNothing
+
+-- what the vector's total is compared with
+abbrev pub bound_limit : Plan → ℕ → Bound → ℕ
+bound_limit plan p (Standing v) = (pool_at plan p).queue
+bound_limit plan p (Lifetime v) = lifetime_limit (pool_at plan p)
+
+abbrev pub bound_rows : Plan → ℕ → Bound → List Row
+bound_rows plan p (Standing v) = standing_rows plan p v
+bound_rows plan p (Lifetime v) = lifetime_rows plan p v

@@ -1,0 +1,22 @@
+-- The conditions of a pool's lifetime vector: no more jobs are ever made than the queue and the threads hold.
+use Rattle.std.specs.Prelude.{ℕ, ◌+◌, ◌-◌, List, [], ◌∷◌, ◌++◌, map}
+use Rattle.std.specs.List.{flat_map, enumerate_from}
+use Rattle.job_bodies.specs.Plan.{Pool, Plan, pool_at, first_workers}
+use Rattle.weights.specs.declared.row.Rule.TheVariants.{L1, L2, L3}
+use Rattle.weights.specs.declared.row.Place.TheVariants as place
+use Rattle.weights.specs.declared.row.Row.{Row}
+use Rattle.weights.specs.Row.{row}
+use Rattle.weights.specs.Vector.{Vector, workers_weight, class_weights, total}
+use Rattle.weights.specs.AtGet.{GivesNothing}
+use Rattle.weights.specs.Rows.{rows, classes_of}
+
+-- how many jobs a pool takes before it can refuse one: its queue and its threads, but for those that no job made
+abbrev pub lifetime_limit : Pool → ℕ
+lifetime_limit pool = pool.queue + pool.max - first_workers pool
+
+abbrev pub lifetime_rows : Plan → ℕ → Vector → List Row
+lifetime_rows plan p v =
+    map (λ entry. row L1 (place.Worker entry.0) (workers_weight v entry.0) 0) (enumerate_from 0 plan.pools)
+    ++ rows GivesNothing plan v
+    ++ flat_map (λ entry. map (λ weight. row L2 (place.Class entry.0) 1 weight) (class_weights v entry.0)) (classes_of plan p)
+    ++ row L3 place.Total (total plan v) (lifetime_limit (pool_at plan p)) ∷ []

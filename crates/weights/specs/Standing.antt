@@ -1,0 +1,16 @@
+-- The conditions of a pool's standing vector: no more jobs are ever queued than the queue holds.
+use Rattle.std.specs.Prelude.{ℕ, List, [], ◌∷◌, ◌++◌, map}
+use Rattle.job_bodies.specs.Plan.{Plan, pool_at}
+use Rattle.weights.specs.declared.row.Rule.TheVariants.{S1, S2}
+use Rattle.weights.specs.declared.row.Place.TheVariants as place
+use Rattle.weights.specs.declared.row.Row.{Row}
+use Rattle.weights.specs.Row.{row}
+use Rattle.weights.specs.Vector.{Vector, queued_weight, total}
+use Rattle.weights.specs.AtGet.{GivesBack}
+use Rattle.weights.specs.Rows.{rows, classes_of}
+
+abbrev pub standing_rows : Plan → ℕ → Vector → List Row
+standing_rows plan p v =
+    rows GivesBack plan v
+    ++ map (λ entry. row S1 (place.Class entry.0) 1 (queued_weight v entry.0)) (classes_of plan p)
+    ++ row S2 place.Total (total plan v) (pool_at plan p).queue ∷ []
