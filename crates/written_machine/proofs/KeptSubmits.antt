@@ -46,12 +46,12 @@ made_actors plan s a body i k stage kept at unclaimed begins b body' n now = eli
 ]
 
 -- the submit names a class that there is
-class_exists : (plan : Plan) (s : State) (a : Parent) (body : List Action) (i k : ℕ) → IsOrdered plan → StandsAt plan s a body i (Some (action.Submit k)) → k < length plan.classes
+pub class_exists : (plan : Plan) (s : State) (a : Parent) (body : List Action) (i k : ℕ) → IsOrdered plan → StandsAt plan s a body i (Some (action.Submit k)) → k < length plan.classes
 class_exists plan s a body i k ordered at =
     let lawful : IsLawful plan body = lawful_point plan s a body i ordered at.stands in
     lawful.submit i k at.is_there
 
-room_for_thread : (plan : Plan) (s : State) (q : ℕ) → IsOrdered plan → q < length plan.pools → (threads plan s q < (pool_at plan q).max) ⊎ (threads plan s q < (pool_at plan q).core) → threads plan s q < (pool_at plan q).max
+pub room_for_thread : (plan : Plan) (s : State) (q : ℕ) → IsOrdered plan → q < length plan.pools → (threads plan s q < (pool_at plan q).max) ⊎ (threads plan s q < (pool_at plan q).core) → threads plan s q < (pool_at plan q).max
 room_for_thread plan s q ordered inside (inl below) = below
 room_for_thread plan s q ordered inside (inr below) = let sizes = ordered.max q inside in omega arith
 

@@ -12,5 +12,7 @@ pub mod KeptSubmits
 pub mod KeptStep
 pub mod Reached
 pub mod WaitingSets
+pub mod Leaves
+pub mod FullWaitingSets
 pub mod ReachedLaws
 pub mod WorkedReplays

@@ -1,5 +1,5 @@
 -- The laws of the machine, for the crates above.
-use Rattle.std.proofs.Common.{ℕ, List, Some, arith}
+use Rattle.std.proofs.Common.{ℕ, List, Some, refl, arith}
 use Rattle.job_bodies.specs.declared.action.Action.{Action}
 use Rattle.job_bodies.specs.declared.action.Action.TheVariants as action
 use Rattle.job_bodies.specs.Plan.{Plan, class_got}
@@ -8,11 +8,13 @@ use Rattle.written_machine.specs.declared.parent.Parent.{Parent}
 use Rattle.written_machine.specs.declared.parent.Parent.TheVariants as parent
 use Rattle.written_machine.specs.State.{State}
 use Rattle.written_machine.specs.Laws.{IsLater, PoolsKeepTheirSizes, QueuesOnlyAtCore, GetsHaveChildren, WaitingSetsAreTested}
+use Rattle.written_machine.specs.FullWaitingSets.{FullWaitingSetsStay, FixedPoolsAreFull}
 use Rattle.written_machine.proofs.Events.{StandsAt}
 use Rattle.written_machine.proofs.Standing.{lawful_point}
 use Rattle.written_machine.proofs.Kept.{IsAfter, HasChild, Kept}
-use Rattle.written_machine.proofs.Reached.{kept}
+use Rattle.written_machine.proofs.Reached.{replay_keeps, kept}
 use Rattle.written_machine.proofs.WaitingSets.{waiting_set_test}
+use Rattle.written_machine.proofs.FullWaitingSets.{Stayed, stays_through, fixed_are_full}
 
 pub sizes_kept : PoolsKeepTheirSizes
 sizes_kept plan s well_formed reached p inside =
@@ -39,3 +41,11 @@ children_at_gets plan s well_formed reached a body i t stands is_there =
 
 pub sets_tested : WaitingSetsAreTested
 sets_tested = waiting_set_test
+
+pub full_sets_stay : FullWaitingSetsStay
+full_sets_stay plan s s' events members well_formed reached set replayed =
+    (replay_keeps plan (Stayed plan members s) (λ s₁ e s₂ o stayed happened. stays_through plan members s s₁ s₂ o (ordered plan well_formed) stayed happened) events s s'
+    (record { is_kept = kept plan s well_formed reached; has_stayed = record { still = set; unmoved = λ j member. refl } }) replayed).has_stayed
+
+pub fixed_pools_full : FixedPoolsAreFull
+fixed_pools_full plan s members well_formed reached waiting fixed = fixed_are_full plan s members (ordered plan well_formed) (kept plan s well_formed reached) waiting fixed

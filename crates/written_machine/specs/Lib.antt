@@ -4,3 +4,4 @@ pub mod Reach
 pub mod Waiting
 pub mod Safe
 pub mod Laws
+pub mod FullWaitingSets

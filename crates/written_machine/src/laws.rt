@@ -1,5 +1,6 @@
 //! Laws of the machine, each the contract of a function with nothing to do.
 
+ghost use Rattle.written_machine.specs.FullWaitingSets.{FullWaitingSetsStay, FixedPoolsAreFull};
 ghost use Rattle.written_machine.specs.Laws.{
   PoolsKeepTheirSizes,
   QueuesOnlyAtCore,
@@ -30,4 +31,16 @@ pub fn gets_have_children()
 /// queued or at a get, and each waiting for members of the list alone.
 pub fn waiting_sets_are_tested()
     ensures { WaitingSetsAreTested }
+{}
+
+/// Where members of a waiting set wait in queues of pools that have all their threads, the set stays through every list
+/// of events, and none of its jobs ever moves again.
+pub fn full_waiting_sets_stay()
+    ensures { FullWaitingSetsStay }
+{}
+
+/// In every state that a well-formed plan reaches, a waiting set whose queued members wait in pools of fixed sizes, core
+/// equal to max, waits in pools that have all their threads.
+pub fn fixed_pools_are_full()
+    ensures { FixedPoolsAreFull }
 {}
