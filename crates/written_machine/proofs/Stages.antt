@@ -25,19 +25,19 @@ stage-staged jobs j stage inside = ap (λ (job : Made). job.stage) (get_or-set_s
 pub get_or-staged_other : (jobs : List Made) (j : ℕ) (stage : Stage) (n : ℕ) (d : Made) → n ≢ j → get_or (staged jobs j stage) n d ≡ get_or jobs n d
 get_or-staged_other jobs j stage n d other = get_or-set_other jobs j n (record (get_or jobs j no_job) { stage = stage }) d other
 
+-- no more than a stage changes
+job-staged : (jobs : List Made) (j : ℕ) (stage : Stage) (n : ℕ) (d : Made) → get_or (staged jobs j stage) n d ≡ record (get_or jobs n d) { stage = (get_or (staged jobs j stage) n d).stage }
+job-staged [] j stage n d = refl
+job-staged (x ∷ xs) zero stage zero d = refl
+job-staged (x ∷ xs) zero stage (suc n) d = refl
+job-staged (x ∷ xs) (suc j) stage zero d = refl
+job-staged (x ∷ xs) (suc j) stage (suc n) d = job-staged xs j stage n d
+
 pub class-staged : (jobs : List Made) (j : ℕ) (stage : Stage) (n : ℕ) (d : Made) → (get_or (staged jobs j stage) n d).class ≡ (get_or jobs n d).class
-class-staged [] j stage n d = refl
-class-staged (x ∷ xs) zero stage zero d = refl
-class-staged (x ∷ xs) zero stage (suc n) d = refl
-class-staged (x ∷ xs) (suc j) stage zero d = refl
-class-staged (x ∷ xs) (suc j) stage (suc n) d = class-staged xs j stage n d
+class-staged jobs j stage n d = ap (λ (job : Made). job.class) (job-staged jobs j stage n d)
 
 pub parent-staged : (jobs : List Made) (j : ℕ) (stage : Stage) (n : ℕ) (d : Made) → (get_or (staged jobs j stage) n d).parent ≡ (get_or jobs n d).parent
-parent-staged [] j stage n d = refl
-parent-staged (x ∷ xs) zero stage zero d = refl
-parent-staged (x ∷ xs) zero stage (suc n) d = refl
-parent-staged (x ∷ xs) (suc j) stage zero d = refl
-parent-staged (x ∷ xs) (suc j) stage (suc n) d = parent-staged xs j stage n d
+parent-staged jobs j stage n d = ap (λ (job : Made). job.parent) (job-staged jobs j stage n d)
 
 -- an actor's latest job is the same
 pub child-stage : (jobs : List Made) (a : Parent) (t j : ℕ) (stage : Stage) → last_of (places_where (is_made_by a t) (staged jobs j stage)) ≡ last_of (places_where (is_made_by a t) jobs)
