@@ -167,7 +167,7 @@ leaves plan s s' o members ordered kept set (queues a body i k at at_core room) 
     leaves_twice plan members among s made s' (leaves_submit plan s members a body i k Stage.Queued set at (λ p is_among. refl))
     (leaves_part plan members among made (pool_of plan k) ((pool_part s (pool_of plan k)).queue ++ length s.jobs ∷ []) (pool_part s (pool_of plan k)).idle
     (λ p is_among. idle_as_before s.pools (pool_of plan k) ((pool_part s (pool_of plan k)).queue ++ length s.jobs ∷ []) p))
-leaves plan s s' o members ordered kept set (is_refused a body i k at full) = leaves_all plan members (QueuesMember plan s members) s s.clients (s.refusals + 1)
+leaves plan s s' o members ordered kept set (is_refused a body i k at no_room all_started) = leaves_all plan members (QueuesMember plan s members) s s.clients (s.refusals + 1)
 leaves plan s s' o members ordered kept set (gets a body i t j at is_child done) = leaves_gets plan s members a body i t j set at is_child done
 leaves plan s s' o members ordered kept set (finishes j body i at) = leaves_finishes plan s members j body i set at
 leaves plan s s' o members ordered kept set (loops c client body i at is_client repeats) =

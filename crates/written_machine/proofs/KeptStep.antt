@@ -97,7 +97,7 @@ kept_finishes plan s j body i kept at =
       classes = classes_staged (length plan.classes) s.jobs j Stage.Done kept.classes;
       parents = parents_staged s.jobs j Stage.Done kept.parents;
       as_many = length-set s.pools q (record { queue = part.queue; idle = part.idle + 1 }) ∙ kept.as_many;
-      pools = pools_with_part plan done q part.queue (part.idle + 1) kept.as_many
+      pools = pools_with_part plan done q part.queue (part.idle + 1) (PoolIsKept plan done.jobs) kept.as_many
           (λ exists. subst (λ (ns : List ℕ). PoolKept (pool_at plan q) (record { queue = part.queue; idle = part.idle + 1 }) ns (busy_jobs plan done.jobs q)) (sym (places-staged plan s.jobs j Stage.Done q (sym (ap is_queued was))))
           (finished_pool (pool_at plan q) part (places plan s.jobs q) (busy_jobs plan s.jobs q) (busy_jobs plan done.jobs q) (kept.pools q exists) (busy-staged_fewer plan s.jobs j Stage.Done made (ap is_at was) refl)))
           (λ p inside other. same_pool (pool_at plan p) (pool_part s p) (pool_part s p) (places plan s.jobs p) (places plan done.jobs p) (busy_jobs plan s.jobs p) (busy_jobs plan done.jobs p) refl
@@ -116,7 +116,7 @@ kept_takes plan s p j queue idle kept is_queue is_idle =
       classes = classes_staged (length plan.classes) s.jobs j (Stage.At 0) kept.classes;
       parents = parents_staged s.jobs j (Stage.At 0) kept.parents;
       as_many = length-set s.pools p (record { queue = queue; idle = idle }) ∙ kept.as_many;
-      pools = pools_with_part plan begun p queue idle kept.as_many
+      pools = pools_with_part plan begun p queue idle (PoolIsKept plan begun.jobs) kept.as_many
           (λ exists. subst (PoolKept (pool_at plan p) (record { queue = queue; idle = idle }) (places plan begun.jobs p)) (sym (busy-staged_more plan s.jobs j (Stage.At 0) p head.inside head.of_pool (ap is_at head.queued) refl))
           (taken_pool (pool_at plan p) (pool_part s p) (places plan s.jobs p) (places plan begun.jobs p) (busy_jobs plan s.jobs p) j queue idle (kept.pools p exists) is_queue is_idle (head.others (Stage.At 0) refl)))
           (λ q inside other. same_pool (pool_at plan q) (pool_part s q) (pool_part s q) (places plan s.jobs q) (places plan begun.jobs q) (busy_jobs plan s.jobs q) (busy_jobs plan begun.jobs q) refl
@@ -132,7 +132,7 @@ kept_retires plan s p idle kept is_idle above_core = record {
   classes = kept.classes;
   parents = kept.parents;
   as_many = length-set s.pools p (record { queue = (pool_part s p).queue; idle = idle }) ∙ kept.as_many;
-  pools = pools_with_part plan s p (pool_part s p).queue idle kept.as_many (λ exists. retired_pool (pool_at plan p) (pool_part s p) (places plan s.jobs p) (busy_jobs plan s.jobs p) idle (kept.pools p exists) is_idle above_core) (λ q inside other. kept.pools q inside);
+  pools = pools_with_part plan s p (pool_part s p).queue idle (PoolIsKept plan s.jobs) kept.as_many (λ exists. retired_pool (pool_at plan p) (pool_part s p) (places plan s.jobs p) (busy_jobs plan s.jobs p) idle (kept.pools p exists) is_idle above_core) (λ q inside other. kept.pools q inside);
   actors = λ a body i now. kept.actors a body i (sym (point_same plan s (with_part p (pool_part s p).queue idle s) a refl refl) ∙ now);
 }
 
@@ -142,7 +142,7 @@ pub kept_step : (plan : Plan) (s s' : State) (o : Outcome) {e : Event} → IsOrd
 kept_step plan s s' o ordered kept (works a body i u at) = kept_works plan s a body i u ordered kept at
 kept_step plan s s' o ordered kept (starts a body i k at below) = kept_starts plan s a body i k ordered kept at below
 kept_step plan s s' o ordered kept (queues a body i k at at_core room) = kept_queues plan s a body i k ordered kept at at_core room
-kept_step plan s s' o ordered kept (is_refused a body i k at full) = kept_refuses plan s kept
+kept_step plan s s' o ordered kept (is_refused a body i k at no_room all_started) = kept_refuses plan s kept
 kept_step plan s s' o ordered kept (gets a body i t j at is_child done) = kept_gets plan s a body i t j ordered kept at is_child done
 kept_step plan s s' o ordered kept (finishes j body i at) = kept_finishes plan s j body i kept at
 kept_step plan s s' o ordered kept (loops c client body i at is_client repeats) = kept_moved plan s (parent.Client c) body i 0 kept at.stands (actor_begins s.jobs (parent.Client c) body)

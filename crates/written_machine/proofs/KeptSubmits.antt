@@ -125,6 +125,6 @@ kept_queues plan s a body i k ordered kept at at_core room =
       classes = classes_pushed (length plan.classes) (moved_jobs a (i + 1) s) (new_job k a i Stage.Queued) (classes_moved (length plan.classes) s a (i + 1) kept.classes) (class_exists plan s a body i k ordered at);
       parents = parents_pushed (moved_jobs a (i + 1) s) (new_job k a i Stage.Queued) (parents_moved s a (i + 1) kept.parents) (is_after plan s a body i (i + 1) at.stands);
       as_many = length-set s.pools q (record { queue = queue; idle = idle }) ∙ kept.as_many;
-      pools = pools_with_part plan made q queue idle kept.as_many (λ exists. queued_here plan s a body i k kept at exists at_core room) (queued_elsewhere plan s a body i k kept at);
+      pools = pools_with_part plan made q queue idle (PoolIsKept plan made.jobs) kept.as_many (λ exists. queued_here plan s a body i k kept at exists at_core room) (queued_elsewhere plan s a body i k kept at);
       actors = λ b body' n now. made_actors plan s a body i k Stage.Queued kept at (Queued≢Claimed refl) queued_nowhere b body' n (sym (point_same plan made (with_part q queue idle made) b refl refl) ∙ now);
     }

@@ -14,5 +14,6 @@ pub mod Reached
 pub mod WaitingSets
 pub mod Leaves
 pub mod FullWaitingSets
+pub mod JobsMade
 pub mod ReachedLaws
 pub mod WorkedReplays

@@ -5,3 +5,4 @@ pub mod Waiting
 pub mod Safe
 pub mod Laws
 pub mod FullWaitingSets
+pub mod JobsMade

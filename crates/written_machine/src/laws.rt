@@ -1,6 +1,7 @@
 //! Laws of the machine, each the contract of a function with nothing to do.
 
 ghost use Rattle.written_machine.specs.FullWaitingSets.{FullWaitingSetsStay, FixedPoolsAreFull};
+ghost use Rattle.written_machine.specs.JobsMade.{ThreadsHaveJobs, RefusalsNeedJobs};
 ghost use Rattle.written_machine.specs.Laws.{
   PoolsKeepTheirSizes,
   QueuesOnlyAtCore,
@@ -43,4 +44,16 @@ pub fn full_waiting_sets_stay()
 /// equal to max, waits in pools that have all their threads.
 pub fn fixed_pools_are_full()
     ensures { FixedPoolsAreFull }
+{}
+
+/// In every state that a well-formed plan reaches, a job of its own was made for each thread of a pool and for each place
+/// of its queue that is taken, but for the workers with which the pool began.
+pub fn threads_have_jobs()
+    ensures { ThreadsHaveJobs }
+{}
+
+/// A submit is refused only where as many jobs of the pool were made before it as its queue and its threads hold, but for
+/// the workers with which the pool began.
+pub fn refusals_need_jobs()
+    ensures { RefusalsNeedJobs }
 {}
