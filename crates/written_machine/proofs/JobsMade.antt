@@ -6,7 +6,7 @@ use Rattle.std.proofs.lemmas.List.{length_push}
 use Rattle.std.proofs.lemmas.List.Sums.{sum_by_push}
 use Rattle.numbered_lists.proofs.Places.{length-places, places_where-set_same}
 use Rattle.job_bodies.specs.declared.action.Action.{Action}
-use Rattle.job_bodies.specs.Plan.{Plan, pool_at}
+use Rattle.job_bodies.specs.Plan.{Plan, pool_at, first_workers}
 use Rattle.job_bodies.proofs.Bodies.{IsOrdered}
 use Rattle.written_machine.specs.declared.parent.Parent.{Parent}
 use Rattle.written_machine.specs.declared.parent.Parent.TheVariants as parent
@@ -16,13 +16,14 @@ use Rattle.written_machine.specs.declared.event.Outcome.TheVariants as outcome
 use Rattle.written_machine.specs.State.{Stage, State, Made, PoolPart, no_job, job_at, pool_part, pool_of, is_at, threads}
 use Rattle.written_machine.specs.Step.{point, with_stage, with_position, with_job, new_job, moved_jobs, finished_job}
 use Rattle.written_machine.specs.Reach.{start}
-use Rattle.written_machine.specs.JobsMade.{first_workers, is_of_pool, HasJobs}
+use Rattle.written_machine.specs.JobsMade.{is_of_pool, HasJobs}
 use Rattle.written_machine.proofs.Events.{StandsAt, with_part, Happens, works, starts, queues, is_refused, gets, finishes, loops, takes, retires}
-use Rattle.written_machine.proofs.Standing.{stage_of_standing, standing_made, job_made, job_at-with_position}
+use Rattle.written_machine.proofs.Standing.{stage_of_standing, standing_made, job_made}
 use Rattle.written_machine.proofs.Kept.{Kept, busy_jobs}
 use Rattle.written_machine.proofs.Stages.{staged}
 use Rattle.written_machine.proofs.Queues.{one_if, head_of_queue, busy-staged_same, busy-moved, busy_push, busy-staged_elsewhere, busy-staged_fewer, busy-staged_more}
 use Rattle.written_machine.proofs.KeptPools.{pools_with_part}
+use Rattle.written_machine.proofs.KeptStep.{done_still}
 use Rattle.written_machine.proofs.KeptStart.{pool_part_at_start}
 use Rattle.written_machine.proofs.KeptSubmits.{class_exists}
 
@@ -118,8 +119,7 @@ have_jobs_takes plan s p j queue idle kept have is_queue is_idle =
 have_jobs_gets : (plan : Plan) (s : State) (a : Parent) (body : List Action) (i j : ℕ) → HaveJobs plan s → point plan s a ≡ Some (record { body = body; position = i }) → (job_at s j).stage ≡ Stage.Done → HaveJobs plan (with_stage j Stage.Claimed (with_position a (i + 1) s))
 have_jobs_gets plan s a body i j have stands done p inside =
     let moved : State = with_position a (i + 1) s in
-    let as_before : job_at moved j ≡ job_at s j = job_at-with_position plan s a body i (i + 1) j stands (λ n there. cc) in
-    let still : (job_at moved j).stage ≡ Stage.Done = ap (λ (job : Made). job.stage) as_before ∙ done in
+    let still : (job_at moved j).stage ≡ Stage.Done = done_still plan s a body i (i + 1) j stands done in
     let had = have_jobs_moved plan s a body i (i + 1) have stands p inside in
     omega (arith, made_jobs-staged plan moved.jobs j Stage.Claimed p, busy-staged_same plan moved.jobs j Stage.Claimed p (job_made moved j (λ claimed. cc)) (sym (ap is_at still)))
 

@@ -1,5 +1,5 @@
 -- The start keeps what every reached state keeps.
-use Rattle.std.proofs.Common.{◌≡◌, ℕ, zero, suc, ◌<◌, ◌≤◌, ⊎_elim, List, [], length, replicate, slice_get, Some, refl, sym, ap, subst, ◌∙◌, arith}
+use Rattle.std.proofs.Common.{◌≡◌, ℕ, zero, suc, Bool, true, false, cond, ◌<◌, ◌≤◌, ⊎_elim, List, [], length, replicate, slice_get, Some, refl, sym, ap, subst, ◌∙◌, arith}
 use Rattle.std.specs.List.{enumerate_from}
 use Rattle.std.proofs.lemmas.List.{length-map, get_or-map}
 use Rattle.numbered_lists.specs.In.{In}
@@ -41,8 +41,13 @@ start_actor plan (parent.Job j) body i stands =
 pub pool_part_at_start : (plan : Plan) (p : ℕ) → p < length plan.pools → pool_part (start plan) p ≡ part_of (new_pool (pool_at plan p))
 pool_part_at_start plan p inside = get_or-map (λ (pool : Pool). part_of (new_pool pool)) plan.pools p no_pool no_pool_part inside
 
+-- a pool begins with no more workers than core
+few_first_workers : (core : ℕ) (prestart : Bool) → cond prestart core 0 ≤ core
+few_first_workers core true = omega arith
+few_first_workers core false = omega arith
+
 start_pool : (pool : Pool) → pool.core ≤ pool.max → PoolKept pool (part_of (new_pool pool)) [] 0
-start_pool pool sizes = record { queue = refl; within_max = omega arith; within_queue = omega arith; core = λ some. absurd (omega arith) }
+start_pool pool sizes = record { queue = refl; within_max = omega (arith, few_first_workers pool.core pool.prestart); within_queue = omega arith; core = λ some. absurd (omega arith) }
 
 pub kept_start : (plan : Plan) → IsOrdered plan → Kept plan (start plan)
 kept_start plan ordered = record {

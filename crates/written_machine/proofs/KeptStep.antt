@@ -49,7 +49,7 @@ kept_refuses plan s kept = record {
 }
 
 -- the job that was got was done
-done_still : (plan : Plan) (s : State) (a : Parent) (body : List Action) (i i' j : ℕ) → Stands plan s a body i → (job_at s j).stage ≡ Stage.Done → (job_at (with_position a i' s) j).stage ≡ Stage.Done
+pub done_still : (plan : Plan) (s : State) (a : Parent) (body : List Action) (i i' j : ℕ) → Stands plan s a body i → (job_at s j).stage ≡ Stage.Done → (job_at (with_position a i' s) j).stage ≡ Stage.Done
 done_still plan s a body i i' j stands done =
     ap (λ (job : Made). job.stage) (job_at-with_position plan s a body i i' j stands (done_nowhere done)) ∙ done
 

@@ -1,6 +1,6 @@
 -- How many jobs of a pool were ever made, and that its threads and its queue are no more.
 use Rattle.std.specs.Prelude.{◌≡◌, ◌≤◌, ◌<◌, ◌+◌, ◌==◌, ℕ, Bool, Some, length, count_by}
-use Rattle.job_bodies.specs.Plan.{Pool, Plan, pool_at}
+use Rattle.job_bodies.specs.Plan.{Plan, pool_at, first_workers}
 use Rattle.job_bodies.specs.WellFormed.{IsWellFormed}
 use Rattle.written_machine.specs.declared.event.Event.{Event}
 use Rattle.written_machine.specs.declared.event.Outcome.TheVariants.{Refused}
@@ -8,10 +8,6 @@ use Rattle.written_machine.specs.State.{Made, State, pool_of, pool_part, threads
 use Rattle.written_machine.specs.Step.{step}
 use Rattle.written_machine.specs.Reach.{IsReached}
 use Rattle.written_machine.specs.Laws.{HoldsWhereReached}
-
--- the workers with which a pool begins: none
-abbrev pub first_workers : Pool → ℕ
-first_workers pool = 0
 
 -- a job of one of the pool's classes, however far it is
 abbrev pub is_of_pool : Plan → ℕ → Made → Bool

@@ -13,7 +13,8 @@ use Rattle.written_machine.specs.Step.{step}
 abbrev pub new_clients : ℕ × Client → List ClientState
 new_clients entry = replicate entry.1.count (record { kind = entry.0; position = 0 })
 
--- no jobs, each pool as it begins, each kind's clients at 0, no refusals
+-- no jobs, each pool with core idle workers where it is prestarted, else with none, each kind's clients at 0, no
+-- refusals
 abbrev pub start : Plan → State
 start plan = record {
   jobs = [];
