@@ -1,5 +1,5 @@
 -- Replays of small plans, computed from the definitions alone.
-use Rattle.std.proofs.Common.{◌≡◌, ℕ, List, [], ◌∷◌, ◌++◌, Option, Some, None, true, false, refl}
+use Rattle.std.proofs.Common.{◌≡◌, ℕ, List, [], ◌∷◌, ◌++◌, map, Option, Some, None, true, false, refl}
 use Rattle.std.specs.List.{count_by}
 use Rattle.std.specs.Option.{option_map}
 use Rattle.job_bodies.specs.declared.action.Action.{Action}
@@ -16,7 +16,11 @@ use Rattle.written_machine.specs.Waiting.{is_waiting_set}
 -- ---- the plans
 
 abbrev pool_of_sizes : ℕ → ℕ → ℕ → ℕ → Pool
-pool_of_sizes letter core max queue = record { name = letter ∷ []; core = core; max = max; queue = queue }
+pool_of_sizes letter core max queue = record { name = letter ∷ []; core = core; max = max; queue = queue; prestart = false }
+
+-- all pools begin with their core threads
+abbrev prestarted : Plan → Plan
+prestarted plan = record plan { pools = map (λ (pool : Pool). record pool { prestart = true }) plan.pools }
 
 abbrev class_in : ℕ → List Action → Class
 class_in pool body = record { name = 97 ∷ []; pool = pool; body = body }
@@ -32,6 +36,12 @@ one_pool core max queue clients = record {
   classes = class_in 0 (Work 1 ∷ []) ∷ [];
   clients = asking clients 0 ∷ [];
 }
+
+-- the same, where each client asks but once
+abbrev one_pool_once : ℕ → ℕ → ℕ → ℕ → Plan
+one_pool_once core max queue clients =
+    let plan = one_pool core max queue clients in
+    record plan { clients = map (λ (client : Client). record client { repeat = false }) plan.clients }
 
 -- one pool, in which an outer job submits an inner one and waits for it
 abbrev nested : ℕ → ℕ → ℕ → Plan
@@ -77,6 +87,18 @@ retire-events = event.Client 0 ∷ event.Client 1 ∷ event.Client 2 ∷ event.J
 abbrev start_before_queue-events : List Event
 start_before_queue-events = event.Client 0 ∷ event.Job 0 ∷ event.Job 0 ∷ event.Client 1 ∷ event.Client 0 ∷ event.Client 0 ∷ event.Client 0 ∷ event.Take 0 ∷ event.Job 1 ∷ []
 
+abbrev prestarted_queues-events : List Event
+prestarted_queues-events = event.Client 0 ∷ event.Take 0 ∷ event.Job 0 ∷ []
+
+abbrev lifetime_first-events : List Event
+lifetime_first-events = event.Client 0 ∷ event.Client 1 ∷ []
+
+abbrev drain_met_exactly-events : List Event
+drain_met_exactly-events = event.Client 0 ∷ event.Job 0 ∷ event.Job 1 ∷ event.Job 1 ∷ event.Job 0 ∷ event.Job 0 ∷ []
+
+abbrev drain_met_exactly_prestarted-events : List Event
+drain_met_exactly_prestarted-events = event.Client 0 ∷ event.Take 0 ∷ event.Job 0 ∷ event.Take 0 ∷ event.Job 1 ∷ event.Job 1 ∷ event.Job 0 ∷ event.Job 0 ∷ []
+
 -- ---- what comes of the events
 
 -- one worker and a queue of one: the seventh event is refused, though a worker is idle and only two jobs are outstanding
@@ -103,6 +125,24 @@ pub start_before_queue : told (one_pool 2 2 2 2) start_before_queue-events
     ≡ Some (Started 0) ∷ Some (Worked 1) ∷ Some (Finished 0) ∷ Some (Started 1) ∷ Some (Got 0) ∷ Some Looped ∷ Some (Queued 2) ∷ Some (Took 2) ∷ Some (Worked 1) ∷ []
 start_before_queue = refl
 
+-- a prestarted pool queues its first job, and an idle worker takes it
+pub prestarted_queues : told (prestarted (one_pool 2 2 2 2)) prestarted_queues-events ≡ Some (Queued 0) ∷ Some (Took 0) ∷ Some (Worked 1) ∷ []
+prestarted_queues = refl
+
+-- a prestarted pool can refuse a job though its workers are idle
+pub lifetime_first : told (prestarted (one_pool_once 2 2 1 3)) lifetime_first-events ≡ Some (Queued 0) ∷ Some (Refused 0) ∷ []
+lifetime_first = refl
+
+-- five steps drain the pool of an outer job and its inner one
+pub drain_met_exactly : told (nested 2 2 5) (drain_met_exactly-events ++ event.Take 0 ∷ [])
+    ≡ Some (Started 0) ∷ Some (Started 1) ∷ Some (Worked 1) ∷ Some (Finished 1) ∷ Some (Got 1) ∷ Some (Finished 0) ∷ None ∷ []
+drain_met_exactly = refl
+
+-- where it is prestarted both are taken from the queue, and seven steps drain it
+pub drain_met_exactly_prestarted : told (prestarted (nested 2 2 5)) drain_met_exactly_prestarted-events
+    ≡ Some (Queued 0) ∷ Some (Took 0) ∷ Some (Queued 1) ∷ Some (Took 1) ∷ Some (Worked 1) ∷ Some (Finished 1) ∷ Some (Got 1) ∷ Some (Finished 0) ∷ []
+drain_met_exactly_prestarted = refl
+
 -- ---- refusals and unfinished jobs after the last event that is possible
 
 pub two_clients_refused-ends : after (one_pool 1 1 1 2) two_clients_refused-events ends ≡ Some (1, 1)
@@ -119,6 +159,18 @@ retire-ends = refl
 
 pub start_before_queue-ends : after (one_pool 2 2 2 2) start_before_queue-events ends ≡ Some (0, 2)
 start_before_queue-ends = refl
+
+pub prestarted_queues-ends : after (prestarted (one_pool 2 2 2 2)) prestarted_queues-events ends ≡ Some (0, 1)
+prestarted_queues-ends = refl
+
+pub lifetime_first-ends : after (prestarted (one_pool_once 2 2 1 3)) lifetime_first-events ends ≡ Some (1, 1)
+lifetime_first-ends = refl
+
+pub drain_met_exactly-ends : after (nested 2 2 5) drain_met_exactly-events ends ≡ Some (0, 0)
+drain_met_exactly-ends = refl
+
+pub drain_met_exactly_prestarted-ends : after (prestarted (nested 2 2 5)) drain_met_exactly_prestarted-events ends ≡ Some (0, 0)
+drain_met_exactly_prestarted-ends = refl
 
 -- ---- waiting sets after the last event
 
