@@ -15,7 +15,8 @@ use Rattle.live_views.specs.declared.job_view.Phase.TheVariants as phase
 use Rattle.written_machine.specs.State.{Stage, Made, State, no_job, job_at, pool_of, pool_view, pool_seen, is_at, is_unfinished, busy, same_parent, is_made_by, child}
 use Rattle.written_machine.specs.State.Stage.{Queued, At, Done, Claimed}
 use Rattle.written_machine.specs.Step.{point, with_stage, finished_job}
-use Rattle.written_machine.proofs.Kept.{IsAfter, Kept}
+use Rattle.written_machine.specs.Laws.{IsLater}
+use Rattle.written_machine.proofs.Kept.{Kept}
 use Rattle.written_machine.proofs.Standing.{At≢Claimed}
 use Rattle.written_machine.proofs.Stages.{child-stage}
 use Rattle.written_machine.proofs.Children.{same_actor_true, same_actor_refl}
@@ -68,7 +69,7 @@ seen-finished_other s j n inside other =
 
 -- ---- the job itself
 
-own_parent : (a : Parent) (j : ℕ) → IsAfter a j → same_parent (parent.Job j) a ≡ false
+own_parent : (a : Parent) (j : ℕ) → IsLater a j → same_parent (parent.Job j) a ≡ false
 own_parent (parent.Client c) j after = refl
 own_parent (parent.Job m) j after = ne_eqb j m (λ (e : j ≡ m). omega arith)
 
@@ -95,7 +96,7 @@ latest_seen plan s j settled inside unclaimed asks (Some m) e =
     let last = latest_unclaimed plan s job.parent job.slot j m settled asks inside (made_by_itself job) unclaimed e in
     sym (ap (λ o. is_number o j) (child_seen plan s job.parent job.slot m asks e last))
 
-seen-finished : (plan : Plan) (s : State) (j i : ℕ) → Settled plan s → IsAfter (job_at s j).parent j → j < length s.jobs → (job_at s j).stage ≡ At i
+seen-finished : (plan : Plan) (s : State) (j i : ℕ) → Settled plan s → IsLater (job_at s j).parent j → j < length s.jobs → (job_at s j).stage ≡ At i
     → seen (with_stage j Done s) j ≡ unless_orphan j (finished_or_gone (live_view plan s).jobs j (as_seen (job_at s j) (phase.At i)))
 seen-finished plan s j i settled after inside stands =
     let s' = with_stage j Done s in

@@ -17,7 +17,8 @@ use Rattle.live_views.specs.declared.job_view.Phase.TheVariants as phase
 use Rattle.written_machine.specs.State.{Stage, Made, State, no_job, job_at, pool_part, pool_of, pool_view, pool_seen, is_unfinished, busy, is_made_by, child}
 use Rattle.written_machine.specs.State.Stage.{Queued, At, Done, Claimed}
 use Rattle.written_machine.specs.Step.{point, with_position, with_job, with_pool, new_job, answered, submitted}
-use Rattle.written_machine.proofs.Kept.{IsAfter, Kept}
+use Rattle.written_machine.specs.Laws.{IsLater}
+use Rattle.written_machine.proofs.Kept.{Kept}
 use Rattle.written_machine.proofs.Stages.{HaveParents, parents_moved}
 use Rattle.written_machine.proofs.Children.{maker_of}
 use Rattle.live_views.specs.LiveView.{may_ask, is_number, phase_seen, job_with, job_seen, View, live_view}
@@ -51,7 +52,7 @@ stale_with a t job asks latest latest' n Claimed made none = refl
 
 -- ---- the jobs once a new one was made
 
-may_ask-made : (s : State) (job : Made) (a : Parent) → IsAfter a (length s.jobs) → may_ask (with_job job s) a ≡ may_ask s a
+may_ask-made : (s : State) (job : Made) (a : Parent) → IsLater a (length s.jobs) → may_ask (with_job job s) a ≡ may_ask s a
 may_ask-made s job (parent.Client c) after = refl
 may_ask-made s job (parent.Job m) after = ap (λ (made : Made). is_unfinished made.stage) (get_or_append_left s.jobs (job ∷ []) no_job m after)
 
@@ -61,7 +62,7 @@ same_maker job old e =
     let made = maker_of old job.parent job.slot e in
     ap₂ (λ a t. is_made_by a t job) (sym made.0) (sym made.1) ∙ made_by_itself job
 
-seen-made : (s : State) (job : Made) (n : ℕ) → n < length s.jobs → IsAfter (job_at s n).parent (length s.jobs) → seen (with_job job s) n ≡ unless_stale job.parent job.slot (seen s n)
+seen-made : (s : State) (job : Made) (n : ℕ) → n < length s.jobs → IsLater (job_at s n).parent (length s.jobs) → seen (with_job job s) n ≡ unless_stale job.parent job.slot (seen s n)
 seen-made s job n inside after =
     let s' = with_job job s in
     let old = job_at s n in
@@ -80,7 +81,7 @@ seen-made s job n inside after =
     seen_same s s' n same asks latest ∙ sym (unless_stale-other job.parent job.slot old (phase_seen s n old old.stage) fresh))
     (cases_Bool (is_made_by job.parent job.slot old))
 
-later : (a : Parent) (n m : ℕ) → n < m → IsAfter a n → IsAfter a m
+later : (a : Parent) (n m : ℕ) → n < m → IsLater a n → IsLater a m
 later (parent.Client c) n m less after = tt
 later (parent.Job j) n m less after = omega arith
 

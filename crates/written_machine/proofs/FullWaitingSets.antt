@@ -22,12 +22,13 @@ use Rattle.written_machine.proofs.Children.{not_by_other}
 use Rattle.written_machine.proofs.Queues.{queued_stage, head_of_queue, pool_of_made, queued_in_queue}
 use Rattle.written_machine.proofs.KeptSubmits.{class_exists, room_for_thread}
 use Rattle.written_machine.proofs.KeptStep.{done_still, kept_step}
-use Rattle.written_machine.proofs.Leaves.{SamePool, Leaves, IsOutside, leaves_twice, leaves_all, leaves-staged, leaves-moved, leaves-pushed, leaves_part, idle_elsewhere, idle_as_before}
+use Rattle.written_machine.proofs.Leaves.{SamePool, Leaves, IsOutside, leaves_twice, leaves-clients, leaves-staged, leaves-moved, leaves-pushed, leaves-part, idle_elsewhere, idle_as_before}
 
 -- a queued job is queued in its class's pool
 queued_in_own : (plan : Plan) (job : Made) → is_queued job.stage ≡ true → is_queued_in plan (pool_of plan job.class) job ≡ true
 queued_in_own plan job queued = and_from (is_queued job.stage) (eqb (pool_of plan job.class) (pool_of plan job.class)) queued (eq-eqb (pool_of plan job.class) (pool_of plan job.class) refl)
 
+-- equal gets name one submit
 same_get : (t u : ℕ) → Some (action.Get t) ≡ Some (action.Get u) → t ≡ u
 same_get t u e = cc
 
@@ -90,6 +91,7 @@ module _ (plan : Plan) (s : State) (members : List ℕ) (ordered : IsOrdered pla
   abbrev among : ℕ → Type 0
   among = QueuesMember plan s members
 
+  -- such a pool is full and busy with members alone
   closed : (p : ℕ) → among p → IsClosed plan s members p
   closed p queuing =
       let job = job_at s queuing.0 in
@@ -111,8 +113,9 @@ module _ (plan : Plan) (s : State) (members : List ℕ) (ordered : IsOrdered pla
       let full = subst (IsFull plan s) (sym same) (closed p queuing).full in
       omega arith
 
-  leaves_moved : (a : Parent) (body : List Action) (i i' : ℕ) (there : Option Action) → StandsAt plan s a body i there → ((t : ℕ) → there ≢ Some (action.Get t)) → LeavesSet plan members s (with_position a i' s)
-  leaves_moved a body i i' there at no_get = leaves-moved plan members among s a body i i' at.stands (acts_outside plan s members set.waits a body i there at no_get)
+  -- an actor comes to another position by an action that is no get
+  leaves_acts : (a : Parent) (body : List Action) (i i' : ℕ) (there : Option Action) → StandsAt plan s a body i there → ((t : ℕ) → there ≢ Some (action.Get t)) → LeavesSet plan members s (with_position a i' s)
+  leaves_acts a body i i' there at no_get = leaves-moved plan members among s a body i i' at.stands (acts_outside plan s members set.waits a body i there at no_get)
 
   -- a new job, which is at work in none of those pools
   leaves_submit : (a : Parent) (body : List Action) (i k : ℕ) (stage : Stage) → StandsAt plan s a body i (Some (action.Submit k)) → ((p : ℕ) → among p → is_busy_in plan p (new_job k a i stage) ≡ false)
@@ -120,11 +123,12 @@ module _ (plan : Plan) (s : State) (members : List ℕ) (ordered : IsOrdered pla
   leaves_submit a body i k stage at elsewhere =
       let job = new_job k a i stage in
       let moved : State = with_position a (i + 1) s in
-      leaves_twice plan members among s moved (with_job job moved) (leaves_moved a body i (i + 1) (Some (action.Submit k)) at (λ t same. cc))
+      leaves_twice plan members among s moved (with_job job moved) (leaves_acts a body i (i + 1) (Some (action.Submit k)) at (λ t same. cc))
       (leaves-pushed plan members among moved job
       (λ j member. let made = member_made plan s members set.waits j member in omega (arith, length-moved s a (i + 1)))
       (λ j t member. not_by_other k a i stage (parent.Job j) t (λ same. acts_outside plan s members set.waits a body i (Some (action.Submit k)) at (λ t same. cc) j member (sym same))) elsewhere)
 
+  -- a get claims a job that is done
   leaves_gets : (a : Parent) (body : List Action) (i t n : ℕ) → StandsAt plan s a body i (Some (action.Get t)) → child s a t ≡ Some n → (job_at s n).stage ≡ Stage.Done → LeavesSet plan members s (with_stage n Stage.Claimed (with_position a (i + 1) s))
   leaves_gets a body i t n at is_child done =
       let moved : State = with_position a (i + 1) s in
@@ -140,11 +144,12 @@ module _ (plan : Plan) (s : State) (members : List ℕ) (ordered : IsOrdered pla
       let changed : State = with_stage j stage s in
       leaves_twice plan members among s changed (with_part q queue idle changed)
       (leaves-staged plan members among s j stage inside outside (λ p is_among. not_busy p is_among stage ∙ sym (not_busy p is_among (job_at s j).stage)))
-      (leaves_part plan members among changed q queue idle (λ p is_among. idle_elsewhere changed q queue idle p (elsewhere p is_among)))
+      (leaves-part plan members among changed q queue idle (λ p is_among. idle_elsewhere changed q queue idle p (elsewhere p is_among)))
     where
       not_busy : (p : ℕ) → among p → (other : Stage) → (is_at other && eqb (pool_of plan (job_at s j).class) p) ≡ false
       not_busy p is_among other = and_right (is_at other) (eqb (pool_of plan (job_at s j).class) p) (ne_eqb (pool_of plan (job_at s j).class) p (λ same. elsewhere p is_among (sym same ∙ of_pool)))
 
+  -- a job at work finishes
   leaves_finishes : (j : ℕ) (body : List Action) (i : ℕ) → StandsAt plan s (parent.Job j) body i None → LeavesSet plan members s (finished_job plan s j (pool_of plan (job_at s j).class))
   leaves_finishes j body i at =
       let q = pool_of plan (job_at s j).class in
@@ -153,14 +158,16 @@ module _ (plan : Plan) (s : State) (members : List ℕ) (ordered : IsOrdered pla
       leaves_worker j Stage.Done q (pool_part s q).queue ((pool_part s q).idle + 1) (standing_made plan s j body i at.stands) refl outside
       (λ p is_among same. outside ((closed p is_among).all_at_work j (and_from (is_at (job_at s j).stage) (eqb q p) (ap is_at was.0) (eq-eqb q p (sym same)))))
 
+  -- an idle worker takes the head of a queue
   leaves_takes : (p j : ℕ) (queue : List ℕ) (idle : ℕ) → (pool_part s p).queue ≡ j ∷ queue → (pool_part s p).idle ≡ suc idle → LeavesSet plan members s (with_part p queue idle (with_stage j (Stage.At 0) s))
   leaves_takes p j queue idle is_queue is_idle =
       let head = head_of_queue plan s p j queue kept is_queue in
       let queued : is_queued_in plan p (job_at s j) ≡ true = subst (λ (q : ℕ). is_queued_in plan q (job_at s j) ≡ true) head.of_pool (queued_in_own plan (job_at s j) (ap is_queued head.queued)) in
       leaves_worker j (Stage.At 0) p queue idle head.inside head.of_pool (λ member. idle_not_among p p idle is_idle (j, member, queued) refl) (λ q is_among. idle_not_among q p idle is_idle is_among)
 
+  -- every event
   leaves : (s' : State) (o : Outcome) {e : Event} → Happens plan s e s' o → LeavesSet plan members s s'
-  leaves s' o (works a body i u at) = leaves_moved a body i (i + 1) (Some (action.Work u)) at (λ t same. cc)
+  leaves s' o (works a body i u at) = leaves_acts a body i (i + 1) (Some (action.Work u)) at (λ t same. cc)
   leaves s' o (starts a body i k at below) =
       leaves_submit a body i k (Stage.At 0) at (λ p is_among. ne_eqb (pool_of plan k) p (started_elsewhere (pool_of plan k) p (ordered.pools k (class_exists plan s a body i k ordered at)) below is_among))
   leaves s' o (queues a body i k at at_core room) =
@@ -168,14 +175,14 @@ module _ (plan : Plan) (s : State) (members : List ℕ) (ordered : IsOrdered pla
       let made : State = with_job (new_job k a i Stage.Queued) (with_position a (i + 1) s) in
       let queue = (pool_part s q).queue ++ length s.jobs ∷ [] in
       leaves_twice plan members among s made s' (leaves_submit a body i k Stage.Queued at (λ p is_among. refl))
-      (leaves_part plan members among made q queue (pool_part s q).idle (λ p is_among. idle_as_before s.pools q queue p))
-  leaves s' o (is_refused a body i k at no_room all_started) = leaves_all plan members among s s.clients (s.refusals + 1)
+      (leaves-part plan members among made q queue (pool_part s q).idle (λ p is_among. idle_as_before s.pools q queue p))
+  leaves s' o (is_refused a body i k at no_room all_started) = leaves-clients plan members among s s.clients (s.refusals + 1)
   leaves s' o (gets a body i t j at is_child done) = leaves_gets a body i t j at is_child done
   leaves s' o (finishes j body i at) = leaves_finishes j body i at
-  leaves s' o (loops c client body i at is_client repeats) = leaves_moved (parent.Client c) body i 0 None at (λ t same. cc)
+  leaves s' o (loops c client body i at is_client repeats) = leaves_acts (parent.Client c) body i 0 None at (λ t same. cc)
   leaves s' o (takes p j queue idle is_queue is_idle) = leaves_takes p j queue idle is_queue is_idle
   leaves s' o (retires p idle is_idle above_core) =
-      leaves_part plan members among s p (pool_part s p).queue idle (λ q is_among. idle_elsewhere s p (pool_part s p).queue idle q (idle_not_among q p idle is_idle is_among))
+      leaves-part plan members among s p (pool_part s p).queue idle (λ q is_among. idle_elsewhere s p (pool_part s p).queue idle q (idle_not_among q p idle is_idle is_among))
 
 -- ---- the set stays
 
@@ -200,6 +207,7 @@ module _ (plan : Plan) (s s' : State) (members : List ℕ) (left : LeavesSet pla
   still_waits j Stage.Done member is_stage waits = waits
   still_waits j Stage.Claimed member is_stage waits = waits
 
+  -- the set is still a full waiting set
   still_set : IsFullWaitingSet plan s members → IsFullWaitingSet plan s' members
   still_set set = record {
     waits = record {
@@ -219,6 +227,7 @@ pub record Stayed (plan : Plan) (members : List ℕ) (first s : State) : Type 0 
   pub is_kept : Kept plan s
   pub has_stayed : HasStayed plan first s members
 
+-- through one event
 pub stays_through : (plan : Plan) (members : List ℕ) (first s s' : State) (o : Outcome) {e : Event} → IsOrdered plan → Stayed plan members first s → Happens plan s e s' o → Stayed plan members first s'
 stays_through plan members first s s' o ordered stayed happened =
     let set = stayed.has_stayed.still in

@@ -29,9 +29,11 @@ use Rattle.written_machine.proofs.KeptSubmits.{class_exists}
 
 -- ---- the jobs of a pool after a change of the jobs
 
+-- how many of these jobs are of the pool's classes
 abbrev pub made_jobs : Plan → List Made → ℕ → ℕ
 made_jobs plan jobs p = count_by (is_of_pool plan p) jobs
 
+-- no change of a stage changes it, and no move of an actor
 pub made_jobs-staged : (plan : Plan) (jobs : List Made) (j : ℕ) (stage : Stage) (p : ℕ) → made_jobs plan (staged jobs j stage) p ≡ made_jobs plan jobs p
 made_jobs-staged plan jobs j stage p =
     let of_pool = is_of_pool plan p in
@@ -41,6 +43,7 @@ pub made_jobs-moved : (plan : Plan) (s : State) (a : Parent) (i p : ℕ) → mad
 made_jobs-moved plan s (parent.Client c) i p = refl
 made_jobs-moved plan s (parent.Job j) i p = made_jobs-staged plan s.jobs j (Stage.At i) p
 
+-- a new job of the pool is one more
 pub made_jobs_push : (plan : Plan) (jobs : List Made) (job : Made) (p : ℕ) → made_jobs plan (jobs ++ job ∷ []) p ≡ made_jobs plan jobs p + one_if (is_of_pool plan p job)
 made_jobs_push plan jobs job p = sum_by_push (λ (x : Made). one_if (is_of_pool plan p x)) jobs job
 
@@ -56,22 +59,26 @@ HaveJobs plan s = (p : ℕ) → p < length plan.pools → HasJobs plan s p
 
 -- ---- the start
 
+-- a pool begins with its first workers and an empty queue
 pub have_jobs_start : (plan : Plan) → HaveJobs plan (start plan)
 have_jobs_start plan p inside = subst (PartHasJobs plan [] p) (sym (pool_part_at_start plan p inside)) (omega arith)
 
 -- ---- each event
 
+-- an actor comes to another position
 have_jobs_moved : (plan : Plan) (s : State) (a : Parent) (body : List Action) (i i' : ℕ) → HaveJobs plan s → point plan s a ≡ Some (record { body = body; position = i }) → HaveJobs plan (with_position a i' s)
 have_jobs_moved plan s a body i i' have stands p inside =
     let had = have p inside in
     omega (arith, made_jobs-moved plan s a i' p, busy-moved plan s a body i i' p stands)
 
+-- a job is made that is at work from the beginning
 have_jobs_starts : (plan : Plan) (s : State) (job : Made) → is_at job.stage ≡ true → HaveJobs plan s → HaveJobs plan (with_job job s)
 have_jobs_starts plan s job begins have p inside =
     let had = have p inside in
     let both : one_if (is_at job.stage && eqb (pool_of plan job.class) p) ≡ one_if (is_of_pool plan p job) = ap (λ (b : Bool). one_if (b && eqb (pool_of plan job.class) p)) begins in
     omega (arith, busy_push plan s.jobs job p, made_jobs_push plan s.jobs job p, both)
 
+-- a job is made that waits in its pool's queue
 have_jobs_queues : (plan : Plan) (s : State) (job : Made) (n : ℕ) → length s.pools ≡ length plan.pools → is_at job.stage ≡ false → HaveJobs plan s
     → HaveJobs plan (with_part (pool_of plan job.class) ((pool_part s (pool_of plan job.class)).queue ++ n ∷ []) (pool_part s (pool_of plan job.class)).idle (with_job job s))
 have_jobs_queues plan s job n as_many waits have =
@@ -101,6 +108,7 @@ have_jobs_worker plan s j stage q queue idle as_many made of_pool no_more have =
     let had = have p inside in
     omega (arith, made_jobs-staged plan s.jobs j stage p, busy-staged_elsewhere plan s.jobs j stage p made (λ same. other (sym same ∙ of_pool))))
 
+-- a job at work finishes
 have_jobs_finishes : (plan : Plan) (s : State) (j : ℕ) (body : List Action) (i : ℕ) → Kept plan s → HaveJobs plan s → StandsAt plan s (parent.Job j) body i None → HaveJobs plan (finished_job plan s j (pool_of plan (job_at s j).class))
 have_jobs_finishes plan s j body i kept have at =
     let q = pool_of plan (job_at s j).class in
@@ -109,6 +117,7 @@ have_jobs_finishes plan s j body i kept have at =
     have_jobs_worker plan s j Stage.Done q (pool_part s q).queue ((pool_part s q).idle + 1) kept.as_many made refl
     (omega (arith, busy-staged_fewer plan s.jobs j Stage.Done made (ap is_at was.0) refl)) have
 
+-- an idle worker takes the head of a queue
 have_jobs_takes : (plan : Plan) (s : State) (p j : ℕ) (queue : List ℕ) (idle : ℕ) → Kept plan s → HaveJobs plan s → (pool_part s p).queue ≡ j ∷ queue → (pool_part s p).idle ≡ suc idle → HaveJobs plan (with_part p queue idle (with_stage j (Stage.At 0) s))
 have_jobs_takes plan s p j queue idle kept have is_queue is_idle =
     let head = head_of_queue plan s p j queue kept is_queue in
@@ -116,6 +125,7 @@ have_jobs_takes plan s p j queue idle kept have is_queue is_idle =
     have_jobs_worker plan s j (Stage.At 0) p queue idle kept.as_many head.inside head.of_pool
     (omega (arith, busy-staged_more plan s.jobs j (Stage.At 0) p head.inside head.of_pool (ap is_at head.queued) refl)) have
 
+-- a get claims a job that is done
 have_jobs_gets : (plan : Plan) (s : State) (a : Parent) (body : List Action) (i j : ℕ) → HaveJobs plan s → point plan s a ≡ Some (record { body = body; position = i }) → (job_at s j).stage ≡ Stage.Done → HaveJobs plan (with_stage j Stage.Claimed (with_position a (i + 1) s))
 have_jobs_gets plan s a body i j have stands done p inside =
     let moved : State = with_position a (i + 1) s in
@@ -123,6 +133,7 @@ have_jobs_gets plan s a body i j have stands done p inside =
     let had = have_jobs_moved plan s a body i (i + 1) have stands p inside in
     omega (arith, made_jobs-staged plan moved.jobs j Stage.Claimed p, busy-staged_same plan moved.jobs j Stage.Claimed p (job_made moved j (λ claimed. cc)) (sym (ap is_at still)))
 
+-- every event
 pub have_jobs_step : (plan : Plan) (s s' : State) (o : Outcome) {e : Event} → Kept plan s → HaveJobs plan s → Happens plan s e s' o → HaveJobs plan s'
 have_jobs_step plan s s' o kept have (works a body i u at) = have_jobs_moved plan s a body i (i + 1) have at.stands
 have_jobs_step plan s s' o kept have (starts a body i k at below) =

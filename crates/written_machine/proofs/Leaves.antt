@@ -34,27 +34,14 @@ pub record Leaves (plan : Plan) (members : List ℕ) (among : ℕ → Type 0) (s
 abbrev pub IsOutside : List ℕ → Parent → Type 0
 IsOutside members a = (j : ℕ) → IsMember members j → a ≢ parent.Job j
 
--- one change after another
-pub leaves_twice : (plan : Plan) (members : List ℕ) (among : ℕ → Type 0) (s s₁ s₂ : State) → Leaves plan members among s s₁ → Leaves plan members among s₁ s₂ → Leaves plan members among s s₂
-leaves_twice plan members among s s₁ s₂ first second = record {
-  jobs = λ j member. second.jobs j member ∙ first.jobs j member;
-  children = λ j t member. second.children j t member ∙ first.children j t member;
-  pools = λ p is_among. both p (first.pools p is_among) (second.pools p is_among);
+-- ---- the pools
+
+same_pool_twice : (plan : Plan) (s s₁ s₂ : State) (p : ℕ) → SamePool plan s s₁ p → SamePool plan s₁ s₂ p → SamePool plan s s₂ p
+same_pool_twice plan s s₁ s₂ p one two = record {
+  idle = two.idle ∙ one.idle;
+  busy_as_many = two.busy_as_many ∙ one.busy_as_many;
+  were_busy = λ n at_work. one.were_busy n (two.were_busy n at_work);
 }
-  where
-    both : (p : ℕ) → SamePool plan s s₁ p → SamePool plan s₁ s₂ p → SamePool plan s s₂ p
-    both p one two = record {
-      idle = two.idle ∙ one.idle;
-      busy_as_many = two.busy_as_many ∙ one.busy_as_many;
-      were_busy = λ n at_work. one.were_busy n (two.were_busy n at_work);
-    }
-
--- a change of the clients and the refusals alone
-pub leaves_all : (plan : Plan) (members : List ℕ) (among : ℕ → Type 0) (s : State) (clients : List ClientState) (refusals : ℕ) → Leaves plan members among s (record s { clients = clients; refusals = refusals })
-leaves_all plan members among s clients refusals =
-    record { jobs = λ j member. refl; children = λ j t member. refl; pools = λ p is_among. record { idle = refl; busy_as_many = refl; were_busy = λ n at_work. at_work } }
-
--- ---- a job comes to another stage
 
 -- a pool in which the job is at work as it was
 same_pool-staged : (plan : Plan) (s : State) (m : ℕ) (stage : Stage) (p : ℕ) → m < length s.jobs → is_busy_in plan p (record (job_at s m) { stage = stage }) ≡ is_busy_in plan p (job_at s m) → SamePool plan s (with_stage m stage s) p
@@ -72,26 +59,7 @@ same_pool-staged plan s m stage p inside same =
       ];
     }
 
-pub leaves-staged : (plan : Plan) (members : List ℕ) (among : ℕ → Type 0) (s : State) (m : ℕ) (stage : Stage) → m < length s.jobs → ¬ IsMember members m
-    → ((p : ℕ) → among p → is_busy_in plan p (record (job_at s m) { stage = stage }) ≡ is_busy_in plan p (job_at s m)) → Leaves plan members among s (with_stage m stage s)
-leaves-staged plan members among s m stage inside outside same = record {
-  jobs = λ j member. get_or-staged_other s.jobs m stage j no_job (λ (itself : j ≡ m). outside (rw itself at member));
-  children = λ j t member. child-stage s.jobs (parent.Job j) t m stage;
-  pools = λ p is_among. same_pool-staged plan s m stage p inside (same p is_among);
-}
-
--- ---- an actor comes to another position
-
-pub leaves-moved : (plan : Plan) (members : List ℕ) (among : ℕ → Type 0) (s : State) (a : Parent) (body : List Action) (i i' : ℕ) → Stands plan s a body i → IsOutside members a → Leaves plan members among s (with_position a i' s)
-leaves-moved plan members among s (parent.Client c) body i i' stands outside =
-    leaves_all plan members among s (set s.clients c (record (client_state s c) { position = i' })) s.refusals
-leaves-moved plan members among s (parent.Job m) body i i' stands outside =
-    let was = stage_of_standing plan (job_at s m).class (job_at s m).stage body i stands in
-    leaves-staged plan members among s m (Stage.At i') (standing_made plan s m body i stands) (λ member. outside m member refl)
-    (λ p is_among. ap (λ (b : Bool). b && eqb (pool_of plan (job_at s m).class) p) (sym (ap is_at was.0)))
-
--- ---- a job is made
-
+-- a pool in which the new job is not at work
 same_pool-pushed : (plan : Plan) (s : State) (job : Made) (p : ℕ) → is_busy_in plan p job ≡ false → SamePool plan s (with_job job s) p
 same_pool-pushed plan s job p elsewhere =
     let none : one_if (is_busy_in plan p job) ≡ 0 = ap one_if elsewhere in
@@ -107,32 +75,63 @@ same_pool-pushed plan s job p elsewhere =
       ];
     }
 
-pub leaves-pushed : (plan : Plan) (members : List ℕ) (among : ℕ → Type 0) (s : State) (job : Made) → ((j : ℕ) → IsMember members j → j < length s.jobs) → ((j t : ℕ) → IsMember members j → is_made_by (parent.Job j) t job ≡ false)
-    → ((p : ℕ) → among p → is_busy_in plan p job ≡ false) → Leaves plan members among s (with_job job s)
-leaves-pushed plan members among s job made of_others elsewhere = record {
-  jobs = λ j member. get_or_append_left s.jobs (job ∷ []) no_job j (made j member);
-  children = λ j t member. last_where_push_fails (is_made_by (parent.Job j) t) s.jobs job (of_others j t member);
-  pools = λ p is_among. same_pool-pushed plan s job p (elsewhere p is_among);
-}
-
--- ---- a pool's queue and idle workers change
-
-pub leaves_part : (plan : Plan) (members : List ℕ) (among : ℕ → Type 0) (s : State) (q : ℕ) (queue : List ℕ) (idle : ℕ) → ((p : ℕ) → among p → (pool_part (with_part q queue idle s) p).idle ≡ (pool_part s p).idle)
-    → Leaves plan members among s (with_part q queue idle s)
-leaves_part plan members among s q queue idle same = record {
-  jobs = λ j member. refl;
-  children = λ j t member. refl;
-  pools = λ p is_among. record { idle = same p is_among; busy_as_many = refl; were_busy = λ n at_work. at_work };
-}
-
--- the other pools
+-- where another pool changed
 pub idle_elsewhere : (s : State) (q : ℕ) (queue : List ℕ) (idle p : ℕ) → p ≢ q → (pool_part (with_part q queue idle s) p).idle ≡ (pool_part s p).idle
 idle_elsewhere s q queue idle p other = ap (λ (part : PoolPart). part.idle) (get_or-set_other s.pools q p (record { queue = queue; idle = idle }) no_pool_part other)
 
--- a change of one queue alone
+-- where a queue alone changed
 pub idle_as_before : (parts : List PoolPart) (q : ℕ) (queue : List ℕ) (p : ℕ) → (get_or (set parts q (record { queue = queue; idle = (get_or parts q no_pool_part).idle })) p no_pool_part).idle ≡ (get_or parts p no_pool_part).idle
 idle_as_before [] q queue p = refl
 idle_as_before (x ∷ xs) zero queue zero = refl
 idle_as_before (x ∷ xs) zero queue (suc p) = refl
 idle_as_before (x ∷ xs) (suc q) queue zero = refl
 idle_as_before (x ∷ xs) (suc q) queue (suc p) = idle_as_before xs q queue p
+
+-- ---- the changes that events are made of
+
+module _ (plan : Plan) (members : List ℕ) (among : ℕ → Type 0) where
+  -- one change after another
+  pub leaves_twice : (s s₁ s₂ : State) → Leaves plan members among s s₁ → Leaves plan members among s₁ s₂ → Leaves plan members among s s₂
+  leaves_twice s s₁ s₂ first second = record {
+    jobs = λ j member. second.jobs j member ∙ first.jobs j member;
+    children = λ j t member. second.children j t member ∙ first.children j t member;
+    pools = λ p is_among. same_pool_twice plan s s₁ s₂ p (first.pools p is_among) (second.pools p is_among);
+  }
+
+  -- a pool's queue and idle workers change
+  pub leaves-part : (s : State) (q : ℕ) (queue : List ℕ) (idle : ℕ) → ((p : ℕ) → among p → (pool_part (with_part q queue idle s) p).idle ≡ (pool_part s p).idle) → Leaves plan members among s (with_part q queue idle s)
+  leaves-part s q queue idle same = record {
+    jobs = λ j member. refl;
+    children = λ j t member. refl;
+    pools = λ p is_among. record { idle = same p is_among; busy_as_many = refl; were_busy = λ n at_work. at_work };
+  }
+
+  -- the clients and the refusals change
+  pub leaves-clients : (s : State) (clients : List ClientState) (refusals : ℕ) → Leaves plan members among s (record s { clients = clients; refusals = refusals })
+  leaves-clients s clients refusals =
+      record { jobs = λ j member. refl; children = λ j t member. refl; pools = λ p is_among. record { idle = refl; busy_as_many = refl; were_busy = λ n at_work. at_work } }
+
+  -- a job comes to another stage
+  pub leaves-staged : (s : State) (m : ℕ) (stage : Stage) → m < length s.jobs → ¬ IsMember members m → ((p : ℕ) → among p → is_busy_in plan p (record (job_at s m) { stage = stage }) ≡ is_busy_in plan p (job_at s m)) → Leaves plan members among s (with_stage m stage s)
+  leaves-staged s m stage inside outside same = record {
+    jobs = λ j member. get_or-staged_other s.jobs m stage j no_job (λ (itself : j ≡ m). outside (rw itself at member));
+    children = λ j t member. child-stage s.jobs (parent.Job j) t m stage;
+    pools = λ p is_among. same_pool-staged plan s m stage p inside (same p is_among);
+  }
+
+  -- an actor comes to another position
+  pub leaves-moved : (s : State) (a : Parent) (body : List Action) (i i' : ℕ) → Stands plan s a body i → IsOutside members a → Leaves plan members among s (with_position a i' s)
+  leaves-moved s (parent.Client c) body i i' stands outside = leaves-clients s (set s.clients c (record (client_state s c) { position = i' })) s.refusals
+  leaves-moved s (parent.Job m) body i i' stands outside =
+      let was = stage_of_standing plan (job_at s m).class (job_at s m).stage body i stands in
+      leaves-staged s m (Stage.At i') (standing_made plan s m body i stands) (λ member. outside m member refl)
+      (λ p is_among. ap (λ (b : Bool). b && eqb (pool_of plan (job_at s m).class) p) (sym (ap is_at was.0)))
+
+  -- a job is made
+  pub leaves-pushed : (s : State) (job : Made) → ((j : ℕ) → IsMember members j → j < length s.jobs) → ((j t : ℕ) → IsMember members j → is_made_by (parent.Job j) t job ≡ false) → ((p : ℕ) → among p → is_busy_in plan p job ≡ false)
+      → Leaves plan members among s (with_job job s)
+  leaves-pushed s job made of_others elsewhere = record {
+    jobs = λ j member. get_or_append_left s.jobs (job ∷ []) no_job j (made j member);
+    children = λ j t member. last_where_push_fails (is_made_by (parent.Job j) t) s.jobs job (of_others j t member);
+    pools = λ p is_among. same_pool-pushed plan s job p (elsewhere p is_among);
+  }

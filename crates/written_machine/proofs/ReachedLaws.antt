@@ -6,16 +6,15 @@ use Rattle.job_bodies.specs.Plan.{Plan, class_got}
 use Rattle.job_bodies.specs.WellFormed.{IsWellFormed}
 use Rattle.job_bodies.proofs.Bodies.{IsLawful, IsOrdered, ordered}
 use Rattle.written_machine.specs.declared.parent.Parent.{Parent}
-use Rattle.written_machine.specs.declared.parent.Parent.TheVariants as parent
 use Rattle.written_machine.specs.declared.event.Outcome.TheVariants.{Refused}
 use Rattle.written_machine.specs.State.{State}
-use Rattle.written_machine.specs.Laws.{IsLater, PoolsKeepTheirSizes, QueuesOnlyAtCore, GetsHaveChildren, WaitingSetsAreTested}
+use Rattle.written_machine.specs.Laws.{PoolsKeepTheirSizes, QueuesOnlyAtCore, GetsHaveChildren, WaitingSetsAreTested}
 use Rattle.written_machine.specs.Reach.{IsReached}
 use Rattle.written_machine.specs.JobsMade.{ThreadsHaveJobs, RefusalsNeedJobs}
 use Rattle.written_machine.specs.FullWaitingSets.{FullWaitingSetsStay, FixedPoolsAreFull}
 use Rattle.written_machine.proofs.Events.{StandsAt, happens}
 use Rattle.written_machine.proofs.Standing.{lawful_point}
-use Rattle.written_machine.proofs.Kept.{IsAfter, HasChild, Kept}
+use Rattle.written_machine.proofs.Kept.{HasChild, Kept}
 use Rattle.written_machine.proofs.Reached.{replay_keeps, reached_keeps, kept}
 use Rattle.written_machine.proofs.KeptStart.{kept_start}
 use Rattle.written_machine.proofs.KeptStep.{kept_step}
@@ -31,10 +30,6 @@ sizes_kept plan s well_formed reached p inside =
 pub queued_at_core : QueuesOnlyAtCore
 queued_at_core plan s well_formed reached p inside some = ((kept plan s well_formed reached).pools p inside).core some
 
-pub later_from_after : (a : Parent) (n : ℕ) → IsAfter a n → IsLater a n
-later_from_after (parent.Client c) n after = tt
-later_from_after (parent.Job j) n after = after
-
 -- an actor at a get finds its job
 pub child_at_get : (plan : Plan) (s : State) (a : Parent) (body : List Action) (i t : ℕ) → IsOrdered plan → Kept plan s → StandsAt plan s a body i (Some (action.Get t)) → HasChild s.jobs a t (class_got body t)
 child_at_get plan s a body i t ordered kept at =
@@ -44,7 +39,7 @@ child_at_get plan s a body i t ordered kept at =
 pub children_at_gets : GetsHaveChildren
 children_at_gets plan s well_formed reached a body i t stands is_there =
     let child = child_at_get plan s a body i t (ordered plan well_formed) (kept plan s well_formed reached) (record { stands = stands; is_there = is_there }) in
-    record { number = child.number; is_child = child.is_child; of_class = child.of_class; unclaimed = child.unclaimed; later = later_from_after a child.number child.later }
+    record { number = child.number; is_child = child.is_child; of_class = child.of_class; unclaimed = child.unclaimed; later = child.later }
 
 pub sets_tested : WaitingSetsAreTested
 sets_tested = waiting_set_test

@@ -9,7 +9,7 @@ use Rattle.written_machine.specs.declared.parent.Parent.{Parent}
 use Rattle.written_machine.specs.declared.parent.Parent.TheVariants as parent
 use Rattle.written_machine.specs.State.{Stage, State, Made, no_job, is_made_by}
 use Rattle.written_machine.specs.Step.{moved_jobs}
-use Rattle.written_machine.proofs.Kept.{IsAfter}
+use Rattle.written_machine.specs.Laws.{IsLater}
 
 -- the jobs, with job j at this stage
 abbrev pub staged : List Made → ℕ → Stage → List Made
@@ -73,20 +73,20 @@ classes_pushed classes jobs job each inside = All-push (λ (x : Made). x.class <
 
 -- each job has a greater number than its maker
 abbrev pub HaveParents : List Made → Type 0
-HaveParents jobs = (j : ℕ) → j < length jobs → IsAfter (get_or jobs j no_job).parent j
+HaveParents jobs = (j : ℕ) → j < length jobs → IsLater (get_or jobs j no_job).parent j
 
 pub parents_staged : (jobs : List Made) (j : ℕ) (stage : Stage) → HaveParents jobs → HaveParents (staged jobs j stage)
 parents_staged jobs j stage each n inside =
-    subst (λ (a : Parent). IsAfter a n) (sym (parent-staged jobs j stage n no_job)) (each n (omega (arith, length-staged jobs j stage)))
+    subst (λ (a : Parent). IsLater a n) (sym (parent-staged jobs j stage n no_job)) (each n (omega (arith, length-staged jobs j stage)))
 
 pub parents_moved : (s : State) (a : Parent) (i : ℕ) → HaveParents s.jobs → HaveParents (moved_jobs a i s)
 parents_moved s (parent.Client c) i each = each
 parents_moved s (parent.Job j) i each = parents_staged s.jobs j (Stage.At i) each
 
-pub parents_pushed : (jobs : List Made) (job : Made) → HaveParents jobs → IsAfter job.parent (length jobs) → HaveParents (jobs ++ job ∷ [])
+pub parents_pushed : (jobs : List Made) (job : Made) → HaveParents jobs → IsLater job.parent (length jobs) → HaveParents (jobs ++ job ∷ [])
 parents_pushed jobs job each after n inside = elim (cases_lt n (length jobs)) [
-  | inl earlier ↦ subst (λ (x : Made). IsAfter x.parent n) (sym (get_or_append_left jobs (job ∷ []) no_job n earlier)) (each n earlier)
+  | inl earlier ↦ subst (λ (x : Made). IsLater x.parent n) (sym (get_or_append_left jobs (job ∷ []) no_job n earlier)) (each n earlier)
   | inr past ↦
       let last : length jobs ≡ n = omega (arith, length_push jobs job) in
-      subst (λ (x : Made). IsAfter x.parent n) (sym (get_or_push jobs job no_job n last)) (subst (IsAfter job.parent) last after)
+      subst (λ (x : Made). IsLater x.parent n) (sym (get_or_push jobs job no_job n last)) (subst (IsLater job.parent) last after)
 ]
