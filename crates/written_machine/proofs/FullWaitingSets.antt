@@ -20,6 +20,7 @@ use Rattle.written_machine.proofs.Kept.{Kept}
 use Rattle.written_machine.proofs.Stages.{length-moved}
 use Rattle.written_machine.proofs.Children.{not_by_other}
 use Rattle.written_machine.proofs.Queues.{queued_stage, head_of_queue, pool_of_made, queued_in_queue}
+use Rattle.written_machine.proofs.Busy.{busy_in-as, busy_in_other, busy_in_own}
 use Rattle.written_machine.proofs.KeptSubmits.{class_exists, room_for_thread}
 use Rattle.written_machine.proofs.KeptStep.{done_still, kept_step}
 use Rattle.written_machine.proofs.Leaves.{SamePool, Leaves, IsOutside, leaves_twice, leaves-clients, leaves-staged, leaves-moved, leaves-pushed, leaves-part, idle_elsewhere, idle_as_before}
@@ -136,18 +137,18 @@ module _ (plan : Plan) (s : State) (members : List ℕ) (ordered : IsOrdered pla
       leaves_twice plan members among s moved (with_stage n Stage.Claimed moved)
       (leaves-moved plan members among s a body i (i + 1) at.stands (gets_outside plan s members set.waits a body i t n at is_child done))
       (leaves-staged plan members among moved n Stage.Claimed (job_made moved n (λ claimed. cc)) (not_done plan s members set.waits n done)
-      (λ p is_among. ap (λ (b : Bool). b && eqb (pool_of plan (job_at moved n).class) p) (sym (ap is_at still))))
+      (λ p is_among. busy_in-as plan p (job_at moved n) Stage.Claimed (sym (ap is_at still))))
 
   -- a job comes to another stage, and its pool, which is none of those, has this queue and so many idle workers
   leaves_worker : (j : ℕ) (stage : Stage) (q : ℕ) (queue : List ℕ) (idle : ℕ) → j < length s.jobs → pool_of plan (job_at s j).class ≡ q → ¬ IsMember members j → ((p : ℕ) → among p → p ≢ q) → LeavesSet plan members s (with_part q queue idle (with_stage j stage s))
   leaves_worker j stage q queue idle inside of_pool outside elsewhere =
       let changed : State = with_stage j stage s in
       leaves_twice plan members among s changed (with_part q queue idle changed)
-      (leaves-staged plan members among s j stage inside outside (λ p is_among. not_busy p is_among stage ∙ sym (not_busy p is_among (job_at s j).stage)))
+      (leaves-staged plan members among s j stage inside outside (λ p is_among. busy_in_other plan p (record (job_at s j) { stage = stage }) (not_own p is_among) ∙ sym (busy_in_other plan p (job_at s j) (not_own p is_among))))
       (leaves-part plan members among changed q queue idle (λ p is_among. idle_elsewhere changed q queue idle p (elsewhere p is_among)))
     where
-      not_busy : (p : ℕ) → among p → (other : Stage) → (is_at other && eqb (pool_of plan (job_at s j).class) p) ≡ false
-      not_busy p is_among other = and_right (is_at other) (eqb (pool_of plan (job_at s j).class) p) (ne_eqb (pool_of plan (job_at s j).class) p (λ same. elsewhere p is_among (sym same ∙ of_pool)))
+      not_own : (p : ℕ) → among p → pool_of plan (job_at s j).class ≢ p
+      not_own p is_among same = elsewhere p is_among (sym same ∙ of_pool)
 
   -- a job at work finishes
   leaves_finishes : (j : ℕ) (body : List Action) (i : ℕ) → StandsAt plan s (parent.Job j) body i None → LeavesSet plan members s (finished_job plan s j (pool_of plan (job_at s j).class))
@@ -156,7 +157,7 @@ module _ (plan : Plan) (s : State) (members : List ℕ) (ordered : IsOrdered pla
       let was = stage_of_standing plan (job_at s j).class (job_at s j).stage body i at.stands in
       let outside = λ (member : IsMember members j). acts_outside plan s members set.waits (parent.Job j) body i None at (λ t same. cc) j member refl in
       leaves_worker j Stage.Done q (pool_part s q).queue ((pool_part s q).idle + 1) (standing_made plan s j body i at.stands) refl outside
-      (λ p is_among same. outside ((closed p is_among).all_at_work j (and_from (is_at (job_at s j).stage) (eqb q p) (ap is_at was.0) (eq-eqb q p (sym same)))))
+      (λ p is_among same. outside ((closed p is_among).all_at_work j (busy_in_own plan p (job_at s j) (sym same) ∙ ap is_at was.0)))
 
   -- an idle worker takes the head of a queue
   leaves_takes : (p j : ℕ) (queue : List ℕ) (idle : ℕ) → (pool_part s p).queue ≡ j ∷ queue → (pool_part s p).idle ≡ suc idle → LeavesSet plan members s (with_part p queue idle (with_stage j (Stage.At 0) s))

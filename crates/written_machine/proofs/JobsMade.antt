@@ -1,7 +1,7 @@
 -- For each thread of a pool and each job in its queue a job was made, but for its first workers.
 use Rattle.std.proofs.Common.{◌≡◌, ℕ, suc, ◌+◌, ◌<◌, ◌≤◌, eqb, List, [], ◌∷◌, ◌++◌, length, get_or, Some, None, sym, ap, subst, refl, ◌∙◌, Bool, true, false, ◌&&◌, arith}
 use Rattle.std.specs.List.{count_by}
-use Rattle.std.proofs.lemmas.Bool.{eq-eqb}
+use Rattle.std.proofs.lemmas.Bool.{eq-eqb, and_left}
 use Rattle.std.proofs.lemmas.List.{length_push}
 use Rattle.std.proofs.lemmas.List.Sums.{sum_by_push}
 use Rattle.numbered_lists.proofs.Places.{length-places, places_where-set_same}
@@ -13,7 +13,7 @@ use Rattle.written_machine.specs.declared.parent.Parent.TheVariants as parent
 use Rattle.written_machine.specs.declared.event.Event.{Event}
 use Rattle.written_machine.specs.declared.event.Outcome.{Outcome}
 use Rattle.written_machine.specs.declared.event.Outcome.TheVariants as outcome
-use Rattle.written_machine.specs.State.{Stage, State, Made, PoolPart, no_job, job_at, pool_part, pool_of, is_at, threads}
+use Rattle.written_machine.specs.State.{Stage, State, Made, PoolPart, no_job, job_at, pool_part, pool_of, is_at, is_busy_in, threads}
 use Rattle.written_machine.specs.Step.{point, with_stage, with_position, with_job, new_job, moved_jobs, finished_job}
 use Rattle.written_machine.specs.Reach.{start}
 use Rattle.written_machine.specs.JobsMade.{is_of_pool, HasJobs}
@@ -21,7 +21,8 @@ use Rattle.written_machine.proofs.Events.{StandsAt, with_part, Happens, works, s
 use Rattle.written_machine.proofs.Standing.{stage_of_standing, standing_made, job_made}
 use Rattle.written_machine.proofs.Kept.{Kept, busy_jobs}
 use Rattle.written_machine.proofs.Stages.{staged}
-use Rattle.written_machine.proofs.Queues.{one_if, head_of_queue, busy-staged_same, busy-moved, busy_push, busy-staged_elsewhere, busy-staged_fewer, busy-staged_more}
+use Rattle.written_machine.proofs.Queues.{head_of_queue}
+use Rattle.written_machine.proofs.Busy.{one_if, busy_in-as, busy-staged_same, busy-staged_elsewhere, busy-staged_here, busy-moved, busy_push, busy_push_same}
 use Rattle.written_machine.proofs.KeptPools.{pools_with_part}
 use Rattle.written_machine.proofs.KeptStep.{done_still}
 use Rattle.written_machine.proofs.KeptStart.{pool_part_at_start}
@@ -89,13 +90,13 @@ have_jobs_queues plan s job n as_many waits have =
     (λ exists.
     let had = have q exists in
     let one_more : one_if (is_of_pool plan q job) ≡ 1 = ap one_if (eq-eqb q q refl) in
-    omega (arith, not_busy q, busy_push plan s.jobs job q, made_jobs_push plan s.jobs job q, one_more, length_push part.queue n))
+    omega (arith, busy_push_same plan s.jobs job q (not_busy q), made_jobs_push plan s.jobs job q, one_more, length_push part.queue n))
     (λ p inside other.
     let had = have p inside in
-    omega (arith, not_busy p, busy_push plan s.jobs job p, made_jobs_push plan s.jobs job p))
+    omega (arith, busy_push_same plan s.jobs job p (not_busy p), made_jobs_push plan s.jobs job p))
   where
-    not_busy : (p : ℕ) → one_if (is_at job.stage && eqb (pool_of plan job.class) p) ≡ 0
-    not_busy p = ap (λ (b : Bool). one_if (b && eqb (pool_of plan job.class) p)) waits
+    not_busy : (p : ℕ) → is_busy_in plan p job ≡ false
+    not_busy p = and_left (is_at job.stage) (eqb (pool_of plan job.class) p) waits
 
 -- job j of a pool comes to another stage, and the pool has this queue and so many idle workers
 have_jobs_worker : (plan : Plan) (s : State) (j : ℕ) (stage : Stage) (q : ℕ) (queue : List ℕ) (idle : ℕ) → length s.pools ≡ length plan.pools → j < length s.jobs → pool_of plan (job_at s j).class ≡ q
@@ -106,7 +107,7 @@ have_jobs_worker plan s j stage q queue idle as_many made of_pool no_more have =
     (λ exists. let had = have q exists in omega (arith, made_jobs-staged plan s.jobs j stage q))
     (λ p inside other.
     let had = have p inside in
-    omega (arith, made_jobs-staged plan s.jobs j stage p, busy-staged_elsewhere plan s.jobs j stage p made (λ same. other (sym same ∙ of_pool))))
+    omega (arith, made_jobs-staged plan s.jobs j stage p, busy-staged_elsewhere plan s.jobs j stage p (λ same. other (sym same ∙ of_pool))))
 
 -- a job at work finishes
 have_jobs_finishes : (plan : Plan) (s : State) (j : ℕ) (body : List Action) (i : ℕ) → Kept plan s → HaveJobs plan s → StandsAt plan s (parent.Job j) body i None → HaveJobs plan (finished_job plan s j (pool_of plan (job_at s j).class))
@@ -115,7 +116,7 @@ have_jobs_finishes plan s j body i kept have at =
     let made = standing_made plan s j body i at.stands in
     let was = stage_of_standing plan (job_at s j).class (job_at s j).stage body i at.stands in
     have_jobs_worker plan s j Stage.Done q (pool_part s q).queue ((pool_part s q).idle + 1) kept.as_many made refl
-    (omega (arith, busy-staged_fewer plan s.jobs j Stage.Done made (ap is_at was.0) refl)) have
+    (omega (arith, busy-staged_here plan s.jobs j Stage.Done q refl made, ap (λ (stage : Stage). one_if (is_at stage)) was.0)) have
 
 -- an idle worker takes the head of a queue
 have_jobs_takes : (plan : Plan) (s : State) (p j : ℕ) (queue : List ℕ) (idle : ℕ) → Kept plan s → HaveJobs plan s → (pool_part s p).queue ≡ j ∷ queue → (pool_part s p).idle ≡ suc idle → HaveJobs plan (with_part p queue idle (with_stage j (Stage.At 0) s))
@@ -123,7 +124,7 @@ have_jobs_takes plan s p j queue idle kept have is_queue is_idle =
     let head = head_of_queue plan s p j queue kept is_queue in
     let long : length (pool_part s p).queue ≡ suc (length queue) = ap length is_queue in
     have_jobs_worker plan s j (Stage.At 0) p queue idle kept.as_many head.inside head.of_pool
-    (omega (arith, busy-staged_more plan s.jobs j (Stage.At 0) p head.inside head.of_pool (ap is_at head.queued) refl)) have
+    (omega (arith, busy-staged_here plan s.jobs j (Stage.At 0) p head.of_pool head.inside, ap (λ (stage : Stage). one_if (is_at stage)) head.queued)) have
 
 -- a get claims a job that is done
 have_jobs_gets : (plan : Plan) (s : State) (a : Parent) (body : List Action) (i j : ℕ) → HaveJobs plan s → point plan s a ≡ Some (record { body = body; position = i }) → (job_at s j).stage ≡ Stage.Done → HaveJobs plan (with_stage j Stage.Claimed (with_position a (i + 1) s))
@@ -131,7 +132,7 @@ have_jobs_gets plan s a body i j have stands done p inside =
     let moved : State = with_position a (i + 1) s in
     let still : (job_at moved j).stage ≡ Stage.Done = done_still plan s a body i (i + 1) j stands done in
     let had = have_jobs_moved plan s a body i (i + 1) have stands p inside in
-    omega (arith, made_jobs-staged plan moved.jobs j Stage.Claimed p, busy-staged_same plan moved.jobs j Stage.Claimed p (job_made moved j (λ claimed. cc)) (sym (ap is_at still)))
+    omega (arith, made_jobs-staged plan moved.jobs j Stage.Claimed p, busy-staged_same plan moved.jobs j Stage.Claimed p (busy_in-as plan p (job_at moved j) Stage.Claimed (sym (ap is_at still))))
 
 -- every event
 pub have_jobs_step : (plan : Plan) (s s' : State) (o : Outcome) {e : Event} → Kept plan s → HaveJobs plan s → Happens plan s e s' o → HaveJobs plan s'

@@ -14,7 +14,8 @@ use Rattle.written_machine.proofs.Events.{StandsAt, with_part, queued_state}
 use Rattle.written_machine.proofs.Standing.{At≢Claimed, lawful_point}
 use Rattle.written_machine.proofs.Kept.{ActorKept, Kept, places, busy_jobs}
 use Rattle.written_machine.proofs.Stages.{length-moved, classes_moved, classes_pushed, parents_moved, parents_pushed}
-use Rattle.written_machine.proofs.Queues.{Queued≢Claimed, places-moved, places_push, places_push_same, busy-moved, busy_push}
+use Rattle.written_machine.proofs.Queues.{Queued≢Claimed, places-moved, places_push, places_push_same}
+use Rattle.written_machine.proofs.Busy.{busy-moved, busy_push}
 use Rattle.written_machine.proofs.KeptPools.{same_pool, started_pool, queued_pool, PoolIsKept, pools_with_part}
 use Rattle.written_machine.proofs.Actors.{Stands, point_same, same_position, standing-moved, standing-pushed}
 use Rattle.written_machine.proofs.KeptActors.{is_after, actor_begins, actor_moved, actor_submits, other_submits}

@@ -14,8 +14,8 @@ use Rattle.written_machine.specs.Step.{with_stage, with_position, with_job}
 use Rattle.written_machine.specs.Waiting.{IsMember}
 use Rattle.written_machine.proofs.Events.{with_part}
 use Rattle.written_machine.proofs.Standing.{stage_of_standing, standing_made}
-use Rattle.written_machine.proofs.Stages.{staged, get_or-staged_other, child-stage}
-use Rattle.written_machine.proofs.Queues.{one_if, busy_push}
+use Rattle.written_machine.proofs.Stages.{staged, get_or-staged_same, get_or-staged_other, child-stage}
+use Rattle.written_machine.proofs.Busy.{busy_in-as, busy-staged_same, busy_push_same}
 use Rattle.written_machine.proofs.Actors.{Stands}
 
 -- the pool has the same idle workers and as many jobs at work, and none is at work that was not
@@ -47,13 +47,12 @@ same_pool_twice plan s s₁ s₂ p one two = record {
 same_pool-staged : (plan : Plan) (s : State) (m : ℕ) (stage : Stage) (p : ℕ) → m < length s.jobs → is_busy_in plan p (record (job_at s m) { stage = stage }) ≡ is_busy_in plan p (job_at s m) → SamePool plan s (with_stage m stage s) p
 same_pool-staged plan s m stage p inside same =
     let job : Made = record (job_at s m) { stage = stage } in
-    let counts : one_if (is_busy_in plan p job) ≡ one_if (is_busy_in plan p (job_at s m)) = ap one_if same in
     record {
       idle = refl;
-      busy_as_many = omega (arith, count_by-set (is_busy_in plan p) s.jobs m job no_job inside, counts);
+      busy_as_many = busy-staged_same plan s.jobs m stage p same;
       were_busy = λ n at_work. elim (cases_eq n m) [
         | inl itself ↦
-            let is_job : job_at (with_stage m stage s) n ≡ job = ap (λ (x : ℕ). get_or (staged s.jobs m stage) x no_job) itself ∙ get_or-set_same s.jobs m job no_job inside in
+            let is_job : job_at (with_stage m stage s) n ≡ job = ap (λ (x : ℕ). get_or (staged s.jobs m stage) x no_job) itself ∙ get_or-staged_same s.jobs m stage inside in
             ap (λ (x : ℕ). is_busy_in plan p (job_at s x)) itself ∙ sym same ∙ sym (ap (is_busy_in plan p) is_job) ∙ at_work
         | inr other ↦ sym (ap (is_busy_in plan p) (get_or-staged_other s.jobs m stage n no_job other)) ∙ at_work
       ];
@@ -62,10 +61,9 @@ same_pool-staged plan s m stage p inside same =
 -- a pool in which the new job is not at work
 same_pool-pushed : (plan : Plan) (s : State) (job : Made) (p : ℕ) → is_busy_in plan p job ≡ false → SamePool plan s (with_job job s) p
 same_pool-pushed plan s job p elsewhere =
-    let none : one_if (is_busy_in plan p job) ≡ 0 = ap one_if elsewhere in
     record {
       idle = refl;
-      busy_as_many = omega (arith, busy_push plan s.jobs job p, none);
+      busy_as_many = busy_push_same plan s.jobs job p elsewhere;
       were_busy = λ n at_work. elim (cases_lt n (length s.jobs)) [
         | inl earlier ↦ sym (ap (is_busy_in plan p) (get_or_append_left s.jobs (job ∷ []) no_job n earlier)) ∙ at_work
         | inr past ↦ elim (cases_eq n (length s.jobs)) [
@@ -125,7 +123,7 @@ module _ (plan : Plan) (members : List ℕ) (among : ℕ → Type 0) where
   leaves-moved s (parent.Job m) body i i' stands outside =
       let was = stage_of_standing plan (job_at s m).class (job_at s m).stage body i stands in
       leaves-staged s m (Stage.At i') (standing_made plan s m body i stands) (λ member. outside m member refl)
-      (λ p is_among. ap (λ (b : Bool). b && eqb (pool_of plan (job_at s m).class) p) (sym (ap is_at was.0)))
+      (λ p is_among. busy_in-as plan p (job_at s m) (Stage.At i') (sym (ap is_at was.0)))
 
   -- a job is made
   pub leaves-pushed : (s : State) (job : Made) → ((j : ℕ) → IsMember members j → j < length s.jobs) → ((j t : ℕ) → IsMember members j → is_made_by (parent.Job j) t job ≡ false) → ((p : ℕ) → among p → is_busy_in plan p job ≡ false)

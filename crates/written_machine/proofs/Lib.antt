@@ -3,6 +3,7 @@ pub mod Standing
 pub mod Kept
 pub mod Stages
 pub mod Queues
+pub mod Busy
 pub mod KeptPools
 pub mod Children
 pub mod Actors

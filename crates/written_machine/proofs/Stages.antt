@@ -18,8 +18,12 @@ staged jobs j stage = set jobs j (record (get_or jobs j no_job) { stage = stage 
 pub length-staged : (jobs : List Made) (j : ℕ) (stage : Stage) → length (staged jobs j stage) ≡ length jobs
 length-staged jobs j stage = length-set jobs j (record (get_or jobs j no_job) { stage = stage })
 
+-- the job itself is what it was but for the stage
+pub get_or-staged_same : (jobs : List Made) (j : ℕ) (stage : Stage) → j < length jobs → get_or (staged jobs j stage) j no_job ≡ record (get_or jobs j no_job) { stage = stage }
+get_or-staged_same jobs j stage inside = get_or-set_same jobs j (record (get_or jobs j no_job) { stage = stage }) no_job inside
+
 pub stage-staged : (jobs : List Made) (j : ℕ) (stage : Stage) → j < length jobs → (get_or (staged jobs j stage) j no_job).stage ≡ stage
-stage-staged jobs j stage inside = ap (λ (job : Made). job.stage) (get_or-set_same jobs j (record (get_or jobs j no_job) { stage = stage }) no_job inside)
+stage-staged jobs j stage inside = ap (λ (job : Made). job.stage) (get_or-staged_same jobs j stage inside)
 
 -- the other jobs are as they were
 pub get_or-staged_other : (jobs : List Made) (j : ℕ) (stage : Stage) (n : ℕ) (d : Made) → n ≢ j → get_or (staged jobs j stage) n d ≡ get_or jobs n d
