@@ -18,7 +18,7 @@ use Rattle.written_machine.specs.Step.{point, with_stage, with_position, with_jo
 use Rattle.written_machine.specs.Reach.{start}
 use Rattle.written_machine.specs.JobsMade.{is_of_pool, HasJobs}
 use Rattle.written_machine.proofs.Events.{StandsAt, with_part, Happens, works, starts, queues, is_refused, gets, finishes, loops, takes, retires}
-use Rattle.written_machine.proofs.Standing.{stage_of_standing, standing_made, job_made}
+use Rattle.written_machine.proofs.Standing.{stage_of_standing, standing_made}
 use Rattle.written_machine.proofs.Kept.{Kept, busy_jobs}
 use Rattle.written_machine.proofs.Stages.{staged}
 use Rattle.written_machine.proofs.Queues.{head_of_queue}

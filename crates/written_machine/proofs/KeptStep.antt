@@ -12,7 +12,7 @@ use Rattle.written_machine.specs.declared.event.Outcome.{Outcome}
 use Rattle.written_machine.specs.State.{Stage, State, Made, job_at, pool_part, pool_of, is_at, is_queued, threads, child}
 use Rattle.written_machine.specs.Step.{with_stage, with_position, moved_jobs, finished_job}
 use Rattle.written_machine.proofs.Events.{StandsAt, with_part, Happens, works, starts, queues, is_refused, gets, finishes, loops, takes, retires}
-use Rattle.written_machine.proofs.Standing.{At≢Claimed, stage_of_standing, standing_made, job_made, job_at-with_position, lawful_point}
+use Rattle.written_machine.proofs.Standing.{At≢Claimed, stage_of_standing, standing_made, job_at-with_position, lawful_point}
 use Rattle.written_machine.proofs.Kept.{ActorKept, PoolKept, Kept, places, busy_jobs}
 use Rattle.written_machine.proofs.Stages.{staged, classes_staged, classes_moved, parents_staged, parents_moved}
 use Rattle.written_machine.proofs.Queues.{head_of_queue, places-staged, places-moved, places-staged_elsewhere}

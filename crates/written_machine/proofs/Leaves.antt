@@ -1,15 +1,14 @@
 -- Changes of a state that leave some jobs, and the pools in whose queues they wait, as they were.
-use Rattle.std.proofs.Common.{◌≡◌, ◌≢◌, ℕ, zero, suc, ◌<◌, Bool, true, false, ◌&&◌, eqb, inl, inr, List, [], ◌∷◌, ◌++◌, length, get_or, set, refl, sym, ap, ◌∙◌, arith}
+use Rattle.std.proofs.Common.{◌≡◌, ◌≢◌, ℕ, zero, suc, ◌<◌, true, false, inl, inr, List, [], ◌∷◌, ◌++◌, length, get_or, set, refl, sym, ap, ◌∙◌, arith}
 use Rattle.std.proofs.lemmas.Bool.{false≢true, cases_lt, cases_eq}
-use Rattle.std.proofs.lemmas.List.{length_push, get_or-set_same, get_or-set_other, get_or_append_left, get_or_push, get_or_past}
+use Rattle.std.proofs.lemmas.List.{length_push, get_or-set_other, get_or_append_left, get_or_push, get_or_past}
 use Rattle.numbered_lists.proofs.LastPlace.{last_where_push_fails}
-use Rattle.numbered_lists.proofs.Sums.{count_by-set}
 use Rattle.job_bodies.specs.declared.action.Action.{Action}
 use Rattle.job_bodies.specs.Plan.{Plan}
 use Rattle.written_machine.specs.declared.client_state.ClientState.{ClientState}
 use Rattle.written_machine.specs.declared.parent.Parent.{Parent}
 use Rattle.written_machine.specs.declared.parent.Parent.TheVariants as parent
-use Rattle.written_machine.specs.State.{Stage, State, Made, PoolPart, no_job, no_pool_part, job_at, pool_part, client_state, pool_of, is_at, is_busy_in, busy, child, is_made_by}
+use Rattle.written_machine.specs.State.{Stage, State, Made, PoolPart, no_job, no_pool_part, job_at, pool_part, client_state, is_at, is_busy_in, busy, child, is_made_by}
 use Rattle.written_machine.specs.Step.{with_stage, with_position, with_job}
 use Rattle.written_machine.specs.Waiting.{IsMember}
 use Rattle.written_machine.proofs.Events.{with_part}

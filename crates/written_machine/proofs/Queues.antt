@@ -1,21 +1,19 @@
 -- The pools' queues, as the list of jobs tells them.
-use Rattle.std.proofs.Common.{◌≡◌, ◌≢◌, ℕ, ◌+◌, ◌<◌, ◌≤◌, Bool, true, false, cond, ◌&&◌, eqb, inl, inr, List, [], ◌∷◌, ◌++◌, length, get_or, Some, refl, sym, ap, subst, ◌∙◌, arith, append-nil}
+use Rattle.std.proofs.Common.{◌≡◌, ◌≢◌, ℕ, ◌<◌, ◌≤◌, Bool, true, false, ◌&&◌, eqb, inl, inr, List, [], ◌∷◌, ◌++◌, length, get_or, Some, refl, sym, ap, subst, ◌∙◌, arith, append-nil}
 use Rattle.std.proofs.lemmas.Bool.{false≢true, cases_lt, and_parts, and_from, and_left, and_right, eqb-true, eq-eqb, ne_eqb}
 use Rattle.std.proofs.lemmas.List.{get_or_past}
-use Rattle.std.proofs.lemmas.List.Sums.{sum_by_push}
 use Rattle.numbered_lists.specs.In.{In}
 use Rattle.numbered_lists.specs.Places.{cons_if}
 use Rattle.numbered_lists.proofs.Places.{places_where_push, places_where-set_same, first_where, In-places_where}
-use Rattle.numbered_lists.proofs.Sums.{count_by-set}
 use Rattle.job_bodies.specs.declared.action.Action.{Action}
 use Rattle.job_bodies.specs.Plan.{Plan}
 use Rattle.job_bodies.proofs.Bodies.{IsOrdered}
 use Rattle.written_machine.specs.declared.parent.Parent.{Parent}
 use Rattle.written_machine.specs.declared.parent.Parent.TheVariants as parent
-use Rattle.written_machine.specs.State.{Stage, State, Made, PoolPart, no_job, no_pool_part, job_at, pool_part, pool_of, is_at, is_queued, is_busy_in, is_queued_in}
+use Rattle.written_machine.specs.State.{Stage, State, Made, PoolPart, no_job, no_pool_part, job_at, pool_part, pool_of, is_queued, is_queued_in}
 use Rattle.written_machine.specs.Step.{point, moved_jobs}
-use Rattle.written_machine.proofs.Standing.{stage_of_standing, standing_made, job_made}
-use Rattle.written_machine.proofs.Kept.{Kept, places, busy_jobs}
+use Rattle.written_machine.proofs.Standing.{stage_of_standing, job_made}
+use Rattle.written_machine.proofs.Kept.{Kept, places}
 use Rattle.written_machine.proofs.Stages.{staged}
 
 -- ---- what stands in a queue
