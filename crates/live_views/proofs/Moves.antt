@@ -9,12 +9,12 @@ use Rattle.written_machine.specs.declared.client_state.ClientState.{ClientState}
 use Rattle.written_machine.specs.declared.parent.Parent.{Parent}
 use Rattle.written_machine.specs.declared.parent.Parent.TheVariants as parent
 use Rattle.written_machine.specs.declared.event.Outcome.TheVariants.{Got, Looped}
-use Rattle.written_machine.proofs.Stages.{get_or-staged_same}
-use Rattle.written_machine.proofs.Busy.{busy_in-as, busy-staged_same, busy-moved}
 use Rattle.live_views.specs.declared.job_view.Phase.TheVariants as phase
-use Rattle.written_machine.specs.State.{is_at, Stage, Made, State, job_at, is_unfinished, busy, child}
+use Rattle.written_machine.specs.State.{Stage, Made, State, job_at, is_at, is_unfinished, busy, child}
 use Rattle.written_machine.specs.State.Stage.{Queued, At, Done, Claimed}
 use Rattle.written_machine.specs.Step.{point, with_stage, with_position, got, got_child, looped}
+use Rattle.written_machine.proofs.Stages.{get_or-staged_same}
+use Rattle.written_machine.proofs.Busy.{busy_in-as, busy-staged_same, busy-moved}
 use Rattle.written_machine.proofs.Kept.{Kept}
 use Rattle.written_machine.proofs.Standing.{job_made, job_at-with_position}
 use Rattle.live_views.specs.LiveView.{job_seen, View, live_view}

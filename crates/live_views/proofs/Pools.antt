@@ -6,12 +6,12 @@ use Rattle.std.proofs.lemmas.List.{get_or_past}
 use Rattle.job_bodies.specs.Plan.{Plan, pool_at}
 use Rattle.pool_machine.specs.PoolState.{PoolView, taken_from, taken, retired_of, retired}
 use Rattle.written_machine.specs.declared.event.Outcome.TheVariants as outcome
-use Rattle.written_machine.proofs.Stages.{get_or-staged_same}
-use Rattle.written_machine.proofs.Busy.{one_if, busy-staged_here, busy-staged_elsewhere}
 use Rattle.live_views.specs.declared.job_view.Phase.TheVariants as phase
 use Rattle.written_machine.specs.State.{Stage, State, PoolPart, no_pool_part, job_at, pool_part, pool_view, pool_seen, is_at, is_unfinished, busy}
 use Rattle.written_machine.specs.State.Stage.{Queued, At}
 use Rattle.written_machine.specs.Step.{with_stage, with_pool, took, let_go}
+use Rattle.written_machine.proofs.Stages.{get_or-staged_same}
+use Rattle.written_machine.proofs.Busy.{one_if, busy-staged_here, busy-staged_elsewhere}
 use Rattle.written_machine.proofs.Kept.{Kept}
 use Rattle.written_machine.proofs.Queues.{IsHead, head_of_queue}
 use Rattle.live_views.specs.LiveView.{job_seen, live_view}

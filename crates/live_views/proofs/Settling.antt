@@ -16,8 +16,8 @@ use Rattle.written_machine.specs.State.{Stage, Made, State, PoolPart, no_job, is
 use Rattle.written_machine.specs.State.Stage.{Queued, At, Done, Claimed}
 use Rattle.written_machine.specs.Step.{point, with_stage, with_position, with_job, new_job, moved_jobs, moved_clients}
 use Rattle.written_machine.specs.Reach.{start}
-use Rattle.written_machine.proofs.Events.{Happens, works, starts, queues, is_refused, gets, finishes, loops, takes, retires}
 use Rattle.written_machine.specs.Laws.{IsLater}
+use Rattle.written_machine.proofs.Events.{Happens, works, starts, queues, is_refused, gets, finishes, loops, takes, retires}
 use Rattle.written_machine.proofs.Kept.{Kept}
 use Rattle.written_machine.proofs.Standing.{At≢Claimed, standing_made, client_standing, lawful_point}
 use Rattle.written_machine.proofs.Stages.{staged, length-staged, stage-staged, get_or-staged_other, parent-staged, child-moved, HaveParents, parents_moved, parents_pushed}

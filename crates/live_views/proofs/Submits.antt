@@ -12,13 +12,13 @@ use Rattle.written_machine.specs.declared.parent.Parent.{Parent}
 use Rattle.written_machine.specs.declared.parent.Parent.TheVariants as parent
 use Rattle.written_machine.specs.declared.event.Outcome.{Outcome}
 use Rattle.written_machine.specs.declared.event.Outcome.TheVariants as outcome
-use Rattle.written_machine.proofs.Busy.{busy_in_other, busy_push_here, busy_push_same, busy-moved}
 use Rattle.live_views.specs.declared.job_view.Phase.{Phase}
 use Rattle.live_views.specs.declared.job_view.Phase.TheVariants as phase
 use Rattle.written_machine.specs.State.{Stage, Made, State, no_job, job_at, pool_part, pool_of, pool_view, pool_seen, is_unfinished, busy, is_made_by, child}
 use Rattle.written_machine.specs.State.Stage.{Queued, At, Done, Claimed}
 use Rattle.written_machine.specs.Step.{moved_jobs, point, with_position, with_job, with_pool, new_job, answered, submitted}
 use Rattle.written_machine.specs.Laws.{IsLater}
+use Rattle.written_machine.proofs.Busy.{busy_in_other, busy_push_here, busy_push_same, busy-moved}
 use Rattle.written_machine.proofs.Kept.{Kept}
 use Rattle.written_machine.proofs.Stages.{HaveParents, parents_moved}
 use Rattle.written_machine.proofs.Children.{maker_of}
