@@ -51,6 +51,10 @@ nested core max queue = record {
   clients = asking 1 0 ∷ [];
 }
 
+-- the same with room for a second thread, and a client that submits one inner job
+abbrev helped : Plan
+helped = record (nested 1 2 1) { clients = asking 1 0 ∷ record { name = 104 ∷ []; count = 1; repeat = false; body = Submit 1 ∷ [] } ∷ [] }
+
 -- two pools whose jobs wait for jobs of the other, and a third pool beside them
 abbrev crossed : ℕ → Plan
 crossed threads = record {
@@ -99,6 +103,9 @@ drain_met_exactly-events = event.Client 0 ∷ event.Job 0 ∷ event.Job 1 ∷ ev
 abbrev drain_met_exactly_prestarted-events : List Event
 drain_met_exactly_prestarted-events = event.Client 0 ∷ event.Take 0 ∷ event.Job 0 ∷ event.Take 0 ∷ event.Job 1 ∷ event.Job 1 ∷ event.Job 0 ∷ event.Job 0 ∷ []
 
+abbrev stuck_for_now-events : List Event
+stuck_for_now-events = nested_one_worker-events ++ event.Client 1 ∷ event.Job 2 ∷ event.Job 2 ∷ event.Take 0 ∷ event.Job 1 ∷ event.Job 1 ∷ event.Job 0 ∷ event.Job 0 ∷ []
+
 -- ---- what comes of the events
 
 -- one worker and a queue of one: the seventh event is refused, though a worker is idle and only two jobs are outstanding
@@ -124,6 +131,11 @@ retire = refl
 pub start_before_queue : told (one_pool 2 2 2 2) start_before_queue-events
     ≡ Some (Started 0) ∷ Some (Worked 1) ∷ Some (Finished 0) ∷ Some (Started 1) ∷ Some (Got 0) ∷ Some Looped ∷ Some (Queued 2) ∷ Some (Took 2) ∷ Some (Worked 1) ∷ []
 start_before_queue = refl
+
+-- the queue is full, so a second thread starts, and takes the inner job for which the outer one waits
+pub stuck_for_now : told helped stuck_for_now-events
+    ≡ Some (Started 0) ∷ Some (Queued 1) ∷ Some (Started 2) ∷ Some (Worked 1) ∷ Some (Finished 2) ∷ Some (Took 1) ∷ Some (Worked 1) ∷ Some (Finished 1) ∷ Some (Got 1) ∷ Some (Finished 0) ∷ []
+stuck_for_now = refl
 
 -- a prestarted pool queues its first job, and an idle worker takes it
 pub prestarted_queues : told (prestarted (one_pool 2 2 2 2)) prestarted_queues-events ≡ Some (Queued 0) ∷ Some (Took 0) ∷ Some (Worked 1) ∷ []
@@ -160,6 +172,9 @@ retire-ends = refl
 pub start_before_queue-ends : after (one_pool 2 2 2 2) start_before_queue-events ends ≡ Some (0, 2)
 start_before_queue-ends = refl
 
+pub stuck_for_now-ends : after helped stuck_for_now-events ends ≡ Some (0, 0)
+stuck_for_now-ends = refl
+
 pub prestarted_queues-ends : after (prestarted (one_pool 2 2 2 2)) prestarted_queues-events ends ≡ Some (0, 1)
 prestarted_queues-ends = refl
 
@@ -172,7 +187,7 @@ drain_met_exactly-ends = refl
 pub drain_met_exactly_prestarted-ends : after (prestarted (nested 2 2 5)) drain_met_exactly_prestarted-events ends ≡ Some (0, 0)
 drain_met_exactly_prestarted-ends = refl
 
--- ---- waiting sets after the last event
+-- ---- waiting sets after some of the events
 
 -- the outer job and the inner one wait for each other alone
 pub nested_one_worker-stuck : after (nested 1 1 5) nested_one_worker-events (λ s. is_waiting_set (nested 1 1 5) s (0 ∷ 1 ∷ [])) ≡ Some true
@@ -185,3 +200,7 @@ cross_pools_stuck-all = refl
 -- two of them also wait for jobs that are not among them
 pub cross_pools_stuck-two : after (crossed 1) cross_pools_stuck-events (λ s. is_waiting_set (crossed 1) s (0 ∷ 1 ∷ [])) ≡ Some false
 cross_pools_stuck-two = refl
+
+-- a waiting set whose pool has not all its threads can end
+pub stuck_for_now-two : after helped nested_one_worker-events (λ s. is_waiting_set helped s (0 ∷ 1 ∷ [])) ≡ Some true
+stuck_for_now-two = refl
