@@ -12,7 +12,7 @@ use Rattle.written_machine.specs.State.{Stage, Made, State, no_job, job_at, is_u
 use Rattle.written_machine.specs.State.Stage.{At}
 use Rattle.written_machine.specs.Step.{point, with_stage}
 use Rattle.written_machine.proofs.Standing.{stage_of_standing, At≢Claimed, job_made}
-use Rattle.written_machine.proofs.Stages.{child-stage}
+use Rattle.written_machine.proofs.Stages.{get_or-staged_same, get_or-staged_other, child-stage}
 use Rattle.live_views.specs.LiveView.{may_ask, phase_seen, job_with, job_seen, live_view}
 use Rattle.live_views.specs.ViewStep.{live_job}
 use Rattle.live_views.proofs.View.{seen, phase_with, job_seen-with, length-view, view_at, jobs_are}
@@ -34,21 +34,15 @@ seen_at s n stage phase e there = ap (job_with (job_at s n)) (ap (phase_seen s n
 
 -- ---- another stage
 
-pub job_at-staged_other : (s : State) (j n : ℕ) (stage : Stage) → n ≢ j → job_at (with_stage j stage s) n ≡ job_at s n
-job_at-staged_other s j n stage other = get_or-set_other s.jobs j n (record (job_at s j) { stage = stage }) no_job other
-
-pub job_at-staged : (s : State) (j : ℕ) (stage : Stage) → j < length s.jobs → job_at (with_stage j stage s) j ≡ record (job_at s j) { stage = stage }
-job_at-staged s j stage inside = get_or-set_same s.jobs j (record (job_at s j) { stage = stage }) no_job inside
-
 pub may_ask-staged_other : (s : State) (j : ℕ) (stage : Stage) (a : Parent) → a ≢ parent.Job j → may_ask (with_stage j stage s) a ≡ may_ask s a
 may_ask-staged_other s j stage (parent.Client c) other = refl
-may_ask-staged_other s j stage (parent.Job m) other = ap (λ (job : Made). is_unfinished job.stage) (job_at-staged_other s j m stage (λ e. other (ap parent.Job e)))
+may_ask-staged_other s j stage (parent.Job m) other = ap (λ (job : Made). is_unfinished job.stage) (get_or-staged_other s.jobs j stage m no_job (λ e. other (ap parent.Job e)))
 
 pub may_ask-staged : (s : State) (j : ℕ) (stage : Stage) (a : Parent) → j < length s.jobs → is_unfinished stage ≡ is_unfinished (job_at s j).stage → may_ask (with_stage j stage s) a ≡ may_ask s a
 may_ask-staged s j stage (parent.Client c) inside same = refl
 may_ask-staged s j stage (parent.Job m) inside same =
-    ⊎_elim (λ (e : m ≡ j). ap (λ k. is_unfinished (job_at (with_stage j stage s) k).stage) e ∙ ap (λ (job : Made). is_unfinished job.stage) (job_at-staged s j stage inside) ∙ same ∙ sym (ap (λ k. is_unfinished (job_at s k).stage) e))
-    (λ (other : m ≢ j). ap (λ (job : Made). is_unfinished job.stage) (job_at-staged_other s j m stage other))
+    ⊎_elim (λ (e : m ≡ j). ap (λ k. is_unfinished (job_at (with_stage j stage s) k).stage) e ∙ ap (λ (job : Made). is_unfinished job.stage) (get_or-staged_same s.jobs j stage inside) ∙ same ∙ sym (ap (λ k. is_unfinished (job_at s k).stage) e))
+    (λ (other : m ≢ j). ap (λ (job : Made). is_unfinished job.stage) (get_or-staged_other s.jobs j stage m no_job other))
     (cases_eq m j)
 
 -- a job that goes on as unfinished, or that was done and is claimed: only it is seen as another
@@ -62,7 +56,7 @@ jobs-staged plan s j stage there inside same here =
     let made_long = length-set s.jobs j (record (job_at s j) { stage = stage }) in
     jobs_are plan s' (set jobs j there) (omega arith)
     (λ n within. ⊎_elim (λ (e : n ≡ j). ap (seen s') e ∙ here ∙ sym (ap (live_job (set jobs j there)) e ∙ get_or-set_same jobs j there None (omega arith)))
-    (λ (other : n ≢ j). seen_same s s' n (job_at-staged_other s j n stage other) (may_ask-staged s j stage (job_at s n).parent inside same) (child-stage s.jobs (job_at s n).parent (job_at s n).slot j stage)
+    (λ (other : n ≢ j). seen_same s s' n (get_or-staged_other s.jobs j stage n no_job other) (may_ask-staged s j stage (job_at s n).parent inside same) (child-stage s.jobs (job_at s n).parent (job_at s n).slot j stage)
     ∙ sym (get_or-set_other jobs j n there None other ∙ view_at plan s n))
     (cases_eq n j))
 

@@ -26,9 +26,6 @@ latest s a t j e = last_where_is (is_made_by a t) s.jobs j e
 
 -- ---- live children
 
-pub child_with : (a : Parent) (t : ℕ) (job : Made) (phase : Phase) → is_live_child a t (job_with job (Some phase)) ≡ is_made_by a t job
-child_with a t job phase = refl
-
 not_child_with : (a : Parent) (t : ℕ) (job : Made) (o : Option Phase) → is_made_by a t job ≡ false → is_live_child a t (job_with job o) ≡ false
 not_child_with a t job None none = refl
 not_child_with a t job (Some phase) none = none

@@ -1,5 +1,5 @@
 -- A job finishes.
-use Rattle.std.proofs.Common.{◌≡◌, ◌≢◌, ℕ, ◌+◌, ◌<◌, Bool, true, false, cond, ◌&&◌, if◌then◌else◌, List, length, map, set, Option, Some, None, ⊎_elim, refl, sym, ap, ap₂, ◌∙◌, arith, length-set}
+use Rattle.std.proofs.Common.{◌≡◌, ◌≢◌, ℕ, ◌+◌, ◌<◌, Bool, true, false, ◌&&◌, if◌then◌else◌, List, length, map, set, Option, Some, None, ⊎_elim, refl, sym, ap, ap₂, ◌∙◌, arith, length-set}
 use Rattle.std.proofs.lemmas.Bool.{cases_eq, cases_Bool, and_right, ne_eqb, both_ways}
 use Rattle.std.proofs.lemmas.List.{length-map, get_or-map, get_or-set_same, get_or-set_other}
 use Rattle.numbered_lists.proofs.LastPlace.{none_where}
@@ -15,16 +15,17 @@ use Rattle.live_views.specs.declared.job_view.Phase.TheVariants as phase
 use Rattle.written_machine.specs.State.{Stage, Made, State, no_job, job_at, pool_of, pool_view, pool_seen, is_at, is_unfinished, busy, same_parent, is_made_by, child}
 use Rattle.written_machine.specs.State.Stage.{Queued, At, Done, Claimed}
 use Rattle.written_machine.specs.Step.{point, with_stage, finished_job}
-use Rattle.written_machine.proofs.Kept.{IsAfter, Kept}
+use Rattle.written_machine.specs.Laws.{IsLater}
+use Rattle.written_machine.proofs.Busy.{one_if, busy-staged_here, busy-staged_elsewhere}
+use Rattle.written_machine.proofs.Kept.{Kept}
 use Rattle.written_machine.proofs.Standing.{At≢Claimed}
-use Rattle.written_machine.proofs.Stages.{child-stage}
+use Rattle.written_machine.proofs.Stages.{get_or-staged_same, get_or-staged_other, child-stage}
 use Rattle.written_machine.proofs.Children.{same_actor_true, same_actor_refl}
 use Rattle.live_views.specs.LiveView.{may_ask, is_number, phase_seen, job_with, job_seen, View, live_view}
 use Rattle.live_views.specs.ViewStep.{live_job, live_child, is_done, may_ask_for, pool_in, put_pool, unless_orphan, finished_or_gone, finish_live}
-use Rattle.live_views.proofs.View.{seen, phase_with, job_seen-with, length-view, view_at, jobs_are, pool_at_view, same_views, may_ask_seen}
-use Rattle.live_views.proofs.Changes.{as_seen, seen_same, seen_at, job_at-staged, job_at-staged_other, may_ask-staged_other, job_standing}
+use Rattle.live_views.proofs.View.{seen, phase_with, job_seen-with, length-view, view_at, jobs_are, pool_at_view, same_views, may_ask_seen, pools-put}
+use Rattle.live_views.proofs.Changes.{as_seen, seen_same, seen_at, may_ask-staged_other, job_standing}
 use Rattle.live_views.proofs.Children.{made_by_itself, child_seen}
-use Rattle.live_views.proofs.Threads.{busy-staged_here, busy-staged_other, pools-put}
 use Rattle.live_views.proofs.Older.{Settled, latest_unclaimed}
 
 -- ---- nobody asks for a done job whose parent has finished
@@ -53,12 +54,12 @@ seen-finished_other : (s : State) (j n : ℕ) → j < length s.jobs → n ≢ j 
 seen-finished_other s j n inside other =
     let s' = with_stage j Done s in
     let old = job_at s n in
-    let same = job_at-staged_other s j n Done other in
+    let same = get_or-staged_other s.jobs j Done n no_job other in
     let latest = child-stage s.jobs old.parent old.slot j Done in
     ⊎_elim
     (λ orphan.
     let is_parent = same_actor_true (parent.Job j) old.parent orphan in
-    let asks : may_ask s' old.parent ≡ false = ap (may_ask s') (sym is_parent) ∙ ap (λ (job : Made). is_unfinished job.stage) (job_at-staged s j Done inside) in
+    let asks : may_ask s' old.parent ≡ false = ap (may_ask s') (sym is_parent) ∙ ap (λ (job : Made). is_unfinished job.stage) (get_or-staged_same s.jobs j Done inside) in
     ap (job_seen s' n) same ∙ job_seen-with s' n old ∙ ap (λ b. job_with old (phase_with b (child s' old.parent old.slot) n old.stage)) asks
     ∙ orphan_with j old (may_ask s old.parent) (child s old.parent old.slot) (child s' old.parent old.slot) n old.stage orphan ∙ sym (ap (unless_orphan j) (job_seen-with s n old)))
     (λ cared.
@@ -68,7 +69,7 @@ seen-finished_other s j n inside other =
 
 -- ---- the job itself
 
-own_parent : (a : Parent) (j : ℕ) → IsAfter a j → same_parent (parent.Job j) a ≡ false
+own_parent : (a : Parent) (j : ℕ) → IsLater a j → same_parent (parent.Job j) a ≡ false
 own_parent (parent.Client c) j after = refl
 own_parent (parent.Job m) j after = ne_eqb j m (λ (e : j ≡ m). omega arith)
 
@@ -95,7 +96,7 @@ latest_seen plan s j settled inside unclaimed asks (Some m) e =
     let last = latest_unclaimed plan s job.parent job.slot j m settled asks inside (made_by_itself job) unclaimed e in
     sym (ap (λ o. is_number o j) (child_seen plan s job.parent job.slot m asks e last))
 
-seen-finished : (plan : Plan) (s : State) (j i : ℕ) → Settled plan s → IsAfter (job_at s j).parent j → j < length s.jobs → (job_at s j).stage ≡ At i
+seen-finished : (plan : Plan) (s : State) (j i : ℕ) → Settled plan s → IsLater (job_at s j).parent j → j < length s.jobs → (job_at s j).stage ≡ At i
     → seen (with_stage j Done s) j ≡ unless_orphan j (finished_or_gone (live_view plan s).jobs j (as_seen (job_at s j) (phase.At i)))
 seen-finished plan s j i settled after inside stands =
     let s' = with_stage j Done s in
@@ -110,7 +111,7 @@ seen-finished plan s j i settled after inside stands =
     let stays : now ≡ (may_ask s a && is_number (child s a t) j) = ap₂ (λ b o. b && is_number o j) (may_ask-staged_other s j Done a not_itself) (child-stage s.jobs a t j Done) in
     let told = and_same (may_ask s a) (is_number (child s a t) j) (is_number (live_child jobs a t) j) (λ asks. latest_seen plan s j settled inside (At≢Claimed stands) asks (child s a t) refl) in
     let same : now ≡ seen_now = stays ∙ told ∙ sym (ap (λ b. b && is_number (live_child jobs a t) j) (may_ask_seen plan s a)) in
-    ap (job_seen s' j) (job_at-staged s j Done inside) ∙ finished_if job Done now ∙ ap (λ b. if b then Some (as_seen job phase.Done) else None) same ∙ sym (finished_stays j job seen_now not_own)
+    ap (job_seen s' j) (get_or-staged_same s.jobs j Done inside) ∙ finished_if job Done now ∙ ap (λ b. if b then Some (as_seen job phase.Done) else None) same ∙ sym (finished_stays j job seen_now not_own)
 
 -- ---- the event
 
@@ -142,11 +143,9 @@ module _ (plan : Plan) (s : State) (j : ℕ) (body : List Action) (i : ℕ) (kep
       let pools = (live_view plan s).pools in
       let at = job_standing plan s j body i stands in
       let pool = finished (pool_seen plan s p) in
-      let count = busy-staged_here plan s j Done at.0 in
-      let was_at : ◌≡◌ {A = ℕ} (cond (is_at job.stage) 1 0) 1 = ap (λ (stage : Stage). cond (is_at stage) 1 0) at.1 in
-      let threads : pool.idle + busy plan s2 p ≡ pool.threads = omega arith in
+      let threads : pool.idle + busy plan s2 p ≡ pool.threads = omega (arith, busy-staged_here plan s.jobs j Done p refl at.0, ap (λ (stage : Stage). one_if (is_at stage)) at.1) in
       let now = ap (pool_view (pool_at plan p) (record { queue = pool.queue; idle = pool.idle })) threads in
-      pools-put plan s s2 p pool refl kept.as_many inside now (busy-staged_other plan s j Done) ∙ ap (λ (x : PoolView). set pools p (finished x)) (sym (pool_at_view plan s p inside))
+      pools-put plan s s2 p pool refl kept.as_many inside now (λ q other. busy-staged_elsewhere plan s.jobs j Done q (λ same. other (sym same))) ∙ ap (λ (x : PoolView). set pools p (finished x)) (sym (pool_at_view plan s p inside))
 
   finished_as : live_job (live_view plan s).jobs j ≡ Some (as_seen (job_at s j) (phase.At i))
   finished_as = view_at plan s j ∙ seen_at s j (At i) (phase.At i) (job_standing plan s j body i stands).1 refl

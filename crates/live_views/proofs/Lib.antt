@@ -1,7 +1,6 @@
 pub mod View
 pub mod Changes
 pub mod Children
-pub mod Threads
 pub mod Moves
 pub mod Submits
 pub mod Older

@@ -10,18 +10,19 @@ use Rattle.written_machine.specs.declared.parent.Parent.{Parent}
 use Rattle.written_machine.specs.declared.parent.Parent.TheVariants as parent
 use Rattle.written_machine.specs.declared.event.Outcome.TheVariants.{Got, Looped}
 use Rattle.live_views.specs.declared.job_view.Phase.TheVariants as phase
-use Rattle.written_machine.specs.State.{Stage, Made, State, job_at, is_unfinished, is_busy_in, busy, child}
+use Rattle.written_machine.specs.State.{Stage, Made, State, job_at, is_at, is_unfinished, busy, child}
 use Rattle.written_machine.specs.State.Stage.{Queued, At, Done, Claimed}
 use Rattle.written_machine.specs.Step.{point, with_stage, with_position, got, got_child, looped}
+use Rattle.written_machine.proofs.Stages.{get_or-staged_same}
+use Rattle.written_machine.proofs.Busy.{busy_in-as, busy-staged_same, busy-moved}
 use Rattle.written_machine.proofs.Kept.{Kept}
 use Rattle.written_machine.proofs.Standing.{job_made, job_at-with_position}
 use Rattle.live_views.specs.LiveView.{job_seen, View, live_view}
 use Rattle.live_views.specs.ViewStep.{live_job, live_child, in_phase, move_actor, get_live, get_in, loop_in}
 use Rattle.live_views.specs.Laws.{seen_after}
-use Rattle.live_views.proofs.View.{seen, view_at, same_pools, same_views}
-use Rattle.live_views.proofs.Changes.{as_seen, seen_at, job_at-staged, jobs-staged, job_standing, standing_asks}
+use Rattle.live_views.proofs.View.{seen, view_at, same_pools, same_views, pool_seen-busy}
+use Rattle.live_views.proofs.Changes.{as_seen, seen_at, jobs-staged, job_standing, standing_asks}
 use Rattle.live_views.proofs.Children.{child_seen, done_seen}
-use Rattle.live_views.proofs.Threads.{busy-moved, busy-staged_same, pool_seen-busy}
 
 pub move_seen : (plan : Plan) (s : State) (a : Parent) (body : List Action) (i i' : ℕ) → point plan s a ≡ Some (record { body = body; position = i }) → live_view plan (with_position a i' s) ≡ move_actor a i' (live_view plan s)
 move_seen plan s (parent.Client c) body i i' e = refl
@@ -29,10 +30,10 @@ move_seen plan s (parent.Job j) body i i' e =
     let s' = with_position (parent.Job j) i' s in
     let found = job_standing plan s j body i e in
     let before : live_job (live_view plan s).jobs j ≡ Some (as_seen (job_at s j) (phase.At i)) = view_at plan s j ∙ seen_at s j (At i) (phase.At i) found.1 refl in
-    let after : seen s' j ≡ Some (as_seen (job_at s j) (phase.At i')) = ap (job_seen s' j) (job_at-staged s j (At i') found.0) in
+    let after : seen s' j ≡ Some (as_seen (job_at s j) (phase.At i')) = ap (job_seen s' j) (get_or-staged_same s.jobs j (At i') found.0) in
     let same : is_unfinished (At i') ≡ is_unfinished (job_at s j).stage = sym (ap is_unfinished found.1) in
     let jobs = jobs-staged plan s j (At i') (in_phase (phase.At i') (live_job (live_view plan s).jobs j)) found.0 same (after ∙ sym (ap (in_phase (phase.At i')) before)) in
-    let pools = same_pools plan s s' (λ p inside. pool_seen-busy plan s p (busy plan s' p) (busy-moved plan s (parent.Job j) body i i' e p)) in
+    let pools = same_pools plan s s' (λ p inside. pool_seen-busy plan s p (busy plan s' p) (busy-moved plan s (parent.Job j) body i i' p e)) in
     same_views (live_view plan s') (move_actor (parent.Job j) i' (live_view plan s)) jobs pools refl refl
 
 -- ---- a client begins again
@@ -52,8 +53,8 @@ claim_seen : (plan : Plan) (s : State) (j : ℕ) → (job_at s j).stage ≡ Done
 claim_seen plan s j done =
     let s' = with_stage j Claimed s in
     let inside = job_made s j (λ claimed. let e : Done ≡ Claimed = sym done ∙ claimed in absurd cc) in
-    let jobs = jobs-staged plan s j Claimed None inside (sym (ap is_unfinished done)) (ap (job_seen s' j) (job_at-staged s j Claimed inside)) in
-    let same = λ (p : ℕ). busy-staged_same plan s j Claimed p (sym (ap (λ stage. is_busy_in plan p (record (job_at s j) { stage = stage })) done)) in
+    let jobs = jobs-staged plan s j Claimed None inside (sym (ap is_unfinished done)) (ap (job_seen s' j) (get_or-staged_same s.jobs j Claimed inside)) in
+    let same = λ (p : ℕ). busy-staged_same plan s.jobs j Claimed p (busy_in-as plan p (job_at s j) Claimed (sym (ap is_at done))) in
     let pools = same_pools plan s s' (λ p within. pool_seen-busy plan s p (busy plan s' p) (same p)) in
     same_views (live_view plan s') (record (live_view plan s) { jobs = set (live_view plan s).jobs j None }) jobs pools refl refl
 

@@ -1,5 +1,5 @@
 -- An idle worker takes the head of the queue, or ends.
-use Rattle.std.proofs.Common.{◌≡◌, ℕ, zero, suc, ◌+◌, ◌-◌, ◌<◌, ◌≤◌, Bool, true, false, cond, nat_lt, if◌then◌else◌, List, [], ◌∷◌, length, set, Some, None, ⊎_elim, refl, sym, ap, ◌∙◌, arith}
+use Rattle.std.proofs.Common.{◌≡◌, ℕ, zero, suc, ◌+◌, ◌-◌, ◌<◌, ◌≤◌, Bool, true, false, nat_lt, if◌then◌else◌, List, [], ◌∷◌, length, set, Some, None, ⊎_elim, refl, sym, ap, ◌∙◌, arith}
 use Rattle.std.specs.Option.{option_map}
 use Rattle.std.proofs.lemmas.Bool.{cases_lt}
 use Rattle.std.proofs.lemmas.List.{get_or_past}
@@ -10,14 +10,15 @@ use Rattle.live_views.specs.declared.job_view.Phase.TheVariants as phase
 use Rattle.written_machine.specs.State.{Stage, State, PoolPart, no_pool_part, job_at, pool_part, pool_view, pool_seen, is_at, is_unfinished, busy}
 use Rattle.written_machine.specs.State.Stage.{Queued, At}
 use Rattle.written_machine.specs.Step.{with_stage, with_pool, took, let_go}
+use Rattle.written_machine.proofs.Stages.{get_or-staged_same}
+use Rattle.written_machine.proofs.Busy.{one_if, busy-staged_here, busy-staged_elsewhere}
 use Rattle.written_machine.proofs.Kept.{Kept}
 use Rattle.written_machine.proofs.Queues.{IsHead, head_of_queue}
 use Rattle.live_views.specs.LiveView.{job_seen, live_view}
 use Rattle.live_views.specs.ViewStep.{live_job, in_phase, with_phase, no_pool_view, pool_in, put_pool, take_in, retire_in}
 use Rattle.live_views.specs.Laws.{seen_after}
-use Rattle.live_views.proofs.View.{seen, view_at, length-pools, pool_at_view, same_views}
-use Rattle.live_views.proofs.Changes.{as_seen, seen_at, job_at-staged, jobs-staged}
-use Rattle.live_views.proofs.Threads.{busy-staged_here, busy-staged_other, pools-put}
+use Rattle.live_views.proofs.View.{seen, view_at, length-pools, pool_at_view, same_views, pools-put}
+use Rattle.live_views.proofs.Changes.{as_seen, seen_at, jobs-staged}
 
 -- ---- a taking
 
@@ -30,15 +31,11 @@ take_seen plan s p j idle queue kept inside is_idle head =
     let s2 = with_stage j (At 0) s in
     let pool : PoolView = record (pool_seen plan s p) { idle = idle; queue = queue } in
     let before : live_job view.jobs j ≡ Some (as_seen job phase.Queued) = view_at plan s j ∙ seen_at s j Queued phase.Queued head.queued refl in
-    let after : seen s2 j ≡ Some (as_seen job (phase.At 0)) = ap (job_seen s2 j) (job_at-staged s j (At 0) head.inside) in
+    let after : seen s2 j ≡ Some (as_seen job (phase.At 0)) = ap (job_seen s2 j) (get_or-staged_same s.jobs j (At 0) head.inside) in
     let jobs = jobs-staged plan s j (At 0) (in_phase (phase.At 0) (live_job view.jobs j)) head.inside (sym (ap is_unfinished head.queued)) (after ∙ sym (ap (in_phase (phase.At 0)) before)) in
-    let count = busy-staged_here plan s j (At 0) head.inside in
-    let was : ◌≡◌ {A = ℕ} (cond (is_at job.stage) 1 0) 0 = ap (λ (stage : Stage). cond (is_at stage) 1 0) head.queued in
-    let busy_after = ap (busy plan s2) head.of_pool in
-    let busy_before = ap (busy plan s) head.of_pool in
-    let threads : idle + busy plan s2 p ≡ (pool_part s p).idle + busy plan s p = omega arith in
+    let threads : idle + busy plan s2 p ≡ (pool_part s p).idle + busy plan s p = omega (arith, busy-staged_here plan s.jobs j (At 0) p head.of_pool head.inside, ap (λ (stage : Stage). one_if (is_at stage)) head.queued) in
     let pool_now = ap (pool_view (pool_at plan p) (record { queue = queue; idle = idle })) threads in
-    let pools = pools-put plan s s2 p pool refl kept.as_many inside pool_now (λ q other. busy-staged_other plan s j (At 0) q (λ e. other (e ∙ head.of_pool))) in
+    let pools = pools-put plan s s2 p pool refl kept.as_many inside pool_now (λ q other. busy-staged_elsewhere plan s.jobs j (At 0) q (λ same. other (sym same ∙ head.of_pool))) in
     same_views (live_view plan (with_pool p pool s2)) (record view { jobs = with_phase j (phase.At 0) view.jobs; pools = set view.pools p pool }) jobs pools refl refl
 
 taken_commutes : (plan : Plan) (s : State) (p : ℕ) → Kept plan s → p < length plan.pools → (idle : ℕ) (queue : List ℕ) → (pool_part s p).idle ≡ idle → (pool_part s p).queue ≡ queue

@@ -27,7 +27,7 @@ use Rattle.live_views.proofs.Dead.{Leaves, step_leaves}
 
 pub settled : (plan : Plan) (s : State) → IsWellFormed plan → IsReached plan s → Settled plan s
 settled plan s well_formed reached =
-    let both = reached_keeps plan (λ s. Kept plan s × Settled plan s) (kept_start plan, settled_start plan)
+    let both = reached_keeps plan (λ s. Kept plan s × Settled plan s) (kept_start plan (ordered plan well_formed), settled_start plan)
     (λ s₁ e s₂ o held happened. (kept_step plan s₁ s₂ o (ordered plan well_formed) held.0 happened, settled_step plan s₁ s₂ o (ordered plan well_formed) held.0 held.1 happened)) s reached in
     both.1
 

@@ -16,8 +16,9 @@ use Rattle.written_machine.specs.State.{Stage, Made, State, PoolPart, no_job, is
 use Rattle.written_machine.specs.State.Stage.{Queued, At, Done, Claimed}
 use Rattle.written_machine.specs.Step.{point, with_stage, with_position, with_job, new_job, moved_jobs, moved_clients}
 use Rattle.written_machine.specs.Reach.{start}
+use Rattle.written_machine.specs.Laws.{IsLater}
 use Rattle.written_machine.proofs.Events.{Happens, works, starts, queues, is_refused, gets, finishes, loops, takes, retires}
-use Rattle.written_machine.proofs.Kept.{IsAfter, Kept}
+use Rattle.written_machine.proofs.Kept.{Kept}
 use Rattle.written_machine.proofs.Standing.{At≢Claimed, standing_made, client_standing, lawful_point}
 use Rattle.written_machine.proofs.Stages.{staged, length-staged, stage-staged, get_or-staged_other, parent-staged, child-moved, HaveParents, parents_moved, parents_pushed}
 use Rattle.written_machine.proofs.Queues.{Queued≢Claimed, IsHead, head_of_queue}
@@ -41,7 +42,7 @@ childless_staged jobs j stage inside going childless m n within made queued =
 makers_staged : (jobs : List Made) (j : ℕ) (stage : Stage) (clients : ℕ) → HaveMakers jobs clients → HaveMakers (staged jobs j stage) clients
 makers_staged jobs j stage clients makers m c within made = let long = length-staged jobs j stage in makers m c (omega arith) (sym (parent-staged jobs j stage m no_job) ∙ made)
 
-childless_pushed : (jobs : List Made) (job : Made) → HaveParents jobs → IsAfter job.parent (length jobs) → ((n : ℕ) → job.parent ≡ parent.Job n → (get_or jobs n no_job).stage ≢ Queued) → QueuedAreChildless jobs
+childless_pushed : (jobs : List Made) (job : Made) → HaveParents jobs → IsLater job.parent (length jobs) → ((n : ℕ) → job.parent ≡ parent.Job n → (get_or jobs n no_job).stage ≢ Queued) → QueuedAreChildless jobs
     → QueuedAreChildless (jobs ++ job ∷ [])
 childless_pushed jobs job parents after at_work childless m n within made queued =
     let jobs' : List Made = jobs ++ job ∷ [] in
@@ -50,11 +51,11 @@ childless_pushed jobs job parents after at_work childless m n within made queued
     ⊎_elim
     (λ (before : m < length jobs).
     let made_by : (get_or jobs m no_job).parent ≡ parent.Job n = ap (λ (x : Made). x.parent) (sym (get_or_append_left jobs (job ∷ []) no_job m before)) ∙ made in
-    let earlier : n < m = subst (λ (a : Parent). IsAfter a m) made_by (parents m before) in
+    let earlier : n < m = subst (λ (a : Parent). IsLater a m) made_by (parents m before) in
     childless m n before made_by (was (omega arith)))
     (λ (past : length jobs ≤ m).
     let made_by : job.parent ≡ parent.Job n = ap (λ (x : Made). x.parent) (sym (get_or_push jobs job no_job m (omega arith))) ∙ made in
-    let earlier : n < length jobs = subst (λ (a : Parent). IsAfter a (length jobs)) made_by after in
+    let earlier : n < length jobs = subst (λ (a : Parent). IsLater a (length jobs)) made_by after in
     at_work n made_by (was earlier))
     (cases_lt m (length jobs))
 
@@ -130,7 +131,7 @@ new_is_childless plan s a body i k stage kept stands t j inside made =
     let long = length_push jobs new in
     let parents = parents_pushed jobs new (parents_moved s a (i + 1) kept.parents) (is_after plan s a body i (i + 1) stands) in
     let made_by = (maker_of (get_or (jobs ++ new ∷ []) j no_job) (parent.Job (length jobs)) t made).0 in
-    let earlier : length jobs < j = subst (λ (b : Parent). IsAfter b j) (sym made_by) (parents j inside) in
+    let earlier : length jobs < j = subst (λ (b : Parent). IsLater b j) (sym made_by) (parents j inside) in
     absurd (omega arith)
 
 settled_submits : (plan : Plan) (s : State) (a : Parent) (body : List Action) (i k : ℕ) (stage : Stage) → IsLawful plan body → Kept plan s → point plan s a ≡ Some (record { body = body; position = i }) → slice_get body i ≡ Some (Submit k) → stage ≢ Claimed
@@ -227,7 +228,7 @@ settled_step plan s s' o ordered kept settled (starts a body i k at below) =
 settled_step plan s s' o ordered kept settled (queues a body i k at core room) =
     let after = settled_submits plan s a body i k Queued (lawful_point plan s a body i ordered at.stands) kept at.stands at.is_there (λ f. absurd cc) settled in
     settled_put plan (with_job (new_job k a i Queued) (with_position a (i + 1) s)) s'.pools s'.refusals after
-settled_step plan s s' o ordered kept settled (is_refused a body i k at full) = settled_put plan s s.pools (s.refusals + 1) settled
+settled_step plan s s' o ordered kept settled (is_refused a body i k at no_room all_started) = settled_put plan s s.pools (s.refusals + 1) settled
 settled_step plan s s' o ordered kept settled (gets a body i t j at is_child done) = settled_gets plan s a body i t j at.stands at.is_there is_child settled
 settled_step plan s s' o ordered kept settled (finishes j body i at) = settled_put plan (with_stage j Done s) s'.pools s'.refusals (settled_finishes plan s j body i at.stands settled)
 settled_step plan s s' o ordered kept settled (loops c client body i at is_client repeat) =

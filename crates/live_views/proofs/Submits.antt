@@ -16,16 +16,17 @@ use Rattle.live_views.specs.declared.job_view.Phase.{Phase}
 use Rattle.live_views.specs.declared.job_view.Phase.TheVariants as phase
 use Rattle.written_machine.specs.State.{Stage, Made, State, no_job, job_at, pool_part, pool_of, pool_view, pool_seen, is_unfinished, busy, is_made_by, child}
 use Rattle.written_machine.specs.State.Stage.{Queued, At, Done, Claimed}
-use Rattle.written_machine.specs.Step.{point, with_position, with_job, with_pool, new_job, answered, submitted}
-use Rattle.written_machine.proofs.Kept.{IsAfter, Kept}
+use Rattle.written_machine.specs.Step.{moved_jobs, point, with_position, with_job, with_pool, new_job, answered, submitted}
+use Rattle.written_machine.specs.Laws.{IsLater}
+use Rattle.written_machine.proofs.Busy.{busy_in_other, busy_push_here, busy_push_same, busy-moved}
+use Rattle.written_machine.proofs.Kept.{Kept}
 use Rattle.written_machine.proofs.Stages.{HaveParents, parents_moved}
 use Rattle.written_machine.proofs.Children.{maker_of}
 use Rattle.live_views.specs.LiveView.{may_ask, is_number, phase_seen, job_with, job_seen, View, live_view}
 use Rattle.live_views.specs.ViewStep.{is_done, unless_stale, pool_in, move_actor, new_live_job, made, answered_in, submit_in}
-use Rattle.live_views.proofs.View.{seen, phase_with, job_seen-with, length-view, view_at, jobs_are, pool_at_view, one_pool, same_views}
+use Rattle.live_views.proofs.View.{seen, phase_with, job_seen-with, length-view, view_at, jobs_are, pool_at_view, one_pool, same_views, pool_seen-busy, pools-put}
 use Rattle.live_views.proofs.Changes.{as_seen, seen_same}
 use Rattle.live_views.proofs.Children.{made_by_itself}
-use Rattle.live_views.proofs.Threads.{busy-made_here, busy-made_other, busy-moved, pool_seen-busy, pools-put}
 use Rattle.live_views.proofs.Moves.{move_seen}
 
 -- ---- a done job is stale once its parent made another at the same position
@@ -51,7 +52,7 @@ stale_with a t job asks latest latest' n Claimed made none = refl
 
 -- ---- the jobs once a new one was made
 
-may_ask-made : (s : State) (job : Made) (a : Parent) → IsAfter a (length s.jobs) → may_ask (with_job job s) a ≡ may_ask s a
+may_ask-made : (s : State) (job : Made) (a : Parent) → IsLater a (length s.jobs) → may_ask (with_job job s) a ≡ may_ask s a
 may_ask-made s job (parent.Client c) after = refl
 may_ask-made s job (parent.Job m) after = ap (λ (made : Made). is_unfinished made.stage) (get_or_append_left s.jobs (job ∷ []) no_job m after)
 
@@ -61,7 +62,7 @@ same_maker job old e =
     let made = maker_of old job.parent job.slot e in
     ap₂ (λ a t. is_made_by a t job) (sym made.0) (sym made.1) ∙ made_by_itself job
 
-seen-made : (s : State) (job : Made) (n : ℕ) → n < length s.jobs → IsAfter (job_at s n).parent (length s.jobs) → seen (with_job job s) n ≡ unless_stale job.parent job.slot (seen s n)
+seen-made : (s : State) (job : Made) (n : ℕ) → n < length s.jobs → IsLater (job_at s n).parent (length s.jobs) → seen (with_job job s) n ≡ unless_stale job.parent job.slot (seen s n)
 seen-made s job n inside after =
     let s' = with_job job s in
     let old = job_at s n in
@@ -80,7 +81,7 @@ seen-made s job n inside after =
     seen_same s s' n same asks latest ∙ sym (unless_stale-other job.parent job.slot old (phase_seen s n old old.stage) fresh))
     (cases_Bool (is_made_by job.parent job.slot old))
 
-later : (a : Parent) (n m : ℕ) → n < m → IsAfter a n → IsAfter a m
+later : (a : Parent) (n m : ℕ) → n < m → IsLater a n → IsLater a m
 later (parent.Client c) n m less after = tt
 later (parent.Job j) n m less after = omega arith
 
@@ -119,7 +120,9 @@ module _ (plan : Plan) (s : State) (a : Parent) (body : List Action) (i k : ℕ)
   clients_now = ap (λ (v : View). v.clients) (move_seen plan s a body i (i + 1) stands)
 
   busy_other : (stage : Stage) (q : ℕ) → q ≢ pool_of plan k → busy plan (with_job (new_job k a i stage) (with_position a (i + 1) s)) q ≡ busy plan s q
-  busy_other stage q other = busy-made_other plan (with_position a (i + 1) s) (new_job k a i stage) q other ∙ busy-moved plan s a body i (i + 1) stands q
+  busy_other stage q other =
+      let job = new_job k a i stage in
+      busy_push_same plan (moved_jobs a (i + 1) s) job q (busy_in_other plan q job (λ same. other (sym same))) ∙ busy-moved plan s a body i (i + 1) q stands
 
   started_seen : live_view plan (answered plan s a i k offer.Started).0 ≡ (answered_in plan (live_view plan s) a i k offer.Started).0
   started_seen =
@@ -127,8 +130,8 @@ module _ (plan : Plan) (s : State) (a : Parent) (body : List Action) (i k : ℕ)
       let p = pool_of plan k in
       let moved = with_position a (i + 1) s in
       let s' = with_job (new_job k a i (At 0)) moved in
-      let here = busy-made_here plan moved (new_job k a i (At 0)) in
-      let was = busy-moved plan s a body i (i + 1) stands p in
+      let here = busy_push_here plan moved.jobs (new_job k a i (At 0)) in
+      let was = busy-moved plan s a body i (i + 1) p stands in
       let threads : (pool_part s p).idle + busy plan s' p ≡ (pool_part s p).idle + busy plan s p + 1 = omega arith in
       let pool = ap (pool_view (pool_at plan p) (pool_part s p)) threads ∙ sym (ap (λ (pool : PoolView). after_answer pool (length view.jobs) offer.Started) (pool_at_view plan s p inside)) in
       let pools = one_pool plan s s' p (after_answer (pool_in view p) (length view.jobs) offer.Started) inside pool (λ q other. pool_seen-busy plan s q (busy plan s' q) (busy_other (At 0) q other)) in
@@ -141,8 +144,8 @@ module _ (plan : Plan) (s : State) (a : Parent) (body : List Action) (i k : ℕ)
       let moved = with_position a (i + 1) s in
       let s' = with_job (new_job k a i Queued) moved in
       let after = after_answer (pool_seen plan s p) (length s.jobs) offer.Queued in
-      let here = busy-made_here plan moved (new_job k a i Queued) in
-      let was = busy-moved plan s a body i (i + 1) stands p in
+      let here = busy_push_here plan moved.jobs (new_job k a i Queued) in
+      let was = busy-moved plan s a body i (i + 1) p stands in
       let threads : after.idle + busy plan s' p ≡ (pool_part s p).idle + busy plan s p = omega arith in
       let pool = ap (pool_view (pool_at plan p) (record { queue = after.queue; idle = after.idle })) threads in
       let put = pools-put plan s s' p after refl kept.as_many inside pool (busy_other Queued) in

@@ -1,19 +1,19 @@
 -- The live view of a state, place by place.
-use Rattle.std.proofs.Common.{◌≡◌, ◌≢◌, ℕ, ◌<◌, Bool, true, false, ◌&&◌, if◌then◌else◌, List, length, get_or, set, Option, Some, None, inl, inr, ⊎_elim, refl, sym, ap, ap₂, ◌∙◌, arith, zero-add, length-set, ext_get_or}
+use Rattle.std.proofs.Common.{◌≡◌, ◌≢◌, ℕ, ◌+◌, ◌<◌, Bool, true, false, ◌&&◌, if◌then◌else◌, List, length, get_or, set, Option, Some, None, inl, inr, ⊎_elim, refl, sym, ap, ap₂, ◌∙◌, arith, zero-add, length-set, ext_get_or}
 use Rattle.std.specs.List.{enumerate_from}
 use Rattle.std.proofs.lemmas.Bool.{cases_lt, cases_eq}
 use Rattle.std.proofs.lemmas.List.{length-map, get_or-map, get_or_past, get_or-set_same, get_or-set_other}
 use Rattle.std.proofs.lemmas.List.FromFn.{length-enumerate_from, get_or-enumerate_from}
-use Rattle.job_bodies.specs.Plan.{Plan, no_pool}
+use Rattle.job_bodies.specs.Plan.{Plan, no_pool, pool_at}
 use Rattle.pool_machine.specs.PoolState.{PoolView}
 use Rattle.written_machine.specs.declared.parent.Parent.{Parent}
 use Rattle.written_machine.specs.declared.parent.Parent.TheVariants as parent
 use Rattle.live_views.specs.declared.job_view.Phase.{Phase}
 use Rattle.live_views.specs.declared.job_view.Phase.TheVariants as phase
 use Rattle.live_views.specs.declared.job_view.JobView.{JobView}
-use Rattle.written_machine.specs.State.{Stage, Made, State, no_job, job_at, pool_seen, is_unfinished, child}
+use Rattle.written_machine.specs.State.{Stage, Made, State, no_job, job_at, pool_seen, is_unfinished, child, PoolPart, no_pool_part, pool_part, part_of, pool_view, busy}
 use Rattle.written_machine.specs.State.Stage.{Queued, At, Done, Claimed}
-use Rattle.written_machine.specs.Step.{point, point_of_job}
+use Rattle.written_machine.specs.Step.{point, point_of_job, with_pool}
 use Rattle.live_views.specs.LiveView.{may_ask, is_number, phase_seen, job_with, job_seen, View, live_view}
 use Rattle.live_views.specs.ViewStep.{live_job, is_unfinished_job, may_ask_for, point_of_live_job, point_in, no_pool_view, pool_in}
 
@@ -88,6 +88,21 @@ one_pool plan s s' p pool inside here other =
     (λ q within. ⊎_elim (λ (same : q ≡ p). ap (pool_seen plan s') same ∙ here ∙ sym (ap (λ k. get_or (set (live_view plan s).pools p pool) k no_pool_view) same ∙ get_or-set_same (live_view plan s).pools p pool no_pool_view (omega arith)))
     (λ (apart : q ≢ p). other q apart ∙ sym (pool_at_view plan s q within) ∙ sym (get_or-set_other (live_view plan s).pools p q pool no_pool_view apart))
     (cases_eq q p))
+
+-- as many at work, so the same threads
+pub pool_seen-busy : (plan : Plan) (s : State) (p count : ℕ) → count ≡ busy plan s p → pool_view (pool_at plan p) (pool_part s p) ((pool_part s p).idle + count) ≡ pool_seen plan s p
+pool_seen-busy plan s p count e = ap (λ n. pool_view (pool_at plan p) (pool_part s p) ((pool_part s p).idle + n)) e
+
+-- the pool of the state that was changed, in the view
+pub pools-put : (plan : Plan) (s s' : State) (p : ℕ) (pool : PoolView) → s'.pools ≡ s.pools → length s.pools ≡ length plan.pools → p < length plan.pools
+    → pool_view (pool_at plan p) (part_of pool) (pool.idle + busy plan s' p) ≡ pool → ((q : ℕ) → q ≢ p → busy plan s' q ≡ busy plan s q)
+    → (live_view plan (with_pool p pool s')).pools ≡ set (live_view plan s).pools p pool
+pools-put plan s s' p pool same as_many inside here others =
+    let part : PoolPart = part_of pool in
+    let within : p < length s'.pools = omega (arith, ap length same) in
+    one_pool plan s (with_pool p pool s') p pool inside
+    (ap (λ x. pool_view (pool_at plan p) x (x.idle + busy plan s' p)) (get_or-set_same s'.pools p part no_pool_part within) ∙ here)
+    (λ q other. ap (λ x. pool_view (pool_at plan q) x (x.idle + busy plan s' q)) (get_or-set_other s'.pools p q part no_pool_part other ∙ ap (λ pools. get_or pools q no_pool_part) same) ∙ pool_seen-busy plan s q (busy plan s' q) (others q other))
 
 -- ---- the view as a whole
 

@@ -1,5 +1,5 @@
 -- What the live view tells of waiting sets, of unfinished jobs and of the start.
-use Rattle.std.proofs.Common.{◌≡◌, ℕ, ◌+◌, ◌<◌, Bool, true, false, not, ◌&&◌, ◌==◌, if◌then◌else◌, List, [], ◌∷◌, length, map, count_by, slice_get, Option, Some, None, refl, sym, ap, ap₂, ◌∙◌, le_refl}
+use Rattle.std.proofs.Common.{◌≡◌, ℕ, ◌+◌, ◌<◌, Bool, true, false, not, ◌&&◌, ◌==◌, if◌then◌else◌, List, [], ◌∷◌, length, map, count_by, slice_get, Option, Some, None, refl, sym, ap, ap₂, ◌∙◌, le_refl, arith}
 use Rattle.std.specs.List.{list_all}
 use Rattle.std.proofs.lemmas.List.{length-map, get_or-map}
 use Rattle.numbered_lists.specs.Places.{places_where}
@@ -12,12 +12,13 @@ use Rattle.job_bodies.proofs.Bodies.{IsOrdered}
 use Rattle.pool_machine.specs.PoolState.{PoolView, new_pool}
 use Rattle.written_machine.specs.declared.parent.Parent.TheVariants as parent
 use Rattle.live_views.specs.declared.job_view.Phase.TheVariants as phase
-use Rattle.written_machine.specs.State.{Stage, Made, State, PoolPart, no_job, no_pool_part, job_at, pool_of, pool_view, is_unfinished, is_busy_in, child}
+use Rattle.written_machine.specs.State.{Stage, Made, State, PoolPart, no_job, job_at, pool_of, part_of, pool_view, pool_seen, is_unfinished, is_busy_in, child}
 use Rattle.written_machine.specs.State.Stage.{Queued, At, Done, Claimed}
 use Rattle.written_machine.specs.Step.{point, point_of_job}
 use Rattle.written_machine.specs.Reach.{start}
 use Rattle.written_machine.specs.Waiting.{is_member, is_some_member, is_none, waits_at, waits_as, waits, is_waiting_set}
 use Rattle.written_machine.proofs.Kept.{Kept}
+use Rattle.written_machine.proofs.KeptStart.{pool_part_at_start}
 use Rattle.written_machine.proofs.Standing.{job_made}
 use Rattle.written_machine.proofs.Queues.{Queued≢Claimed, pool_of_made}
 use Rattle.live_views.specs.LiveView.{may_ask, is_number, phase_seen, job_with, job_seen, View, live_view}
@@ -104,9 +105,14 @@ module _ (plan : Plan) (s : State) (members : List ℕ) (ordered : IsOrdered pla
 
 -- ---- the start
 
+start_pool_seen : (plan : Plan) (p : ℕ) → p < length plan.pools → pool_seen plan (start plan) p ≡ new_pool (pool_at plan p)
+start_pool_seen plan p inside =
+    let pool = pool_at plan p in
+    let threads : (new_pool pool).idle + 0 ≡ (new_pool pool).threads = omega arith in
+    ap (λ (part : PoolPart). pool_view pool part (part.idle + 0)) (pool_part_at_start plan p inside) ∙ ap (pool_view pool (part_of (new_pool pool))) threads
+
 pub start_seen : (plan : Plan) → live_view plan (start plan) ≡ new_view plan
 start_seen plan =
-    let part = λ (p : ℕ) (inside : p < length plan.pools). get_or-map (λ pool. no_pool_part) plan.pools p no_pool no_pool_part inside in
     let pools = pools_are plan (start plan) (map new_pool plan.pools) (length-map plan.pools new_pool)
-    (λ p inside. ap (λ (x : PoolPart). pool_view (pool_at plan p) x (x.idle + 0)) (part p inside) ∙ sym (get_or-map new_pool plan.pools p no_pool no_pool_view inside)) in
+    (λ p inside. start_pool_seen plan p inside ∙ sym (get_or-map new_pool plan.pools p no_pool no_pool_view inside)) in
     same_views (live_view plan (start plan)) (new_view plan) refl pools refl refl

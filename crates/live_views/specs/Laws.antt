@@ -15,7 +15,8 @@ use Rattle.live_views.specs.LiveView.{View, live_view}
 use Rattle.live_views.specs.ViewStep.{live_job, is_unfinished_job, view_step}
 use Rattle.live_views.specs.Waiting.{is_waiting_set_in}
 
--- no jobs, each pool with no threads, each kind's clients at the start of their body, no refusals
+-- no jobs, each pool with core idle workers where it is prestarted, else with no threads, each kind's clients at the
+-- start of their body, no refusals
 abbrev pub new_view : Plan → View
 new_view plan = record {
   jobs = [];

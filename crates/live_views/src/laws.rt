@@ -2,8 +2,8 @@
 
 ghost use Rattle.live_views.specs.Laws.{StartIsSeen, StepsCommute, UnfinishedJobsAreLive, WaitingSetsAreSeen, DeadJobsStayDead};
 
-/// The live view of a plan's start has no jobs, each pool with no threads, each client at the start of its body, and no
-/// refusals.
+/// The live view of a plan's start has no jobs, each pool with core idle workers where it is prestarted, else with no
+/// threads, each client at the start of its body, and no refusals.
 pub fn start_is_seen()
     ensures { StartIsSeen }
 {}

@@ -9,7 +9,8 @@ use Rattle.written_machine.specs.declared.parent.Parent.TheVariants as parent
 use Rattle.written_machine.specs.State.{Stage, State, Made, no_job, same_parent, is_made_by}
 use Rattle.written_machine.specs.Step.{moved_jobs, new_job}
 use Rattle.written_machine.proofs.Standing.{At≢Claimed}
-use Rattle.written_machine.proofs.Kept.{IsAfter, HasChild}
+use Rattle.written_machine.specs.Laws.{IsLater}
+use Rattle.written_machine.proofs.Kept.{HasChild}
 use Rattle.written_machine.proofs.Stages.{staged, stage-staged, get_or-staged_other, class-staged, child-stage}
 
 -- ---- who made a job
@@ -83,7 +84,7 @@ HasChild-pushed jobs job a t k of_other child =
     }
 
 -- the new job is its maker's latest
-pub HasChild_new : (jobs : List Made) (job : Made) (a : Parent) (t k : ℕ) → is_made_by a t job ≡ true → job.class ≡ k → job.stage ≢ Stage.Claimed → IsAfter a (length jobs) → HasChild (jobs ++ job ∷ []) a t k
+pub HasChild_new : (jobs : List Made) (job : Made) (a : Parent) (t k : ℕ) → is_made_by a t job ≡ true → job.class ≡ k → job.stage ≢ Stage.Claimed → IsLater a (length jobs) → HasChild (jobs ++ job ∷ []) a t k
 HasChild_new jobs job a t k of_actor of_class unclaimed after =
     let is_new : get_or (jobs ++ job ∷ []) (length jobs) no_job ≡ job = get_or_push jobs job no_job (length jobs) refl in
     record {

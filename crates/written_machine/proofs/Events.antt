@@ -51,6 +51,7 @@ pub data Happens (plan : Plan) (s : State) : Event → State → Outcome → Typ
       → Happens plan s (event_of a) (queued_state plan s a i k) (outcome.Queued (length s.jobs))
   is_refused : (a : Parent) (body : List Action) (i k : ℕ) → StandsAt plan s a body i (Some (action.Submit k))
       → (pool_at plan (pool_of plan k)).queue ≤ length (pool_part s (pool_of plan k)).queue
+      → (pool_at plan (pool_of plan k)).max ≤ threads plan s (pool_of plan k)
       → Happens plan s (event_of a) (record s { refusals = s.refusals + 1 }) (outcome.Refused (pool_of plan k))
   gets : (a : Parent) (body : List Action) (i t j : ℕ) → StandsAt plan s a body i (Some (action.Get t)) → child s a t ≡ Some j → (job_at s j).stage ≡ Stage.Done
       → Happens plan s (event_of a) (with_stage j Stage.Claimed (with_position a (i + 1) s)) (outcome.Got j)
@@ -76,7 +77,9 @@ answered_happens plan s a body i k at offer.Started e = starts a body i k at (�
 answered_happens plan s a body i k at offer.Queued e =
     let room = queued_at_core (pool_seen plan s (pool_of plan k)) e in
     queues a body i k at room.0 room.1
-answered_happens plan s a body i k at offer.Refused e = is_refused a body i k at (refused_when_full (pool_seen plan s (pool_of plan k)) e).0
+answered_happens plan s a body i k at offer.Refused e =
+    let full = refused_when_full (pool_seen plan s (pool_of plan k)) e in
+    is_refused a body i k at full.0 full.1
 
 got_happens : (plan : Plan) (s : State) (a : Parent) (body : List Action) (i t j : ℕ) → StandsAt plan s a body i (Some (action.Get t)) → child s a t ≡ Some j → (stage : Stage) → (job_at s j).stage ≡ stage
     → (s' : State) (o : Outcome) → got s a i j stage ≡ Some (s', o) → Happens plan s (event_of a) s' o

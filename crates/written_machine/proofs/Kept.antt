@@ -6,14 +6,9 @@ use Rattle.job_bodies.specs.declared.action.Action.{Action}
 use Rattle.job_bodies.specs.declared.action.Action.TheVariants as action
 use Rattle.job_bodies.specs.Plan.{Plan, Pool, pool_at, class_got}
 use Rattle.written_machine.specs.declared.parent.Parent.{Parent}
-use Rattle.written_machine.specs.declared.parent.Parent.TheVariants as parent
 use Rattle.written_machine.specs.State.{Stage, State, Made, PoolPart, no_job, job_at, pool_part, is_made_by, is_busy_in, is_queued_in}
 use Rattle.written_machine.specs.Step.{point}
-
--- n is a job that the actor can have made: a job's children have greater numbers than it
-abbrev pub IsAfter : Parent → ℕ → Type 0
-IsAfter (parent.Client c) n = Unit {0}
-IsAfter (parent.Job j) n = j < n
+use Rattle.written_machine.specs.Laws.{IsLater}
 
 -- the actor's latest job from position t is of class k, and was not claimed
 pub record HasChild (jobs : List Made) (a : Parent) (t k : ℕ) : Type 0 where
@@ -21,7 +16,7 @@ pub record HasChild (jobs : List Made) (a : Parent) (t k : ℕ) : Type 0 where
   pub is_child : last_of (places_where (is_made_by a t) jobs) ≡ Some number
   pub of_class : (get_or jobs number no_job).class ≡ k
   pub unclaimed : (get_or jobs number no_job).stage ≢ Stage.Claimed
-  pub later : IsAfter a number
+  pub later : IsLater a number
 
 -- an actor at position i of its body: each get that is still to come finds its job, if the submit was passed
 pub record ActorKept (jobs : List Made) (a : Parent) (body : List Action) (i : ℕ) : Type 0 where
@@ -43,7 +38,7 @@ busy_jobs plan jobs p = count_by (is_busy_in plan p) jobs
 
 pub record Kept (plan : Plan) (s : State) : Type 0 where
   pub classes : All (λ job. job.class < length plan.classes) s.jobs
-  pub parents : (j : ℕ) → j < length s.jobs → IsAfter (job_at s j).parent j
+  pub parents : (j : ℕ) → j < length s.jobs → IsLater (job_at s j).parent j
   pub as_many : length s.pools ≡ length plan.pools
   pub pools : (p : ℕ) → p < length plan.pools → PoolKept (pool_at plan p) (pool_part s p) (places plan s.jobs p) (busy_jobs plan s.jobs p)
   pub actors : (a : Parent) (body : List Action) (i : ℕ) → point plan s a ≡ Some (record { body = body; position = i }) → ActorKept s.jobs a body i

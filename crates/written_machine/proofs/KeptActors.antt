@@ -12,12 +12,13 @@ use Rattle.written_machine.specs.declared.parent.Parent.TheVariants as parent
 use Rattle.written_machine.specs.State.{Stage, State, Made, is_made_by}
 use Rattle.written_machine.specs.Step.{point, moved_jobs, new_job}
 use Rattle.written_machine.proofs.Standing.{standing_made}
-use Rattle.written_machine.proofs.Kept.{IsAfter, HasChild, ActorKept}
+use Rattle.written_machine.specs.Laws.{IsLater}
+use Rattle.written_machine.proofs.Kept.{HasChild, ActorKept}
 use Rattle.written_machine.proofs.Stages.{staged, length-moved, child-moved}
 use Rattle.written_machine.proofs.Children.{one_child, HasChild-staged, HasChild-moved, HasChild-pushed, HasChild_new, made_by_maker, not_at_slot, not_by_other}
 
 -- a job that an actor makes has a greater number than it
-pub is_after : (plan : Plan) (s : State) (a : Parent) (body : List Action) (i i' : ℕ) → point plan s a ≡ Some (record { body = body; position = i }) → IsAfter a (length (moved_jobs a i' s))
+pub is_after : (plan : Plan) (s : State) (a : Parent) (body : List Action) (i i' : ℕ) → point plan s a ≡ Some (record { body = body; position = i }) → IsLater a (length (moved_jobs a i' s))
 is_after plan s (parent.Client c) body i i' stands = tt
 is_after plan s (parent.Job j) body i i' stands =
     let inside = standing_made plan s j body i stands in

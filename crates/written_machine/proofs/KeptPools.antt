@@ -46,18 +46,18 @@ retired_pool pool part ns busy idle kept is_idle above_core =
 abbrev pub PoolIsKept : Plan → List Made → ℕ → PoolPart → Type 0
 PoolIsKept plan jobs p part = PoolKept (pool_at plan p) part (places plan jobs p) (busy_jobs plan jobs p)
 
--- pool q as the event left it, and the others as they were
-pub pools_with_part : (plan : Plan) (s : State) (q : ℕ) (queue : List ℕ) (idle : ℕ) → length s.pools ≡ length plan.pools
-    → (q < length plan.pools → PoolIsKept plan s.jobs q (record { queue = queue; idle = idle }))
-    → ((p : ℕ) → p < length plan.pools → p ≢ q → PoolIsKept plan s.jobs p (pool_part s p))
-    → (p : ℕ) → p < length plan.pools → PoolIsKept plan s.jobs p (pool_part (with_part q queue idle s) p)
-pools_with_part plan s q queue idle as_many here elsewhere p inside = elim (cases_eq p q) [
+-- what holds of pool q as the event left it, and of the others as they were
+pub pools_with_part : (plan : Plan) (s : State) (q : ℕ) (queue : List ℕ) (idle : ℕ) (holds : ℕ → PoolPart → Type 0) → length s.pools ≡ length plan.pools
+    → (q < length plan.pools → holds q (record { queue = queue; idle = idle }))
+    → ((p : ℕ) → p < length plan.pools → p ≢ q → holds p (pool_part s p))
+    → (p : ℕ) → p < length plan.pools → holds p (pool_part (with_part q queue idle s) p)
+pools_with_part plan s q queue idle holds as_many here elsewhere p inside = elim (cases_eq p q) [
   | inl same ↦
       let exists : q < length plan.pools = omega arith in
       let is_part : pool_part (with_part q queue idle s) q ≡ record { queue = queue; idle = idle } = get_or-set_same s.pools q (record { queue = queue; idle = idle }) no_pool_part (omega arith) in
-      let kept : PoolIsKept plan s.jobs q (pool_part (with_part q queue idle s) q) = subst (PoolIsKept plan s.jobs q) (sym is_part) (here exists) in
-      subst (λ (x : ℕ). PoolIsKept plan s.jobs x (pool_part (with_part q queue idle s) x)) (sym same) kept
+      let held : holds q (pool_part (with_part q queue idle s) q) = subst (holds q) (sym is_part) (here exists) in
+      subst (λ (x : ℕ). holds x (pool_part (with_part q queue idle s) x)) (sym same) held
   | inr other ↦
       let is_part : pool_part (with_part q queue idle s) p ≡ pool_part s p = get_or-set_other s.pools q p (record { queue = queue; idle = idle }) no_pool_part other in
-      subst (PoolIsKept plan s.jobs p) (sym is_part) (elsewhere p inside other)
+      subst (holds p) (sym is_part) (elsewhere p inside other)
 ]

@@ -1,15 +1,17 @@
 -- The start keeps what every reached state keeps.
-use Rattle.std.proofs.Common.{◌≡◌, ℕ, zero, suc, ◌<◌, ⊎_elim, List, [], replicate, slice_get, Some, refl, sym, ap, subst, ◌∙◌, arith}
+use Rattle.std.proofs.Common.{◌≡◌, ℕ, zero, suc, Bool, true, false, cond, ◌<◌, ◌≤◌, ⊎_elim, List, [], length, replicate, slice_get, Some, refl, sym, ap, subst, ◌∙◌, arith}
 use Rattle.std.specs.List.{enumerate_from}
 use Rattle.std.proofs.lemmas.List.{length-map, get_or-map}
 use Rattle.numbered_lists.specs.In.{In}
 use Rattle.numbered_lists.proofs.Members.{not_In_nil, In-cons_cases, In-slice_get, In-flat_map_from}
 use Rattle.job_bodies.specs.declared.action.Action.{Action}
 use Rattle.job_bodies.specs.Plan.{Plan, Pool, no_pool, pool_at}
+use Rattle.job_bodies.proofs.Bodies.{IsOrdered}
+use Rattle.pool_machine.specs.PoolState.{new_pool}
 use Rattle.written_machine.specs.declared.client_state.ClientState.{ClientState}
 use Rattle.written_machine.specs.declared.parent.Parent.{Parent}
 use Rattle.written_machine.specs.declared.parent.Parent.TheVariants as parent
-use Rattle.written_machine.specs.State.{PoolPart, no_pool_part}
+use Rattle.written_machine.specs.State.{PoolPart, no_pool_part, pool_part, part_of}
 use Rattle.written_machine.specs.Reach.{new_clients, start}
 use Rattle.written_machine.proofs.Standing.{standing_made, client_standing}
 use Rattle.written_machine.proofs.Kept.{ActorKept, PoolKept, Kept}
@@ -35,14 +37,23 @@ start_actor plan (parent.Job j) body i stands =
     let made : j < 0 = standing_made plan (start plan) j body i stands in
     absurd (omega arith)
 
-start_pool : (pool : Pool) → PoolKept pool no_pool_part [] 0
-start_pool pool = record { queue = refl; within_max = omega arith; within_queue = omega arith; core = λ some. absurd (omega arith) }
+-- each pool's own state, at the start
+pub pool_part_at_start : (plan : Plan) (p : ℕ) → p < length plan.pools → pool_part (start plan) p ≡ part_of (new_pool (pool_at plan p))
+pool_part_at_start plan p inside = get_or-map (λ (pool : Pool). part_of (new_pool pool)) plan.pools p no_pool no_pool_part inside
 
-pub kept_start : (plan : Plan) → Kept plan (start plan)
-kept_start plan = record {
+-- a pool begins with no more workers than core
+few_first_workers : (core : ℕ) (prestart : Bool) → cond prestart core 0 ≤ core
+few_first_workers core true = omega arith
+few_first_workers core false = omega arith
+
+start_pool : (pool : Pool) → pool.core ≤ pool.max → PoolKept pool (part_of (new_pool pool)) [] 0
+start_pool pool sizes = record { queue = refl; within_max = omega (arith, few_first_workers pool.core pool.prestart); within_queue = omega arith; core = λ some. absurd (omega arith) }
+
+pub kept_start : (plan : Plan) → IsOrdered plan → Kept plan (start plan)
+kept_start plan ordered = record {
   classes = λ k d inside. absurd (omega arith);
   parents = λ j inside. absurd (omega arith);
-  as_many = length-map plan.pools (λ pool. no_pool_part);
-  pools = λ p inside. subst (λ (part : PoolPart). PoolKept (pool_at plan p) part [] 0) (sym (get_or-map (λ (pool : Pool). no_pool_part) plan.pools p no_pool no_pool_part inside)) (start_pool (pool_at plan p));
+  as_many = length-map plan.pools (λ pool. part_of (new_pool pool));
+  pools = λ p inside. subst (λ (part : PoolPart). PoolKept (pool_at plan p) part [] 0) (sym (pool_part_at_start plan p inside)) (start_pool (pool_at plan p) (ordered.max p inside));
   actors = start_actor plan;
 }

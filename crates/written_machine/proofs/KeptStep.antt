@@ -1,5 +1,5 @@
 -- Each event keeps what every reached state keeps.
-use Rattle.std.proofs.Common.{◌≡◌, ◌≢◌, ℕ, suc, ◌+◌, ◌<◌, inl, inr, List, ◌∷◌, length, Some, None, refl, sym, ap, subst, ◌∙◌}
+use Rattle.std.proofs.Common.{◌≡◌, ◌≢◌, ℕ, suc, ◌+◌, ◌<◌, inl, inr, List, ◌∷◌, length, Some, None, refl, sym, ap, subst, ◌∙◌, arith}
 use Rattle.std.proofs.lemmas.List.{length-set}
 use Rattle.job_bodies.specs.declared.action.Action.{Action}
 use Rattle.job_bodies.specs.declared.action.Action.TheVariants as action
@@ -12,10 +12,11 @@ use Rattle.written_machine.specs.declared.event.Outcome.{Outcome}
 use Rattle.written_machine.specs.State.{Stage, State, Made, job_at, pool_part, pool_of, is_at, is_queued, threads, child}
 use Rattle.written_machine.specs.Step.{with_stage, with_position, moved_jobs, finished_job}
 use Rattle.written_machine.proofs.Events.{StandsAt, with_part, Happens, works, starts, queues, is_refused, gets, finishes, loops, takes, retires}
-use Rattle.written_machine.proofs.Standing.{At≢Claimed, stage_of_standing, standing_made, job_made, job_at-with_position, lawful_point}
+use Rattle.written_machine.proofs.Standing.{At≢Claimed, stage_of_standing, standing_made, job_at-with_position, lawful_point}
 use Rattle.written_machine.proofs.Kept.{ActorKept, PoolKept, Kept, places, busy_jobs}
 use Rattle.written_machine.proofs.Stages.{staged, classes_staged, classes_moved, parents_staged, parents_moved}
-use Rattle.written_machine.proofs.Queues.{head_of_queue, places-staged, places-moved, busy-staged_same, busy-moved, places-staged_elsewhere, busy-staged_elsewhere, busy-staged_fewer, busy-staged_more}
+use Rattle.written_machine.proofs.Queues.{head_of_queue, places-staged, places-moved, places-staged_elsewhere}
+use Rattle.written_machine.proofs.Busy.{one_if, busy_in-as, busy-staged_same, busy-staged_elsewhere, busy-staged_here, busy-moved}
 use Rattle.written_machine.proofs.KeptPools.{same_pool, taken_pool, finished_pool, retired_pool, PoolIsKept, pools_with_part}
 use Rattle.written_machine.proofs.Actors.{Stands, point_same, same_position, standing-moved, standing-staged}
 use Rattle.written_machine.proofs.KeptActors.{actor_begins, actor_passes, actor_staged, actor_gets, other_gets}
@@ -49,7 +50,7 @@ kept_refuses plan s kept = record {
 }
 
 -- the job that was got was done
-done_still : (plan : Plan) (s : State) (a : Parent) (body : List Action) (i i' j : ℕ) → Stands plan s a body i → (job_at s j).stage ≡ Stage.Done → (job_at (with_position a i' s) j).stage ≡ Stage.Done
+pub done_still : (plan : Plan) (s : State) (a : Parent) (body : List Action) (i i' j : ℕ) → Stands plan s a body i → (job_at s j).stage ≡ Stage.Done → (job_at (with_position a i' s) j).stage ≡ Stage.Done
 done_still plan s a body i i' j stands done =
     ap (λ (job : Made). job.stage) (job_at-with_position plan s a body i i' j stands (done_nowhere done)) ∙ done
 
@@ -58,10 +59,9 @@ got_pools : (plan : Plan) (s : State) (a : Parent) (body : List Action) (i j : �
 got_pools plan s a body i j kept stands done p inside =
     let jobs = moved_jobs a (i + 1) s in
     let still : (job_at (with_position a (i + 1) s) j).stage ≡ Stage.Done = done_still plan s a body i (i + 1) j stands done in
-    let made : j < length jobs = job_made (with_position a (i + 1) s) j (Done≢Claimed still) in
     same_pool (pool_at plan p) (pool_part s p) (pool_part s p) (places plan s.jobs p) (places plan (staged jobs j Stage.Claimed) p) (busy_jobs plan s.jobs p) (busy_jobs plan (staged jobs j Stage.Claimed) p) refl
     (places-staged plan jobs j Stage.Claimed p (sym (ap is_queued still)) ∙ places-moved plan s a body i (i + 1) p stands)
-    (busy-staged_same plan jobs j Stage.Claimed p made (sym (ap is_at still)) ∙ busy-moved plan s a body i (i + 1) p stands)
+    (busy-staged_same plan jobs j Stage.Claimed p (busy_in-as plan p (job_at (with_position a (i + 1) s) j) Stage.Claimed (sym (ap is_at still))) ∙ busy-moved plan s a body i (i + 1) p stands)
     (kept.pools p inside)
 
 kept_gets : (plan : Plan) (s : State) (a : Parent) (body : List Action) (i t j : ℕ) → IsOrdered plan → Kept plan s → StandsAt plan s a body i (Some (action.Get t)) → child s a t ≡ Some j → (job_at s j).stage ≡ Stage.Done
@@ -97,11 +97,11 @@ kept_finishes plan s j body i kept at =
       classes = classes_staged (length plan.classes) s.jobs j Stage.Done kept.classes;
       parents = parents_staged s.jobs j Stage.Done kept.parents;
       as_many = length-set s.pools q (record { queue = part.queue; idle = part.idle + 1 }) ∙ kept.as_many;
-      pools = pools_with_part plan done q part.queue (part.idle + 1) kept.as_many
+      pools = pools_with_part plan done q part.queue (part.idle + 1) (PoolIsKept plan done.jobs) kept.as_many
           (λ exists. subst (λ (ns : List ℕ). PoolKept (pool_at plan q) (record { queue = part.queue; idle = part.idle + 1 }) ns (busy_jobs plan done.jobs q)) (sym (places-staged plan s.jobs j Stage.Done q (sym (ap is_queued was))))
-          (finished_pool (pool_at plan q) part (places plan s.jobs q) (busy_jobs plan s.jobs q) (busy_jobs plan done.jobs q) (kept.pools q exists) (busy-staged_fewer plan s.jobs j Stage.Done made (ap is_at was) refl)))
+          (finished_pool (pool_at plan q) part (places plan s.jobs q) (busy_jobs plan s.jobs q) (busy_jobs plan done.jobs q) (kept.pools q exists) (omega (arith, busy-staged_here plan s.jobs j Stage.Done q refl made, ap (λ (stage : Stage). one_if (is_at stage)) was))))
           (λ p inside other. same_pool (pool_at plan p) (pool_part s p) (pool_part s p) (places plan s.jobs p) (places plan done.jobs p) (busy_jobs plan s.jobs p) (busy_jobs plan done.jobs p) refl
-          (places-staged_elsewhere plan s.jobs j Stage.Done p (λ same. other (sym same))) (busy-staged_elsewhere plan s.jobs j Stage.Done p made (λ same. other (sym same))) (kept.pools p inside));
+          (places-staged_elsewhere plan s.jobs j Stage.Done p (λ same. other (sym same))) (busy-staged_elsewhere plan s.jobs j Stage.Done p (λ same. other (sym same))) (kept.pools p inside));
       actors = λ b body' n now. elim (standing-staged plan s j Stage.Done b body' n (sym (point_same plan done (finished_job plan s j q) b refl refl) ∙ now)) [
         | inl itself ↦ absurd (done_nowhere refl n itself.1)
         | inr other ↦ actor_staged s.jobs j Stage.Done b body' n (Done≢Claimed refl) (kept.actors b body' n other.1)
@@ -112,15 +112,16 @@ kept_takes : (plan : Plan) (s : State) (p j : ℕ) (queue : List ℕ) (idle : �
 kept_takes plan s p j queue idle kept is_queue is_idle =
     let head = head_of_queue plan s p j queue kept is_queue in
     let begun : State = with_stage j (Stage.At 0) s in
+    let more : busy_jobs plan begun.jobs p ≡ busy_jobs plan s.jobs p + 1 = omega (arith, busy-staged_here plan s.jobs j (Stage.At 0) p head.of_pool head.inside, ap (λ (stage : Stage). one_if (is_at stage)) head.queued) in
     record {
       classes = classes_staged (length plan.classes) s.jobs j (Stage.At 0) kept.classes;
       parents = parents_staged s.jobs j (Stage.At 0) kept.parents;
       as_many = length-set s.pools p (record { queue = queue; idle = idle }) ∙ kept.as_many;
-      pools = pools_with_part plan begun p queue idle kept.as_many
-          (λ exists. subst (PoolKept (pool_at plan p) (record { queue = queue; idle = idle }) (places plan begun.jobs p)) (sym (busy-staged_more plan s.jobs j (Stage.At 0) p head.inside head.of_pool (ap is_at head.queued) refl))
+      pools = pools_with_part plan begun p queue idle (PoolIsKept plan begun.jobs) kept.as_many
+          (λ exists. subst (PoolKept (pool_at plan p) (record { queue = queue; idle = idle }) (places plan begun.jobs p)) (sym more)
           (taken_pool (pool_at plan p) (pool_part s p) (places plan s.jobs p) (places plan begun.jobs p) (busy_jobs plan s.jobs p) j queue idle (kept.pools p exists) is_queue is_idle (head.others (Stage.At 0) refl)))
           (λ q inside other. same_pool (pool_at plan q) (pool_part s q) (pool_part s q) (places plan s.jobs q) (places plan begun.jobs q) (busy_jobs plan s.jobs q) (busy_jobs plan begun.jobs q) refl
-          (places-staged_elsewhere plan s.jobs j (Stage.At 0) q (λ same. other (sym same ∙ head.of_pool))) (busy-staged_elsewhere plan s.jobs j (Stage.At 0) q head.inside (λ same. other (sym same ∙ head.of_pool))) (kept.pools q inside));
+          (places-staged_elsewhere plan s.jobs j (Stage.At 0) q (λ same. other (sym same ∙ head.of_pool))) (busy-staged_elsewhere plan s.jobs j (Stage.At 0) q (λ same. other (sym same ∙ head.of_pool))) (kept.pools q inside));
       actors = λ b body' n now. elim (standing-staged plan s j (Stage.At 0) b body' n (sym (point_same plan begun (with_part p queue idle begun) b refl refl) ∙ now)) [
         | inl itself ↦ subst (ActorKept begun.jobs b body') (same_position 0 n itself.1) (actor_begins begun.jobs b body')
         | inr other ↦ actor_staged s.jobs j (Stage.At 0) b body' n (At≢Claimed refl) (kept.actors b body' n other.1)
@@ -132,7 +133,7 @@ kept_retires plan s p idle kept is_idle above_core = record {
   classes = kept.classes;
   parents = kept.parents;
   as_many = length-set s.pools p (record { queue = (pool_part s p).queue; idle = idle }) ∙ kept.as_many;
-  pools = pools_with_part plan s p (pool_part s p).queue idle kept.as_many (λ exists. retired_pool (pool_at plan p) (pool_part s p) (places plan s.jobs p) (busy_jobs plan s.jobs p) idle (kept.pools p exists) is_idle above_core) (λ q inside other. kept.pools q inside);
+  pools = pools_with_part plan s p (pool_part s p).queue idle (PoolIsKept plan s.jobs) kept.as_many (λ exists. retired_pool (pool_at plan p) (pool_part s p) (places plan s.jobs p) (busy_jobs plan s.jobs p) idle (kept.pools p exists) is_idle above_core) (λ q inside other. kept.pools q inside);
   actors = λ a body i now. kept.actors a body i (sym (point_same plan s (with_part p (pool_part s p).queue idle s) a refl refl) ∙ now);
 }
 
@@ -142,7 +143,7 @@ pub kept_step : (plan : Plan) (s s' : State) (o : Outcome) {e : Event} → IsOrd
 kept_step plan s s' o ordered kept (works a body i u at) = kept_works plan s a body i u ordered kept at
 kept_step plan s s' o ordered kept (starts a body i k at below) = kept_starts plan s a body i k ordered kept at below
 kept_step plan s s' o ordered kept (queues a body i k at at_core room) = kept_queues plan s a body i k ordered kept at at_core room
-kept_step plan s s' o ordered kept (is_refused a body i k at full) = kept_refuses plan s kept
+kept_step plan s s' o ordered kept (is_refused a body i k at no_room all_started) = kept_refuses plan s kept
 kept_step plan s s' o ordered kept (gets a body i t j at is_child done) = kept_gets plan s a body i t j ordered kept at is_child done
 kept_step plan s s' o ordered kept (finishes j body i at) = kept_finishes plan s j body i kept at
 kept_step plan s s' o ordered kept (loops c client body i at is_client repeats) = kept_moved plan s (parent.Client c) body i 0 kept at.stands (actor_begins s.jobs (parent.Client c) body)

@@ -14,7 +14,8 @@ use Rattle.written_machine.proofs.Events.{StandsAt, with_part, queued_state}
 use Rattle.written_machine.proofs.Standing.{At≢Claimed, lawful_point}
 use Rattle.written_machine.proofs.Kept.{ActorKept, Kept, places, busy_jobs}
 use Rattle.written_machine.proofs.Stages.{length-moved, classes_moved, classes_pushed, parents_moved, parents_pushed}
-use Rattle.written_machine.proofs.Queues.{Queued≢Claimed, places-moved, places_push, places_push_same, busy-moved, busy_push}
+use Rattle.written_machine.proofs.Queues.{Queued≢Claimed, places-moved, places_push, places_push_same}
+use Rattle.written_machine.proofs.Busy.{busy-moved, busy_push}
 use Rattle.written_machine.proofs.KeptPools.{same_pool, started_pool, queued_pool, PoolIsKept, pools_with_part}
 use Rattle.written_machine.proofs.Actors.{Stands, point_same, same_position, standing-moved, standing-pushed}
 use Rattle.written_machine.proofs.KeptActors.{is_after, actor_begins, actor_moved, actor_submits, other_submits}
@@ -46,12 +47,12 @@ made_actors plan s a body i k stage kept at unclaimed begins b body' n now = eli
 ]
 
 -- the submit names a class that there is
-class_exists : (plan : Plan) (s : State) (a : Parent) (body : List Action) (i k : ℕ) → IsOrdered plan → StandsAt plan s a body i (Some (action.Submit k)) → k < length plan.classes
+pub class_exists : (plan : Plan) (s : State) (a : Parent) (body : List Action) (i k : ℕ) → IsOrdered plan → StandsAt plan s a body i (Some (action.Submit k)) → k < length plan.classes
 class_exists plan s a body i k ordered at =
     let lawful : IsLawful plan body = lawful_point plan s a body i ordered at.stands in
     lawful.submit i k at.is_there
 
-room_for_thread : (plan : Plan) (s : State) (q : ℕ) → IsOrdered plan → q < length plan.pools → (threads plan s q < (pool_at plan q).max) ⊎ (threads plan s q < (pool_at plan q).core) → threads plan s q < (pool_at plan q).max
+pub room_for_thread : (plan : Plan) (s : State) (q : ℕ) → IsOrdered plan → q < length plan.pools → (threads plan s q < (pool_at plan q).max) ⊎ (threads plan s q < (pool_at plan q).core) → threads plan s q < (pool_at plan q).max
 room_for_thread plan s q ordered inside (inl below) = below
 room_for_thread plan s q ordered inside (inr below) = let sizes = ordered.max q inside in omega arith
 
@@ -125,6 +126,6 @@ kept_queues plan s a body i k ordered kept at at_core room =
       classes = classes_pushed (length plan.classes) (moved_jobs a (i + 1) s) (new_job k a i Stage.Queued) (classes_moved (length plan.classes) s a (i + 1) kept.classes) (class_exists plan s a body i k ordered at);
       parents = parents_pushed (moved_jobs a (i + 1) s) (new_job k a i Stage.Queued) (parents_moved s a (i + 1) kept.parents) (is_after plan s a body i (i + 1) at.stands);
       as_many = length-set s.pools q (record { queue = queue; idle = idle }) ∙ kept.as_many;
-      pools = pools_with_part plan made q queue idle kept.as_many (λ exists. queued_here plan s a body i k kept at exists at_core room) (queued_elsewhere plan s a body i k kept at);
+      pools = pools_with_part plan made q queue idle (PoolIsKept plan made.jobs) kept.as_many (λ exists. queued_here plan s a body i k kept at exists at_core room) (queued_elsewhere plan s a body i k kept at);
       actors = λ b body' n now. made_actors plan s a body i k Stage.Queued kept at (Queued≢Claimed refl) queued_nowhere b body' n (sym (point_same plan made (with_part q queue idle made) b refl refl) ∙ now);
     }

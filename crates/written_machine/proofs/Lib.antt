@@ -3,6 +3,7 @@ pub mod Standing
 pub mod Kept
 pub mod Stages
 pub mod Queues
+pub mod Busy
 pub mod KeptPools
 pub mod Children
 pub mod Actors
@@ -12,5 +13,8 @@ pub mod KeptSubmits
 pub mod KeptStep
 pub mod Reached
 pub mod WaitingSets
+pub mod Leaves
+pub mod FullWaitingSets
+pub mod JobsMade
 pub mod ReachedLaws
 pub mod WorkedReplays

@@ -1,21 +1,19 @@
--- The pools' queues and threads, as the list of jobs tells them.
-use Rattle.std.proofs.Common.{◌≡◌, ◌≢◌, ℕ, ◌+◌, ◌<◌, ◌≤◌, Bool, true, false, cond, ◌&&◌, eqb, inl, inr, List, [], ◌∷◌, ◌++◌, length, get_or, Some, refl, sym, ap, subst, ◌∙◌, arith, append-nil}
+-- The pools' queues, as the list of jobs tells them.
+use Rattle.std.proofs.Common.{◌≡◌, ◌≢◌, ℕ, ◌<◌, ◌≤◌, Bool, true, false, ◌&&◌, eqb, inl, inr, List, [], ◌∷◌, ◌++◌, length, get_or, Some, refl, sym, ap, subst, ◌∙◌, arith, append-nil}
 use Rattle.std.proofs.lemmas.Bool.{false≢true, cases_lt, and_parts, and_from, and_left, and_right, eqb-true, eq-eqb, ne_eqb}
 use Rattle.std.proofs.lemmas.List.{get_or_past}
-use Rattle.std.proofs.lemmas.List.Sums.{sum_by_push}
 use Rattle.numbered_lists.specs.In.{In}
 use Rattle.numbered_lists.specs.Places.{cons_if}
 use Rattle.numbered_lists.proofs.Places.{places_where_push, places_where-set_same, first_where, In-places_where}
-use Rattle.numbered_lists.proofs.Sums.{count_by-set}
 use Rattle.job_bodies.specs.declared.action.Action.{Action}
 use Rattle.job_bodies.specs.Plan.{Plan}
 use Rattle.job_bodies.proofs.Bodies.{IsOrdered}
 use Rattle.written_machine.specs.declared.parent.Parent.{Parent}
 use Rattle.written_machine.specs.declared.parent.Parent.TheVariants as parent
-use Rattle.written_machine.specs.State.{Stage, State, Made, PoolPart, no_job, no_pool_part, job_at, pool_part, pool_of, is_at, is_queued, is_busy_in, is_queued_in}
+use Rattle.written_machine.specs.State.{Stage, State, Made, PoolPart, no_job, no_pool_part, job_at, pool_part, pool_of, is_queued, is_queued_in}
 use Rattle.written_machine.specs.Step.{point, moved_jobs}
-use Rattle.written_machine.proofs.Standing.{stage_of_standing, standing_made, job_made}
-use Rattle.written_machine.proofs.Kept.{Kept, places, busy_jobs}
+use Rattle.written_machine.proofs.Standing.{stage_of_standing, job_made}
+use Rattle.written_machine.proofs.Kept.{Kept, places}
 use Rattle.written_machine.proofs.Stages.{staged}
 
 -- ---- what stands in a queue
@@ -97,60 +95,9 @@ pub places_push_same : (plan : Plan) (jobs : List Made) (job : Made) (p : ℕ) �
 places_push_same plan jobs job p elsewhere =
     places_push plan jobs job p ∙ ap (λ (b : Bool). places plan jobs p ++ cons_if b (length jobs) []) elsewhere ∙ append-nil (places plan jobs p)
 
--- ---- jobs at work after a change of the jobs
-
-abbrev pub one_if : Bool → ℕ
-one_if b = cond b 1 0
-
--- the count of a pool goes by whether the job was at work there, and is
-pub busy-staged : (plan : Plan) (jobs : List Made) (j : ℕ) (stage : Stage) (p : ℕ) → j < length jobs
-    → busy_jobs plan (staged jobs j stage) p + one_if (is_busy_in plan p (get_or jobs j no_job)) ≡ busy_jobs plan jobs p + one_if (is_at stage && eqb (pool_of plan (get_or jobs j no_job).class) p)
-busy-staged plan jobs j stage p inside = count_by-set (is_busy_in plan p) jobs j (record (get_or jobs j no_job) { stage = stage }) no_job inside
-
-pub busy-staged_same : (plan : Plan) (jobs : List Made) (j : ℕ) (stage : Stage) (p : ℕ) → j < length jobs → is_at stage ≡ is_at (get_or jobs j no_job).stage → busy_jobs plan (staged jobs j stage) p ≡ busy_jobs plan jobs p
-busy-staged_same plan jobs j stage p inside same =
-    let in_pool = eqb (pool_of plan (get_or jobs j no_job).class) p in
-    let as_before : one_if (is_at stage && in_pool) ≡ one_if (is_at (get_or jobs j no_job).stage && in_pool) = ap (λ (b : Bool). one_if (b && in_pool)) same in
-    omega (arith, busy-staged plan jobs j stage p inside, as_before)
-
-pub busy-moved : (plan : Plan) (s : State) (a : Parent) (body : List Action) (i i' p : ℕ) → point plan s a ≡ Some (record { body = body; position = i }) → busy_jobs plan (moved_jobs a i' s) p ≡ busy_jobs plan s.jobs p
-busy-moved plan s (parent.Client c) body i i' p stands = refl
-busy-moved plan s (parent.Job j) body i i' p stands =
-    busy-staged_same plan s.jobs j (Stage.At i') p (standing_made plan s j body i stands) (sym (ap is_at (stage_of_standing plan (job_at s j).class (job_at s j).stage body i stands).0))
-
-pub busy_push : (plan : Plan) (jobs : List Made) (job : Made) (p : ℕ) → busy_jobs plan (jobs ++ job ∷ []) p ≡ busy_jobs plan jobs p + one_if (is_busy_in plan p job)
-busy_push plan jobs job p = sum_by_push (λ (x : Made). one_if (is_busy_in plan p x)) jobs job
-
--- ---- the pools that are not the job's
-
+-- the pools that are not the job's
 pub places-staged_elsewhere : (plan : Plan) (jobs : List Made) (j : ℕ) (stage : Stage) (p : ℕ) → pool_of plan (get_or jobs j no_job).class ≢ p → places plan (staged jobs j stage) p ≡ places plan jobs p
 places-staged_elsewhere plan jobs j stage p other =
     let elsewhere = ne_eqb (pool_of plan (get_or jobs j no_job).class) p other in
     places_where-set_same (is_queued_in plan p) jobs j (record (get_or jobs j no_job) { stage = stage }) no_job
     (and_right (is_queued stage) (eqb (pool_of plan (get_or jobs j no_job).class) p) elsewhere ∙ sym (and_right (is_queued (get_or jobs j no_job).stage) (eqb (pool_of plan (get_or jobs j no_job).class) p) elsewhere))
-
-pub busy-staged_elsewhere : (plan : Plan) (jobs : List Made) (j : ℕ) (stage : Stage) (p : ℕ) → j < length jobs → pool_of plan (get_or jobs j no_job).class ≢ p → busy_jobs plan (staged jobs j stage) p ≡ busy_jobs plan jobs p
-busy-staged_elsewhere plan jobs j stage p inside other =
-    let in_pool = eqb (pool_of plan (get_or jobs j no_job).class) p in
-    let elsewhere : in_pool ≡ false = ne_eqb (pool_of plan (get_or jobs j no_job).class) p other in
-    let before : one_if (is_at (get_or jobs j no_job).stage && in_pool) ≡ 0 = ap one_if (and_right (is_at (get_or jobs j no_job).stage) in_pool elsewhere) in
-    let after : one_if (is_at stage && in_pool) ≡ 0 = ap one_if (and_right (is_at stage) in_pool elsewhere) in
-    omega (arith, busy-staged plan jobs j stage p inside, before, after)
-
--- ---- the pool of the job
-
-pub busy-staged_fewer : (plan : Plan) (jobs : List Made) (j : ℕ) (stage : Stage) → j < length jobs → is_at (get_or jobs j no_job).stage ≡ true → is_at stage ≡ false
-    → busy_jobs plan (staged jobs j stage) (pool_of plan (get_or jobs j no_job).class) + 1 ≡ busy_jobs plan jobs (pool_of plan (get_or jobs j no_job).class)
-busy-staged_fewer plan jobs j stage inside was is =
-    let p = pool_of plan (get_or jobs j no_job).class in
-    let before : one_if (is_at (get_or jobs j no_job).stage && eqb p p) ≡ 1 = ap one_if (and_from (is_at (get_or jobs j no_job).stage) (eqb p p) was (eq-eqb p p refl)) in
-    let after : one_if (is_at stage && eqb p p) ≡ 0 = ap one_if (and_left (is_at stage) (eqb p p) is) in
-    omega (arith, busy-staged plan jobs j stage p inside, before, after)
-
-pub busy-staged_more : (plan : Plan) (jobs : List Made) (j : ℕ) (stage : Stage) (p : ℕ) → j < length jobs → pool_of plan (get_or jobs j no_job).class ≡ p → is_at (get_or jobs j no_job).stage ≡ false → is_at stage ≡ true
-    → busy_jobs plan (staged jobs j stage) p ≡ busy_jobs plan jobs p + 1
-busy-staged_more plan jobs j stage p inside of_pool was is =
-    let in_pool = eqb (pool_of plan (get_or jobs j no_job).class) p in
-    let before : one_if (is_at (get_or jobs j no_job).stage && in_pool) ≡ 0 = ap one_if (and_left (is_at (get_or jobs j no_job).stage) in_pool was) in
-    let after : one_if (is_at stage && in_pool) ≡ 1 = ap one_if (and_from (is_at stage) in_pool is (eq-eqb (pool_of plan (get_or jobs j no_job).class) p of_pool)) in
-    omega (arith, busy-staged plan jobs j stage p inside, before, after)

@@ -40,4 +40,4 @@ reached_keeps plan holds at_start stays s reached = replay_keeps plan holds stay
 
 pub kept : (plan : Plan) (s : State) → IsWellFormed plan → IsReached plan s → Kept plan s
 kept plan s well_formed reached =
-    reached_keeps plan (Kept plan) (kept_start plan) (λ s₁ e s₂ o held happened. kept_step plan s₁ s₂ o (ordered plan well_formed) held happened) s reached
+    reached_keeps plan (Kept plan) (kept_start plan (ordered plan well_formed)) (λ s₁ e s₂ o held happened. kept_step plan s₁ s₂ o (ordered plan well_formed) held happened) s reached

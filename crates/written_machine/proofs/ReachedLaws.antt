@@ -1,18 +1,26 @@
 -- The laws of the machine, for the crates above.
-use Rattle.std.proofs.Common.{ℕ, List, Some, arith}
+use Rattle.std.proofs.Common.{ℕ, List, Some, refl, arith}
 use Rattle.job_bodies.specs.declared.action.Action.{Action}
 use Rattle.job_bodies.specs.declared.action.Action.TheVariants as action
 use Rattle.job_bodies.specs.Plan.{Plan, class_got}
+use Rattle.job_bodies.specs.WellFormed.{IsWellFormed}
 use Rattle.job_bodies.proofs.Bodies.{IsLawful, IsOrdered, ordered}
 use Rattle.written_machine.specs.declared.parent.Parent.{Parent}
-use Rattle.written_machine.specs.declared.parent.Parent.TheVariants as parent
+use Rattle.written_machine.specs.declared.event.Outcome.TheVariants.{Refused}
 use Rattle.written_machine.specs.State.{State}
-use Rattle.written_machine.specs.Laws.{IsLater, PoolsKeepTheirSizes, QueuesOnlyAtCore, GetsHaveChildren, WaitingSetsAreTested}
-use Rattle.written_machine.proofs.Events.{StandsAt}
+use Rattle.written_machine.specs.Laws.{PoolsKeepTheirSizes, QueuesOnlyAtCore, GetsHaveChildren, WaitingSetsAreTested}
+use Rattle.written_machine.specs.Reach.{IsReached}
+use Rattle.written_machine.specs.JobsMade.{ThreadsHaveJobs, RefusalsNeedJobs}
+use Rattle.written_machine.specs.FullWaitingSets.{FullWaitingSetsStay, FixedPoolsAreFull}
+use Rattle.written_machine.proofs.Events.{StandsAt, happens}
 use Rattle.written_machine.proofs.Standing.{lawful_point}
-use Rattle.written_machine.proofs.Kept.{IsAfter, HasChild, Kept}
-use Rattle.written_machine.proofs.Reached.{kept}
+use Rattle.written_machine.proofs.Kept.{HasChild, Kept}
+use Rattle.written_machine.proofs.Reached.{replay_keeps, reached_keeps, kept}
+use Rattle.written_machine.proofs.KeptStart.{kept_start}
+use Rattle.written_machine.proofs.KeptStep.{kept_step}
+use Rattle.written_machine.proofs.JobsMade.{HaveJobs, have_jobs_start, have_jobs_step, refused_when}
 use Rattle.written_machine.proofs.WaitingSets.{waiting_set_test}
+use Rattle.written_machine.proofs.FullWaitingSets.{Stayed, stays_through, fixed_are_full}
 
 pub sizes_kept : PoolsKeepTheirSizes
 sizes_kept plan s well_formed reached p inside =
@@ -21,10 +29,6 @@ sizes_kept plan s well_formed reached p inside =
 
 pub queued_at_core : QueuesOnlyAtCore
 queued_at_core plan s well_formed reached p inside some = ((kept plan s well_formed reached).pools p inside).core some
-
-pub later_from_after : (a : Parent) (n : ℕ) → IsAfter a n → IsLater a n
-later_from_after (parent.Client c) n after = tt
-later_from_after (parent.Job j) n after = after
 
 -- an actor at a get finds its job
 pub child_at_get : (plan : Plan) (s : State) (a : Parent) (body : List Action) (i t : ℕ) → IsOrdered plan → Kept plan s → StandsAt plan s a body i (Some (action.Get t)) → HasChild s.jobs a t (class_got body t)
@@ -35,7 +39,31 @@ child_at_get plan s a body i t ordered kept at =
 pub children_at_gets : GetsHaveChildren
 children_at_gets plan s well_formed reached a body i t stands is_there =
     let child = child_at_get plan s a body i t (ordered plan well_formed) (kept plan s well_formed reached) (record { stands = stands; is_there = is_there }) in
-    record { number = child.number; is_child = child.is_child; of_class = child.of_class; unclaimed = child.unclaimed; later = later_from_after a child.number child.later }
+    record { number = child.number; is_child = child.is_child; of_class = child.of_class; unclaimed = child.unclaimed; later = child.later }
 
 pub sets_tested : WaitingSetsAreTested
 sets_tested = waiting_set_test
+
+pub full_sets_stay : FullWaitingSetsStay
+full_sets_stay plan s s' events members well_formed reached set replayed =
+    (replay_keeps plan (Stayed plan members s) (λ s₁ e s₂ o stayed happened. stays_through plan members s s₁ s₂ o (ordered plan well_formed) stayed happened) events s s'
+    (record { is_kept = kept plan s well_formed reached; has_stayed = record { still = set; unmoved = λ j member. refl } }) replayed).has_stayed
+
+pub fixed_pools_full : FixedPoolsAreFull
+fixed_pools_full plan s members well_formed reached waiting fixed = fixed_are_full plan s members (ordered plan well_formed) (kept plan s well_formed reached) waiting fixed
+
+-- what is kept, and the jobs that were made
+have_jobs : (plan : Plan) (s : State) → IsWellFormed plan → IsReached plan s → HaveJobs plan s
+have_jobs plan s well_formed reached =
+    let both = reached_keeps plan (λ s₁. Kept plan s₁ × HaveJobs plan s₁) (kept_start plan (ordered plan well_formed), have_jobs_start plan)
+    (λ s₁ e s₂ o held happened. (kept_step plan s₁ s₂ o (ordered plan well_formed) held.0 happened, have_jobs_step plan s₁ s₂ o held.0 held.1 happened)) s reached in
+    both.1
+
+pub threads_have_made : ThreadsHaveJobs
+threads_have_made plan s well_formed reached p inside = have_jobs plan s well_formed reached p inside
+
+pub refusals_need_made : RefusalsNeedJobs
+refusals_need_made plan p s s' event well_formed reached refused =
+    let full = refused_when plan s s' p (ordered plan well_formed) (happens plan s event s' (Refused p) refused) in
+    let have = have_jobs plan s well_formed reached p full.0 in
+    omega (arith, full.1, full.2)

@@ -9,7 +9,7 @@ use Rattle.written_machine.specs.declared.parent.Parent.{Parent}
 use Rattle.written_machine.specs.declared.parent.Parent.TheVariants as parent
 use Rattle.written_machine.specs.State.{Stage, State, Made, no_job, is_made_by}
 use Rattle.written_machine.specs.Step.{moved_jobs}
-use Rattle.written_machine.proofs.Kept.{IsAfter}
+use Rattle.written_machine.specs.Laws.{IsLater}
 
 -- the jobs, with job j at this stage
 abbrev pub staged : List Made → ℕ → Stage → List Made
@@ -18,26 +18,30 @@ staged jobs j stage = set jobs j (record (get_or jobs j no_job) { stage = stage 
 pub length-staged : (jobs : List Made) (j : ℕ) (stage : Stage) → length (staged jobs j stage) ≡ length jobs
 length-staged jobs j stage = length-set jobs j (record (get_or jobs j no_job) { stage = stage })
 
+-- the job itself is what it was but for the stage
+pub get_or-staged_same : (jobs : List Made) (j : ℕ) (stage : Stage) → j < length jobs → get_or (staged jobs j stage) j no_job ≡ record (get_or jobs j no_job) { stage = stage }
+get_or-staged_same jobs j stage inside = get_or-set_same jobs j (record (get_or jobs j no_job) { stage = stage }) no_job inside
+
 pub stage-staged : (jobs : List Made) (j : ℕ) (stage : Stage) → j < length jobs → (get_or (staged jobs j stage) j no_job).stage ≡ stage
-stage-staged jobs j stage inside = ap (λ (job : Made). job.stage) (get_or-set_same jobs j (record (get_or jobs j no_job) { stage = stage }) no_job inside)
+stage-staged jobs j stage inside = ap (λ (job : Made). job.stage) (get_or-staged_same jobs j stage inside)
 
 -- the other jobs are as they were
 pub get_or-staged_other : (jobs : List Made) (j : ℕ) (stage : Stage) (n : ℕ) (d : Made) → n ≢ j → get_or (staged jobs j stage) n d ≡ get_or jobs n d
 get_or-staged_other jobs j stage n d other = get_or-set_other jobs j n (record (get_or jobs j no_job) { stage = stage }) d other
 
+-- no more than a stage changes
+job-staged : (jobs : List Made) (j : ℕ) (stage : Stage) (n : ℕ) (d : Made) → get_or (staged jobs j stage) n d ≡ record (get_or jobs n d) { stage = (get_or (staged jobs j stage) n d).stage }
+job-staged [] j stage n d = refl
+job-staged (x ∷ xs) zero stage zero d = refl
+job-staged (x ∷ xs) zero stage (suc n) d = refl
+job-staged (x ∷ xs) (suc j) stage zero d = refl
+job-staged (x ∷ xs) (suc j) stage (suc n) d = job-staged xs j stage n d
+
 pub class-staged : (jobs : List Made) (j : ℕ) (stage : Stage) (n : ℕ) (d : Made) → (get_or (staged jobs j stage) n d).class ≡ (get_or jobs n d).class
-class-staged [] j stage n d = refl
-class-staged (x ∷ xs) zero stage zero d = refl
-class-staged (x ∷ xs) zero stage (suc n) d = refl
-class-staged (x ∷ xs) (suc j) stage zero d = refl
-class-staged (x ∷ xs) (suc j) stage (suc n) d = class-staged xs j stage n d
+class-staged jobs j stage n d = ap (λ (job : Made). job.class) (job-staged jobs j stage n d)
 
 pub parent-staged : (jobs : List Made) (j : ℕ) (stage : Stage) (n : ℕ) (d : Made) → (get_or (staged jobs j stage) n d).parent ≡ (get_or jobs n d).parent
-parent-staged [] j stage n d = refl
-parent-staged (x ∷ xs) zero stage zero d = refl
-parent-staged (x ∷ xs) zero stage (suc n) d = refl
-parent-staged (x ∷ xs) (suc j) stage zero d = refl
-parent-staged (x ∷ xs) (suc j) stage (suc n) d = parent-staged xs j stage n d
+parent-staged jobs j stage n d = ap (λ (job : Made). job.parent) (job-staged jobs j stage n d)
 
 -- an actor's latest job is the same
 pub child-stage : (jobs : List Made) (a : Parent) (t j : ℕ) (stage : Stage) → last_of (places_where (is_made_by a t) (staged jobs j stage)) ≡ last_of (places_where (is_made_by a t) jobs)
@@ -73,20 +77,20 @@ classes_pushed classes jobs job each inside = All-push (λ (x : Made). x.class <
 
 -- each job has a greater number than its maker
 abbrev pub HaveParents : List Made → Type 0
-HaveParents jobs = (j : ℕ) → j < length jobs → IsAfter (get_or jobs j no_job).parent j
+HaveParents jobs = (j : ℕ) → j < length jobs → IsLater (get_or jobs j no_job).parent j
 
 pub parents_staged : (jobs : List Made) (j : ℕ) (stage : Stage) → HaveParents jobs → HaveParents (staged jobs j stage)
 parents_staged jobs j stage each n inside =
-    subst (λ (a : Parent). IsAfter a n) (sym (parent-staged jobs j stage n no_job)) (each n (omega (arith, length-staged jobs j stage)))
+    subst (λ (a : Parent). IsLater a n) (sym (parent-staged jobs j stage n no_job)) (each n (omega (arith, length-staged jobs j stage)))
 
 pub parents_moved : (s : State) (a : Parent) (i : ℕ) → HaveParents s.jobs → HaveParents (moved_jobs a i s)
 parents_moved s (parent.Client c) i each = each
 parents_moved s (parent.Job j) i each = parents_staged s.jobs j (Stage.At i) each
 
-pub parents_pushed : (jobs : List Made) (job : Made) → HaveParents jobs → IsAfter job.parent (length jobs) → HaveParents (jobs ++ job ∷ [])
+pub parents_pushed : (jobs : List Made) (job : Made) → HaveParents jobs → IsLater job.parent (length jobs) → HaveParents (jobs ++ job ∷ [])
 parents_pushed jobs job each after n inside = elim (cases_lt n (length jobs)) [
-  | inl earlier ↦ subst (λ (x : Made). IsAfter x.parent n) (sym (get_or_append_left jobs (job ∷ []) no_job n earlier)) (each n earlier)
+  | inl earlier ↦ subst (λ (x : Made). IsLater x.parent n) (sym (get_or_append_left jobs (job ∷ []) no_job n earlier)) (each n earlier)
   | inr past ↦
       let last : length jobs ≡ n = omega (arith, length_push jobs job) in
-      subst (λ (x : Made). IsAfter x.parent n) (sym (get_or_push jobs job no_job n last)) (subst (IsAfter job.parent) last after)
+      subst (λ (x : Made). IsLater x.parent n) (sym (get_or_push jobs job no_job n last)) (subst (IsLater job.parent) last after)
 ]

@@ -1,11 +1,10 @@
 -- Where actors stand.
-use Rattle.std.proofs.Common.{◌≡◌, ◌≢◌, ℕ, ◌<◌, ◌≤◌, inl, inr, List, length, slice_get, Option, Some, None, refl, sym, ap, subst, ◌∙◌, arith}
+use Rattle.std.proofs.Common.{◌≡◌, ◌≢◌, ℕ, ◌<◌, inl, inr, List, length, slice_get, Option, Some, None, refl, sym, ap, subst, ◌∙◌}
 use Rattle.std.specs.Option.{option_map}
 use Rattle.std.proofs.lemmas.Bool.{cases_lt}
 use Rattle.std.proofs.lemmas.List.{get_or-set_other, get_or_past}
-use Rattle.std.proofs.lemmas.Option.{none-some, same_Some, slice_get-get_or}
+use Rattle.std.proofs.lemmas.Option.{none-some, same_Some}
 use Rattle.job_bodies.specs.declared.action.Action.{Action}
-use Rattle.job_bodies.specs.declared.action.Action.TheVariants.{Work}
 use Rattle.job_bodies.specs.Plan.{Plan, class_at, client_at}
 use Rattle.job_bodies.proofs.Bodies.{IsLawful, IsOrdered}
 use Rattle.written_machine.specs.declared.client_state.ClientState.{ClientState}
@@ -66,10 +65,3 @@ lawful_point plan s (parent.Client c) body i ordered stands =
     subst (IsLawful plan) (sym client.2) (ordered.clients client.0.kind)
 lawful_point plan s (parent.Job j) body i ordered stands =
     subst (IsLawful plan) (sym (stage_of_standing plan (job_at s j).class (job_at s j).stage body i stands).1) (ordered.classes (job_at s j).class)
-
--- where no action stands the body is at its end
-pub at_end : (body : List Action) (i : ℕ) → slice_get body i ≡ None → i ≤ length body → i ≡ length body
-at_end body i none within = elim (cases_lt i (length body)) [
-  | inl inside ↦ absurd (none-some _ (sym none ∙ slice_get-get_or body i (Work 0) inside))
-  | inr past ↦ omega arith
-]

@@ -1,5 +1,7 @@
 -- Replays of small plans, computed from the definitions alone.
-use Rattle.std.proofs.Common.{◌≡◌, ℕ, Bool, List, [], ◌∷◌, Option, Some, None, true, false, refl}
+use Rattle.std.proofs.Common.{◌≡◌, ℕ, List, [], ◌∷◌, ◌++◌, map, Option, Some, None, true, false, refl}
+use Rattle.std.specs.List.{count_by}
+use Rattle.std.specs.Option.{option_map}
 use Rattle.job_bodies.specs.declared.action.Action.{Action}
 use Rattle.job_bodies.specs.declared.action.Action.TheVariants.{Work, Submit, Get}
 use Rattle.job_bodies.specs.Plan.{Plan, Pool, Class, Client}
@@ -7,14 +9,18 @@ use Rattle.written_machine.specs.declared.event.Event.{Event}
 use Rattle.written_machine.specs.declared.event.Event.TheVariants as event
 use Rattle.written_machine.specs.declared.event.Outcome.{Outcome}
 use Rattle.written_machine.specs.declared.event.Outcome.TheVariants.{Started, Queued, Refused, Worked, Got, Looped, Finished, Took, Retired}
-use Rattle.written_machine.specs.State.{State}
+use Rattle.written_machine.specs.State.{State, is_unfinished}
 use Rattle.written_machine.specs.Reach.{start, replay, outcomes}
 use Rattle.written_machine.specs.Waiting.{is_waiting_set}
 
 -- ---- the plans
 
 abbrev pool_of_sizes : ℕ → ℕ → ℕ → ℕ → Pool
-pool_of_sizes letter core max queue = record { name = letter ∷ []; core = core; max = max; queue = queue }
+pool_of_sizes letter core max queue = record { name = letter ∷ []; core = core; max = max; queue = queue; prestart = false }
+
+-- all pools begin with their core threads
+abbrev prestarted : Plan → Plan
+prestarted plan = record plan { pools = map (λ (pool : Pool). record pool { prestart = true }) plan.pools }
 
 abbrev class_in : ℕ → List Action → Class
 class_in pool body = record { name = 97 ∷ []; pool = pool; body = body }
@@ -31,6 +37,12 @@ one_pool core max queue clients = record {
   clients = asking clients 0 ∷ [];
 }
 
+-- the same, where each client asks but once
+abbrev one_pool_once : ℕ → ℕ → ℕ → ℕ → Plan
+one_pool_once core max queue clients =
+    let plan = one_pool core max queue clients in
+    record plan { clients = map (λ (client : Client). record client { repeat = false }) plan.clients }
+
 -- one pool, in which an outer job submits an inner one and waits for it
 abbrev nested : ℕ → ℕ → ℕ → Plan
 nested core max queue = record {
@@ -38,6 +50,10 @@ nested core max queue = record {
   classes = class_in 0 (Submit 1 ∷ Get 0 ∷ []) ∷ class_in 0 (Work 1 ∷ []) ∷ [];
   clients = asking 1 0 ∷ [];
 }
+
+-- the same with room for a second thread, and a client that submits one inner job
+abbrev helped : Plan
+helped = record (nested 1 2 1) { clients = asking 1 0 ∷ record { name = 104 ∷ []; count = 1; repeat = false; body = Submit 1 ∷ [] } ∷ [] }
 
 -- two pools whose jobs wait for jobs of the other, and a third pool beside them
 abbrev crossed : ℕ → Plan
@@ -47,52 +63,144 @@ crossed threads = record {
   clients = asking 1 0 ∷ asking 1 2 ∷ asking 1 4 ∷ [];
 }
 
-abbrev outcomes_from_start : Plan → List Event → List (Option Outcome)
-outcomes_from_start plan events = outcomes plan (Some (start plan)) events
+-- what comes of each event from the start on
+abbrev told : Plan → List Event → List (Option Outcome)
+told plan events = outcomes plan (Some (start plan)) events
 
--- the numbers, taken as a set, are a waiting set of the state that the events reach
-abbrev is_stuck_in : Plan → List ℕ → Option State → Bool
-is_stuck_in plan members None = false
-is_stuck_in plan members (Some s) = is_waiting_set plan s members
+-- what is asked of the state that the events reach
+abbrev after : {X : Type 0} → Plan → List Event → (State → X) → Option X
+after plan events ask = option_map ask (replay plan (Some (start plan)) events)
 
-abbrev is_stuck_after : Plan → List Event → List ℕ → Bool
-is_stuck_after plan events members = is_stuck_in plan members (replay plan (Some (start plan)) events)
+-- how many submits were refused, and how many jobs are unfinished
+abbrev ends : State → ℕ × ℕ
+ends s = (s.refusals, count_by (λ job. is_unfinished job.stage) s.jobs)
 
--- ---- the replays
+-- the events of each replay that are possible
+abbrev two_clients_refused-events : List Event
+two_clients_refused-events = event.Client 0 ∷ event.Job 0 ∷ event.Job 0 ∷ event.Client 0 ∷ event.Client 0 ∷ event.Client 0 ∷ event.Client 1 ∷ []
+
+abbrev nested_one_worker-events : List Event
+nested_one_worker-events = event.Client 0 ∷ event.Job 0 ∷ []
+
+abbrev cross_pools_stuck-events : List Event
+cross_pools_stuck-events = event.Client 0 ∷ event.Client 1 ∷ event.Job 0 ∷ event.Job 1 ∷ event.Client 2 ∷ event.Job 4 ∷ []
+
+abbrev retire-events : List Event
+retire-events = event.Client 0 ∷ event.Client 1 ∷ event.Client 2 ∷ event.Job 2 ∷ event.Job 2 ∷ event.Retire 0 ∷ event.Job 0 ∷ event.Job 0 ∷ []
+
+abbrev start_before_queue-events : List Event
+start_before_queue-events = event.Client 0 ∷ event.Job 0 ∷ event.Job 0 ∷ event.Client 1 ∷ event.Client 0 ∷ event.Client 0 ∷ event.Client 0 ∷ event.Take 0 ∷ event.Job 1 ∷ []
+
+abbrev prestarted_queues-events : List Event
+prestarted_queues-events = event.Client 0 ∷ event.Take 0 ∷ event.Job 0 ∷ []
+
+abbrev lifetime_first-events : List Event
+lifetime_first-events = event.Client 0 ∷ event.Client 1 ∷ []
+
+abbrev drain_met_exactly-events : List Event
+drain_met_exactly-events = event.Client 0 ∷ event.Job 0 ∷ event.Job 1 ∷ event.Job 1 ∷ event.Job 0 ∷ event.Job 0 ∷ []
+
+abbrev drain_met_exactly_prestarted-events : List Event
+drain_met_exactly_prestarted-events = event.Client 0 ∷ event.Take 0 ∷ event.Job 0 ∷ event.Take 0 ∷ event.Job 1 ∷ event.Job 1 ∷ event.Job 0 ∷ event.Job 0 ∷ []
+
+abbrev stuck_for_now-events : List Event
+stuck_for_now-events = nested_one_worker-events ++ event.Client 1 ∷ event.Job 2 ∷ event.Job 2 ∷ event.Take 0 ∷ event.Job 1 ∷ event.Job 1 ∷ event.Job 0 ∷ event.Job 0 ∷ []
+
+-- ---- what comes of the events
 
 -- one worker and a queue of one: the seventh event is refused, though a worker is idle and only two jobs are outstanding
-pub two_clients_refused : outcomes_from_start (one_pool 1 1 1 2) (event.Client 0 ∷ event.Job 0 ∷ event.Job 0 ∷ event.Client 0 ∷ event.Client 0 ∷ event.Client 0 ∷ event.Client 1 ∷ [])
+pub two_clients_refused : told (one_pool 1 1 1 2) two_clients_refused-events
     ≡ Some (Started 0) ∷ Some (Worked 1) ∷ Some (Finished 0) ∷ Some (Got 0) ∷ Some Looped ∷ Some (Queued 1) ∷ Some (Refused 0) ∷ []
 two_clients_refused = refl
 
 -- the only worker waits for a job that waits for the worker
-pub nested_one_worker : outcomes_from_start (nested 1 1 5) (event.Client 0 ∷ event.Job 0 ∷ event.Take 0 ∷ [])
-    ≡ Some (Started 0) ∷ Some (Queued 1) ∷ None ∷ []
+pub nested_one_worker : told (nested 1 1 5) (nested_one_worker-events ++ event.Take 0 ∷ []) ≡ Some (Started 0) ∷ Some (Queued 1) ∷ None ∷ []
 nested_one_worker = refl
 
 -- two pools wait for each other, while a third pool works
-pub cross_pools_stuck : outcomes_from_start (crossed 1) (event.Client 0 ∷ event.Client 1 ∷ event.Job 0 ∷ event.Job 1 ∷ event.Client 2 ∷ event.Job 4 ∷ [])
+pub cross_pools_stuck : told (crossed 1) cross_pools_stuck-events
     ≡ Some (Started 0) ∷ Some (Started 1) ∷ Some (Queued 2) ∷ Some (Queued 3) ∷ Some (Started 4) ∷ Some (Worked 1) ∷ []
 cross_pools_stuck = refl
 
 -- a worker above core may end, one of core may not
-pub retire : outcomes_from_start (one_pool 1 2 1 3) (event.Client 0 ∷ event.Client 1 ∷ event.Client 2 ∷ event.Job 2 ∷ event.Job 2 ∷ event.Retire 0 ∷ event.Job 0 ∷ event.Job 0 ∷ event.Retire 0 ∷ [])
+pub retire : told (one_pool 1 2 1 3) (retire-events ++ event.Retire 0 ∷ [])
     ≡ Some (Started 0) ∷ Some (Queued 1) ∷ Some (Started 2) ∷ Some (Worked 1) ∷ Some (Finished 2) ∷ Some Retired ∷ Some (Worked 1) ∷ Some (Finished 0) ∷ None ∷ []
 retire = refl
 
 -- below core a new thread starts the job, though a worker is idle
-pub start_before_queue : outcomes_from_start (one_pool 2 2 2 2) (event.Client 0 ∷ event.Job 0 ∷ event.Job 0 ∷ event.Client 1 ∷ event.Client 0 ∷ event.Client 0 ∷ event.Client 0 ∷ event.Take 0 ∷ event.Job 1 ∷ [])
+pub start_before_queue : told (one_pool 2 2 2 2) start_before_queue-events
     ≡ Some (Started 0) ∷ Some (Worked 1) ∷ Some (Finished 0) ∷ Some (Started 1) ∷ Some (Got 0) ∷ Some Looped ∷ Some (Queued 2) ∷ Some (Took 2) ∷ Some (Worked 1) ∷ []
 start_before_queue = refl
 
+-- the queue is full, so a second thread starts, and takes the inner job for which the outer one waits
+pub stuck_for_now : told helped stuck_for_now-events
+    ≡ Some (Started 0) ∷ Some (Queued 1) ∷ Some (Started 2) ∷ Some (Worked 1) ∷ Some (Finished 2) ∷ Some (Took 1) ∷ Some (Worked 1) ∷ Some (Finished 1) ∷ Some (Got 1) ∷ Some (Finished 0) ∷ []
+stuck_for_now = refl
+
+-- a prestarted pool queues its first job, and an idle worker takes it
+pub prestarted_queues : told (prestarted (one_pool 2 2 2 2)) prestarted_queues-events ≡ Some (Queued 0) ∷ Some (Took 0) ∷ Some (Worked 1) ∷ []
+prestarted_queues = refl
+
+-- a prestarted pool can refuse a job though its workers are idle
+pub lifetime_first : told (prestarted (one_pool_once 2 2 1 3)) lifetime_first-events ≡ Some (Queued 0) ∷ Some (Refused 0) ∷ []
+lifetime_first = refl
+
+-- five steps drain the pool of an outer job and its inner one
+pub drain_met_exactly : told (nested 2 2 5) (drain_met_exactly-events ++ event.Take 0 ∷ [])
+    ≡ Some (Started 0) ∷ Some (Started 1) ∷ Some (Worked 1) ∷ Some (Finished 1) ∷ Some (Got 1) ∷ Some (Finished 0) ∷ None ∷ []
+drain_met_exactly = refl
+
+-- where it is prestarted both are taken from the queue, and seven steps drain it
+pub drain_met_exactly_prestarted : told (prestarted (nested 2 2 5)) drain_met_exactly_prestarted-events
+    ≡ Some (Queued 0) ∷ Some (Took 0) ∷ Some (Queued 1) ∷ Some (Took 1) ∷ Some (Worked 1) ∷ Some (Finished 1) ∷ Some (Got 1) ∷ Some (Finished 0) ∷ []
+drain_met_exactly_prestarted = refl
+
+-- ---- refusals and unfinished jobs after the last event that is possible
+
+pub two_clients_refused-ends : after (one_pool 1 1 1 2) two_clients_refused-events ends ≡ Some (1, 1)
+two_clients_refused-ends = refl
+
+pub nested_one_worker-ends : after (nested 1 1 5) nested_one_worker-events ends ≡ Some (0, 2)
+nested_one_worker-ends = refl
+
+pub cross_pools_stuck-ends : after (crossed 1) cross_pools_stuck-events ends ≡ Some (0, 5)
+cross_pools_stuck-ends = refl
+
+pub retire-ends : after (one_pool 1 2 1 3) retire-events ends ≡ Some (0, 1)
+retire-ends = refl
+
+pub start_before_queue-ends : after (one_pool 2 2 2 2) start_before_queue-events ends ≡ Some (0, 2)
+start_before_queue-ends = refl
+
+pub stuck_for_now-ends : after helped stuck_for_now-events ends ≡ Some (0, 0)
+stuck_for_now-ends = refl
+
+pub prestarted_queues-ends : after (prestarted (one_pool 2 2 2 2)) prestarted_queues-events ends ≡ Some (0, 1)
+prestarted_queues-ends = refl
+
+pub lifetime_first-ends : after (prestarted (one_pool_once 2 2 1 3)) lifetime_first-events ends ≡ Some (1, 1)
+lifetime_first-ends = refl
+
+pub drain_met_exactly-ends : after (nested 2 2 5) drain_met_exactly-events ends ≡ Some (0, 0)
+drain_met_exactly-ends = refl
+
+pub drain_met_exactly_prestarted-ends : after (prestarted (nested 2 2 5)) drain_met_exactly_prestarted-events ends ≡ Some (0, 0)
+drain_met_exactly_prestarted-ends = refl
+
+-- ---- waiting sets after some of the events
+
 -- the outer job and the inner one wait for each other alone
-pub nested_one_worker-stuck : is_stuck_after (nested 1 1 5) (event.Client 0 ∷ event.Job 0 ∷ []) (0 ∷ 1 ∷ []) ≡ true
+pub nested_one_worker-stuck : after (nested 1 1 5) nested_one_worker-events (λ s. is_waiting_set (nested 1 1 5) s (0 ∷ 1 ∷ [])) ≡ Some true
 nested_one_worker-stuck = refl
 
 -- the four jobs of the two pools wait for each other alone
-pub cross_pools_stuck-all : is_stuck_after (crossed 1) (event.Client 0 ∷ event.Client 1 ∷ event.Job 0 ∷ event.Job 1 ∷ event.Client 2 ∷ event.Job 4 ∷ []) (0 ∷ 1 ∷ 2 ∷ 3 ∷ []) ≡ true
+pub cross_pools_stuck-all : after (crossed 1) cross_pools_stuck-events (λ s. is_waiting_set (crossed 1) s (0 ∷ 1 ∷ 2 ∷ 3 ∷ [])) ≡ Some true
 cross_pools_stuck-all = refl
 
 -- two of them also wait for jobs that are not among them
-pub cross_pools_stuck-two : is_stuck_after (crossed 1) (event.Client 0 ∷ event.Client 1 ∷ event.Job 0 ∷ event.Job 1 ∷ event.Client 2 ∷ event.Job 4 ∷ []) (0 ∷ 1 ∷ []) ≡ false
+pub cross_pools_stuck-two : after (crossed 1) cross_pools_stuck-events (λ s. is_waiting_set (crossed 1) s (0 ∷ 1 ∷ [])) ≡ Some false
 cross_pools_stuck-two = refl
+
+-- a waiting set whose pool has not all its threads can end
+pub stuck_for_now-two : after helped nested_one_worker-events (λ s. is_waiting_set helped s (0 ∷ 1 ∷ [])) ≡ Some true
+stuck_for_now-two = refl

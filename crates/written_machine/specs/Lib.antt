@@ -4,3 +4,5 @@ pub mod Reach
 pub mod Waiting
 pub mod Safe
 pub mod Laws
+pub mod FullWaitingSets
+pub mod JobsMade

@@ -2,21 +2,23 @@
 use Rattle.std.specs.Prelude.{◌≡◌, ℕ, List, [], ◌∷◌, map, replicate, Option, Some, None}
 use Rattle.std.specs.List.{flat_map, enumerate_from}
 use Rattle.job_bodies.specs.Plan.{Plan, Client}
+use Rattle.pool_machine.specs.PoolState.{new_pool}
 use Rattle.written_machine.specs.declared.client_state.ClientState.{ClientState}
 use Rattle.written_machine.specs.declared.event.Event.{Event}
 use Rattle.written_machine.specs.declared.event.Outcome.{Outcome}
-use Rattle.written_machine.specs.State.{State, no_pool_part}
+use Rattle.written_machine.specs.State.{State, part_of}
 use Rattle.written_machine.specs.Step.{step}
 
 -- the clients of a numbered kind, at the start
 abbrev pub new_clients : ℕ × Client → List ClientState
 new_clients entry = replicate entry.1.count (record { kind = entry.0; position = 0 })
 
--- no jobs, no workers, empty queues, each kind's clients at 0, no refusals
+-- no jobs, each pool with core idle workers where it is prestarted, else with none, each kind's clients at 0, no
+-- refusals
 abbrev pub start : Plan → State
 start plan = record {
   jobs = [];
-  pools = map (λ pool. no_pool_part) plan.pools;
+  pools = map (λ pool. part_of (new_pool pool)) plan.pools;
   clients = flat_map new_clients (enumerate_from 0 plan.clients);
   refusals = 0;
 }

@@ -87,6 +87,10 @@ busy plan s p = count_by (is_busy_in plan p) s.jobs
 abbrev pub threads : Plan → State → ℕ → ℕ
 threads plan s p = (pool_part s p).idle + busy plan s p
 
+-- the queue and the idle workers of a pool by itself
+abbrev pub part_of : PoolView → PoolPart
+part_of pool = record { queue = pool.queue; idle = pool.idle }
+
 -- one pool of the state by itself
 abbrev pub pool_view : Pool → PoolPart → ℕ → PoolView
 pool_view pool part threads = record { core = pool.core; max = pool.max; capacity = pool.queue; threads = threads; idle = part.idle; queue = part.queue }

@@ -15,7 +15,7 @@ use Rattle.written_machine.specs.declared.event.Event.TheVariants.{Client, Job, 
 use Rattle.written_machine.specs.declared.event.Outcome.{Outcome}
 use Rattle.written_machine.specs.declared.event.Outcome.TheVariants.{Started, Queued, Refused, Worked, Got, Looped, Finished, Took, Retired}
 use Rattle.written_machine.specs.State as state
-use Rattle.written_machine.specs.State.{Stage, Made, State, job_at, client_state, pool_of, pool_seen, child}
+use Rattle.written_machine.specs.State.{Stage, Made, State, job_at, client_state, pool_of, part_of, pool_seen, child}
 
 -- ---- where an actor stands
 
@@ -58,7 +58,7 @@ with_job job s = record s { jobs = s.jobs ++ job ∷ [] }
 
 -- the pool's queue and idle workers as this view has them; its threads are those and the jobs at work
 abbrev pub with_pool : ℕ → PoolView → State → State
-with_pool p pool s = record s { pools = slice_set s.pools p (record { queue = pool.queue; idle = pool.idle }) }
+with_pool p pool s = record s { pools = slice_set s.pools p (part_of pool) }
 
 -- ---- the events of an actor
 

@@ -10,6 +10,7 @@ mod parent;
 pub use client_state::ClientState;
 pub use event::{Event, Outcome};
 pub use laws::{
-    gets_have_children, pools_keep_their_sizes, queues_only_at_core, waiting_sets_are_tested,
+    fixed_pools_are_full, full_waiting_sets_stay, gets_have_children, pools_keep_their_sizes,
+    queues_only_at_core, refusals_need_jobs, threads_have_jobs, waiting_sets_are_tested,
 };
 pub use parent::Parent;

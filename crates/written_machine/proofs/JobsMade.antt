@@ -1,0 +1,157 @@
+-- For each thread of a pool and each job in its queue a job was made, but for its first workers.
+use Rattle.std.proofs.Common.{◌≡◌, ℕ, suc, ◌+◌, ◌<◌, ◌≤◌, eqb, List, [], ◌∷◌, ◌++◌, length, get_or, Some, None, sym, ap, subst, refl, ◌∙◌, Bool, true, false, ◌&&◌, arith}
+use Rattle.std.specs.List.{count_by}
+use Rattle.std.proofs.lemmas.Bool.{eq-eqb, and_left}
+use Rattle.std.proofs.lemmas.List.{length_push}
+use Rattle.std.proofs.lemmas.List.Sums.{sum_by_push}
+use Rattle.numbered_lists.proofs.Places.{length-places, places_where-set_same}
+use Rattle.job_bodies.specs.declared.action.Action.{Action}
+use Rattle.job_bodies.specs.Plan.{Plan, pool_at, first_workers}
+use Rattle.job_bodies.proofs.Bodies.{IsOrdered}
+use Rattle.written_machine.specs.declared.parent.Parent.{Parent}
+use Rattle.written_machine.specs.declared.parent.Parent.TheVariants as parent
+use Rattle.written_machine.specs.declared.event.Event.{Event}
+use Rattle.written_machine.specs.declared.event.Outcome.{Outcome}
+use Rattle.written_machine.specs.declared.event.Outcome.TheVariants as outcome
+use Rattle.written_machine.specs.State.{Stage, State, Made, PoolPart, no_job, job_at, pool_part, pool_of, is_at, is_busy_in, threads}
+use Rattle.written_machine.specs.Step.{point, with_stage, with_position, with_job, new_job, moved_jobs, finished_job}
+use Rattle.written_machine.specs.Reach.{start}
+use Rattle.written_machine.specs.JobsMade.{is_of_pool, HasJobs}
+use Rattle.written_machine.proofs.Events.{StandsAt, with_part, Happens, works, starts, queues, is_refused, gets, finishes, loops, takes, retires}
+use Rattle.written_machine.proofs.Standing.{stage_of_standing, standing_made}
+use Rattle.written_machine.proofs.Kept.{Kept, busy_jobs}
+use Rattle.written_machine.proofs.Stages.{staged}
+use Rattle.written_machine.proofs.Queues.{head_of_queue}
+use Rattle.written_machine.proofs.Busy.{one_if, busy_in-as, busy-staged_same, busy-staged_elsewhere, busy-staged_here, busy-moved, busy_push, busy_push_same}
+use Rattle.written_machine.proofs.KeptPools.{pools_with_part}
+use Rattle.written_machine.proofs.KeptStep.{done_still}
+use Rattle.written_machine.proofs.KeptStart.{pool_part_at_start}
+use Rattle.written_machine.proofs.KeptSubmits.{class_exists}
+
+-- ---- the jobs of a pool after a change of the jobs
+
+-- how many of these jobs are of the pool's classes
+abbrev pub made_jobs : Plan → List Made → ℕ → ℕ
+made_jobs plan jobs p = count_by (is_of_pool plan p) jobs
+
+-- no change of a stage changes it, and no move of an actor
+pub made_jobs-staged : (plan : Plan) (jobs : List Made) (j : ℕ) (stage : Stage) (p : ℕ) → made_jobs plan (staged jobs j stage) p ≡ made_jobs plan jobs p
+made_jobs-staged plan jobs j stage p =
+    let of_pool = is_of_pool plan p in
+    sym (length-places of_pool (staged jobs j stage)) ∙ ap length (places_where-set_same of_pool jobs j (record (get_or jobs j no_job) { stage = stage }) no_job refl) ∙ length-places of_pool jobs
+
+pub made_jobs-moved : (plan : Plan) (s : State) (a : Parent) (i p : ℕ) → made_jobs plan (moved_jobs a i s) p ≡ made_jobs plan s.jobs p
+made_jobs-moved plan s (parent.Client c) i p = refl
+made_jobs-moved plan s (parent.Job j) i p = made_jobs-staged plan s.jobs j (Stage.At i) p
+
+-- a new job of the pool is one more
+pub made_jobs_push : (plan : Plan) (jobs : List Made) (job : Made) (p : ℕ) → made_jobs plan (jobs ++ job ∷ []) p ≡ made_jobs plan jobs p + one_if (is_of_pool plan p job)
+made_jobs_push plan jobs job p = sum_by_push (λ (x : Made). one_if (is_of_pool plan p x)) jobs job
+
+-- ---- what is had
+
+-- of one pool's queue and idle workers, with these jobs
+abbrev PartHasJobs : Plan → List Made → ℕ → PoolPart → Type 0
+PartHasJobs plan jobs p part = part.idle + busy_jobs plan jobs p + length part.queue ≤ made_jobs plan jobs p + first_workers (pool_at plan p)
+
+-- of each pool of the plan
+abbrev pub HaveJobs : Plan → State → Type 0
+HaveJobs plan s = (p : ℕ) → p < length plan.pools → HasJobs plan s p
+
+-- ---- the start
+
+-- a pool begins with its first workers and an empty queue
+pub have_jobs_start : (plan : Plan) → HaveJobs plan (start plan)
+have_jobs_start plan p inside = subst (PartHasJobs plan [] p) (sym (pool_part_at_start plan p inside)) (omega arith)
+
+-- ---- each event
+
+-- an actor comes to another position
+have_jobs_moved : (plan : Plan) (s : State) (a : Parent) (body : List Action) (i i' : ℕ) → HaveJobs plan s → point plan s a ≡ Some (record { body = body; position = i }) → HaveJobs plan (with_position a i' s)
+have_jobs_moved plan s a body i i' have stands p inside =
+    let had = have p inside in
+    omega (arith, made_jobs-moved plan s a i' p, busy-moved plan s a body i i' p stands)
+
+-- a job is made that is at work from the beginning
+have_jobs_starts : (plan : Plan) (s : State) (job : Made) → is_at job.stage ≡ true → HaveJobs plan s → HaveJobs plan (with_job job s)
+have_jobs_starts plan s job begins have p inside =
+    let had = have p inside in
+    let both : one_if (is_at job.stage && eqb (pool_of plan job.class) p) ≡ one_if (is_of_pool plan p job) = ap (λ (b : Bool). one_if (b && eqb (pool_of plan job.class) p)) begins in
+    omega (arith, busy_push plan s.jobs job p, made_jobs_push plan s.jobs job p, both)
+
+-- a job is made that waits in its pool's queue
+have_jobs_queues : (plan : Plan) (s : State) (job : Made) (n : ℕ) → length s.pools ≡ length plan.pools → is_at job.stage ≡ false → HaveJobs plan s
+    → HaveJobs plan (with_part (pool_of plan job.class) ((pool_part s (pool_of plan job.class)).queue ++ n ∷ []) (pool_part s (pool_of plan job.class)).idle (with_job job s))
+have_jobs_queues plan s job n as_many waits have =
+    let q = pool_of plan job.class in
+    let part = pool_part s q in
+    let jobs = s.jobs ++ job ∷ [] in
+    pools_with_part plan (with_job job s) q (part.queue ++ n ∷ []) part.idle (PartHasJobs plan jobs) as_many
+    (λ exists.
+    let had = have q exists in
+    let one_more : one_if (is_of_pool plan q job) ≡ 1 = ap one_if (eq-eqb q q refl) in
+    omega (arith, busy_push_same plan s.jobs job q (not_busy q), made_jobs_push plan s.jobs job q, one_more, length_push part.queue n))
+    (λ p inside other.
+    let had = have p inside in
+    omega (arith, busy_push_same plan s.jobs job p (not_busy p), made_jobs_push plan s.jobs job p))
+  where
+    not_busy : (p : ℕ) → is_busy_in plan p job ≡ false
+    not_busy p = and_left (is_at job.stage) (eqb (pool_of plan job.class) p) waits
+
+-- job j of a pool comes to another stage, and the pool has this queue and so many idle workers
+have_jobs_worker : (plan : Plan) (s : State) (j : ℕ) (stage : Stage) (q : ℕ) (queue : List ℕ) (idle : ℕ) → length s.pools ≡ length plan.pools → j < length s.jobs → pool_of plan (job_at s j).class ≡ q
+    → idle + busy_jobs plan (staged s.jobs j stage) q + length queue ≤ threads plan s q + length (pool_part s q).queue → HaveJobs plan s → HaveJobs plan (with_part q queue idle (with_stage j stage s))
+have_jobs_worker plan s j stage q queue idle as_many made of_pool no_more have =
+    let jobs = staged s.jobs j stage in
+    pools_with_part plan (with_stage j stage s) q queue idle (PartHasJobs plan jobs) as_many
+    (λ exists. let had = have q exists in omega (arith, made_jobs-staged plan s.jobs j stage q))
+    (λ p inside other.
+    let had = have p inside in
+    omega (arith, made_jobs-staged plan s.jobs j stage p, busy-staged_elsewhere plan s.jobs j stage p (λ same. other (sym same ∙ of_pool))))
+
+-- a job at work finishes
+have_jobs_finishes : (plan : Plan) (s : State) (j : ℕ) (body : List Action) (i : ℕ) → Kept plan s → HaveJobs plan s → StandsAt plan s (parent.Job j) body i None → HaveJobs plan (finished_job plan s j (pool_of plan (job_at s j).class))
+have_jobs_finishes plan s j body i kept have at =
+    let q = pool_of plan (job_at s j).class in
+    let made = standing_made plan s j body i at.stands in
+    let was = stage_of_standing plan (job_at s j).class (job_at s j).stage body i at.stands in
+    have_jobs_worker plan s j Stage.Done q (pool_part s q).queue ((pool_part s q).idle + 1) kept.as_many made refl
+    (omega (arith, busy-staged_here plan s.jobs j Stage.Done q refl made, ap (λ (stage : Stage). one_if (is_at stage)) was.0)) have
+
+-- an idle worker takes the head of a queue
+have_jobs_takes : (plan : Plan) (s : State) (p j : ℕ) (queue : List ℕ) (idle : ℕ) → Kept plan s → HaveJobs plan s → (pool_part s p).queue ≡ j ∷ queue → (pool_part s p).idle ≡ suc idle → HaveJobs plan (with_part p queue idle (with_stage j (Stage.At 0) s))
+have_jobs_takes plan s p j queue idle kept have is_queue is_idle =
+    let head = head_of_queue plan s p j queue kept is_queue in
+    let long : length (pool_part s p).queue ≡ suc (length queue) = ap length is_queue in
+    have_jobs_worker plan s j (Stage.At 0) p queue idle kept.as_many head.inside head.of_pool
+    (omega (arith, busy-staged_here plan s.jobs j (Stage.At 0) p head.of_pool head.inside, ap (λ (stage : Stage). one_if (is_at stage)) head.queued)) have
+
+-- a get claims a job that is done
+have_jobs_gets : (plan : Plan) (s : State) (a : Parent) (body : List Action) (i j : ℕ) → HaveJobs plan s → point plan s a ≡ Some (record { body = body; position = i }) → (job_at s j).stage ≡ Stage.Done → HaveJobs plan (with_stage j Stage.Claimed (with_position a (i + 1) s))
+have_jobs_gets plan s a body i j have stands done p inside =
+    let moved : State = with_position a (i + 1) s in
+    let still : (job_at moved j).stage ≡ Stage.Done = done_still plan s a body i (i + 1) j stands done in
+    let had = have_jobs_moved plan s a body i (i + 1) have stands p inside in
+    omega (arith, made_jobs-staged plan moved.jobs j Stage.Claimed p, busy-staged_same plan moved.jobs j Stage.Claimed p (busy_in-as plan p (job_at moved j) Stage.Claimed (sym (ap is_at still))))
+
+-- every event
+pub have_jobs_step : (plan : Plan) (s s' : State) (o : Outcome) {e : Event} → Kept plan s → HaveJobs plan s → Happens plan s e s' o → HaveJobs plan s'
+have_jobs_step plan s s' o kept have (works a body i u at) = have_jobs_moved plan s a body i (i + 1) have at.stands
+have_jobs_step plan s s' o kept have (starts a body i k at below) =
+    have_jobs_starts plan (with_position a (i + 1) s) (new_job k a i (Stage.At 0)) refl (have_jobs_moved plan s a body i (i + 1) have at.stands)
+have_jobs_step plan s s' o kept have (queues a body i k at at_core room) =
+    have_jobs_queues plan (with_position a (i + 1) s) (new_job k a i Stage.Queued) (length s.jobs) kept.as_many refl (have_jobs_moved plan s a body i (i + 1) have at.stands)
+have_jobs_step plan s s' o kept have (is_refused a body i k at no_room all_started) = have
+have_jobs_step plan s s' o kept have (gets a body i t j at is_child done) = have_jobs_gets plan s a body i j have at.stands done
+have_jobs_step plan s s' o kept have (finishes j body i at) = have_jobs_finishes plan s j body i kept have at
+have_jobs_step plan s s' o kept have (loops c client body i at is_client repeats) = have_jobs_moved plan s (parent.Client c) body i 0 have at.stands
+have_jobs_step plan s s' o kept have (takes p j queue idle is_queue is_idle) = have_jobs_takes plan s p j queue idle kept have is_queue is_idle
+have_jobs_step plan s s' o kept have (retires p idle is_idle above_core) =
+    pools_with_part plan s p (pool_part s p).queue idle (PartHasJobs plan s.jobs) kept.as_many (λ exists. let had = have p exists in omega arith) (λ q inside other. have q inside)
+
+-- ---- refusals
+
+-- a pool that refuses has a full queue and all its threads
+pub refused_when : (plan : Plan) (s s' : State) (p : ℕ) {e : Event} → IsOrdered plan → Happens plan s e s' (outcome.Refused p)
+    → (p < length plan.pools) × ((pool_at plan p).queue ≤ length (pool_part s p).queue) × ((pool_at plan p).max ≤ threads plan s p)
+refused_when plan s s' p ordered (is_refused a body i k at no_room all_started) = (ordered.pools k (class_exists plan s a body i k ordered at), no_room, all_started)
