@@ -24,11 +24,12 @@ use Rattle.job_bodies.proofs.Passing.{EachPlace, list_any_get}
 use Rattle.plan_text.specs.Checks.{place_of}
 use Rattle.plan_text.specs.Orders.{Order, work, submit, submit_as, get, order_of}
 use Rattle.plan_text.specs.Slots.{filled_by, filled}
-use Rattle.plan_text.specs.Spelling.{name_at, slot_name, action_text, body_texts}
+use Rattle.plan_writer.specs.Spelling.{name_at, slot_name, action_text, body_texts}
 use Rattle.plan_text.specs.Bodies.{class_named, action_of, action_at, action_among, body_of}
 use Rattle.plan_text.proofs.Filling.{filled_more}
 use Rattle.plan_text.proofs.Fillings.{HasOrder, fills}
-use Rattle.plan_text.proofs.SpelledOrders.{slot_lawful, slot_injective, spelled_work, spelled_submit, spelled_submit_as, spelled_get}
+use Rattle.plan_text.proofs.SpelledOrders.{spelled_work, spelled_submit, spelled_submit_as, spelled_get}
+use Rattle.plan_writer.proofs.SlotNames.{slot_lawful, slot_injective}
 
 -- ---- names
 -- the place of a name is where it stands, among distinct names

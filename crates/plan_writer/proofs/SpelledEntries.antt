@@ -1,8 +1,8 @@
 -- The entries that are read from the document of a plan.
-use Rattle.std.proofs.Common.{◌≡◌, ℕ, suc, ◌+◌, ◌≤◌, true, nat_le, List, [], ◌∷◌, length, map, codes, Some, Result, Ok, refl, sym, ap, subst, ◌∙◌, arith, zero-add}
+use Rattle.std.proofs.Common.{◌≡◌, ℕ, suc, ◌+◌, ◌≤◌, Bool, true, false, nat_le, List, [], ◌∷◌, length, map, codes, Some, Result, Ok, refl, sym, ap, subst, ◌∙◌, arith, zero-add}
 use Rattle.std.proofs.lemmas.List.{length-map}
 use Rattle.std.proofs.Math.Nat.{max-le}
-use Rattle.toml.specs.Data.{Data, string, Members, get_member, depth, items_depth, members_depth}
+use Rattle.toml.specs.Data.{Data, string, table, Members, no_members, get_member, depth, items_depth, members_depth}
 use Rattle.toml.specs.View.{items_of}
 use Rattle.readings.specs.Reading.{read_each}
 use Rattle.job_bodies.specs.declared.fault.Part.{Part}
@@ -11,10 +11,10 @@ use Rattle.job_bodies.specs.declared.limits.TheConstants.{MOST_POOLS, MOST_CLASS
 use Rattle.job_bodies.specs.Plan.{Pool, Class, Client, Plan}
 use Rattle.job_bodies.proofs.Passing.{EachPlace}
 use Rattle.plan_text.specs.Document.{has_only, list_at}
-use Rattle.plan_text.specs.Entry.{table_at, text_at, number_at, flag_at, texts_at, action_text}
+use Rattle.plan_text.specs.Entry.{Entry, entry_of, text_at, number_at, flag_at, texts_at, action_text}
 use Rattle.plan_text.specs.Entries.{ClassEntry, ClientEntry, Entries, pool_at, class_at, client_at, entries_of}
-use Rattle.plan_text.specs.Spelling.{name_at, body_texts}
-use Rattle.plan_text.specs.PlanDocument.{list_data, texts_data, pool_data, class_data, client_data, plan_document}
+use Rattle.plan_writer.specs.Spelling.{name_at, body_texts}
+use Rattle.plan_writer.specs.PlanDocument.{list_data, texts_data, pool_data, class_data, client_data, plan_document}
 use Rattle.plan_text.proofs.Tables.{elements-items_of}
 
 -- ---- what is read of each element of a list that was made from another
@@ -47,26 +47,34 @@ class_entry pools classes class = record { name = class.name; pool = name_at poo
 abbrev pub client_entry : List (List ℕ) → Client → ClientEntry
 client_entry classes client = record { name = client.name; count = client.count; repeat = client.repeat; body = body_texts classes client.body }
 
-texts_back : (at : Part) (index : ℕ) (table : Members) (key : List ℕ) (texts : List (List ℕ)) → get_member key table ≡ Some (texts_data texts) → nat_le (length texts) MOST_ACTIONS ≡ true
-    → texts_at at index table key ≡ Ok texts
+texts_back : (entry : Entry) (key : List ℕ) (texts : List (List ℕ)) → get_member key entry.table ≡ Some (texts_data texts) → nat_le (length texts) MOST_ACTIONS ≡ true → texts_at entry key ≡ Ok texts
 unfolding texts_at
-texts_back at index table key texts found short =
+texts_back entry key texts found short =
     let long : length (map string texts) ≡ length texts = length-map texts string in
-    rw (found, elements-items_of (map string texts), long, short) (read_again (action_text at index) string texts (λ i text e. refl))
+    rw (found, elements-items_of (map string texts), long, short) (read_again (action_text entry) string texts (λ i text e. refl))
+
+pool_again : (index : ℕ) (name : List ℕ) (core max queue : ℕ) (prestart : Bool) → let pool : Pool = record { name = name; core = core; max = max; queue = queue; prestart = prestart } in pool_at index (pool_data pool) ≡ Ok pool
+unfolding pool_at pool_data entry_of text_at number_at flag_at
+pool_again index name core max queue true = refl
+pool_again index name core max queue false = refl
 
 pool_back : (index : ℕ) (pool : Pool) → pool_at index (pool_data pool) ≡ Ok pool
-unfolding pool_at pool_data table_at text_at number_at
-pool_back index pool = refl
+pool_back index pool = pool_again index pool.name pool.core pool.max pool.queue pool.prestart
+
+-- the entry of the code that a table is
+abbrev entry_at : Part → ℕ → Data → Entry
+entry_at part index (table members) = record { table = members; part = part; index = index }
+entry_at part index _ = record { table = no_members; part = part; index = index }
 
 class_back : (pools classes : List (List ℕ)) (index : ℕ) (class : Class) → nat_le (length (body_texts classes class.body)) MOST_ACTIONS ≡ true
     → class_at index (class_data pools classes class) ≡ Ok (class_entry pools classes class)
-unfolding class_at class_data table_at text_at
-class_back pools classes index class short = rw (texts_back part.Class index _ (codes "body") (body_texts classes class.body) refl short) refl
+unfolding class_at class_data entry_of text_at
+class_back pools classes index class short = rw (texts_back (entry_at part.Class index (class_data pools classes class)) (codes "body") (body_texts classes class.body) refl short) refl
 
 client_back : (classes : List (List ℕ)) (index : ℕ) (client : Client) → nat_le (length (body_texts classes client.body)) MOST_ACTIONS ≡ true
     → client_at index (client_data classes client) ≡ Ok (client_entry classes client)
-unfolding client_at client_data table_at text_at number_at flag_at
-client_back classes index client short = rw (texts_back part.Client index _ (codes "body") (body_texts classes client.body) refl short) refl
+unfolding client_at client_data entry_of text_at number_at flag_at
+client_back classes index client short = rw (texts_back (entry_at part.Client index (client_data classes client)) (codes "body") (body_texts classes client.body) refl short) refl
 
 -- ---- the whole document
 abbrev pub pool_names_of : Plan → List (List ℕ)
@@ -124,9 +132,13 @@ each_at_most make most each (x ∷ xs) = max-le (each x) (each_at_most make most
 texts_depth : (texts : List (List ℕ)) → items_depth (items_of (map string texts)) ≤ 0
 texts_depth texts = each_at_most string 0 (λ text. omega arith) texts
 
-pool_depth : (pool : Pool) → depth (pool_data pool) ≤ 2
+pool_depth_of : (name : List ℕ) (core max queue : ℕ) (prestart : Bool) → depth (pool_data (record { name = name; core = core; max = max; queue = queue; prestart = prestart })) ≤ 2
 unfolding pool_data
-pool_depth pool = omega arith
+pool_depth_of name core max queue true = omega arith
+pool_depth_of name core max queue false = omega arith
+
+pool_depth : (pool : Pool) → depth (pool_data pool) ≤ 2
+pool_depth pool = pool_depth_of pool.name pool.core pool.max pool.queue pool.prestart
 
 class_depth : (pools classes : List (List ℕ)) (class : Class) → depth (class_data pools classes class) ≤ 2
 unfolding class_data

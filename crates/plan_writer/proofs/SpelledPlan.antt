@@ -19,10 +19,10 @@ use Rattle.plan_text.specs.Document.{document_of}
 use Rattle.plan_text.specs.Entries.{ClassEntry, ClientEntry}
 use Rattle.plan_text.specs.Checks.{class_names, client_names, class_head, client_head, check_pools, check_classes, check_clients}
 use Rattle.plan_text.specs.Bodies.{class_of, client_of}
-use Rattle.plan_text.specs.PlanDocument.{plan_document}
+use Rattle.plan_writer.specs.PlanDocument.{plan_document}
 use Rattle.plan_text.specs.PlanOf.{plan_of_entries, plan_of}
-use Rattle.plan_text.proofs.SpelledBodies.{place_is, length-texts, reads_back}
-use Rattle.plan_text.proofs.SpelledEntries.{read_again, class_entry, client_entry, pool_names_of, class_names_of, entries_in, IsShort, entries_back, keys_are_known}
+use Rattle.plan_writer.proofs.SpelledBodies.{place_is, length-texts, reads_back}
+use Rattle.plan_writer.proofs.SpelledEntries.{read_again, class_entry, client_entry, pool_names_of, class_names_of, entries_in, IsShort, entries_back, keys_are_known}
 
 -- ---- the checks of names and numbers
 record Checked (plan : Plan) : Type 0 where

@@ -1,11 +1,11 @@
 -- The document of a plan: a table with a list of pools, of classes and of clients, the keys of each table ascending.
-use Rattle.std.specs.Prelude.{ℕ, pos, List, map, codes}
+use Rattle.std.specs.Prelude.{ℕ, pos, Bool, true, if◌then◌else◌, List, map, codes}
 use Rattle.std.specs.Ordering.{nat_cmp, match_ordering}
 use Rattle.std.specs.Cmp.Lexicographic.{slice_cmp}
 use Rattle.toml.specs.Data.{Data, string, integer, boolean, array, table, Members, no_members, member}
 use Rattle.toml.specs.View.{items_of}
 use Rattle.job_bodies.specs.Plan.{Pool, Class, Client, Plan}
-use Rattle.plan_text.specs.Spelling.{name_at, body_texts}
+use Rattle.plan_writer.specs.Spelling.{name_at, body_texts}
 
 -- a whole number, a list, and the texts of a body
 abbrev pub number_data : ℕ → Data
@@ -17,12 +17,18 @@ list_data values = array (items_of values)
 abbrev pub texts_data : List (List ℕ) → Data
 texts_data texts = list_data (map string texts)
 
+-- the key `prestart`, where the core threads are started beforehand, and the keys behind it
+abbrev pub prestart_and : Bool → Members → Members
+prestart_and prestart rest = if prestart then member (codes "prestart") (boolean true) rest else rest
+
+-- a pool
 unfoldable pub pool_data : Pool → Data
 pool_data pool =
     table (member (codes "core") (number_data pool.core)
     (member (codes "max") (number_data pool.max)
     (member (codes "name") (string pool.name)
-    (member (codes "queue") (number_data pool.queue) no_members))))
+    (prestart_and pool.prestart
+    (member (codes "queue") (number_data pool.queue) no_members)))))
 
 -- a class, among so named pools and classes
 unfoldable pub class_data : List (List ℕ) → List (List ℕ) → Class → Data

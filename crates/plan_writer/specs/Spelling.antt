@@ -1,9 +1,9 @@
 -- How the writer spells actions: a class by its name, a slot by the position of the submit that fills it.
 use Rattle.std.specs.Prelude.{ℕ, if◌then◌else◌, List, [], ◌++◌, map, codes, slice_index_or, decimal}
-use Rattle.std.specs.List.{list_any, enumerate_from}
+use Rattle.std.specs.List.{enumerate_from}
 use Rattle.job_bodies.specs.declared.action.Action.{Action}
 use Rattle.job_bodies.specs.declared.action.Action.TheVariants.{Work, Submit, Get}
-use Rattle.job_bodies.specs.Plan.{gets}
+use Rattle.job_bodies.specs.Plan.{is_got}
 
 -- the name at a place of a list, none past its end
 abbrev pub name_at : List (List ℕ) → ℕ → List ℕ
@@ -15,7 +15,7 @@ slot_name position = codes "s" ++ decimal position
 
 -- what stands behind a submit's class: its slot, where a get of the body names the submit
 abbrev pub slot_part : List Action → ℕ → List ℕ
-slot_part body position = if list_any (gets position) body then codes " as " ++ slot_name position else []
+slot_part body position = if is_got body position then codes " as " ++ slot_name position else []
 
 -- the text of the action at a position of the body
 unfoldable pub action_text : List (List ℕ) → List Action → ℕ → Action → List ℕ

@@ -1,11 +1,12 @@
 //! The document of a plan, as TOML's values.
 
-ghost use Rattle.std.specs.Prelude.{◌≡◌, ◌≤◌, true, map, IfOk, OnOk};
+ghost use Rattle.std.specs.Prelude.{◌≡◌, ◌≤◌, true, if◌then◌else◌, map, IfOk, OnOk};
+ghost use Rattle.toml.specs.Data.{boolean};
 ghost use Rattle.toml.specs.View.{view, table_view};
 ghost use Rattle.job_bodies.specs.declared.limits.TheConstants.{MOST_UNITS};
 ghost use Rattle.job_bodies.specs.WellFormed.{is_lawful_pool, is_within, IsWellFormed};
-ghost use Rattle.plan_text.specs.Spelling.{name_at};
-ghost use Rattle.plan_text.specs.PlanDocument as spec;
+ghost use Rattle.plan_writer.specs.Spelling.{name_at};
+ghost use Rattle.plan_writer.specs.PlanDocument as spec;
 
 use crate::spelling::body_value;
 use job_bodies::{Class, Client, Plan, Pool};
@@ -18,6 +19,16 @@ fn put(alloc: Global, table: &mut Table, key: &str, value: Value) -> Result<(), 
 {
     let key = String::from_str(alloc, key)?;
     let _before = table.insert(key, value)?;
+    Ok(())
+}
+
+/// Puts true at a key, where the flag holds.
+fn put_flag(alloc: Global, table: &mut Table, key: &str, flag: bool) -> Result<(), AllocError>
+    ensures { OnOk result (table_view table.new ≡ (if flag then spec.with_member key.now (boolean true) (table_view table.old) else table_view table.old)) }
+{
+    if flag {
+        put(alloc, table, key, Value::Boolean(true))?;
+    }
     Ok(())
 }
 
@@ -41,6 +52,7 @@ fn pool_value(alloc: Global, pool: &Pool) -> Result<Value, AllocError>
         "name",
         Value::string(alloc, pool.name.as_str())?,
     )?;
+    put_flag(alloc, &mut table, "prestart", pool.prestart)?;
     put(alloc, &mut table, "queue", number_value(pool.queue))?;
     Ok(Value::Table(table))
 }

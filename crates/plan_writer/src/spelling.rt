@@ -1,13 +1,11 @@
 //! The texts of a body, as they are written: a class by its name, a slot by the position of the submit that fills it.
 
 ghost use Rattle.std.specs.Prelude.{◌≡◌, map, IfOk, Some, string_bytes};
-ghost use Rattle.std.specs.List.{list_any};
 ghost use Rattle.toml.specs.View.{view};
-ghost use Rattle.job_bodies.specs.Plan.{gets};
-ghost use Rattle.plan_text.specs.PlanDocument.{texts_data};
-ghost use Rattle.plan_text.specs.Spelling as spec;
+ghost use Rattle.plan_writer.specs.PlanDocument.{texts_data};
+ghost use Rattle.plan_writer.specs.Spelling as spec;
 
-use job_bodies::{Action, Class};
+use job_bodies::{Action, Class, is_got};
 use std::alloc::{AllocError, Global};
 use std::fmt;
 use toml::Value;
@@ -20,22 +18,6 @@ fn class_name(classes: &[Class], place: usize) -> &str
         Some(class) => class.name.as_str(),
         None => "",
     }
-}
-
-fn gets_submit(action: Action, position: usize) -> bool
-    ensures { result ≡ gets position action }
-{
-    match action {
-        Action::Get(submit) => position == submit,
-        Action::Work(_) | Action::Submit(_) => false,
-    }
-}
-
-/// Whether a get of the body names the submit at a position.
-fn is_got(body: &[Action], position: usize) -> bool
-    ensures { result ≡ list_any (gets position) body.now }
-{
-    body.iter().any(|action| gets_submit(*action, position))
 }
 
 /// What stands behind a submit's class: the slot that it fills, where a get of the body names it.

@@ -3,14 +3,14 @@
 ghost use Rattle.std.specs.Prelude.{◌≡◌, ◌≤◌, false, length, IfOk, Ok, string_bytes};
 ghost use Rattle.toml.specs.Text.{IsDocumentText};
 ghost use Rattle.plan_text.specs.declared.document.TheConstants.{MOST_TEXT_BYTES};
-ghost use Rattle.plan_text.specs.PlanDocument as spec;
+ghost use Rattle.plan_writer.specs.PlanDocument as spec;
 ghost use Rattle.plan_text.specs.PlanOf.{plan_of};
 
 use crate::plan_values::plan_document;
 use job_bodies::Plan;
 use std::alloc::{AllocError, Global};
 
-/// A text of the plan, for those who make plans in code: TOML that [`read_plan`](crate::read_plan) reads back to this
+/// A text of the plan, for those who make plans in code: TOML that [`read_plan`](plan_text::read_plan) reads back to this
 /// very plan, where the text has no more bytes than a plan's text may have.
 ///
 /// A submit that a get names fills a slot of its own, `s` and the submit's position in its body; other submits fill none.

@@ -5,7 +5,7 @@ use Rattle.std.specs.declared.alloc.Global.{Global}
 use Rattle.std.proofs.lemmas.List.{append-nil}
 use Rattle.readings.specs.Reading.{◌>>=◌, read_each}
 use Rattle.readings.specs.Given.{Gives, Fails}
-use Rattle.readings.specs.Each.{AllGave, OneFailed, IsReadOfEach}
+use Rattle.readings.specs.Each.{AllGave, OneFailed, EachGave, IsReadOfEach}
 use Rattle.readings.specs.declared.read_error.ReadError.{ReadError}
 use Rattle.readings.specs.declared.read_error.ReadError.TheVariants.{Memory, Fault}
 use Rattle.readings.proofs.Loops.{drop_at}
@@ -31,7 +31,7 @@ read_goes_on reads xs i ys x y here gave so_far =
 
 -- an element's error is the list's
 pub read_stops : {X Y F : Type 0} (error : ReadError F) (reads : ℕ → X → Result Y (ReadError F) → Type 0) (xs : List X) (i : ℕ) (ys : List Y) (x : X) → slice_get xs i ≡ Some x → reads i x (Err error)
-    → ReadSoFar reads xs i ys → IsReadOfEach {Y = Y} reads xs (Err error)
+    → ReadSoFar reads xs i ys → EachGave {Y = Y} reads xs (Err error)
 read_stops Memory reads xs i ys x here failed so_far = tt
 read_stops (Fault fault) reads xs i ys x here failed so_far =
     so_far.fails fault (subst (λ (zs : List _). OneFailed reads i zs fault) (sym (drop_at xs i x here)) (inl failed))
@@ -63,8 +63,29 @@ module _ {X Y Z W F : Type 0} (reads : ℕ → X → Result Y (ReadError F) → 
   one_failed one i (x ∷ xs) fault (inl h) = rw (one i x (Err (Fault fault)) h) refl
   one_failed one i (x ∷ xs) fault (inr h) = rw (one i x (Ok h.0) h.1, one_failed one (i + 1) xs fault h.2) refl
 
+  each_given : GivesOne → (xs : List X) (result : Result (Vec Y Global) (ReadError F)) → EachGave reads xs result → Gives (λ ys. map view ys.items) result (read_each read 0 (map seen xs))
+  each_given one xs (Ok ys) h = all_given one 0 xs ys.items h
+  each_given one xs (Err Memory) h = tt
+  each_given one xs (Err (Fault fault)) h = one_failed one 0 xs fault h
+
   -- so does the loop
-  pub gives_each : GivesOne → (xs : List X) (result : Result (Vec Y Global) (ReadError F)) → IsReadOfEach reads xs result → Gives (λ ys. map view ys.items) result (read_each read 0 (map seen xs))
-  gives_each one xs (Ok ys) h = all_given one 0 xs ys.items h
-  gives_each one xs (Err Memory) h = tt
-  gives_each one xs (Err (Fault fault)) h = one_failed one 0 xs fault h
+  pub gives_each_viewed : GivesOne → (xs : List X) (result : Result (Vec Y Global) (ReadError F)) → IsReadOfEach reads xs result → Gives (λ ys. map view ys.items) result (read_each read 0 (map seen xs))
+  gives_each_viewed one xs result h = each_given one xs result h.outcome
+
+map_same : {X : Type 0} (xs : List X) → map (λ x. x) xs ≡ xs
+map_same [] = refl
+map_same (x ∷ xs) = ap (λ (ys : List _). x ∷ ys) (map_same xs)
+
+values_same : {Y F : Type 0} (read : Result (List Y) F) (result : Result (Vec Y Global) (ReadError F)) → Gives (λ ys. map (λ y. y) ys.items) result read → Gives (λ ys. ys.items) result read
+values_same read (Ok ys) h = h ∙ ap (λ (zs : List _). Ok zs) (map_same ys.items)
+values_same read (Err error) h = h
+
+-- the same, where the values are as the definition has them
+pub gives_each_seen : {X Y Z F : Type 0} (reads : ℕ → X → Result Y (ReadError F) → Type 0) (seen : X → Z) (read : ℕ → Z → Result Y F) → GivesOne reads seen (λ y. y) read
+    → (xs : List X) (result : Result (Vec Y Global) (ReadError F)) → IsReadOfEach reads xs result → Gives (λ ys. ys.items) result (read_each read 0 (map seen xs))
+gives_each_seen reads seen read one xs result h = values_same _ result (gives_each_viewed reads seen (λ y. y) read one xs result h)
+
+-- and where the elements are, too
+pub gives_each : {X Y F : Type 0} (reads : ℕ → X → Result Y (ReadError F) → Type 0) (read : ℕ → X → Result Y F) → GivesOne reads (λ x. x) (λ y. y) read
+    → (xs : List X) (result : Result (Vec Y Global) (ReadError F)) → IsReadOfEach reads xs result → Gives (λ ys. ys.items) result (read_each read 0 xs)
+gives_each reads read one xs result h = subst (λ (zs : List _). Gives (λ ys. ys.items) result (read_each read 0 zs)) (map_same xs) (gives_each_seen reads (λ x. x) read one xs result h)

@@ -17,7 +17,11 @@ OneFailed reads i [] fault = ⊥
 OneFailed {Y = Y} reads i (x ∷ xs) fault = reads i x (Err (Fault fault)) ⊎ ((y : Y) × reads i x (Ok y) × OneFailed reads (i + 1) xs fault)
 
 -- all values, or the first fault; nothing is said where memory ran out
-abbrev pub IsReadOfEach : {X Y F : Type 0} → (ℕ → X → Result Y (ReadError F) → Type 0) → List X → Result (Vec Y Global) (ReadError F) → Type 0
-IsReadOfEach reads xs (Ok ys) = AllGave reads 0 xs ys.items
-IsReadOfEach reads xs (Err Memory) = Unit {0}
-IsReadOfEach reads xs (Err (Fault fault)) = OneFailed reads 0 xs fault
+abbrev pub EachGave : {X Y F : Type 0} → (ℕ → X → Result Y (ReadError F) → Type 0) → List X → Result (Vec Y Global) (ReadError F) → Type 0
+EachGave reads xs (Ok ys) = AllGave reads 0 xs ys.items
+EachGave reads xs (Err Memory) = Unit {0}
+EachGave reads xs (Err (Fault fault)) = OneFailed reads 0 xs fault
+
+-- what was returned is what the calls gave
+pub record IsReadOfEach {X Y F : Type 0} (reads : ℕ → X → Result Y (ReadError F) → Type 0) (xs : List X) (result : Result (Vec Y Global) (ReadError F)) : Type 0 where
+  pub outcome : EachGave reads xs result

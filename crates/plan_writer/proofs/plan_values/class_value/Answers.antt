@@ -1,8 +1,8 @@
 use Rattle.std.proofs.Common.{refl, ap, ◌∙◌}
 use Rattle.toml.specs.Data.{table}
 use Rattle.toml.proofs.Views.{view-Table}
-use Rattle.plan_text.specs.PlanDocument.{class_data}
-use Rattle.plan_text.proofs.plan_values.class_value.Goals as goal
+use Rattle.plan_writer.specs.PlanDocument.{class_data}
+use Rattle.plan_writer.proofs.plan_values.class_value.Goals as goal
 
 pub returns : goal.returns
 unfolding class_data

@@ -5,9 +5,9 @@ use Rattle.toml.specs.View.{view, items_of}
 use Rattle.toml.proofs.Views.{view-Array}
 use Rattle.readings.proofs.Loops.{at_index_seen}
 use Rattle.job_bodies.specs.Plan.{Pool, Class}
-use Rattle.plan_text.specs.PlanDocument as spec
-use Rattle.plan_text.proofs.Images.{image_pushed, image_whole}
-use Rattle.plan_text.proofs.plan_values.class_values.Goals as goal
+use Rattle.plan_writer.specs.PlanDocument as spec
+use Rattle.plan_writer.proofs.Images.{image_pushed, image_whole}
+use Rattle.plan_writer.proofs.plan_values.class_values.Goals as goal
 
 pub loop-class-preserved : goal.loop-class-preserved
 loop-class-preserved c =

@@ -1,8 +1,8 @@
 use Rattle.std.proofs.Common.{refl, ap, ◌∙◌}
 use Rattle.toml.specs.Data.{table}
 use Rattle.toml.proofs.Views.{view-Table, view-Boolean}
-use Rattle.plan_text.specs.PlanDocument.{client_data}
-use Rattle.plan_text.proofs.plan_values.client_value.Goals as goal
+use Rattle.plan_writer.specs.PlanDocument.{client_data}
+use Rattle.plan_writer.proofs.plan_values.client_value.Goals as goal
 
 pub returns : goal.returns
 unfolding client_data

@@ -5,9 +5,9 @@ use Rattle.toml.specs.View.{view, items_of}
 use Rattle.toml.proofs.Views.{view-Array}
 use Rattle.readings.proofs.Loops.{at_index_seen}
 use Rattle.job_bodies.specs.Plan.{Pool}
-use Rattle.plan_text.specs.PlanDocument as spec
-use Rattle.plan_text.proofs.Images.{image_pushed, image_whole}
-use Rattle.plan_text.proofs.plan_values.pool_values.Goals as goal
+use Rattle.plan_writer.specs.PlanDocument as spec
+use Rattle.plan_writer.proofs.Images.{image_pushed, image_whole}
+use Rattle.plan_writer.proofs.plan_values.pool_values.Goals as goal
 
 pub loop-pool-preserved : goal.loop-pool-preserved
 loop-pool-preserved c =

@@ -6,9 +6,9 @@ use Rattle.std.proofs.lemmas.Simd.{map-map}
 use Rattle.toml.specs.Data.{Data, string, array}
 use Rattle.toml.specs.View.{view, items_of}
 use Rattle.toml.proofs.Views.{view-Array, view-String}
-use Rattle.plan_text.specs.Spelling as spec
-use Rattle.plan_text.proofs.Images.{image_pushed, image_whole, enumerated}
-use Rattle.plan_text.proofs.spelling.body_value.Goals as goal
+use Rattle.plan_writer.specs.Spelling as spec
+use Rattle.plan_writer.proofs.Images.{image_pushed, image_whole, enumerated}
+use Rattle.plan_writer.proofs.spelling.body_value.Goals as goal
 
 pub loop-position-preserved : goal.loop-position-preserved
 loop-position-preserved c =

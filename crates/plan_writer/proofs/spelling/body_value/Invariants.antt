@@ -2,8 +2,8 @@ use Rattle.std.proofs.Common.{◌≡◌, map, take}
 use Rattle.std.specs.List.{enumerate_from}
 use Rattle.toml.specs.Data.{string}
 use Rattle.toml.specs.View.{view}
-use Rattle.plan_text.specs.Spelling as spec
-use Rattle.plan_text.proofs.spelling.body_value.Given as goal
+use Rattle.plan_writer.specs.Spelling as spec
+use Rattle.plan_writer.proofs.spelling.body_value.Given as goal
 
 abbrev pub invariant-loop-position : goal.invariant-loop-position
 invariant-loop-position l =

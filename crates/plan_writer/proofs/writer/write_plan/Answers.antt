@@ -2,9 +2,9 @@ use Rattle.std.proofs.Common.{◌≤◌, Some, ap, ◌∙◌}
 use Rattle.std.proofs.lemmas.Str.{is_utf8-from_IsUtf8, IsUtf8-string_bytes}
 use Rattle.toml.specs.Data.{Members, members_depth}
 use Rattle.toml.specs.View.{table_view}
-use Rattle.plan_text.proofs.SpelledPlan.{text_again}
-use Rattle.plan_text.proofs.SpelledEntries.{document_depth}
-use Rattle.plan_text.proofs.writer.write_plan.Goals as goal
+use Rattle.plan_writer.proofs.SpelledPlan.{text_again}
+use Rattle.plan_writer.proofs.SpelledEntries.{document_depth}
+use Rattle.plan_writer.proofs.writer.write_plan.Goals as goal
 
 pub returns-in-Ok-clause-reads_back : goal.returns-in-Ok-clause-reads_back
 returns-in-Ok-clause-reads_back c short =

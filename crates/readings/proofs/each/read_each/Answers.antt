@@ -18,7 +18,7 @@ returns-in_err-one g c =
     let x = c.index-elements-place.result in
     let here = at_index c.args.elements.now c.loop-place.place x c.loop-place-test.true c.index-elements-place.is in
     let p = err_from_is_err_and c.from_residual.result c.from_residual.ensures.1 in
-    rw (p.1, p.2) (read_stops _ _ _ _ _ _ here (_, refl, c.in_err-one.ensures) c.loop-place.invariant)
+    rw (p.1, p.2) (record { outcome = read_stops _ _ _ _ _ _ here (_, refl, c.in_err-one.ensures) c.loop-place.invariant })
 
 pub returns : goal.returns
-returns g c = read_ends _ _ _ _ c.loop-place-test.false c.loop-place.invariant
+returns g c = record { outcome = read_ends _ _ _ _ c.loop-place-test.false c.loop-place.invariant }
