@@ -8,7 +8,8 @@ use Rattle.job_bodies.specs.declared.limits.TheConstants.{MOST_UNITS}
 use Rattle.job_bodies.specs.WellFormed.{is_within}
 use Rattle.plan_text.specs.Orders.{are_digits, is_decimal}
 
-digits_are : IsNumeralModel (λ digits. are_digits digits ≡ true) (digits_value 10)
+-- what digits are, to the lemmas of std on numerals
+pub digits_are : IsNumeralModel (λ digits. are_digits digits ≡ true) (digits_value 10)
 digits_are = numerals_by_value _ (search rules)
 
 not_empty : (text : List ℕ) → not (length text == 0) ≡ true → 0 < length text

@@ -7,12 +7,11 @@ use Rattle.std.specs.Str.Parse.{digits_value}
 use Rattle.std.proofs.lemmas.Bool.{and_parts, and_from, or_left, or_right, leb-true, le-leb, lt-ltb, le-ltb, not_from_false, ne_eqb, cond-true, cond-false}
 use Rattle.std.proofs.lemmas.Bool.Decides.{nat_tests}
 use Rattle.std.proofs.lemmas.List.{take_at, drop_at, length-append, length_push}
-use Rattle.std.proofs.lemmas.Str.Parse.{IsNumeralModel, numerals_by_value}
 use Rattle.std.proofs.lemmas.Fmt.{decimal_nonempty, length-decimal-le, first_decimal, digits_decimal, digits_value-decimal, decimal_injective}
 use Rattle.job_bodies.specs.declared.limits.TheConstants.{MOST_UNITS}
 use Rattle.job_bodies.specs.WellFormed.{is_within, is_letter, is_name_byte, is_lawful_name}
+use Rattle.plan_text.proofs.Numbers.{digits_are}
 use Rattle.plan_text.specs.Orders.{Order, work, submit, submit_as, get, split_space, name_of, is_digit, are_digits, is_decimal, units_of, submit_as_of, submit_parts, submit_of, order_of_verb, order_of}
-use Rattle.plan_text.specs.Spelling.{slot_name}
 
 -- ---- where a text splits
 abbrev is_space : ℕ → Bool
@@ -62,13 +61,10 @@ name_no_space : (name : List ℕ) → is_lawful_name name ≡ true → has_no_sp
 name_no_space name lawful = bytes_no_space name (and_parts _ (list_all is_name_byte name) lawful).1
 
 -- ---- numbers
-digits_are : IsNumeralModel (λ digits. are_digits digits ≡ true) (digits_value 10)
-digits_are = numerals_by_value _ (search rules)
-
 digit_in_name : (b : ℕ) → is_digit b ≡ true → is_name_byte b ≡ true
 digit_in_name b h = or_left _ _ (or_right (is_letter b) _ h)
 
-digits_in_name : (digits : List ℕ) → are_digits digits ≡ true → list_all is_name_byte digits ≡ true
+pub digits_in_name : (digits : List ℕ) → are_digits digits ≡ true → list_all is_name_byte digits ≡ true
 digits_in_name [] h = refl
 digits_in_name (b ∷ digits) h =
     let parts = and_parts (is_digit b) _ h in
@@ -88,17 +84,6 @@ units_read units within =
     cond-true _ _ _ (and_from _ _ full fits) ∙ ap (λ (n : ℕ). Some n) value
 
 -- ---- the spellings
--- a slot's name is lawful, and names one position
-pub slot_lawful : (position : ℕ) → position < 256 → is_lawful_name (slot_name position) ≡ true
-slot_lawful position within =
-    let small : position < 2 ^ 64 = omega arith in
-    let few : length (slot_name position) ≤ 32 = omega (arith, length-decimal-le 3 position (omega arith) (omega arith) small) in
-    let bytes : list_all is_name_byte (decimal position) ≡ true = digits_in_name (decimal position) (digits_decimal digits_are position small) in
-    and_from _ _ (and_from _ _ (and_from _ _ (le-leb 1 _ (omega arith)) (le-leb _ 32 few)) refl) bytes
-
-pub slot_injective : (i j : ℕ) → i < 256 → j < 256 → slot_name i ≡ slot_name j → i ≡ j
-slot_injective i j p q e = decimal_injective i j (omega arith) (omega arith) (ap (drop 1) e)
-
 -- what the reader makes of each spelling
 by_verb : (verb text : List ℕ) → has_no_space verb ≡ true → order_of (verb ++ 32 ∷ text) ≡ order_of_verb verb text
 unfolding order_of

@@ -1,5 +1,5 @@
-use Rattle.plan_text.proofs.Buildable.{are_within_limits}
+use Rattle.plan_text.proofs.Buildable.{are_within_limits, well_formed_read}
 use Rattle.plan_text.proofs.plan_of.plan_of.Goals as goal
 
-pub plan_of_entries-requires : goal.plan_of_entries-requires
-plan_of_entries-requires c = are_within_limits _ _ c.in_ok-entries.ensures
+pub of_well_formed-requires : goal.of_well_formed-requires
+of_well_formed-requires c = well_formed_read _ _ (are_within_limits _ _ c.in_ok-entries.ensures) c.in_ok-bodies.ensures
