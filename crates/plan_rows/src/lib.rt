@@ -18,8 +18,12 @@ mod numbers;
 #[cfg(test)]
 mod orders;
 #[cfg(test)]
+mod reading_calls;
+#[cfg(test)]
 mod shapes;
 #[cfg(test)]
 mod slots;
 #[cfg(test)]
 mod spellings;
+#[cfg(test)]
+mod writing_calls;

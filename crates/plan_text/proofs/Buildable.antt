@@ -39,7 +39,7 @@ few_texts entry key texts e =
     let value = bind_ok (value_at entry key) _ _ e in
     let values = bind_ok (some_or (as_list value.0) _) _ _ value.2 in
     let passed = bind_ok (holds_or (nat_le (length values.0) MOST_ACTIONS) _) _ _ values.2 in
-    let long = read_length (action_text entry) 0 values.0 texts passed.2 in
+    let long = read_length (action_text entry.part entry.index) 0 values.0 texts passed.2 in
     rw long (holds_ok _ _ passed.1)
 
 class_short : (index : ℕ) (value : Data) (class : ClassEntry) → class_at index value ≡ Ok class → nat_le (length class.body) MOST_ACTIONS ≡ true

@@ -8,3 +8,4 @@ pub mod Fillings
 mod BodyLaws
 mod Buildable
 pub mod SpelledOrders
+pub mod ReadOrders

@@ -1,4 +1,4 @@
--- The order of a text that the writer spells is the order that was spelled.
+-- A lawful order is read from its spelling.
 use Rattle.std.proofs.Common.{◌≡◌, ℕ, ◌+◌, ◌<◌, ◌≤◌, ◌^◌, Bool, true, false, not, ◌==◌, nat_lt, nat_le, List, [], ◌∷◌, ◌++◌, length, take, drop, slice_index, codes, Option, None, Some, refl, sym, ap, ap₂, subst, ◌∙◌, arith, rules, append_assoc, append-nil}
 use Rattle.std.specs.Prelude.{if◌then◌else◌, option_and_then, decimal}
 use Rattle.std.specs.List.{list_all, position_or_len, before_first, after_first}
@@ -11,7 +11,7 @@ use Rattle.std.proofs.lemmas.Fmt.{decimal_nonempty, length-decimal-le, first_dec
 use Rattle.job_bodies.specs.declared.limits.TheConstants.{MOST_UNITS}
 use Rattle.job_bodies.specs.WellFormed.{is_within, is_letter, is_name_byte, is_lawful_name}
 use Rattle.plan_text.proofs.Numbers.{digits_are}
-use Rattle.plan_text.specs.Orders.{Order, work, submit, submit_as, get, split_space, name_of, is_digit, are_digits, is_decimal, units_of, submit_as_of, submit_parts, submit_of, order_of_verb, order_of}
+use Rattle.plan_text.specs.Orders.{Order, work, submit, submit_as, get, split_space, name_of, is_digit, are_digits, is_positive_decimal, units_of, submit_as_of, submit_parts, submit_of, order_of_verb, order_of, spelling, IsLawfulOrder}
 
 -- ---- where a text splits
 abbrev is_space : ℕ → Bool
@@ -79,7 +79,7 @@ units_read units within =
     let value : digits_value 10 (decimal units) ≡ units = digits_value-decimal digits_are units small in
     let filled : not (length (decimal units) == 0) ≡ true = not_from_false _ (ne_eqb _ 0 (λ e. omega (arith, decimal_nonempty units small))) in
     let leading : not (slice_index (decimal units) 0 == 48) ≡ true = not_from_false _ (ne_eqb _ 48 (λ e. omega (arith, first_decimal units some small))) in
-    let full : is_decimal (decimal units) ≡ true = and_from _ _ (and_from _ _ filled leading) (digits_decimal digits_are units small) in
+    let full : is_positive_decimal (decimal units) ≡ true = and_from _ _ (and_from _ _ filled leading) (digits_decimal digits_are units small) in
     let fits : is_within 1 MOST_UNITS (digits_value 10 (decimal units)) ≡ true = subst (λ (n : ℕ). is_within 1 MOST_UNITS n ≡ true) (sym value) within in
     cond-true _ _ _ (and_from _ _ full fits) ∙ ap (λ (n : ℕ). Some n) value
 
@@ -112,18 +112,25 @@ submit_as_read class slot lawful named =
     ∙ ap (λ o. with_class o slot) (name_read class lawful)
     ∙ ap (with_slot class) (name_read slot named)
 
-pub spelled_work : (units : ℕ) → is_within 1 MOST_UNITS units ≡ true → order_of (codes "work " ++ decimal units) ≡ Some (work units)
+spelled_work : (units : ℕ) → is_within 1 MOST_UNITS units ≡ true → order_of (codes "work " ++ decimal units) ≡ Some (work units)
 unfolding order_of_verb
 spelled_work units within = by_verb (codes "work") (decimal units) refl ∙ ap (λ o. option_and_then (λ n. Some (work n)) o) (units_read units within)
 
-pub spelled_submit : (class : List ℕ) → is_lawful_name class ≡ true → order_of (codes "submit " ++ class ++ []) ≡ Some (submit class)
+spelled_submit : (class : List ℕ) → is_lawful_name class ≡ true → order_of (codes "submit " ++ class) ≡ Some (submit class)
 unfolding order_of_verb
-spelled_submit class lawful = by_verb (codes "submit") (class ++ []) refl ∙ ap submit_of (append-nil class) ∙ submit_read class lawful
+spelled_submit class lawful = by_verb (codes "submit") class refl ∙ submit_read class lawful
 
-pub spelled_submit_as : (class slot : List ℕ) → is_lawful_name class ≡ true → is_lawful_name slot ≡ true → order_of (codes "submit " ++ class ++ (codes " as " ++ slot)) ≡ Some (submit_as class slot)
+spelled_submit_as : (class slot : List ℕ) → is_lawful_name class ≡ true → is_lawful_name slot ≡ true → order_of (codes "submit " ++ class ++ (codes " as " ++ slot)) ≡ Some (submit_as class slot)
 unfolding order_of_verb
 spelled_submit_as class slot lawful named = by_verb (codes "submit") (class ++ 32 ∷ (codes "as" ++ 32 ∷ slot)) refl ∙ submit_as_read class slot lawful named
 
-pub spelled_get : (slot : List ℕ) → is_lawful_name slot ≡ true → order_of (codes "get " ++ slot) ≡ Some (get slot)
+spelled_get : (slot : List ℕ) → is_lawful_name slot ≡ true → order_of (codes "get " ++ slot) ≡ Some (get slot)
 unfolding order_of_verb
 spelled_get slot named = by_verb (codes "get") slot refl ∙ ap (λ o. option_and_then (λ name. Some (get name)) o) (name_read slot named)
+
+-- ---- a lawful order is read from its spelling
+pub spelled : (order : Order) → IsLawfulOrder order → order_of (spelling order) ≡ Some order
+spelled (work units) lawful = spelled_work units lawful
+spelled (submit class) lawful = spelled_submit class lawful
+spelled (submit_as class slot) lawful = let parts = and_parts (is_lawful_name class) (is_lawful_name slot) lawful in spelled_submit_as class slot parts.0 parts.1
+spelled (get slot) lawful = spelled_get slot lawful

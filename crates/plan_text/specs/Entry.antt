@@ -61,9 +61,9 @@ flag_of entry (Some value) = some_or (as_bool value) (fault_at entry WRONG_TYPE)
 unfoldable pub flag_at : Entry → List ℕ → Result Bool PlanFault
 flag_at entry key = flag_of entry (get_member key entry.table)
 
--- the text of an action
-abbrev pub action_text : Entry → ℕ → Data → Result (List ℕ) PlanFault
-action_text entry action value = some_or (as_str value) (at_action entry.part entry.index action WRONG_TYPE)
+-- the text of an action of the entry at a place
+abbrev pub action_text : Part → ℕ → ℕ → Data → Result (List ℕ) PlanFault
+action_text part index action value = some_or (as_str value) (at_action part index action WRONG_TYPE)
 
 -- the texts at a key, as many as a body may have
 unfoldable pub texts_at : Entry → List ℕ → Result (List (List ℕ)) PlanFault
@@ -71,4 +71,4 @@ texts_at entry key =
     value_at entry key >>= λ value.
     some_or (as_list value) (fault_at entry WRONG_TYPE) >>= λ values.
     holds_or (nat_le (length values) MOST_ACTIONS) (fault_at entry TOO_MANY) >>= λ _.
-    read_each (action_text entry) 0 values
+    read_each (action_text entry.part entry.index) 0 values

@@ -115,21 +115,26 @@ impl<'a> Entry<'a> {
         if values.len() > MOST_ACTIONS {
             return Err(self.refuses(TOO_MANY));
         }
-        self.action_texts(alloc, values)
+        action_texts(alloc, self.part, self.index, values)
     }
+}
 
-    fn action_text(&self, action: usize, value: &'a Value) -> Result<&'a str, TextError>
-        ensures { Gives (λ text. text.now) result (spec.action_text (entry_view self.now) action (view value.now)) }
-    {
-        match value.as_str() {
-            Some(text) => Ok(text),
-            None => Err(ReadError::Fault(PlanFault::at_action(self.part, self.index, action, WRONG_TYPE))),
-        }
+fn action_text(part: Part, index: usize, action: usize, value: &Value) -> Result<&str, TextError>
+    ensures { Gives (λ text. text.now) result (spec.action_text part index action (view value.now)) }
+{
+    match value.as_str() {
+        Some(text) => Ok(text),
+        None => Err(ReadError::Fault(PlanFault::at_action(part, index, action, WRONG_TYPE))),
     }
+}
 
-    fn action_texts(&self, alloc: Global, values: &'a [Value]) -> Result<Vec<&'a str>, TextError>
-        ensures { Gives (λ texts. map (λ text. text.now) texts.items) result (each.read_each (spec.action_text (entry_view self.now)) 0 (map view values.now)) }
-    {
-        read_each(alloc, values, |action, value| self.action_text(action, value))
-    }
+fn action_texts(
+    alloc: Global,
+    part: Part,
+    index: usize,
+    values: &[Value],
+) -> Result<Vec<&str>, TextError>
+    ensures { Gives (λ texts. map (λ text. text.now) texts.items) result (each.read_each (spec.action_text part index) 0 (map view values.now)) }
+{
+    read_each(alloc, values, |action, value| action_text(part, index, action, value))
 }

@@ -9,10 +9,12 @@ mod document;
 mod entries;
 mod entry;
 mod fault;
+mod laws;
 mod names;
 mod order;
 mod plan_of;
 mod slots;
 
 pub use document::MOST_TEXT_BYTES;
+pub use laws::spelling_is_canonical;
 pub use plan_of::read_plan;

@@ -51,7 +51,7 @@ texts_back : (entry : Entry) (key : List ℕ) (texts : List (List ℕ)) → get_
 unfolding texts_at
 texts_back entry key texts found short =
     let long : length (map string texts) ≡ length texts = length-map texts string in
-    rw (found, elements-items_of (map string texts), long, short) (read_again (action_text entry) string texts (λ i text e. refl))
+    rw (found, elements-items_of (map string texts), long, short) (read_again (action_text entry.part entry.index) string texts (λ i text e. refl))
 
 pool_again : (index : ℕ) (name : List ℕ) (core max queue : ℕ) (prestart : Bool) → let pool : Pool = record { name = name; core = core; max = max; queue = queue; prestart = prestart } in pool_at index (pool_data pool) ≡ Ok pool
 unfolding pool_at pool_data entry_of text_at number_at flag_at
