@@ -13,8 +13,6 @@ mod reading;
 mod scripted_fault;
 mod std_sink;
 mod std_source;
-#[cfg(test)]
-mod tests;
 mod writing;
 
 pub use io_fault::IoFault;

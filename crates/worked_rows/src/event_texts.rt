@@ -1,6 +1,6 @@
 //! Texts of events, and the lines that answer them.
 
-use crate::{
+use event_lines::{
     EventLine, push_not_possible, push_outcome, push_stuck, push_summary, read_event_lines,
 };
 use job_bodies::{Plan, Pool};
@@ -22,8 +22,9 @@ fn plan_of_p_and_q(alloc: Global) -> Result<Plan, Fail> {
     Ok(Plan::build(alloc, pools, Vec::new(alloc), Vec::new(alloc))?)
 }
 
+/// Each form of line is read. A line of none of them is told by its number.
 #[test]
-fn each_form_of_line(rt: HostRuntime) -> Result<(), Fail> {
+fn lines_that_are_read(rt: HostRuntime) -> Result<(), Fail> {
     let plan = plan_of_p_and_q(rt.alloc())?;
     let text = b"client 0\njob 1000000000\ntake q\nretire p\nstuck 0 1";
     let lines = read_event_lines(rt.alloc(), &plan, text)?;
@@ -45,12 +46,6 @@ fn each_form_of_line(rt: HostRuntime) -> Result<(), Fail> {
         }
     }
     assert!(rt; read_event_lines(rt.alloc(), &plan, b"")?.is_empty());
-    Ok(())
-}
-
-#[test]
-fn bad_lines(rt: HostRuntime) -> Result<(), Fail> {
-    let plan = plan_of_p_and_q(rt.alloc())?;
     let bad_lines = [
         "",
         "client",
@@ -76,7 +71,7 @@ fn bad_lines(rt: HostRuntime) -> Result<(), Fail> {
 }
 
 #[test]
-fn each_form_of_answer(rt: HostRuntime) -> Result<(), Fail> {
+fn lines_that_answer(rt: HostRuntime) -> Result<(), Fail> {
     let plan = plan_of_p_and_q(rt.alloc())?;
     let outcomes = [
         Outcome::Started(0),
