@@ -1,6 +1,5 @@
 pub mod FirstSpace
 pub mod Members
-pub mod Names
 pub mod Numbers
 pub mod Splits
 pub mod Texts

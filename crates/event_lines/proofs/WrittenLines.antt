@@ -1,14 +1,14 @@
 -- The line that a text writes is the one whose text it is.
 use Rattle.std.proofs.Common.{◌≡◌, ℕ, zero, suc, ◌+◌, ◌<◌, ◌⊎◌, inl, inr, ⊎_elim, Bool, true, false, cond, not, ◌==◌, ◌&&◌, nat_lt, nat_le, List, [], ◌∷◌, ◌++◌, length, take, drop, map, flat_map, get_or, slice_index_or, position, codes, decimal, bytes_eq, Option, Some, None, option_map, option_and_then, refl, sym, ap, ap₂, subst, ◌∙◌, arith, append_assoc, length-append, take_at, drop_at}
 use Rattle.std.specs.List.{list_all, list_any, position_or_len, before_first, after_first, join_with_byte}
-use Rattle.std.proofs.lemmas.Bool.{and_parts, and_from, lt-ltb, ltb-true, leb-true, le-leb, eqb-true, cond-true, cases_lt, not-true, false_from_ne_true, true≢false}
+use Rattle.std.proofs.lemmas.Bool.{and_parts, and_from, lt-ltb, ltb-true, leb-true, le-leb, eqb-true, cond-true, cases_lt, not-true, or_parts}
 use Rattle.std.proofs.lemmas.Bool.Decides.{nat_tests}
 use Rattle.std.proofs.lemmas.List.{length_push}
-use Rattle.std.proofs.lemmas.List.Folds.{list_any_at}
 use Rattle.std.proofs.lemmas.List.Sums.{split_at_first, passes_at_first, AllPass-from_list_all}
 use Rattle.std.proofs.lemmas.List.Splits.{join_with_byte-slice_split, length-slice_split}
 use Rattle.std.proofs.lemmas.Option.{none-some, same_Some, cond_some, option_and_then_some}
 use Rattle.std.proofs.lemmas.Slice.Eq.{bytes_eq-Decides}
+use Rattle.job_bodies.specs.Plan.{Pool, Plan, no_pool, pool_at, pool_names}
 use Rattle.job_bodies.specs.WellFormed.{are_distinct}
 use Rattle.written_machine.specs.declared.event.Event.{Event}
 use Rattle.written_machine.specs.declared.event.Event.TheVariants.{Client, Job, Take, Retire}
@@ -57,29 +57,35 @@ split_parts text words read =
     cut ∙ ap (λ p. take p text ++ 32 ∷ drop (p + 1) text) place.1 ∙ ap (λ (w : List ℕ × List ℕ). w.0 ++ 32 ∷ w.1) found.2
 
 -- ---- names
-name_read : (pools : List (List ℕ)) (name : List ℕ) (p : ℕ) → pool_named pools name ≡ Some p → (nat_lt p (length pools) ≡ true) × (name ≡ slice_index_or pools p [])
+name_read : (plan : Plan) (name : List ℕ) (p : ℕ) → pool_named plan name ≡ Some p → (nat_lt p (length plan.pools) ≡ true) × (name ≡ (pool_at plan p).name)
 unfolding pool_named
-name_read pools name p read =
-    let test = λ (known : List ℕ). bytes_eq known name in
-    let place = cond_some (nat_lt (position_or_len test pools) (length pools)) _ _ read in
-    let same : slice_index_or pools (position_or_len test pools) [] ≡ name = (bytes_eq-Decides _ name).0 (passes_at_first test pools [] (ltb-true _ _ place.0)) in
-    (subst (λ (q : ℕ). nat_lt q (length pools) ≡ true) place.1 place.0, sym same ∙ ap (λ q. slice_index_or pools q []) place.1)
+name_read plan name p read =
+    let test = λ (pool : Pool). bytes_eq pool.name name in
+    let place = cond_some (nat_lt (position_or_len test plan.pools) (length plan.pools)) _ _ read in
+    let same : (pool_at plan (position_or_len test plan.pools)).name ≡ name = (bytes_eq-Decides _ name).0 (passes_at_first test plan.pools no_pool (ltb-true _ _ place.0)) in
+    (subst (λ (q : ℕ). nat_lt q (length plan.pools) ≡ true) place.1 place.0, sym same ∙ ap (λ q. (pool_at plan q).name) place.1)
 
-place_among_distinct : (pools : List (List ℕ)) (p : ℕ) → are_distinct pools ≡ true → p < length pools → position_or_len (λ known. bytes_eq known (slice_index_or pools p [])) pools ≡ p
+-- no name in the list is this one
+others_differ : (name : List ℕ) (pools : List Pool) (p : ℕ) → list_any (bytes_eq name) (map (λ (pool : Pool). pool.name) pools) ≡ false → p < length pools → bytes_eq name (slice_index_or pools p no_pool).name ≡ false
+others_differ name [] p none within = absurd (omega arith)
+others_differ name (pool ∷ pools) zero none within = (or_parts (bytes_eq name pool.name) _ none).0
+others_differ name (pool ∷ pools) (suc p) none within = others_differ name pools p (or_parts (bytes_eq name pool.name) _ none).1 (omega arith)
+
+place_among_distinct : (pools : List Pool) (p : ℕ) → are_distinct (map (λ (pool : Pool). pool.name) pools) ≡ true → p < length pools
+    → position_or_len (λ (pool : Pool). bytes_eq pool.name (slice_index_or pools p no_pool).name) pools ≡ p
 place_among_distinct [] p distinct within = absurd (omega arith)
-place_among_distinct (x ∷ pools) zero distinct within = rw ((bytes_eq-Decides x x).1 refl) refl
+place_among_distinct (x ∷ pools) zero distinct within = rw ((bytes_eq-Decides x.name x.name).1 refl) refl
 place_among_distinct (x ∷ pools) (suc p) distinct within =
-    let parts = and_parts (not (list_any (bytes_eq x) pools)) (are_distinct pools) distinct in
+    let parts = and_parts (not (list_any (bytes_eq x.name) (map (λ (pool : Pool). pool.name) pools))) (are_distinct (map (λ (pool : Pool). pool.name) pools)) distinct in
     let inside : p < length pools = omega arith in
-    let other : bytes_eq x (slice_index_or pools p []) ≡ false = false_from_ne_true _ (λ yes. true≢false (sym (list_any_at (bytes_eq x) pools p [] inside yes) ∙ not-true _ parts.0)) in
-    rw (other, place_among_distinct pools p parts.1 inside) (omega arith)
+    rw (others_differ x.name pools p (not-true _ parts.0) inside, place_among_distinct pools p parts.1 inside) (omega arith)
 
-name_written : (pools : List (List ℕ)) (p : ℕ) → are_distinct pools ≡ true → nat_lt p (length pools) ≡ true → pool_named pools (slice_index_or pools p []) ≡ Some p
+name_written : (plan : Plan) (p : ℕ) → are_distinct (pool_names plan) ≡ true → nat_lt p (length plan.pools) ≡ true → pool_named plan (pool_at plan p).name ≡ Some p
 unfolding pool_named
-name_written pools p distinct within =
-    let test = λ (known : List ℕ). bytes_eq known (slice_index_or pools p []) in
-    let place = place_among_distinct pools p distinct (ltb-true _ _ within) in
-    let inside : nat_lt (position_or_len test pools) (length pools) ≡ true = subst (λ (q : ℕ). nat_lt q (length pools) ≡ true) (sym place) within in
+name_written plan p distinct within =
+    let test = λ (pool : Pool). bytes_eq pool.name (pool_at plan p).name in
+    let place = place_among_distinct plan.pools p distinct (ltb-true _ _ within) in
+    let inside : nat_lt (position_or_len test plan.pools) (length plan.pools) ≡ true = subst (λ (q : ℕ). nat_lt q (length plan.pools) ≡ true) (sym place) within in
     cond-true _ _ _ inside ∙ ap (λ (q : ℕ). Some q) place
 
 -- ---- members
@@ -128,93 +134,93 @@ words_written n members lawful =
 
 -- ---- a verb and the rest
 -- the verb and the rest are the lawful event's text
-abbrev IsEventText : List (List ℕ) → List ℕ → List ℕ → Event → Type 0
-IsEventText pools verb rest event = (is_lawful_event (length pools) event ≡ true) × (verb ++ 32 ∷ rest ≡ event_text pools event)
+abbrev IsEventText : Plan → List ℕ → List ℕ → Event → Type 0
+IsEventText plan verb rest event = (is_lawful_event plan event ≡ true) × (verb ++ 32 ∷ rest ≡ event_text plan event)
 
 -- the verb and the rest are the lawful line's text
-abbrev IsLineText : List (List ℕ) → List ℕ → List ℕ → Line → Type 0
-IsLineText pools verb rest line = (is_lawful_line (length pools) line ≡ true) × (verb ++ 32 ∷ rest ≡ line_text pools line)
+abbrev IsLineText : Plan → List ℕ → List ℕ → Line → Type 0
+IsLineText plan verb rest line = (is_lawful_line plan line ≡ true) × (verb ++ 32 ∷ rest ≡ line_text plan line)
 
 same_verb : (verb word rest text : List ℕ) → bytes_eq verb word ≡ true → rest ≡ text → verb ++ 32 ∷ rest ≡ word ++ 32 ∷ text
 same_verb verb word rest text same rests = ap₂ (λ (x y : List ℕ). x ++ 32 ∷ y) ((bytes_eq-Decides verb word).0 same) rests
 
-client_read : (pools : List (List ℕ)) (verb rest : List ℕ) (event : Event) → bytes_eq verb (codes "client") ≡ true → option_map (λ n. Client n) (number_of rest) ≡ Some event → IsEventText pools verb rest event
-client_read pools verb rest event same read =
+client_read : (plan : Plan) (verb rest : List ℕ) (event : Event) → bytes_eq verb (codes "client") ≡ true → option_map (λ n. Client n) (number_of rest) ≡ Some event → IsEventText plan verb rest event
+client_read plan verb rest event same read =
     let found = map_some (λ n. Client n) (number_of rest) event read in
     let number = number_read rest found.0 found.1 in
-    subst (λ (e : Event). IsEventText pools verb rest e) found.2 (number.0, same_verb verb (codes "client") rest _ same number.1)
+    subst (λ (e : Event). IsEventText plan verb rest e) found.2 (number.0, same_verb verb (codes "client") rest _ same number.1)
 
-job_read : (pools : List (List ℕ)) (verb rest : List ℕ) (event : Event) → bytes_eq verb (codes "job") ≡ true → option_map (λ n. Job n) (number_of rest) ≡ Some event → IsEventText pools verb rest event
-job_read pools verb rest event same read =
+job_read : (plan : Plan) (verb rest : List ℕ) (event : Event) → bytes_eq verb (codes "job") ≡ true → option_map (λ n. Job n) (number_of rest) ≡ Some event → IsEventText plan verb rest event
+job_read plan verb rest event same read =
     let found = map_some (λ n. Job n) (number_of rest) event read in
     let number = number_read rest found.0 found.1 in
-    subst (λ (e : Event). IsEventText pools verb rest e) found.2 (number.0, same_verb verb (codes "job") rest _ same number.1)
+    subst (λ (e : Event). IsEventText plan verb rest e) found.2 (number.0, same_verb verb (codes "job") rest _ same number.1)
 
-take_read : (pools : List (List ℕ)) (verb rest : List ℕ) (event : Event) → bytes_eq verb (codes "take") ≡ true → option_map (λ p. Take p) (pool_named pools rest) ≡ Some event → IsEventText pools verb rest event
-take_read pools verb rest event same read =
-    let found = map_some (λ p. Take p) (pool_named pools rest) event read in
-    let pool = name_read pools rest found.0 found.1 in
-    subst (λ (e : Event). IsEventText pools verb rest e) found.2 (pool.0, same_verb verb (codes "take") rest _ same pool.1)
+take_read : (plan : Plan) (verb rest : List ℕ) (event : Event) → bytes_eq verb (codes "take") ≡ true → option_map (λ p. Take p) (pool_named plan rest) ≡ Some event → IsEventText plan verb rest event
+take_read plan verb rest event same read =
+    let found = map_some (λ p. Take p) (pool_named plan rest) event read in
+    let pool = name_read plan rest found.0 found.1 in
+    subst (λ (e : Event). IsEventText plan verb rest e) found.2 (pool.0, same_verb verb (codes "take") rest _ same pool.1)
 
-retire_read : (pools : List (List ℕ)) (verb rest : List ℕ) (event : Event) → bytes_eq verb (codes "retire") ≡ true → option_map (λ p. Retire p) (pool_named pools rest) ≡ Some event → IsEventText pools verb rest event
-retire_read pools verb rest event same read =
-    let found = map_some (λ p. Retire p) (pool_named pools rest) event read in
-    let pool = name_read pools rest found.0 found.1 in
-    subst (λ (e : Event). IsEventText pools verb rest e) found.2 (pool.0, same_verb verb (codes "retire") rest _ same pool.1)
+retire_read : (plan : Plan) (verb rest : List ℕ) (event : Event) → bytes_eq verb (codes "retire") ≡ true → option_map (λ p. Retire p) (pool_named plan rest) ≡ Some event → IsEventText plan verb rest event
+retire_read plan verb rest event same read =
+    let found = map_some (λ p. Retire p) (pool_named plan rest) event read in
+    let pool = name_read plan rest found.0 found.1 in
+    subst (λ (e : Event). IsEventText plan verb rest e) found.2 (pool.0, same_verb verb (codes "retire") rest _ same pool.1)
 
-event_read : (pools : List (List ℕ)) (verb rest : List ℕ) (event : Event) → event_of pools verb rest ≡ Some event → IsEventText pools verb rest event
+event_read : (plan : Plan) (verb rest : List ℕ) (event : Event) → event_of plan verb rest ≡ Some event → IsEventText plan verb rest event
 unfolding event_of
-event_read pools verb rest event read =
-    ⊎_elim (λ here. client_read pools verb rest event here.0 here.1)
-    (λ other. ⊎_elim (λ here. job_read pools verb rest event here.0 here.1)
-    (λ other. ⊎_elim (λ here. take_read pools verb rest event here.0 here.1)
-    (λ other. ⊎_elim (λ here. retire_read pools verb rest event here.0 here.1) (λ none. absurd (none-some event none))
+event_read plan verb rest event read =
+    ⊎_elim (λ here. client_read plan verb rest event here.0 here.1)
+    (λ other. ⊎_elim (λ here. job_read plan verb rest event here.0 here.1)
+    (λ other. ⊎_elim (λ here. take_read plan verb rest event here.0 here.1)
+    (λ other. ⊎_elim (λ here. retire_read plan verb rest event here.0 here.1) (λ none. absurd (none-some event none))
     (choose (bytes_eq verb (codes "retire")) _ None event other))
     (choose (bytes_eq verb (codes "take")) _ _ event other))
     (choose (bytes_eq verb (codes "job")) _ _ event other))
     (choose (bytes_eq verb (codes "client")) _ _ event read)
 
-stuck_read : (pools : List (List ℕ)) (verb rest : List ℕ) (line : Line) → bytes_eq verb (codes "stuck") ≡ true → stuck_of rest ≡ Some line → IsLineText pools verb rest line
+stuck_read : (plan : Plan) (verb rest : List ℕ) (line : Line) → bytes_eq verb (codes "stuck") ≡ true → stuck_of rest ≡ Some line → IsLineText plan verb rest line
 unfolding stuck_of
-stuck_read pools verb rest line same read =
+stuck_read plan verb rest line same read =
     let found = map_some Stuck (all_of number_of (words_of rest)) line read in
     let members = members_read (words_of rest) found.0 found.1 in
     let words = words_read rest found.0 members.1 in
-    subst (λ (l : Line). IsLineText pools verb rest l) found.2
+    subst (λ (l : Line). IsLineText plan verb rest l) found.2
     (and_from _ _ words.0 members.0, ap (λ (v : List ℕ). v ++ 32 ∷ rest) ((bytes_eq-Decides verb (codes "stuck")).0 same) ∙ ap (λ (r : List ℕ). codes "stuck" ++ r) words.1)
 
-verb_read : (pools : List (List ℕ)) (verb rest : List ℕ) (line : Line) → line_of_verb pools verb rest ≡ Some line → IsLineText pools verb rest line
+verb_read : (plan : Plan) (verb rest : List ℕ) (line : Line) → line_of_verb plan verb rest ≡ Some line → IsLineText plan verb rest line
 unfolding line_of_verb
-verb_read pools verb rest line read =
-    ⊎_elim (λ here. stuck_read pools verb rest line here.0 here.1)
-    (λ other. let found = map_some Happens (event_of pools verb rest) line other in
-    subst (λ (l : Line). IsLineText pools verb rest l) found.2 (event_read pools verb rest found.0 found.1))
+verb_read plan verb rest line read =
+    ⊎_elim (λ here. stuck_read plan verb rest line here.0 here.1)
+    (λ other. let found = map_some Happens (event_of plan verb rest) line other in
+    subst (λ (l : Line). IsLineText plan verb rest l) found.2 (event_read plan verb rest found.0 found.1))
     (choose (bytes_eq verb (codes "stuck")) _ _ line read)
 
 -- ---- lines
 -- a text that writes a line is the line's text, and the line is lawful
-pub line_read : (pools : List (List ℕ)) (text : List ℕ) (line : Line) → line_of pools text ≡ Some line → (is_lawful_line (length pools) line ≡ true) × (text ≡ line_text pools line)
+pub line_read : (plan : Plan) (text : List ℕ) (line : Line) → line_of plan text ≡ Some line → (is_lawful_line plan line ≡ true) × (text ≡ line_text plan line)
 unfolding line_of
-line_read pools text line read =
-    option_and_then_some (λ words. line_of_verb pools words.0 words.1) (split_space text) line read (λ words split verb.
-    let found = verb_read pools words.0 words.1 line verb in
+line_read plan text line read =
+    option_and_then_some (λ words. line_of_verb plan words.0 words.1) (split_space text) line read (λ words split verb.
+    let found = verb_read plan words.0 words.1 line verb in
     (found.0, split_parts text words split ∙ found.1))
 
-by_verb : (pools : List (List ℕ)) (verb rest : List ℕ) → has_no 32 verb ≡ true → line_of pools (verb ++ 32 ∷ rest) ≡ line_of_verb pools verb rest
+by_verb : (plan : Plan) (verb rest : List ℕ) → has_no 32 verb ≡ true → line_of plan (verb ++ 32 ∷ rest) ≡ line_of_verb plan verb rest
 unfolding line_of
-by_verb pools verb rest none = ap (λ o. option_and_then (λ words. line_of_verb pools words.0 words.1) o) (splits verb rest none)
+by_verb plan verb rest none = ap (λ o. option_and_then (λ words. line_of_verb plan words.0 words.1) o) (splits verb rest none)
 
 -- the text of a lawful line writes that line, among distinct names
-pub line_written : (pools : List (List ℕ)) (line : Line) → are_distinct pools ≡ true → is_lawful_line (length pools) line ≡ true → line_of pools (line_text pools line) ≡ Some line
+pub line_written : (plan : Plan) (line : Line) → are_distinct (pool_names plan) ≡ true → is_lawful_line plan line ≡ true → line_of plan (line_text plan line) ≡ Some line
 unfolding line_of_verb event_of stuck_of
-line_written pools (Happens (Client c)) distinct lawful = by_verb pools (codes "client") (decimal c) refl ∙ ap (λ o. option_map Happens (option_map (λ n. Client n) o)) (number_written c lawful)
-line_written pools (Happens (Job j)) distinct lawful = by_verb pools (codes "job") (decimal j) refl ∙ ap (λ o. option_map Happens (option_map (λ n. Job n) o)) (number_written j lawful)
-line_written pools (Happens (Take p)) distinct lawful = by_verb pools (codes "take") (slice_index_or pools p []) refl ∙ ap (λ o. option_map Happens (option_map (λ n. Take n) o)) (name_written pools p distinct lawful)
-line_written pools (Happens (Retire p)) distinct lawful = by_verb pools (codes "retire") (slice_index_or pools p []) refl ∙ ap (λ o. option_map Happens (option_map (λ n. Retire n) o)) (name_written pools p distinct lawful)
-line_written pools (Stuck []) distinct lawful = absurd cc
-line_written pools (Stuck (n ∷ members)) distinct lawful =
+line_written plan (Happens (Client c)) distinct lawful = by_verb plan (codes "client") (decimal c) refl ∙ ap (λ o. option_map Happens (option_map (λ n. Client n) o)) (number_written c lawful)
+line_written plan (Happens (Job j)) distinct lawful = by_verb plan (codes "job") (decimal j) refl ∙ ap (λ o. option_map Happens (option_map (λ n. Job n) o)) (number_written j lawful)
+line_written plan (Happens (Take p)) distinct lawful = by_verb plan (codes "take") ((pool_at plan p).name) refl ∙ ap (λ o. option_map Happens (option_map (λ n. Take n) o)) (name_written plan p distinct lawful)
+line_written plan (Happens (Retire p)) distinct lawful = by_verb plan (codes "retire") ((pool_at plan p).name) refl ∙ ap (λ o. option_map Happens (option_map (λ n. Retire n) o)) (name_written plan p distinct lawful)
+line_written plan (Stuck []) distinct lawful = absurd cc
+line_written plan (Stuck (n ∷ members)) distinct lawful =
     let parts = and_parts (nat_le 1 (length (n ∷ members))) (list_all is_lawful_number (n ∷ members)) lawful in
-    by_verb pools (codes "stuck") (decimal n ++ flat_map (λ m. 32 ∷ decimal m) members) refl
+    by_verb plan (codes "stuck") (decimal n ++ flat_map (λ m. 32 ∷ decimal m) members) refl
     ∙ ap (λ (words : List (List ℕ)). option_map Stuck (all_of number_of words)) (words_written n members parts.1)
     ∙ ap (λ o. option_map Stuck o) (members_written (n ∷ members) parts.1)
 
@@ -231,14 +237,18 @@ members_on_one_line (n ∷ members) lawful =
     let parts = and_parts (is_lawful_number n) (list_all is_lawful_number members) lawful in
     has_no-append 10 (decimal n) _ (decimal_has_no 10 n (omega arith) parts.0) (members_on_one_line members parts.1)
 
-name_on_one_line : (pools : List (List ℕ)) (p : ℕ) → list_all (has_no 10) pools ≡ true → nat_lt p (length pools) ≡ true → has_no 10 (slice_index_or pools p []) ≡ true
-name_on_one_line pools p names within = AllPass-from_list_all (has_no 10) pools names p [] (ltb-true _ _ within)
+-- the name of the pool has no newline
+abbrev pub has_plain_name : Pool → Bool
+has_plain_name pool = has_no 10 pool.name
+
+name_on_one_line : (plan : Plan) (p : ℕ) → list_all has_plain_name plan.pools ≡ true → nat_lt p (length plan.pools) ≡ true → has_no 10 (pool_at plan p).name ≡ true
+name_on_one_line plan p names within = AllPass-from_list_all has_plain_name plan.pools names p no_pool (ltb-true _ _ within)
 
 -- the text of a lawful line is not empty, and has no newline
-pub line_on_one_line : (pools : List (List ℕ)) (line : Line) → list_all (has_no 10) pools ≡ true → is_lawful_line (length pools) line ≡ true → is_piece 10 (line_text pools line) ≡ true
-line_on_one_line pools (Happens (Client c)) names lawful = and_from _ _ (lt-ltb 0 _ (omega arith)) (decimal_has_no 10 c (omega arith) lawful)
-line_on_one_line pools (Happens (Job j)) names lawful = and_from _ _ (lt-ltb 0 _ (omega arith)) (decimal_has_no 10 j (omega arith) lawful)
-line_on_one_line pools (Happens (Take p)) names lawful = and_from _ _ (lt-ltb 0 _ (omega arith)) (name_on_one_line pools p names lawful)
-line_on_one_line pools (Happens (Retire p)) names lawful = and_from _ _ (lt-ltb 0 _ (omega arith)) (name_on_one_line pools p names lawful)
-line_on_one_line pools (Stuck members) names lawful =
+pub line_on_one_line : (plan : Plan) (line : Line) → list_all has_plain_name plan.pools ≡ true → is_lawful_line plan line ≡ true → is_piece 10 (line_text plan line) ≡ true
+line_on_one_line plan (Happens (Client c)) names lawful = and_from _ _ (lt-ltb 0 _ (omega arith)) (decimal_has_no 10 c (omega arith) lawful)
+line_on_one_line plan (Happens (Job j)) names lawful = and_from _ _ (lt-ltb 0 _ (omega arith)) (decimal_has_no 10 j (omega arith) lawful)
+line_on_one_line plan (Happens (Take p)) names lawful = and_from _ _ (lt-ltb 0 _ (omega arith)) (name_on_one_line plan p names lawful)
+line_on_one_line plan (Happens (Retire p)) names lawful = and_from _ _ (lt-ltb 0 _ (omega arith)) (name_on_one_line plan p names lawful)
+line_on_one_line plan (Stuck members) names lawful =
     and_from _ _ (lt-ltb 0 _ (omega arith)) (members_on_one_line members (and_parts (nat_le 1 (length members)) (list_all is_lawful_number members) lawful).1)

@@ -9,7 +9,7 @@ use Rattle.std.proofs.lemmas.Option.{cond_some}
 use Rattle.std.proofs.lemmas.Str.Parse.{IsNumeralModel, numerals_by_value}
 use Rattle.std.proofs.lemmas.Fmt.{decimal_nonempty, first_decimal, digits_decimal, digits_value-decimal, decimal_digit, decimal-digits_value}
 use Rattle.event_lines.specs.declared.number.TheConstants.{MOST_NUMBER}
-use Rattle.event_lines.specs.Number.{has_leading_zero, is_decimal, number_of}
+use Rattle.event_lines.specs.Number.{has_leading_zero, is_whole_number, number_of}
 use Rattle.event_lines.specs.LineText.{is_lawful_number}
 use Rattle.event_lines.proofs.Splits.{has_no}
 
@@ -22,10 +22,10 @@ leading_alone text none some leads = grind (arith, nat_tests)
 
 -- a text that writes a number is its decimal digits, and the number is lawful
 pub number_read : (text : List ℕ) (n : ℕ) → number_of text ≡ Some n → (is_lawful_number n ≡ true) × (text ≡ decimal n)
-unfolding number_of is_decimal
+unfolding number_of is_whole_number
 number_read text n read =
-    let found = cond_some (is_decimal text && nat_le (digits_value 10 text) MOST_NUMBER) _ _ read in
-    let tests = and_parts (is_decimal text) _ found.0 in
+    let found = cond_some (is_whole_number text && nat_le (digits_value 10 text) MOST_NUMBER) _ _ read in
+    let tests = and_parts (is_whole_number text) _ found.0 in
     let shape = and_parts (not (length text == 0) && not (has_leading_zero text)) (list_all is_ascii_digit text) tests.0 in
     let ends = and_parts (not (length text == 0)) (not (has_leading_zero text)) shape.0 in
     let some : 0 < length text = grind (arith, nat_tests) in
@@ -43,13 +43,13 @@ leads_lawfully (suc k) small =
 
 -- the decimal digits of a lawful number write it
 pub number_written : (n : ℕ) → is_lawful_number n ≡ true → number_of (decimal n) ≡ Some n
-unfolding number_of is_decimal
+unfolding number_of is_whole_number
 number_written n lawful =
     let small : n < 2 ^ 64 = omega (arith, leb-true _ _ lawful) in
     let value : digits_value 10 (decimal n) ≡ n = digits_value-decimal digits_are n small in
     let filled : not (length (decimal n) == 0) ≡ true = not_from_false _ (ne_eqb _ 0 (λ e. omega (arith, decimal_nonempty n small))) in
     let leading : not (has_leading_zero (decimal n)) ≡ true = not_from_false _ (leads_lawfully n small) in
-    let full : is_decimal (decimal n) ≡ true = and_from _ _ (and_from _ _ filled leading) (digits_decimal digits_are n small) in
+    let full : is_whole_number (decimal n) ≡ true = and_from _ _ (and_from _ _ filled leading) (digits_decimal digits_are n small) in
     let fits : nat_le (digits_value 10 (decimal n)) MOST_NUMBER ≡ true = subst (λ (m : ℕ). nat_le m MOST_NUMBER ≡ true) (sym value) lawful in
     cond-true _ _ _ (and_from _ _ full fits) ∙ ap (λ (m : ℕ). Some m) value
 

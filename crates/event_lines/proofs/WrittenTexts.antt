@@ -3,17 +3,17 @@ use Rattle.std.proofs.Common.{◌≡◌, ◌⊎◌, ◌↔◌, inl, inr, ⊎_eli
 use Rattle.std.specs.List.{list_all, join_with_byte}
 use Rattle.std.proofs.lemmas.Bool.{and_parts, and_from, eqb-true, eq-eqb, ne_eqb, cond-true, cond-false, cases_Bool}
 use Rattle.std.proofs.lemmas.Bool.Decides.{nat_tests}
-use Rattle.std.proofs.lemmas.List.{length_push, length-map}
+use Rattle.std.proofs.lemmas.List.{length_push}
 use Rattle.std.proofs.lemmas.List.Splits.{join_with_byte-slice_split, length-slice_split}
 use Rattle.readings.specs.Reading.{◌>>=◌, some_or, read_each}
-use Rattle.job_bodies.specs.Plan.{Plan, Pool}
+use Rattle.job_bodies.specs.Plan.{Plan, Pool, pool_names}
 use Rattle.job_bodies.specs.WellFormed.{is_name_byte, is_letter, is_within, is_lawful_name, is_lawful_pool, has_lawful_sizes, are_distinct, IsWellFormed}
 use Rattle.event_lines.specs.Pieces.{is_newline, without_last_newline, lines_of}
-use Rattle.event_lines.specs.EventLine.{Line, pool_names, line_of, line_at, event_lines}
+use Rattle.event_lines.specs.EventLine.{Line, line_of, line_at, event_lines}
 use Rattle.event_lines.specs.LineText.{line_text, lines_text, is_lawful_line}
 use Rattle.event_lines.specs.Laws.{Writes, EventLinesAreCanonical}
 use Rattle.event_lines.proofs.Splits.{has_no, cut_at, cut_joined, joined_before, flat_map-map, is_piece, joined_ends}
-use Rattle.event_lines.proofs.WrittenLines.{line_read, line_written, line_on_one_line}
+use Rattle.event_lines.proofs.WrittenLines.{line_read, line_written, has_plain_name, line_on_one_line}
 
 -- ---- one line after another
 then_ok : {A B F : Type 0} (r : Result A F) (f : A → Result B F) (y : B) → (r >>= f) ≡ Ok y → (x : A) × (r ≡ Ok x) × (f x ≡ Ok y)
@@ -25,33 +25,33 @@ some_of_ok (Some y) fault x e = let same : y ≡ x = cc in ap (λ (z : _). Some 
 some_of_ok None fault x e = absurd cc
 
 -- the texts are those of lawful lines
-abbrev AreLines : List (List ℕ) → List (List ℕ) → List Line → Type 0
-AreLines pools texts lines = (list_all (is_lawful_line (length pools)) lines ≡ true) × (texts ≡ map (line_text pools) lines)
+abbrev AreLines : Plan → List (List ℕ) → List Line → Type 0
+AreLines plan texts lines = (list_all (is_lawful_line plan) lines ≡ true) × (texts ≡ map (line_text plan) lines)
 
-lines_read : (pools : List (List ℕ)) (i : ℕ) (texts : List (List ℕ)) (lines : List Line) → read_each (line_at pools) i texts ≡ Ok lines → AreLines pools texts lines
-lines_read pools i [] [] read = (refl, refl)
-lines_read pools i [] (line ∷ lines) read = absurd cc
-lines_read pools i (text ∷ texts) lines read =
-    let first = then_ok (line_at pools i text) _ lines read in
-    let others = then_ok (read_each (line_at pools) (i + 1) texts) _ lines first.2 in
-    let one = line_read pools text first.0 (some_of_ok (line_of pools text) (i + 1) first.0 first.1) in
-    let more = lines_read pools (i + 1) texts others.0 others.1 in
+lines_read : (plan : Plan) (i : ℕ) (texts : List (List ℕ)) (lines : List Line) → read_each (line_at plan) i texts ≡ Ok lines → AreLines plan texts lines
+lines_read plan i [] [] read = (refl, refl)
+lines_read plan i [] (line ∷ lines) read = absurd cc
+lines_read plan i (text ∷ texts) lines read =
+    let first = then_ok (line_at plan i text) _ lines read in
+    let others = then_ok (read_each (line_at plan) (i + 1) texts) _ lines first.2 in
+    let one = line_read plan text first.0 (some_of_ok (line_of plan text) (i + 1) first.0 first.1) in
+    let more = lines_read plan (i + 1) texts others.0 others.1 in
     let whole : first.0 ∷ others.0 ≡ lines = cc (others.2) in
-    subst (λ (ls : List Line). AreLines pools (text ∷ texts) ls) whole (and_from _ _ one.0 more.0, ap₂ (λ (x : List ℕ) (xs : List (List ℕ)). x ∷ xs) one.1 more.1)
+    subst (λ (ls : List Line). AreLines plan (text ∷ texts) ls) whole (and_from _ _ one.0 more.0, ap₂ (λ (x : List ℕ) (xs : List (List ℕ)). x ∷ xs) one.1 more.1)
 
-lines_written : (pools : List (List ℕ)) (i : ℕ) (lines : List Line) → are_distinct pools ≡ true → list_all (is_lawful_line (length pools)) lines ≡ true
-    → read_each (line_at pools) i (map (line_text pools) lines) ≡ Ok lines
-lines_written pools i [] distinct lawful = refl
-lines_written pools i (line ∷ lines) distinct lawful =
-    let parts = and_parts (is_lawful_line (length pools) line) (list_all (is_lawful_line (length pools)) lines) lawful in
-    rw (line_written pools line distinct parts.0, lines_written pools (i + 1) lines distinct parts.1) refl
+lines_written : (plan : Plan) (i : ℕ) (lines : List Line) → are_distinct (pool_names plan) ≡ true → list_all (is_lawful_line plan) lines ≡ true
+    → read_each (line_at plan) i (map (line_text plan) lines) ≡ Ok lines
+lines_written plan i [] distinct lawful = refl
+lines_written plan i (line ∷ lines) distinct lawful =
+    let parts = and_parts (is_lawful_line plan line) (list_all (is_lawful_line plan) lines) lawful in
+    rw (line_written plan line distinct parts.0, lines_written plan (i + 1) lines distinct parts.1) refl
 
-pieces_of_lines : (pools : List (List ℕ)) (lines : List Line) → list_all (has_no 10) pools ≡ true → list_all (is_lawful_line (length pools)) lines ≡ true
-    → list_all (is_piece 10) (map (line_text pools) lines) ≡ true
-pieces_of_lines pools [] names lawful = refl
-pieces_of_lines pools (line ∷ lines) names lawful =
-    let parts = and_parts (is_lawful_line (length pools) line) (list_all (is_lawful_line (length pools)) lines) lawful in
-    and_from _ _ (line_on_one_line pools line names parts.0) (pieces_of_lines pools lines names parts.1)
+pieces_of_lines : (plan : Plan) (lines : List Line) → list_all has_plain_name plan.pools ≡ true → list_all (is_lawful_line plan) lines ≡ true
+    → list_all (is_piece 10) (map (line_text plan) lines) ≡ true
+pieces_of_lines plan [] names lawful = refl
+pieces_of_lines plan (line ∷ lines) names lawful =
+    let parts = and_parts (is_lawful_line plan line) (list_all (is_lawful_line plan) lines) lawful in
+    and_from _ _ (line_on_one_line plan line names parts.0) (pieces_of_lines plan lines names parts.1)
 
 whole_pieces : (pieces : List (List ℕ)) → list_all (is_piece 10) pieces ≡ true → list_all (has_no 10) pieces ≡ true
 whole_pieces [] good = refl
@@ -61,11 +61,11 @@ whole_pieces (piece ∷ pieces) good =
 
 -- ---- the last newline
 -- the lines put together, without the last newline
-abbrev joined : List (List ℕ) → List Line → List ℕ
-joined pools lines = join_with_byte 10 (map (line_text pools) lines)
+abbrev joined : Plan → List Line → List ℕ
+joined plan lines = join_with_byte 10 (map (line_text plan) lines)
 
-joined_is : (pools : List (List ℕ)) (line : Line) (lines : List Line) → joined pools (line ∷ lines) ++ 10 ∷ [] ≡ lines_text pools (line ∷ lines)
-joined_is pools line lines = joined_before 10 (line_text pools line) (map (line_text pools) lines) ∙ flat_map-map (λ x. x ++ 10 ∷ []) (line_text pools) (line ∷ lines)
+joined_is : (plan : Plan) (line : Line) (lines : List Line) → joined plan (line ∷ lines) ++ 10 ∷ [] ≡ lines_text plan (line ∷ lines)
+joined_is plan line lines = joined_before 10 (line_text plan line) (map (line_text plan) lines) ∙ flat_map-map (λ x. x ++ 10 ∷ []) (line_text plan) (line ∷ lines)
 
 -- the text has the newline at its end, or none is cut off
 last_newline : (text : List ℕ) → 0 < length text → (text ≡ without_last_newline text ++ 10 ∷ []) ⊎ (text ≡ without_last_newline text)
@@ -108,50 +108,50 @@ lines_of_some text some = cond-false _ _ _ (ne_eqb (length text) 0 (λ e. omega 
 
 -- ---- whole texts
 -- some lines are read of a text that is not empty
-some_lines_read : (pools : List (List ℕ)) (text : List ℕ) (lines : List Line) → 0 < length text → read_each (line_at pools) 0 (lines_of text) ≡ Ok lines
-    → (list_all (is_lawful_line (length pools)) lines ≡ true) × ((text ≡ lines_text pools lines) ⊎ (text ++ 10 ∷ [] ≡ lines_text pools lines))
-some_lines_read pools text lines some read = by_lines lines (lines_read pools 0 (lines_of text) lines read)
+some_lines_read : (plan : Plan) (text : List ℕ) (lines : List Line) → 0 < length text → read_each (line_at plan) 0 (lines_of text) ≡ Ok lines
+    → (list_all (is_lawful_line plan) lines ≡ true) × ((text ≡ lines_text plan lines) ⊎ (text ++ 10 ∷ [] ≡ lines_text plan lines))
+some_lines_read plan text lines some read = by_lines lines (lines_read plan 0 (lines_of text) lines read)
   where
-    by_lines : (lines : List Line) → AreLines pools (lines_of text) lines
-        → (list_all (is_lawful_line (length pools)) lines ≡ true) × ((text ≡ lines_text pools lines) ⊎ (text ++ 10 ∷ [] ≡ lines_text pools lines))
+    by_lines : (lines : List Line) → AreLines plan (lines_of text) lines
+        → (list_all (is_lawful_line plan) lines ≡ true) × ((text ≡ lines_text plan lines) ⊎ (text ++ 10 ∷ [] ≡ lines_text plan lines))
     by_lines [] found = absurd (omega (arith, length-slice_split is_newline (without_last_newline text), ap (λ (ls : List (List ℕ)). length ls) (sym (lines_of_some text some) ∙ found.1)))
     by_lines (line ∷ lines) found =
-        let same : without_last_newline text ≡ joined pools (line ∷ lines) =
+        let same : without_last_newline text ≡ joined plan (line ∷ lines) =
         sym (join_with_byte-slice_split 10 (without_last_newline text)) ∙ ap (join_with_byte 10) (sym (lines_of_some text some) ∙ found.1)
         in
-        let written : without_last_newline text ++ 10 ∷ [] ≡ lines_text pools (line ∷ lines) = ap (λ (t : List ℕ). t ++ 10 ∷ []) same ∙ joined_is pools line lines in
+        let written : without_last_newline text ++ 10 ∷ [] ≡ lines_text plan (line ∷ lines) = ap (λ (t : List ℕ). t ++ 10 ∷ []) same ∙ joined_is plan line lines in
         (found.0, ⊎_elim (λ ended. inl (ended ∙ written)) (λ open_end. inr (ap (λ (t : List ℕ). t ++ 10 ∷ []) open_end ∙ written)) (last_newline text some))
 
-texts_read : (pools : List (List ℕ)) (text : List ℕ) (lines : List Line) → event_lines pools text ≡ Ok lines
-    → (list_all (is_lawful_line (length pools)) lines ≡ true) × ((text ≡ lines_text pools lines) ⊎ (text ++ 10 ∷ [] ≡ lines_text pools lines))
+texts_read : (plan : Plan) (text : List ℕ) (lines : List Line) → event_lines plan text ≡ Ok lines
+    → (list_all (is_lawful_line plan) lines ≡ true) × ((text ≡ lines_text plan lines) ⊎ (text ++ 10 ∷ [] ≡ lines_text plan lines))
 unfolding event_lines lines_of
-texts_read pools [] [] read = (refl, inl refl)
-texts_read pools [] (line ∷ lines) read = absurd cc
-texts_read pools (b ∷ text) lines read = some_lines_read pools (b ∷ text) lines (omega arith) read
+texts_read plan [] [] read = (refl, inl refl)
+texts_read plan [] (line ∷ lines) read = absurd cc
+texts_read plan (b ∷ text) lines read = some_lines_read plan (b ∷ text) lines (omega arith) read
 
 -- a text whose lines, without the last newline, are those put together
-read_back : (pools : List (List ℕ)) (text : List ℕ) (line : Line) (lines : List Line) → are_distinct pools ≡ true → list_all (has_no 10) pools ≡ true → list_all (is_lawful_line (length pools)) (line ∷ lines) ≡ true
-    → 0 < length text → without_last_newline text ≡ joined pools (line ∷ lines) → event_lines pools text ≡ Ok (line ∷ lines)
+read_back : (plan : Plan) (text : List ℕ) (line : Line) (lines : List Line) → are_distinct (pool_names plan) ≡ true → list_all has_plain_name plan.pools ≡ true → list_all (is_lawful_line plan) (line ∷ lines) ≡ true
+    → 0 < length text → without_last_newline text ≡ joined plan (line ∷ lines) → event_lines plan text ≡ Ok (line ∷ lines)
 unfolding event_lines
-read_back pools text line lines distinct names lawful some same =
-    let cut : lines_of text ≡ map (line_text pools) (line ∷ lines) =
+read_back plan text line lines distinct names lawful some same =
+    let cut : lines_of text ≡ map (line_text plan) (line ∷ lines) =
     lines_of_some text some ∙ ap (cut_at 10) same
-    ∙ cut_joined 10 (line_text pools line) (map (line_text pools) lines) (whole_pieces (map (line_text pools) (line ∷ lines)) (pieces_of_lines pools (line ∷ lines) names lawful))
+    ∙ cut_joined 10 (line_text plan line) (map (line_text plan) lines) (whole_pieces (map (line_text plan) (line ∷ lines)) (pieces_of_lines plan (line ∷ lines) names lawful))
     in
-    ap (λ (texts : List (List ℕ)). read_each (line_at pools) 0 texts) cut ∙ lines_written pools 0 (line ∷ lines) distinct lawful
+    ap (λ (texts : List (List ℕ)). read_each (line_at plan) 0 texts) cut ∙ lines_written plan 0 (line ∷ lines) distinct lawful
 
-texts_written : (pools : List (List ℕ)) (text : List ℕ) (lines : List Line) → are_distinct pools ≡ true → list_all (has_no 10) pools ≡ true → list_all (is_lawful_line (length pools)) lines ≡ true
-    → (text ≡ lines_text pools lines) ⊎ (text ++ 10 ∷ [] ≡ lines_text pools lines) → event_lines pools text ≡ Ok lines
+texts_written : (plan : Plan) (text : List ℕ) (lines : List Line) → are_distinct (pool_names plan) ≡ true → list_all has_plain_name plan.pools ≡ true → list_all (is_lawful_line plan) lines ≡ true
+    → (text ≡ lines_text plan lines) ⊎ (text ++ 10 ∷ [] ≡ lines_text plan lines) → event_lines plan text ≡ Ok lines
 unfolding event_lines lines_of
-texts_written pools text [] distinct names lawful (inl same) = ap (event_lines pools) same
-texts_written pools text [] distinct names lawful (inr same) = absurd (omega (arith, length_push text 10, ap (λ (l : List ℕ). length l) same))
-texts_written pools text (line ∷ lines) distinct names lawful (inl same) =
-    let whole : text ≡ joined pools (line ∷ lines) ++ 10 ∷ [] = same ∙ sym (joined_is pools line lines) in
-    read_back pools text line lines distinct names lawful (omega (arith, length_push (joined pools (line ∷ lines)) 10, ap (λ (l : List ℕ). length l) whole)) (ap without_last_newline whole ∙ cut_off (joined pools (line ∷ lines)))
-texts_written pools text (line ∷ lines) distinct names lawful (inr same) =
-    let whole : text ≡ joined pools (line ∷ lines) = same_fronts text (joined pools (line ∷ lines)) 10 (same ∙ sym (joined_is pools line lines)) in
-    let ends = joined_ends 10 (line_text pools line) (map (line_text pools) lines) (pieces_of_lines pools (line ∷ lines) names lawful) in
-    read_back pools text line lines distinct names lawful (omega (arith, ends.0, ap (λ (l : List ℕ). length l) whole)) (ap without_last_newline whole ∙ stays (joined pools (line ∷ lines)) ends.1)
+texts_written plan text [] distinct names lawful (inl same) = ap (event_lines plan) same
+texts_written plan text [] distinct names lawful (inr same) = absurd (omega (arith, length_push text 10, ap (λ (l : List ℕ). length l) same))
+texts_written plan text (line ∷ lines) distinct names lawful (inl same) =
+    let whole : text ≡ joined plan (line ∷ lines) ++ 10 ∷ [] = same ∙ sym (joined_is plan line lines) in
+    read_back plan text line lines distinct names lawful (omega (arith, length_push (joined plan (line ∷ lines)) 10, ap (λ (l : List ℕ). length l) whole)) (ap without_last_newline whole ∙ cut_off (joined plan (line ∷ lines)))
+texts_written plan text (line ∷ lines) distinct names lawful (inr same) =
+    let whole : text ≡ joined plan (line ∷ lines) = same_fronts text (joined plan (line ∷ lines)) 10 (same ∙ sym (joined_is plan line lines)) in
+    let ends = joined_ends 10 (line_text plan line) (map (line_text plan) lines) (pieces_of_lines plan (line ∷ lines) names lawful) in
+    read_back plan text line lines distinct names lawful (omega (arith, ends.0, ap (λ (l : List ℕ). length l) whole)) (ap without_last_newline whole ∙ stays (joined plan (line ∷ lines)) ends.1)
 
 -- ---- the names of a plan
 name_byte : (b : ℕ) → is_name_byte b ≡ true → not (b == 10) ≡ true
@@ -163,7 +163,7 @@ name_bytes (b ∷ name) h =
     let parts = and_parts (is_name_byte b) (list_all is_name_byte name) h in
     and_from _ _ (name_byte b parts.0) (name_bytes name parts.1)
 
-names_on_one_line : (pools : List Pool) → list_all is_lawful_pool pools ≡ true → list_all (has_no 10) (map (λ (pool : Pool). pool.name) pools) ≡ true
+names_on_one_line : (pools : List Pool) → list_all is_lawful_pool pools ≡ true → list_all has_plain_name pools ≡ true
 names_on_one_line [] lawful = refl
 names_on_one_line (pool ∷ pools) lawful =
     let parts = and_parts (is_lawful_pool pool) (list_all is_lawful_pool pools) lawful in
@@ -171,9 +171,4 @@ names_on_one_line (pool ∷ pools) lawful =
     and_from _ _ (name_bytes pool.name (and_parts _ (list_all is_name_byte pool.name) name.0).1) (names_on_one_line pools parts.1)
 
 pub canonical : EventLinesAreCanonical
-canonical plan text lines well =
-    let names = pool_names plan in
-    let few : length names ≡ length plan.pools = length-map plan.pools (λ (pool : Pool). pool.name) in (
-      λ read. subst (λ (n : ℕ). IsTrue (list_all (is_lawful_line n) lines) × Writes plan text lines) few (texts_read names text lines read),
-      λ written. texts_written names text lines well.pool_names (names_on_one_line plan.pools well.pools) (subst (λ (n : ℕ). list_all (is_lawful_line n) lines ≡ true) (sym few) written.0) written.1,
-    )
+canonical plan text lines well = (texts_read plan text lines, λ written. texts_written plan text lines well.pool_names (names_on_one_line plan.pools well.pools) written.0 written.1)

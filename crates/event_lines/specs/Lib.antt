@@ -2,5 +2,5 @@ pub mod Pieces
 pub mod Number
 pub mod EventLine
 pub mod LineText
-pub mod AnswerLine
+pub mod Reply
 pub mod Laws

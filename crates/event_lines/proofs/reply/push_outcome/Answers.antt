@@ -1,5 +1,5 @@
 use Rattle.std.proofs.Common.{append_assoc}
-use Rattle.event_lines.proofs.answer_line.push_outcome.Goals as goal
+use Rattle.event_lines.proofs.reply.push_outcome.Goals as goal
 
 pub returns-in-Started : goal.returns-in-Started
 returns-in-Started c = rw c.in-Started.is (simp append_assoc c.writeln.ensures.bytes)
