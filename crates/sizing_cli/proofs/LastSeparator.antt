@@ -155,14 +155,15 @@ split_first b text bundle none found =
 
 split_read : (at_line : Bool) (text : List ℕ) (bundle : Bundle) → split_from at_line text ≡ Some bundle → IsSplitFrom at_line text bundle
 split_read at_line [] bundle found = absurd (none-some bundle found)
-split_read at_line (b ∷ text) bundle found = by_later at_line (split_from (b == 10) text) refl found
+split_read at_line (b ∷ text) bundle found = by_later at_line (split_from (b == 10) text) (split_read (b == 10) text) refl found
   where
-    by_later : (at_line : Bool) (later : Option Bundle) → split_from (b == 10) text ≡ later → later_or b later (split_here at_line (b ∷ text)) ≡ Some bundle → IsSplitFrom at_line (b ∷ text) bundle
-    by_later at_line (Some later) same found =
+    by_later : (at_line : Bool) (later : Option Bundle) → ((found : Bundle) → split_from (b == 10) text ≡ Some found → IsSplitFrom (b == 10) text found)
+        → split_from (b == 10) text ≡ later → later_or b later (split_here at_line (b ∷ text)) ≡ Some bundle → IsSplitFrom at_line (b ∷ text) bundle
+    by_later at_line (Some later) rest same found =
         let P : Bundle → Type 0 = λ x. IsSplitFrom at_line (b ∷ text) x in
-        subst P (same_Some _ bundle found) (split_later at_line b text later (split_read (b == 10) text later same))
-    by_later true None same found = split_first b text bundle same found
-    by_later false None same found = absurd (none-some bundle found)
+        subst P (same_Some _ bundle found) (split_later at_line b text later (rest later same))
+    by_later true None rest same found = split_first b text bundle same found
+    by_later false None rest same found = absurd (none-some bundle found)
 
 -- ---- and back
 -- what stands from the line `%%` on

@@ -14,7 +14,7 @@ IsWholeLines text = (text ≡ []) ⊎ ((front : List ℕ) × (text ≡ front ++ 
 
 -- the input is the plan's text, a line `%%` and the second part; it may end with that line, without its newline
 abbrev pub IsJoined : List ℕ → Bundle → Type 0
-IsJoined input bundle = (input ≡ bundle.plan ++ codes "%%" ++ 10 ∷ bundle.second) ⊎ ((input ≡ bundle.plan ++ codes "%%") × (bundle.second ≡ []))
+IsJoined input bundle = (input ≡ bundle.plan ++ (codes "%%" ++ 10 ∷ bundle.second)) ⊎ ((input ≡ bundle.plan ++ codes "%%") × (bundle.second ≡ []))
 
 -- the split at the last line `%%`
 pub record IsSplit (input : List ℕ) (bundle : Bundle) : Type 0 where

@@ -1,8 +1,6 @@
 //! Texts of events, and the lines that answer them.
 
-use event_lines::{
-    EventLine, push_not_possible, push_outcome, push_stuck, push_summary, read_event_lines,
-};
+use event_lines::{EventLine, Reply, push_reply, push_summary, read_event_lines};
 use job_bodies::{Plan, Pool};
 use readings::ReadError;
 use std::alloc::Global;
@@ -17,6 +15,7 @@ fn plan_of_p_and_q(alloc: Global) -> Result<Plan, Fail> {
             core: 1,
             max: 1,
             queue: 2,
+            prestart: false,
         })?;
     }
     Ok(Plan::build(alloc, pools, Vec::new(alloc), Vec::new(alloc))?)
@@ -73,24 +72,24 @@ fn lines_that_are_read(rt: HostRuntime) -> Result<(), Fail> {
 #[test]
 fn lines_that_answer(rt: HostRuntime) -> Result<(), Fail> {
     let plan = plan_of_p_and_q(rt.alloc())?;
-    let outcomes = [
-        Outcome::Started(0),
-        Outcome::Queued(1),
-        Outcome::Refused(1),
-        Outcome::Worked(3),
-        Outcome::Got(0),
-        Outcome::Looped,
-        Outcome::Finished(0),
-        Outcome::Took(1),
-        Outcome::Retired,
+    let replies = [
+        Reply::Happened(Outcome::Started(0)),
+        Reply::Happened(Outcome::Queued(1)),
+        Reply::Happened(Outcome::Refused(1)),
+        Reply::Happened(Outcome::Worked(3)),
+        Reply::Happened(Outcome::Got(0)),
+        Reply::Happened(Outcome::Looped),
+        Reply::Happened(Outcome::Finished(0)),
+        Reply::Happened(Outcome::Took(1)),
+        Reply::Happened(Outcome::Retired),
+        Reply::Stuck(true),
+        Reply::Stuck(false),
+        Reply::NotPossible,
     ];
     let mut text = String::new(rt.alloc());
-    for (place, outcome) in outcomes.iter().enumerate() {
-        push_outcome(&mut text, &plan, place + 1, *outcome)?;
+    for (place, reply) in replies.iter().enumerate() {
+        push_reply(&mut text, &plan, place + 1, *reply)?;
     }
-    push_stuck(&mut text, 10, true)?;
-    push_stuck(&mut text, 11, false)?;
-    push_not_possible(&mut text, 12)?;
     push_summary(&mut text, 1, 2)?;
     assert_eq!(rt;
         text.as_str(),
