@@ -63,9 +63,7 @@ fn out_of_memory(rt: &impl Eprint) -> ExitCode {
 /// The exit status of what was served. A fault is told; where standard error fails too, the status tells it alone.
 fn ended(rt: &impl Eprint, served: Result<Status, ServeFault>) -> ExitCode {
     match served {
-        Ok(Status::Done) => ExitCode::from(0),
-        Ok(Status::Refused) => ExitCode::from(1),
-        Ok(Status::BadText) => ExitCode::from(2),
+        Ok(status) => ExitCode::from(status.code()),
         Err(fault) => {
             let _ = eprintln!(rt; "{fault}");
             ExitCode::from(NO_ANSWER)

@@ -2,6 +2,10 @@
 #![tactic(auto)]
 
 #[cfg(test)]
+mod bytes;
+#[cfg(test)]
+mod event_texts;
+#[cfg(test)]
 mod faults;
 #[cfg(test)]
 mod limits;

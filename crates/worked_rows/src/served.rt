@@ -25,9 +25,7 @@ pub fn shown(
 ) -> Result<String, Fail> {
     let mut text = String::from_utf8_lossy(alloc, written)?;
     match ended {
-        Ok(Status::Done) => writeln!(text, "status 0")?,
-        Ok(Status::Refused) => writeln!(text, "status 1")?,
-        Ok(Status::BadText) => writeln!(text, "status 2")?,
+        Ok(status) => writeln!(text, "status {}", status.code())?,
         Err(fault) => writeln!(text, "{fault}")?,
     }
     Ok(text)

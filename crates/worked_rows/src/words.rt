@@ -16,11 +16,13 @@ fn asked(alloc: Global, words: &[&str]) -> Result<String, AllocError> {
 /// option; there is no version, and help may be asked for by a flag or by a word.
 #[test]
 fn words_of_commands(rt: HostRuntime) -> Result<(), Fail> {
-    let table: [(&[&str], &str); 23] = [
+    let table: [(&[&str], &str); 30] = [
         (&[], "None"),
+        (&["sizing"], "None"),
         (&["replay"], "None"),
         (&["/usr/bin/sizing"], "None"),
         (&["sizing", "--"], "None"),
+        (&["sizing", "replay"], "Some(Replay)"),
         (&["/usr/bin/sizing", "replay"], "Some(Replay)"),
         (&["", "replay"], "Some(Replay)"),
         (&["replay", "replay"], "Some(Replay)"),
@@ -34,7 +36,12 @@ fn words_of_commands(rt: HostRuntime) -> Result<(), Fail> {
         (&["sizing", "replay", ""], "UnknownArgument"),
         (&["sizing", "replay", "-x"], "UnknownArgument"),
         (&["sizing", "replay", "--", "x"], "UnknownArgument"),
+        (&["sizing", "replay", "x"], "UnknownArgument"),
+        (&["sizing", "replay", "--rounds", "3"], "UnknownArgument"),
         (&["sizing", "-h"], "DisplayHelp"),
+        (&["sizing", "--help"], "DisplayHelp"),
+        (&["sizing", "replay", "--help"], "DisplayHelp"),
+        (&["sizing", "check"], "InvalidSubcommand"),
         (&["sizing", "help"], "DisplayHelp"),
         (&["sizing", "help", "replay"], "DisplayHelp"),
         (&["sizing", "replay", "-h"], "DisplayHelp"),
@@ -59,6 +66,41 @@ fn words_of_no_command(rt: HostRuntime) -> Result<(), Fail> {
             "InvalidSubcommand",
             "at {word:?}"
         );
+    }
+    Ok(())
+}
+
+/// What help prints says where to begin, and the help of `replay` has an example with its answer.
+#[test]
+fn words_that_ask_for_help(rt: HostRuntime) -> Result<(), Fail> {
+    let table: [(&[&str], [&str; 4]); 2] = [
+        (
+            &["sizing", "--help"],
+            [
+                "\nUsage: sizing <COMMAND>\n",
+                "\n  replay  Replays events on a plan",
+                "a line that is exactly `%%`",
+                "\nExit status:\n  0  ",
+            ],
+        ),
+        (
+            &["sizing", "replay", "--help"],
+            [
+                "\nUsage: sizing replay < INPUT\n",
+                "\nsizing replay <<'END'\n[[pool]]\n",
+                "\n%%\nclient 0\n",
+                "\n7: refused by pages\nrefusals 1, unfinished 1\n",
+            ],
+        ),
+    ];
+    for (words, parts) in table {
+        let Err(error) = read_words(rt.alloc(), words) else {
+            return Err(Fail::from("the words are no fault"));
+        };
+        let help = format!(in rt.alloc(); "{error}")?;
+        for part in parts {
+            assert!(rt; help.as_str().contains(part), "{help}");
+        }
     }
     Ok(())
 }
