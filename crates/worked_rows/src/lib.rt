@@ -1,4 +1,4 @@
-//! Tests that cross the crates: small plans, what is asked of them, and the answers by hand.
+//! Tests that cross the crates, where a row of a file cannot say what is asked.
 #![tactic(auto)]
 
 #[cfg(test)]
@@ -6,22 +6,10 @@ mod bytes;
 #[cfg(test)]
 mod event_texts;
 #[cfg(test)]
-mod faults;
+mod help_texts;
 #[cfg(test)]
 mod limits;
 #[cfg(test)]
-mod lines;
+mod reading_calls;
 #[cfg(test)]
-mod numbers;
-#[cfg(test)]
-mod parts;
-#[cfg(test)]
-mod plans;
-#[cfg(test)]
-mod replays;
-#[cfg(test)]
-mod served;
-#[cfg(test)]
-mod streams;
-#[cfg(test)]
-mod words;
+mod writing_calls;
