@@ -11,14 +11,9 @@ use Rattle.live_views.specs.declared.job_view.Phase.TheVariants as phase
 use Rattle.live_views.specs.declared.job_view.JobView.{JobView}
 use Rattle.live_views.specs.LiveView.{View, is_number}
 use Rattle.live_views.specs.ViewStep.{live_job, is_live_child, is_done, in_phase, with_phase, unless_stale, unless_orphan, moved_live_jobs, may_ask_for, live_child, finished_or_gone}
+use Rattle.interleaving.specs.LiveJobs.{Fades}
 
 -- ---- a job that changes its phase, or is live no more
-
--- the second is gone, or the first in some phase
-abbrev pub Fades : Option JobView → Option JobView → Type 0
-Fades job None = Unit {0}
-Fades None (Some after) = ⊥
-Fades (Some job) (Some after) = (after.parent ≡ job.parent) × (after.slot ≡ job.slot)
 
 pub fades_to_itself : (job : Option JobView) → Fades job job
 fades_to_itself None = tt

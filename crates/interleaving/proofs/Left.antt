@@ -25,11 +25,11 @@ use Rattle.live_views.specs.ViewStep.{live_job, is_live_child, live_child, is_do
 use Rattle.live_views.proofs.View.{view_at, point_seen}
 use Rattle.live_views.proofs.Children.{live_child_is}
 use Rattle.live_views.proofs.Reached.{settled}
-use Rattle.interleaving.specs.declared.place.Place.{Place}
-use Rattle.interleaving.specs.Place.{place_at}
-use Rattle.interleaving.specs.Index.{DoneAreLatest}
+use Rattle.interleaving.specs.declared.next_action.NextAction.{NextAction}
+use Rattle.interleaving.specs.NextAction.{next_action_at}
+use Rattle.interleaving.specs.LiveJobs.{DoneAreLatest}
 use Rattle.interleaving.specs.OfPlan.{IsOf}
-use Rattle.interleaving.proofs.OfPlan.{point_of_place}
+use Rattle.interleaving.proofs.OfPlan.{point_of_next}
 
 -- ---- a job that is done
 
@@ -116,12 +116,12 @@ none_left_in_state plan s a x w reached stands asked =
     last_where_none test jobs (λ i d inside. ap test (get_or_default jobs i d None inside) ∙ none_left_at plan s a x.body x.position get.0 w reached (sym (point_seen plan s a) ∙ stands) get.1 i)
 
 -- an actor at a submit whose job a get asks for has no live job from there
-pub none_left : (plan : Plan) (view : View) (a : Parent) (place : Place) → IsOf plan view → IsWellFormed plan → option_map place_at (point_in plan view a) ≡ Some place → place.asked ≡ true → live_child view.jobs a place.position ≡ None
-none_left plan view a place of w e asked =
-    let found = point_of_place (point_in plan view a) place e in
+pub none_left : (plan : Plan) (view : View) (a : Parent) (next : NextAction) → IsOf plan view → IsWellFormed plan → option_map next_action_at (point_in plan view a) ≡ Some next → next.asked ≡ true → live_child view.jobs a next.position ≡ None
+none_left plan view a next of w e asked =
+    let found = point_of_next (point_in plan view a) next e in
     let x = found.0 in
-    let names : (submits (slice_get x.body x.position) && list_any (gets x.position) x.body) ≡ true = ap (λ (p : Place). p.asked) found.2 ∙ asked in
+    let names : (submits (slice_get x.body x.position) && list_any (gets x.position) x.body) ≡ true = ap (λ (p : NextAction). p.asked) found.2 ∙ asked in
     let gone : live_child view.jobs a x.position ≡ None =
     subst (λ (v : View). point_in plan v a ≡ Some x → live_child v.jobs a x.position ≡ None) of.2
     (λ stands. none_left_in_state plan of.0 a x w of.1 stands (and_parts (submits (slice_get x.body x.position)) (list_any (gets x.position) x.body) names).1) found.1 in
-    subst (λ n. live_child view.jobs a n ≡ None) (ap (λ (p : Place). p.position) found.2) gone
+    subst (λ n. live_child view.jobs a n ≡ None) (ap (λ (p : NextAction). p.position) found.2) gone

@@ -5,9 +5,6 @@ ghost use Rattle.written_machine.specs.State.{pool_of};
 ghost use Rattle.live_views.specs.ViewStep.{live_job, pool_in, loop_in, finish_live, end_in};
 
 use crate::World;
-use crate::changes::finish_job;
-use crate::index::end_of;
-use crate::jobs::live_job;
 use crate::plans::{pool_of, repeats};
 use job_bodies::Plan;
 use live_views::JobView;
@@ -25,7 +22,7 @@ impl World {
         match actor {
             Parent::Client(client) => self.begin_again(plan, client),
             Parent::Job(number) => {
-                let job = live_job(&self.jobs, number)?;
+                let job = self.jobs.get(number)?;
                 Some(self.finish(plan, number, job))
             }
         }
@@ -48,11 +45,8 @@ impl World {
         requires busy { (pool_in self.old (pool_of plan.now job.class)).idle < (pool_in self.old (pool_of plan.now job.class)).threads }
         ensures { finish_live plan.now self.old number (Some job) ≡ Some (self.new, result) }
     {
-        let pool = pool_of(plan, job.class);
-        let latest = self.live_child(job.parent, job.slot);
-        let end = end_of(&self.links, &self.ends, Parent::Job(number));
-        self.pools[pool].finish();
-        finish_job(&mut self.jobs, &self.links, end, latest, number, job);
+        self.pools[pool_of(plan, job.class)].finish();
+        self.jobs.finish(number, job);
         Outcome::Finished(number)
     }
 }

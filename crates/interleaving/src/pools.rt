@@ -6,7 +6,6 @@ ghost use Rattle.pool_machine.specs.PoolState.{new_pool, taken, retired};
 ghost use Rattle.live_views.specs.ViewStep.{pool_in, take_in, retire_in};
 
 use crate::World;
-use crate::changes::set_phase;
 use job_bodies::{Plan, Pool};
 use live_views::Phase;
 use pool_machine::PoolState;
@@ -38,7 +37,7 @@ impl World {
             return None;
         }
         let number = self.pools[pool].take()?;
-        set_phase(&mut self.jobs, number, Phase::At(0));
+        self.jobs.set_phase(number, Phase::At(0));
         Some(Outcome::Took(number))
     }
 

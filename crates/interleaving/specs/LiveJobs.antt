@@ -1,11 +1,31 @@
--- Where the live jobs that an actor made can stand.
-use Rattle.std.specs.Prelude.{◌≡◌, ◌≢◌, ℕ, ◌+◌, ◌<◌, ◌≤◌, true, false, List, [], ◌∷◌, ◌++◌, length, slice_index, slice_index_or, slice_set, Option, Some}
-use Rattle.written_machine.specs.declared.client_state.ClientState.{ClientState}
+-- The live jobs of a world, and where those that an actor made can stand.
+use Rattle.std.specs.Prelude.{◌≡◌, ◌≢◌, ℕ, ◌+◌, ◌<◌, ◌≤◌, true, false, List, [], ◌∷◌, ◌++◌, length, slice_index, slice_index_or, slice_set, Option, Some, None}
 use Rattle.written_machine.specs.declared.parent.Parent.{Parent}
 use Rattle.written_machine.specs.declared.parent.Parent.TheVariants as parent
 use Rattle.live_views.specs.declared.job_view.JobView.{JobView}
 use Rattle.live_views.specs.ViewStep.{live_job, is_live_child, live_child, is_done, unless_stale}
-use Rattle.interleaving.specs.declared.index.Link.{Link}
+use Rattle.interleaving.specs.declared.live_jobs.Link.{Link}
+
+-- the actor is one of so many clients, or one of so many jobs
+abbrev pub IsAmong : ℕ → ℕ → Parent → Type 0
+IsAmong clients jobs (parent.Client c) = c < clients
+IsAmong clients jobs (parent.Job j) = j < jobs
+
+-- the second is gone, or it is the first in some phase
+abbrev pub Fades : Option JobView → Option JobView → Type 0
+Fades job None = Unit {0}
+Fades None (Some after) = ⊥
+Fades (Some job) (Some after) = (after.parent ≡ job.parent) × (after.slot ≡ job.slot)
+
+-- a job that is done is the latest live one that its maker made at its position
+abbrev pub DoneAreLatest : List (Option JobView) → Type 0
+DoneAreLatest jobs = (a : Parent) (t k : ℕ) (job : JobView) → live_job jobs k ≡ Some job → is_live_child a t (Some job) ≡ true → is_done job.phase ≡ true → live_child jobs a t ≡ Some k
+
+-- of the jobs that the actor made at position t none but the latest is stale
+abbrev pub NoOtherIsStale : List (Option JobView) → Option ℕ → Parent → ℕ → Type 0
+NoOtherIsStale jobs latest a t = (k : ℕ) → latest ≢ Some k → unless_stale a t (live_job jobs k) ≡ live_job jobs k
+
+-- ---- the links
 
 -- what stands past the last link
 abbrev pub no_link : Link
@@ -49,13 +69,13 @@ pub record StandBelow (jobs : List (Option JobView)) (links : List Link) (a : Pa
   pub next : IsNext links a end
 
 -- from each actor's end the links lead to its live jobs
-pub record IsIndexed (jobs : List (Option JobView)) (clients : List ClientState) (links : List Link) (ends : List ℕ) : Type 0 where
-  pub as_many : length ends ≡ length clients
+pub record IsIndexed (jobs : List (Option JobView)) (links : List Link) (ends : List ℕ) : Type 0 where
   pub actors : (a : Parent) → StandBelow jobs links a (end_of links ends a)
 
--- what is known of the old jobs is so of the new ones
-abbrev pub KeepsIndex : List (Option JobView) → List (Option JobView) → Type 0
-KeepsIndex old new = (clients : List ClientState) (links : List Link) (ends : List ℕ) → IsIndexed old clients links ends → IsIndexed new clients links ends
+-- an actor has an end
+abbrev pub HasEnd : Parent → List Link → List ℕ → Type 0
+HasEnd (parent.Client c) links ends = c < length ends
+HasEnd (parent.Job j) links ends = j < length links
 
 -- the clients' ends after the actor made job n
 abbrev pub ends_after : Parent → ℕ → List ℕ → List ℕ
@@ -70,16 +90,3 @@ ended (parent.Job j) n links = slice_set links j (record (link_at links j) { end
 -- the links after the actor made job n, the last
 abbrev pub links_after : Parent → ℕ → List Link → List ℕ → List Link
 links_after a n links ends = ended a n links ++ (record { maker = a; before = end_of links ends a; end = 0 }) ∷ []
-
--- an actor has an end
-abbrev pub HasEnd : Parent → List Link → List ℕ → Type 0
-HasEnd (parent.Client c) links ends = c < length ends
-HasEnd (parent.Job j) links ends = j < length links
-
--- a job that is done is the latest live one that its maker made at its position
-abbrev pub DoneAreLatest : List (Option JobView) → Type 0
-DoneAreLatest jobs = (a : Parent) (t k : ℕ) (job : JobView) → live_job jobs k ≡ Some job → is_live_child a t (Some job) ≡ true → is_done job.phase ≡ true → live_child jobs a t ≡ Some k
-
--- of the jobs that the actor made at position t none but the latest is stale
-abbrev pub NoOtherIsStale : List (Option JobView) → Option ℕ → Parent → ℕ → Type 0
-NoOtherIsStale jobs latest a t = (k : ℕ) → latest ≢ Some k → unless_stale a t (live_job jobs k) ≡ live_job jobs k

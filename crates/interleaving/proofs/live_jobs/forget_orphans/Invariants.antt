@@ -1,9 +1,9 @@
 use Rattle.std.proofs.Common.{◌≤◌, length}
 use Rattle.written_machine.specs.declared.parent.Parent.TheVariants.{Job}
 use Rattle.live_views.specs.ViewStep.{unless_orphan}
-use Rattle.interleaving.specs.Index.{IsNext}
+use Rattle.interleaving.specs.LiveJobs.{IsNext}
 use Rattle.interleaving.proofs.Mapped.{AreMapped}
-use Rattle.interleaving.proofs.changes.forget_orphans.Given as goal
+use Rattle.interleaving.proofs.live_jobs.forget_orphans.Given as goal
 
 -- the jobs from this number on are forgotten, and the links lead to those below it
 abbrev pub invariant-loop-below : goal.invariant-loop-below

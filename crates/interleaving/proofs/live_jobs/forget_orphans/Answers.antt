@@ -1,11 +1,11 @@
-use Rattle.std.proofs.Common.{◌≡◌, ◌+◌, ◌-◌, ◌≤◌, length, refl, subst, arith, length-set}
+use Rattle.std.proofs.Common.{◌≡◌, ◌+◌, ◌-◌, ◌≤◌, length, refl, subst, arith, rules, length-set}
 use Rattle.written_machine.specs.declared.parent.Parent.TheVariants.{Job}
 use Rattle.live_views.specs.ViewStep.{live_job, unless_orphan}
-use Rattle.interleaving.specs.Index.{IsLink, link_at}
+use Rattle.interleaving.specs.LiveJobs.{IsLink, link_at}
 use Rattle.interleaving.proofs.Links.{next_link}
 use Rattle.interleaving.proofs.Mapped.{AreMapped, mapped_start, mapped_more, mapped_end}
 use Rattle.interleaving.proofs.Stale.{not_orphan}
-use Rattle.interleaving.proofs.changes.forget_orphans.Goals as goal
+use Rattle.interleaving.proofs.live_jobs.forget_orphans.Goals as goal
 
 pub loop-below-init : goal.loop-below-init
 loop-below-init c = record {
@@ -25,9 +25,10 @@ loop-below-preserved c =
     let within : c.loop-below.below ≤ length jobs = omega (arith, c.loop-below.invariant.inside, c.loop-below.auto.jobs) in
     let link : IsLink jobs links number (Job c.args.parent) (link_at links number).before = next_link jobs links (Job c.args.parent) number c.loop-below.below c.requires.linked c.loop-below.invariant.next step within in
     let mapped : AreMapped f jobs now (number + 1) = subst (AreMapped f jobs now) step c.loop-below.invariant.mapped in
-    let long = length-set now number c.unless_orphan.result in
+    let long = length-set now number c.and_then.result in
+    let new : c.and_then.result ≡ f (live_job now number) = search rules in
     record {
-      mapped = mapped_more f jobs now number (link_at links number).before c.unless_orphan.result (omega (arith, step, within)) link.inside mapped c.unless_orphan.ensures
+      mapped = mapped_more f jobs now number (link_at links number).before c.and_then.result (omega (arith, step, within)) link.inside mapped new
           (λ k low high. not_orphan c.args.parent (live_job jobs k) (λ t. link.none_between k t low high));
       inside = omega (arith, link.inside, step, within, long, c.loop-below.auto.jobs);
       next = link.next;
