@@ -32,6 +32,11 @@ stale_moved a (parent.Job j) t i latest view none = λ k other. ⊎_elim
     (λ (apart : k ≢ j). let e = get_or-set_other view.jobs j k (in_phase (phase.At i) (live_job view.jobs j)) None apart in ap (unless_stale a t) e ∙ none k other ∙ sym e)
     (cases_eq k j)
 
+-- as many jobs as before
+pub length-moved : (a : Parent) (i : ℕ) (view : View) → length (moved_live_jobs a i view) ≡ length view.jobs
+length-moved (parent.Client c) i view = refl
+length-moved (parent.Job j) i view = length-set view.jobs j (in_phase (phase.At i) (live_job view.jobs j))
+
 -- ---- the latest live job alone
 
 stays_unless_latest : (jobs : List (Option JobView)) (latest : Option ℕ) (a : Parent) (t k : ℕ) (job : Option JobView) → DoneAreLatest jobs → latest ≡ live_child jobs a t → latest ≢ Some k → live_job jobs k ≡ job → unless_stale a t job ≡ job

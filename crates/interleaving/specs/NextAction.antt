@@ -1,9 +1,8 @@
 -- Where an actor stands.
 use Rattle.std.specs.Prelude.{◌≡◌, ℕ, ◌&&◌, List, Some, slice_get}
-use Rattle.std.specs.List.{list_any}
 use Rattle.job_bodies.specs.declared.action.Action.{Action}
 use Rattle.job_bodies.specs.declared.action.Action.TheVariants.{Submit}
-use Rattle.job_bodies.specs.Plan.{Plan, submits, gets}
+use Rattle.job_bodies.specs.Plan.{Plan, submits, is_got}
 use Rattle.written_machine.specs.declared.event.Event.{Event}
 use Rattle.written_machine.specs.declared.event.Event.TheVariants.{Client, Job, Take, Retire}
 use Rattle.written_machine.specs.declared.parent.Parent.{Parent}
@@ -15,7 +14,7 @@ use Rattle.interleaving.specs.declared.next_action.NextAction.{NextAction}
 
 -- the position in the body, the action there, and whether it is a submit whose job a get of the body asks for
 abbrev pub next_action_in : List Action → ℕ → NextAction
-next_action_in body i = record { position = i; action = slice_get body i; asked = submits (slice_get body i) && list_any (gets i) body }
+next_action_in body i = record { position = i; action = slice_get body i; asked = submits (slice_get body i) && is_got body i }
 
 abbrev pub next_action_at : Point → NextAction
 next_action_at at = next_action_in at.body at.position

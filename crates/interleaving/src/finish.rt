@@ -5,7 +5,7 @@ ghost use Rattle.written_machine.specs.State.{pool_of};
 ghost use Rattle.live_views.specs.ViewStep.{live_job, pool_in, loop_in, finish_live, end_in};
 
 use crate::World;
-use crate::plans::{pool_of, repeats};
+use crate::plans::pool_of;
 use job_bodies::Plan;
 use live_views::JobView;
 use written_machine::{Outcome, Parent};
@@ -32,7 +32,7 @@ impl World {
         ensures { AreOf (loop_in plan.now self.old client (slice_get self.old.clients client)) self.old result self.new }
     {
         let kind = self.clients.get(client)?.kind;
-        if !repeats(plan, kind) {
+        if !plan.client_at(kind)?.repeat {
             return None;
         }
         self.clients[client].position = 0;

@@ -1,8 +1,6 @@
 //! Where an actor stands.
 
 ghost use Rattle.std.specs.Prelude.{◌≡◌, ◌+◌, ◌<◌, ◌^◌, length, IsSome, IfSome, OnSome};
-ghost use Rattle.std.specs.List.{list_any};
-ghost use Rattle.job_bodies.specs.Plan.{gets};
 ghost use Rattle.job_bodies.specs.WellFormed.{IsWellFormed};
 ghost use Rattle.std.specs.Option.{option_map};
 ghost use Rattle.written_machine.specs.declared.parent.Parent.TheVariants as parent;
@@ -12,7 +10,7 @@ ghost use Rattle.interleaving.specs.NextAction.{next_action_in};
 
 use crate::World;
 use crate::plans::{body_of_class, body_of_kind};
-use job_bodies::{Action, Plan};
+use job_bodies::{Action, Plan, is_got};
 use live_views::Phase;
 use written_machine::Parent;
 
@@ -23,12 +21,6 @@ pub(crate) struct NextAction {
     pub(crate) action: Option<Action>,
     // Whether it is a submit whose job a get of the body asks for.
     pub(crate) asked: bool,
-}
-
-fn is_got(body: &[Action], submit: usize) -> bool
-    ensures { result ≡ list_any (gets submit) body.now }
-{
-    body.iter().any(|action| matches!(action, Action::Get(got) if *got == submit))
 }
 
 impl NextAction {

@@ -12,7 +12,7 @@ use pool_machine::PoolState;
 use std::alloc::{AllocError, Global};
 use written_machine::Outcome;
 
-/// Each pool, with no threads and an empty queue.
+/// Each pool, with an empty queue, and with core idle workers where it is prestarted.
 pub(crate) fn new_pools(alloc: Global, pools: &[Pool]) -> Result<Vec<PoolState>, AllocError>
     requires { All (λ pool. IsTrue (has_lawful_sizes pool)) pools.now }
     ensures { IfOk result (λ new. new.items ≡ map new_pool pools.now) }

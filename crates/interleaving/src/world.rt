@@ -45,7 +45,8 @@ impl Model for World {
 impl World {
     ghost use Rattle.interleaving.specs.OfPlan.{IsOf};
 
-    /// The plan's world before its first event: no jobs, no threads, each client at the start of its body.
+    /// The plan's world before its first event: no jobs, core idle workers in each pool that is prestarted and no threads
+    /// in the others, each client at the start of its body.
     ///
     /// # Errors
     ///
