@@ -172,7 +172,7 @@ impl LiveJobs {
     fn finished_or_gone(&self, number: usize, job: JobView) -> Option<JobView>
         ensures { result ≡ finished_or_gone self.now.jobs number job }
     {
-        if self.latest(job.parent, job.slot) == Some(number) && self.may_ask(job.parent) {
+        if self.may_ask(job.parent) && self.latest(job.parent, job.slot) == Some(number) {
             Some(JobView {
                 phase: Phase::Done,
                 ..job
