@@ -21,22 +21,45 @@ pub fn followed(
     let mut answer = String::new(alloc);
     let mut known = facts(alloc, plan, world)?;
     for (number, line) in lines.lines().enumerate() {
-        let mut said = String::new(alloc);
-        match event(line) {
-            Some(event) => push_outcome(&mut said, world.step(plan, event)?)?,
-            None => push_look_up(&mut said, alloc, plan, world, line)?,
-        }
-        if kind == "facts" {
-            let now = facts(alloc, plan, world)?;
-            push_changed(&mut said, &known, &now)?;
-            known = now;
-        } else if kind == "sets" {
-            push_stuck_sets(&mut said, alloc, plan, world)?;
-        }
+        let mut said = said_to(alloc, plan, world, line)?;
+        push_view(&mut said, alloc, kind, plan, world, &mut known)?;
         let end = if number == 0 { "" } else { "\n" };
         write!(answer, "{end}{said}")?;
     }
     Ok(answer)
+}
+
+// What comes of the line where it is an event, and else what it asks for.
+fn said_to(alloc: Global, plan: &Plan, world: &mut World, line: &str) -> Result<String, AllocError>
+    requires { IsOf plan.now world.old }
+    ensures { IsOf plan.now world.new }
+{
+    if let Some(event) = event(line) {
+        let outcome = world.step(plan, event)?;
+        return outcome_text(alloc, outcome);
+    }
+    looked_up(alloc, plan, world, line)
+}
+
+// Adds what this kind of rows says behind each line.
+fn push_view(
+    said: &mut String,
+    alloc: Global,
+    kind: &str,
+    plan: &Plan,
+    world: &World,
+    known: &mut Vec<String>,
+) -> Result<(), AllocError>
+    requires { IsOf plan.now world.now }
+{
+    if kind == "facts" {
+        let now = facts(alloc, plan, world)?;
+        push_changed(said, known, &now)?;
+        *known = now;
+    } else if kind == "sets" {
+        push_stuck_sets(said, alloc, plan, world)?;
+    }
+    Ok(())
 }
 
 fn event(line: &str) -> Option<Event> {
@@ -51,48 +74,44 @@ fn event(line: &str) -> Option<Event> {
     }
 }
 
-fn push_outcome(said: &mut String, outcome: Option<Outcome>) -> Result<(), AllocError> {
+fn outcome_text(alloc: Global, outcome: Option<Outcome>) -> Result<String, AllocError> {
     let Some(outcome) = outcome else {
-        return said.push_str("not possible");
+        return String::from_str(alloc, "not possible");
     };
     match outcome {
-        Outcome::Started(job) => write!(said, "started job {job}"),
-        Outcome::Queued(job) => write!(said, "queued job {job}"),
-        Outcome::Refused(pool) => write!(said, "refused by {pool}"),
-        Outcome::Worked(units) => write!(said, "worked {units}"),
-        Outcome::Got(job) => write!(said, "got job {job}"),
-        Outcome::Looped => said.push_str("looped"),
-        Outcome::Finished(job) => write!(said, "finished job {job}"),
-        Outcome::Took(job) => write!(said, "took job {job}"),
-        Outcome::Retired => said.push_str("retired"),
+        Outcome::Started(job) => format!(in alloc; "started job {job}"),
+        Outcome::Queued(job) => format!(in alloc; "queued job {job}"),
+        Outcome::Refused(pool) => format!(in alloc; "refused by {pool}"),
+        Outcome::Worked(units) => format!(in alloc; "worked {units}"),
+        Outcome::Got(job) => format!(in alloc; "got job {job}"),
+        Outcome::Looped => String::from_str(alloc, "looped"),
+        Outcome::Finished(job) => format!(in alloc; "finished job {job}"),
+        Outcome::Took(job) => format!(in alloc; "took job {job}"),
+        Outcome::Retired => String::from_str(alloc, "retired"),
     }
 }
 
 // What the line asks for, which is no event.
-fn push_look_up(
-    said: &mut String,
-    alloc: Global,
-    plan: &Plan,
-    world: &World,
-    line: &str,
-) -> Result<(), AllocError>
+fn looked_up(alloc: Global, plan: &Plan, world: &World, line: &str) -> Result<String, AllocError>
     requires { IsOf plan.now world.now }
 {
-    if line == "start" {
-        return push_changed(said, &Vec::new(alloc), &facts(alloc, plan, world)?);
-    }
+    let mut said = String::new(alloc);
     if let Some(members) = line.strip_prefix("stuck") {
         let mut numbers = Vec::new(alloc);
         for member in members.split_whitespace() {
             numbers.push(member.parse::<usize>().unwrap_or(usize::MAX))?;
         }
         let is_stuck = world.stuck(plan, &numbers);
-        return said.push_str(if is_stuck { "yes" } else { "no" });
+        said.push_str(if is_stuck { "yes" } else { "no" })?;
+    } else if line == "start" {
+        push_changed(&mut said, &[], &facts(alloc, plan, world)?)?;
+    } else {
+        let (word, number) = line.rsplit_once(' ').unwrap_or((line, ""));
+        match (word, number.parse::<usize>()) {
+            ("see client", Ok(number)) => push_number(&mut said, world.client(number))?,
+            ("see job", Ok(number)) => push_job(&mut said, world.job(number))?,
+            _ => said.push_str("no such line")?,
+        }
     }
-    let (word, number) = line.rsplit_once(' ').unwrap_or((line, ""));
-    match (word, number.parse::<usize>()) {
-        ("see client", Ok(number)) => push_number(said, world.client(number)),
-        ("see job", Ok(number)) => push_job(said, world.job(number)),
-        _ => said.push_str("no such line"),
-    }
+    Ok(said)
 }
