@@ -1,7 +1,7 @@
 //! The kinds of inputs.
 
 use crate::answers::answered;
-use crate::lists::built;
+use crate::lists::{built, written};
 use row_files::Suite;
 use std::alloc::{AllocError, Global};
 
@@ -11,6 +11,7 @@ use std::alloc::{AllocError, Global};
 /// - `spelling` is a text that is also read with a carriage return before each newline, and with a byte order mark before
 ///   that. All three are answered alike.
 /// - `lists` are the lists of a plan, a line for each entry.
+/// - `written` are such lists, which are answered by the text that is written of their plan.
 /// - `change` is a text, a line `%%`, and a line `OLD -> NEW`: the text is read with NEW in place of OLD.
 pub struct PlanTexts;
 
@@ -20,6 +21,7 @@ impl Suite for PlanTexts {
             "plan" => answered(alloc, input),
             "spelling" => answered_in_each_spelling(alloc, input),
             "lists" => built(alloc, input),
+            "written" => written(alloc, input),
             "change" => answered(alloc, changed(alloc, input)?.as_bytes()),
             _ => String::from_str(alloc, "no such kind of input"),
         }

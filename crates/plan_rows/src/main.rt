@@ -20,6 +20,7 @@ fn main(rt: HostRuntime) -> io::Result<()> {
         "spellings",
         "documents",
         "lists",
+        "written",
     ];
     run_files(&rt, &PlanTexts, &files)
 }

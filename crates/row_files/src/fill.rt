@@ -1,6 +1,7 @@
 //! Texts with gaps.
 
 use crate::plans::sample_plan;
+use crate::repeat::repeated;
 use crate::rows::Row;
 use std::alloc::{AllocError, Global};
 
@@ -51,7 +52,7 @@ pub fn with_names(alloc: Global, text: &str, row: &Row) -> Result<String, AllocE
 fn named(alloc: Global, name: &str, row: &Row) -> Result<String, AllocError> {
     let head = format!(in alloc; "let {name}")?;
     match row.part(&head) {
-        Some(text) => String::from_str(alloc, text),
+        Some(text) => repeated(alloc, text),
         None => sample_plan(alloc, name),
     }
 }

@@ -9,7 +9,3 @@ mod event_texts;
 mod help_texts;
 #[cfg(test)]
 mod limits;
-#[cfg(test)]
-mod reading_calls;
-#[cfg(test)]
-mod writing_calls;
