@@ -19,7 +19,10 @@ fn parts_of_a_plan(rt: HostRuntime) -> Result<(), Fail> {
     let plan = read_plan(rt.alloc(), text.as_bytes()).ok().ok_or("a plan")?;
     let pool = plan.pool_at(0).ok_or("a pool")?;
     assert_eq!(rt; pool.name.as_str(), "p");
-    assert_eq!(rt; (pool.core, pool.max, pool.queue, pool.prestart), (1, 1, 2, true));
+    assert_eq!(rt;
+        (pool.core, pool.max, pool.queue, pool.prestart),
+        (1, 1, 2, true)
+    );
     let class = plan.class_at(0).ok_or("a class")?;
     assert_eq!(rt; class.name.as_str(), "a");
     assert_eq!(rt; class.pool, 0);
@@ -27,8 +30,13 @@ fn parts_of_a_plan(rt: HostRuntime) -> Result<(), Fail> {
     let client = plan.client_at(0).ok_or("a client")?;
     assert_eq!(rt; client.name.as_str(), "c");
     assert_eq!(rt; (client.count, client.repeat), (2, true));
-    assert_eq!(rt; client.body.as_slice(), [Action::Submit(0), Action::Get(0)].as_slice());
-    assert!(rt; plan.pool_at(1).is_none() && plan.class_at(1).is_none() && plan.client_at(1).is_none());
+    assert_eq!(rt;
+        client.body.as_slice(),
+        [Action::Submit(0), Action::Get(0)].as_slice()
+    );
+    assert!(rt;
+        plan.pool_at(1).is_none() && plan.class_at(1).is_none() && plan.client_at(1).is_none()
+    );
     Ok(())
 }
 
@@ -40,13 +48,55 @@ fn fault_of(alloc: Global, bytes: &[u8]) -> Option<PlanFault> {
 const FAULTS: &[(&str, u8, Part, usize, Option<usize>)] = &[
     ("run = ", 1, Part::Text, 0, None),
     ("[run]", 3, Part::Text, 0, None),
-    ("[[pool]]\nname = \"q\"\ncore = 2\nmax = 1\nqueue = 2", 8, Part::Pool, 1, None),
-    ("[[pool]]\nname = \"q\"\ncore = 2\nqueue = 2", 4, Part::Pool, 1, None),
-    ("[[pool]]\nname = \"q\"\ncore = 2\nmax = 2\nqueue = 2\nprestart = 1", 5, Part::Pool, 1, None),
-    ("[[class]]\nname = \"b\"\npool = \"b\"\nbody = []", 9, Part::Class, 1, None),
-    ("[[class]]\nname = \"b\"\npool = \"p\"\nbody = [\"work 0\"]", 11, Part::Class, 1, Some(0)),
-    ("[[client]]\nname = \"d\"\ncount = 0\nbody = []", 8, Part::Client, 1, None),
-    ("[[client]]\nname = \"d\"\ncount = 1\nbody = [\"submit a\", 1]", 5, Part::Client, 1, Some(1)),
+    (
+        "[[pool]]\nname = \"q\"\ncore = 2\nmax = 1\nqueue = 2",
+        8,
+        Part::Pool,
+        1,
+        None,
+    ),
+    (
+        "[[pool]]\nname = \"q\"\ncore = 2\nqueue = 2",
+        4,
+        Part::Pool,
+        1,
+        None,
+    ),
+    (
+        "[[pool]]\nname = \"q\"\ncore = 2\nmax = 2\nqueue = 2\nprestart = 1",
+        5,
+        Part::Pool,
+        1,
+        None,
+    ),
+    (
+        "[[class]]\nname = \"b\"\npool = \"b\"\nbody = []",
+        9,
+        Part::Class,
+        1,
+        None,
+    ),
+    (
+        "[[class]]\nname = \"b\"\npool = \"p\"\nbody = [\"work 0\"]",
+        11,
+        Part::Class,
+        1,
+        Some(0),
+    ),
+    (
+        "[[client]]\nname = \"d\"\ncount = 0\nbody = []",
+        8,
+        Part::Client,
+        1,
+        None,
+    ),
+    (
+        "[[client]]\nname = \"d\"\ncount = 1\nbody = [\"submit a\", 1]",
+        5,
+        Part::Client,
+        1,
+        Some(1),
+    ),
 ];
 
 #[test]
@@ -59,7 +109,11 @@ fn places_of_faults(rt: HostRuntime) -> Result<(), Fail> {
             index: *index,
             action: *action,
         };
-        assert_eq!(rt; fault_of(rt.alloc(), text.as_bytes()), Some(wanted), "at {behind}");
+        assert_eq!(rt;
+            fault_of(rt.alloc(), text.as_bytes()),
+            Some(wanted),
+            "at {behind}"
+        );
     }
     assert_eq!(rt; fault_of(rt.alloc(), &[255]), Some(PlanFault::at_text(1)));
     Ok(())

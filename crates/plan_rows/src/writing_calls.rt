@@ -53,7 +53,10 @@ fn two_pools(alloc: Global) -> Result<Plan, Fail> {
     ]?;
     let page = vec![in alloc; Action::Submit(1), Action::Work(1000000), Action::Get(0)]?;
     let row = vec![in alloc; Action::Work(1)]?;
-    let classes = vec![in alloc; class(alloc, "page", 0, page)?, class(alloc, "row", 1, row)?]?;
+    let classes = vec![in alloc;
+        class(alloc, "page", 0, page)?,
+        class(alloc, "row", 1, row)?,
+    ]?;
     let body = vec![in alloc;
         Action::Submit(0),
         Action::Submit(1),
