@@ -41,7 +41,7 @@ action_is x y e = cc
 class_there : (classes : List (List ℕ)) (fault : ℕ → PlanFault) (name : List ℕ) (k : ℕ) → class_named classes fault name ≡ Ok k → nat_lt k (length classes) ≡ true
 class_there classes fault name k e =
     let found = bind_ok (holds_or (nat_lt (place_of classes name) (length classes)) _) _ _ e in
-    let there = holds_ok _ _ found.1 in
+    let there : nat_lt (place_of classes name) (length classes) ≡ true = holds_ok _ _ found.1 in
     let same : place_of classes name ≡ k = cc in
     subst (λ (n : ℕ). nat_lt n (length classes) ≡ true) same there
 

@@ -19,7 +19,7 @@ use Rattle.job_bodies.proofs.Passing.{both_pass, test_passes, each_passed, each_
 use Rattle.plan_text.specs.Document.{list_of, list_at, as_list}
 use Rattle.plan_text.specs.Entry.{Entry, value_at, entry_of, text_at, number_at, flag_at, texts_at, action_text}
 use Rattle.plan_text.specs.Entries.{ClassEntry, ClientEntry, Entries, AreWithinLimits, pool_at, class_at, client_at, entries_of}
-use Rattle.plan_text.specs.Checks.{pool_names, class_names, client_names, class_head, client_head, check_pools, check_classes, check_clients}
+use Rattle.plan_text.specs.Checks.{class_names, client_names, class_head, client_head, check_pools, check_classes, check_clients}
 use Rattle.plan_text.specs.Bodies.{body_of, class_of, client_of}
 use Rattle.plan_text.specs.PlanOf.{plan_of_entries}
 use Rattle.plan_text.proofs.BodyLaws.{body_length, body_passes}
@@ -115,7 +115,7 @@ client_is classes index client made e =
 
 -- the checks of entries, where they passed
 abbrev PoolsPass : List Pool → Type 0
-PoolsPass pools = check_each (λ index. check_pool (take index (pool_names pools)) index) 0 pools ≡ Ok tt
+PoolsPass pools = check_each (λ index. check_pool (take index (map (λ pool. pool.name) pools)) index) 0 pools ≡ Ok tt
 
 abbrev ClassesPass : List (List ℕ) → List ClassEntry → Type 0
 ClassesPass pools classes = check_each (λ index class. check_class (length pools) (take index (class_names classes)) index (class_head pools class)) 0 classes ≡ Ok tt
@@ -123,7 +123,7 @@ ClassesPass pools classes = check_each (λ index class. check_class (length pool
 abbrev ClientsPass : List ClientEntry → Type 0
 ClientsPass clients = check_each (λ index client. check_client (take index (client_names clients)) index (client_head client)) 0 clients ≡ Ok tt
 
-pools_pass : (pools : List Pool) (names : List (List ℕ)) → check_pools pools ≡ Ok names → PoolsPass pools × (pool_names pools ≡ names)
+pools_pass : (pools : List Pool) (names : List (List ℕ)) → check_pools pools ≡ Ok names → PoolsPass pools × (map (λ pool. pool.name) pools ≡ names)
 unfolding check_pools
 pools_pass pools names e = bind_ok_then (check_each _ 0 pools) _ names e (λ passed at rest. (at, given_same {F = PlanFault} _ names rest))
 
@@ -137,7 +137,7 @@ clients_pass clients passed e = e
 
 -- the steps of a plan that was read
 record IsRead (entries : Entries) (pools classes : List (List ℕ)) (plan : Plan) : Type 0 where
-  pool_names_are : pool_names entries.pools ≡ pools
+  pool_names_are : map (λ pool. pool.name) entries.pools ≡ pools
   class_names_are : class_names entries.classes ≡ classes
   pools_pass : PoolsPass entries.pools
   classes_pass : ClassesPass pools entries.classes

@@ -161,7 +161,11 @@ pub fn classes_of<'a>(
 ) -> Result<Vec<Class>, TextError>
     ensures { Gives (λ classes. classes.items) result (each.read_each (spec.class_of pools.now names.now) 0 entries.now) }
 {
-    read_each(alloc, entries, |index, entry| class_of(alloc, pools, names, index, entry))
+    read_each(
+        alloc,
+        entries,
+        |index, entry| class_of(alloc, pools, names, index, entry),
+    )
 }
 
 /// The clients of these entries, with their bodies.
@@ -172,5 +176,9 @@ pub fn clients_of<'a>(
 ) -> Result<Vec<Client>, TextError>
     ensures { Gives (λ clients. clients.items) result (each.read_each (spec.client_of names.now) 0 entries.now) }
 {
-    read_each(alloc, entries, |index, entry| client_of(alloc, names, index, entry))
+    read_each(
+        alloc,
+        entries,
+        |index, entry| client_of(alloc, names, index, entry),
+    )
 }

@@ -32,11 +32,7 @@ fn check_name<'a>(
     Ok(())
 }
 
-fn check_pool<'a>(
-    names: &mut Names<'a>,
-    index: usize,
-    pool: &'a Pool,
-) -> Result<(), TextError>
+fn check_pool<'a>(names: &mut Names<'a>, index: usize, pool: &'a Pool) -> Result<(), TextError>
     ensures check { Gives (λ _. tt) result (checks.check_pool names.old index pool.now) }
     ensures names { OnOk result (names.new ≡ names.old ++ pool.now.name ∷ []) }
 {

@@ -136,5 +136,9 @@ fn action_texts(
 ) -> Result<Vec<&str>, TextError>
     ensures { Gives (λ texts. map (λ text. text.now) texts.items) result (each.read_each (spec.action_text part index) 0 (map view values.now)) }
 {
-    read_each(alloc, values, |action, value| action_text(part, index, action, value))
+    read_each(
+        alloc,
+        values,
+        |action, value| action_text(part, index, action, value),
+    )
 }

@@ -7,5 +7,4 @@ ghost use Rattle.plan_text.specs.Orders.{Order, order_of, spelling, IsLawfulOrde
 /// its one spelling.
 pub fn spelling_is_canonical()
     ensures { (text : List ℕ) (order : Order) → (order_of text ≡ Some order) ↔ (IsLawfulOrder order × (text ≡ spelling order)) }
-{
-}
+{}
