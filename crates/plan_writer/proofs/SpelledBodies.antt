@@ -1,10 +1,10 @@
 -- The body that is read from the texts of a lawful body is that body.
-use Rattle.std.proofs.Common.{◌≡◌, ℕ, zero, suc, ◌+◌, ◌-◌, ◌<◌, ◌≤◌, true, false, if◌then◌else◌, nat_lt, List, [], ◌∷◌, length, map, take, get_or, slice_get, Option, None, Some, Result, Ok, refl, sym, ap, subst, ◌∙◌, arith, zero-add, inl, inr, ◌⊎◌}
+use Rattle.std.proofs.Common.{codes, ◌++◌, ◌≡◌, ℕ, zero, suc, ◌+◌, ◌-◌, ◌<◌, ◌≤◌, true, false, if◌then◌else◌, nat_lt, List, [], ◌∷◌, length, map, take, get_or, slice_get, Option, None, Some, Result, Ok, refl, sym, ap, subst, ◌∙◌, arith, zero-add, inl, inr, ◌⊎◌}
 use Rattle.std.specs.Prelude.{option_map}
 use Rattle.std.specs.List.{list_any, enumerate_from}
 use Rattle.std.specs.Str.{bytes_eq}
-use Rattle.std.proofs.lemmas.Bool.{cases_Bool, ltb-true, eq-eqb}
-use Rattle.std.proofs.lemmas.List.{length-map, length-take-le, get_or-take}
+use Rattle.std.proofs.lemmas.Bool.{cases_Bool, and_from, ltb-true, eq-eqb}
+use Rattle.std.proofs.lemmas.List.{append-nil, length-map, length-take-le, get_or-take}
 use Rattle.std.proofs.lemmas.List.Folds.{list_any_at}
 use Rattle.std.proofs.lemmas.List.FromFn.{length-enumerate_from}
 use Rattle.std.proofs.lemmas.List.Sums.{position_or_len_is}
@@ -28,7 +28,7 @@ use Rattle.plan_writer.specs.Spelling.{name_at, slot_name, action_text, body_tex
 use Rattle.plan_text.specs.Bodies.{class_named, action_of, action_at, action_among, body_of}
 use Rattle.plan_text.proofs.Filling.{filled_more}
 use Rattle.plan_text.proofs.Fillings.{HasOrder, fills}
-use Rattle.plan_text.proofs.SpelledOrders.{spelled_work, spelled_submit, spelled_submit_as, spelled_get}
+use Rattle.plan_text.proofs.SpelledOrders.{spelled}
 use Rattle.plan_writer.proofs.SlotNames.{slot_lawful, slot_injective}
 
 -- ---- names
@@ -100,16 +100,16 @@ place_within classes body given i action here = omega (arith, slice_get_within b
 
 order_is : (classes : List (List ℕ)) (body : List Action) → IsSpelled classes body → (i : ℕ) (action : Action) → slice_get body i ≡ Some action → order_of (action_text classes body i action) ≡ Some (order_here classes body i action)
 unfolding action_text
-order_is classes body given i (Work units) here = spelled_work units (given.actions i (Work units) here)
+order_is classes body given i (Work units) here = spelled (work units) (given.actions i (Work units) here)
 order_is classes body given i (Submit class) here =
     let name = name_at classes class in
     let within : class < length classes = ltb-true class (length classes) (given.actions i (Submit class) here) in
     let lawful = given.names class name (slice_get-get_or classes class [] within) in
     elim (cases_Bool (list_any (gets i) body)) [
-      | inl got ↦ rw got (spelled_submit_as name (slot_name i) lawful (slot_lawful i (place_within classes body given i (Submit class) here)))
-      | inr free ↦ rw free (spelled_submit name lawful)
+      | inl got ↦ rw got (spelled (submit_as name (slot_name i)) (and_from _ _ lawful (slot_lawful i (place_within classes body given i (Submit class) here))))
+      | inr free ↦ rw free (subst (λ (word : List ℕ). order_of (codes "submit " ++ word) ≡ Some (submit name)) (sym (append-nil name)) (spelled (submit name) lawful))
     ]
-order_is classes body given i (Get t) here = spelled_get (slot_name t) (slot_lawful t (omega (arith, given.behind i t here, place_within classes body given i (Get t) here)))
+order_is classes body given i (Get t) here = spelled (get (slot_name t)) (slot_lawful t (omega (arith, given.behind i t here, place_within classes body given i (Get t) here)))
 
 has_order : (classes : List (List ℕ)) (body : List Action) → IsSpelled classes body → (i : ℕ) (action : Action) → slice_get body i ≡ Some action → HasOrder (body_texts classes body) i (order_here classes body i action)
 has_order classes body given i action here = record {
