@@ -9,3 +9,5 @@ mod event_texts;
 mod help_texts;
 #[cfg(test)]
 mod limits;
+#[cfg(test)]
+mod pools;

@@ -4,8 +4,6 @@
 mod facts;
 mod follow;
 mod kinds;
-#[cfg(test)]
-mod pools;
 mod sets;
 
 use kinds::Worlds;

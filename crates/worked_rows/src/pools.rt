@@ -1,7 +1,6 @@
 //! One pool alone, without a plan around it.
 
-ghost use Rattle.std.specs.Prelude.{◌≡◌, IsTrue};
-ghost use Rattle.job_bodies.specs.WellFormed.{has_lawful_sizes};
+ghost use Rattle.std.specs.Prelude.{◌≡◌, []};
 
 use job_bodies::Pool;
 use pool_machine::{Offer, PoolState};
