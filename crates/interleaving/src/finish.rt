@@ -2,7 +2,7 @@
 
 ghost use Rattle.std.specs.Prelude.{◌≡◌, ◌<◌, length, slice_get, Some};
 ghost use Rattle.written_machine.specs.State.{pool_of};
-ghost use Rattle.live_views.specs.ViewStep.{live_job, pool_in, loop_in, finish_live, end_in};
+ghost use Rattle.live_views.specs.ViewStep.{live_job, pool_in, looped_in, finished_job_in, ended_in};
 
 use crate::World;
 use crate::plans::pool_of;
@@ -17,7 +17,7 @@ impl World {
     /// At the end of its body a job finishes, and a client of a kind that repeats begins again.
     pub(crate) fn end(&mut self, plan: &Plan, actor: Parent) -> Option<Outcome>
         requires { IsAtWork plan.now self.old actor }
-        ensures { AreOf (end_in plan.now self.old actor) self.old result self.new }
+        ensures { AreOf (ended_in plan.now self.old actor) self.old result self.new }
     {
         match actor {
             Parent::Client(client) => self.begin_again(plan, client),
@@ -29,7 +29,7 @@ impl World {
     }
 
     fn begin_again(&mut self, plan: &Plan, client: usize) -> Option<Outcome>
-        ensures { AreOf (loop_in plan.now self.old client (slice_get self.old.clients client)) self.old result self.new }
+        ensures { AreOf (looped_in plan.now self.old client (slice_get self.old.clients client)) self.old result self.new }
     {
         let kind = self.clients.get(client)?.kind;
         if !plan.client_at(kind)?.repeat {
@@ -43,7 +43,7 @@ impl World {
         requires live { live_job self.old.jobs number ≡ Some job }
         requires pool { pool_of plan.now job.class < length self.old.pools }
         requires busy { (pool_in self.old (pool_of plan.now job.class)).idle < (pool_in self.old (pool_of plan.now job.class)).threads }
-        ensures { finish_live plan.now self.old number (Some job) ≡ Some (self.new, result) }
+        ensures { finished_job_in plan.now self.old number (Some job) ≡ Some (self.new, result) }
     {
         self.pools[pool_of(plan, job.class)].finish();
         self.jobs.finish(number, job);

@@ -1,7 +1,7 @@
 //! Gets.
 
 ghost use Rattle.std.specs.Prelude.{◌≡◌, ◌+◌, ◌<◌, ◌^◌};
-ghost use Rattle.live_views.specs.ViewStep.{get_in, live_child};
+ghost use Rattle.live_views.specs.ViewStep.{got_child_in, live_child};
 
 use crate::World;
 use crate::moves::move_actor;
@@ -13,7 +13,7 @@ impl World {
     /// The actor, at this position, gets the latest job that it made by the submit, once that is done.
     pub(crate) fn get(&mut self, actor: Parent, position: usize, submit: usize) -> Option<Outcome>
         requires { position + 1 < 2 ^ 64 }
-        ensures { AreOf (get_in self.old actor position (live_child self.old.jobs actor submit)) self.old result self.new }
+        ensures { AreOf (got_child_in self.old actor position (live_child self.old.jobs actor submit)) self.old result self.new }
     {
         let number = self.jobs.latest(actor, submit)?;
         if !self.jobs.get(number)?.is_done() {

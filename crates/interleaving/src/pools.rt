@@ -3,7 +3,7 @@
 ghost use Rattle.std.specs.Prelude.{◌≡◌, length, map, All, IsTrue, IfOk};
 ghost use Rattle.job_bodies.specs.WellFormed.{IsWellFormed, has_lawful_sizes};
 ghost use Rattle.pool_machine.specs.PoolState.{new_pool, taken, retired};
-ghost use Rattle.live_views.specs.ViewStep.{pool_in, take_in, retire_in};
+ghost use Rattle.live_views.specs.ViewStep.{pool_in, took_in, let_go_in};
 
 use crate::World;
 use job_bodies::{Plan, Pool};
@@ -30,7 +30,7 @@ impl World {
     /// An idle worker of the pool takes the head of its queue.
     pub(crate) fn take(&mut self, plan: &Plan, pool: usize) -> Option<Outcome>
         requires { length self.old.pools ≡ length plan.now.pools }
-        ensures value { AreOf (take_in self.old pool (taken (pool_in self.old pool))) self.old result self.new }
+        ensures value { AreOf (took_in self.old pool (taken (pool_in self.old pool))) self.old result self.new }
         ensures well_formed { IsWellFormed plan.now }
     {
         if pool >= plan.pools().len() {
@@ -44,7 +44,7 @@ impl World {
     /// An idle worker of the pool ends.
     pub(crate) fn retire(&mut self, plan: &Plan, pool: usize) -> Option<Outcome>
         requires { length self.old.pools ≡ length plan.now.pools }
-        ensures value { AreOf (retire_in self.old pool (retired (pool_in self.old pool))) self.old result self.new }
+        ensures value { AreOf (let_go_in self.old pool (retired (pool_in self.old pool))) self.old result self.new }
         ensures well_formed { IsWellFormed plan.now }
     {
         if pool < plan.pools().len() && self.pools[pool].retire() {

@@ -2,7 +2,7 @@
 
 ghost use Rattle.std.specs.Prelude.{◌≡◌, ◌+◌, ◌<◌, ◌^◌, length, true, None, IfOk, OnErr};
 ghost use Rattle.written_machine.specs.State.{pool_of};
-ghost use Rattle.live_views.specs.ViewStep.{live_child, submit_in};
+ghost use Rattle.live_views.specs.ViewStep.{live_child, submitted_in};
 ghost use Rattle.interleaving.specs.LiveJobs.{IsAmong, DoneAreLatest};
 
 use crate::World;
@@ -30,7 +30,7 @@ impl World {
         requires can_move_on { next.position + 1 < 2 ^ 64 }
         requires asked { next.asked ≡ true → live_child self.old.jobs actor next.position ≡ None }
         requires done { DoneAreLatest self.old.jobs }
-        ensures ok { IfOk result (λ outcome. submit_in plan.now self.old actor next.position class ≡ (self.new, outcome)) }
+        ensures ok { IfOk result (λ outcome. submitted_in plan.now self.old actor next.position class ≡ (self.new, outcome)) }
         ensures err { OnErr result (self.new ≡ self.old) }
     {
         let pool = pool_of(plan, class);
