@@ -8,7 +8,7 @@ use Rattle.readings.specs.Reading.{read_each}
 use Rattle.job_bodies.specs.declared.fault.Part.{Part}
 use Rattle.job_bodies.specs.declared.fault.Part.TheVariants as part
 use Rattle.job_bodies.specs.declared.limits.TheConstants.{MOST_POOLS, MOST_CLASSES, MOST_CLIENTS, MOST_ACTIONS}
-use Rattle.job_bodies.specs.Plan.{Pool, Class, Client, Plan}
+use Rattle.job_bodies.specs.Plan.{Pool, Class, Client, Plan, pool_names}
 use Rattle.job_bodies.proofs.Passing.{EachPlace}
 use Rattle.plan_text.specs.Document.{has_only, list_at}
 use Rattle.plan_text.specs.Entry.{Entry, entry_of, text_at, number_at, flag_at, texts_at, action_text}
@@ -77,16 +77,13 @@ unfolding client_at client_data entry_of text_at number_at flag_at
 client_back classes index client short = rw (texts_back (entry_at part.Client index (client_data classes client)) (codes "body") (body_texts classes client.body) refl short) refl
 
 -- ---- the whole document
-abbrev pub pool_names_of : Plan → List (List ℕ)
-pool_names_of plan = map (λ pool. pool.name) plan.pools
-
 abbrev pub class_names_of : Plan → List (List ℕ)
 class_names_of plan = map (λ class. class.name) plan.classes
 
 abbrev pub entries_in : Plan → Entries
 entries_in plan = record {
   pools = plan.pools;
-  classes = map (class_entry (pool_names_of plan) (class_names_of plan)) plan.classes;
+  classes = map (class_entry (pool_names plan) (class_names_of plan)) plan.classes;
   clients = map (client_entry (class_names_of plan)) plan.clients;
 }
 
@@ -108,7 +105,7 @@ list_back key most document make xs found few =
 pub entries_back : (plan : Plan) → IsShort plan → entries_of (plan_document plan) ≡ Ok (entries_in plan)
 unfolding entries_of plan_document
 entries_back plan s =
-    let pools = pool_names_of plan in
+    let pools = pool_names plan in
     let classes = class_names_of plan in
     rw (
       list_back (codes "pool") MOST_POOLS (plan_document plan) pool_data plan.pools refl s.few_pools,
@@ -152,6 +149,6 @@ pub document_depth : (plan : Plan) → members_depth (plan_document plan) ≤ 80
 unfolding plan_document
 document_depth plan =
     let pools = each_at_most pool_data 2 pool_depth plan.pools in
-    let classes = each_at_most (class_data (pool_names_of plan) (class_names_of plan)) 2 (class_depth (pool_names_of plan) (class_names_of plan)) plan.classes in
+    let classes = each_at_most (class_data (pool_names plan) (class_names_of plan)) 2 (class_depth (pool_names plan) (class_names_of plan)) plan.classes in
     let clients = each_at_most (client_data (class_names_of plan)) 2 (client_depth (class_names_of plan)) plan.clients in
     omega (arith, pools, classes, clients)

@@ -7,7 +7,7 @@ use Rattle.std.proofs.lemmas.Simd.{map-map}
 use Rattle.toml.specs.Parse.{parse_document}
 use Rattle.readings.specs.Reading.{check_each}
 use Rattle.job_bodies.specs.declared.fault.Part.TheVariants as part
-use Rattle.job_bodies.specs.Plan.{Class, Client, Plan}
+use Rattle.job_bodies.specs.Plan.{Class, Client, Plan, pool_names}
 use Rattle.job_bodies.specs.WellFormed.{is_lawful_name, is_lawful_body, is_lawful_class, is_lawful_client, IsWellFormed}
 use Rattle.job_bodies.specs.Checks.{check_pool, check_class, check_client}
 use Rattle.job_bodies.specs.Build.{check_counts, check_lengths, check_entries}
@@ -22,7 +22,7 @@ use Rattle.plan_text.specs.Bodies.{class_of, client_of}
 use Rattle.plan_writer.specs.PlanDocument.{plan_document}
 use Rattle.plan_text.specs.PlanOf.{plan_of_entries, plan_of}
 use Rattle.plan_writer.proofs.SpelledBodies.{place_is, length-texts, reads_back}
-use Rattle.plan_writer.proofs.SpelledEntries.{read_again, class_entry, client_entry, pool_names_of, class_names_of, entries_in, IsShort, entries_back, keys_are_known}
+use Rattle.plan_writer.proofs.SpelledEntries.{read_again, class_entry, client_entry, class_names_of, entries_in, IsShort, entries_back, keys_are_known}
 
 -- ---- the checks of names and numbers
 record Checked (plan : Plan) : Type 0 where
@@ -53,32 +53,32 @@ client_body plan w i client e = (and_parts _ _ (client_parts plan w i client e))
 
 -- the place of a class's pool is its place among the names
 pool_place : (plan : Plan) → IsWellFormed plan → (i : ℕ) (class : Class) → slice_get plan.classes i ≡ Some class
-    → class_head (pool_names_of plan) (class_entry (pool_names_of plan) (class_names_of plan) class) ≡ record { name = class.name; pool = class.pool; body = [] }
+    → class_head (pool_names plan) (class_entry (pool_names plan) (class_names_of plan) class) ≡ record { name = class.name; pool = class.pool; body = [] }
 pool_place plan w i class e =
     let within = ltb-true _ _ (and_parts _ _ (and_parts _ _ (class_parts plan w i class e)).0).1 in
-    let long : length (pool_names_of plan) ≡ length plan.pools = length-map plan.pools (λ pool. pool.name) in
-    let place = place_is (pool_names_of plan) w.pool_names class.pool (rw long within) in
+    let long : length (pool_names plan) ≡ length plan.pools = length-map plan.pools (λ pool. pool.name) in
+    let place = place_is (pool_names plan) w.pool_names class.pool (rw long within) in
     rw place refl
 
 names_of_entries : (plan : Plan) → class_names (entries_in plan).classes ≡ class_names_of plan
-names_of_entries plan = map-map (λ (entry : ClassEntry). entry.name) (class_entry (pool_names_of plan) (class_names_of plan)) plan.classes
+names_of_entries plan = map-map (λ (entry : ClassEntry). entry.name) (class_entry (pool_names plan) (class_names_of plan)) plan.classes
 
 client_names_of_entries : (plan : Plan) → client_names (entries_in plan).clients ≡ map (λ client. client.name) plan.clients
 client_names_of_entries plan = map-map (λ (entry : ClientEntry). entry.name) (client_entry (class_names_of plan)) plan.clients
 
-pools_checked : (plan : Plan) → IsWellFormed plan → check_pools plan.pools ≡ Ok (pool_names_of plan)
+pools_checked : (plan : Plan) → IsWellFormed plan → check_pools plan.pools ≡ Ok (pool_names plan)
 unfolding check_pools
 pools_checked plan w = rw (checked plan w).pools refl
 
-classes_checked : (plan : Plan) → IsWellFormed plan → check_classes (pool_names_of plan) (entries_in plan).classes ≡ Ok (class_names_of plan)
+classes_checked : (plan : Plan) → IsWellFormed plan → check_classes (pool_names plan) (entries_in plan).classes ≡ Ok (class_names_of plan)
 unfolding check_classes
 classes_checked plan w =
-    let check = λ (index : ℕ) (class : ClassEntry). check_class (length (pool_names_of plan)) (take index (class_names (entries_in plan).classes)) index (class_head (pool_names_of plan) class) in
-    let long : length (pool_names_of plan) ≡ length plan.pools = length-map plan.pools (λ pool. pool.name) in
+    let check = λ (index : ℕ) (class : ClassEntry). check_class (length (pool_names plan)) (take index (class_names (entries_in plan).classes)) index (class_head (pool_names plan) class) in
+    let long : length (pool_names plan) ≡ length plan.pools = length-map plan.pools (λ pool. pool.name) in
     let passes : check_each check 0 (entries_in plan).classes ≡ Ok tt = each_passes check (entries_in plan).classes (λ i entry e.
-    let from = mapped_get (class_entry (pool_names_of plan) (class_names_of plan)) plan.classes i entry e in
-    let head = class_head (pool_names_of plan) (class_entry (pool_names_of plan) (class_names_of plan) from.0) in
-    let same : check i (class_entry (pool_names_of plan) (class_names_of plan) from.0) ≡ check_class (length plan.pools) (take i (class_names_of plan)) i from.0 =
+    let from = mapped_get (class_entry (pool_names plan) (class_names_of plan)) plan.classes i entry e in
+    let head = class_head (pool_names plan) (class_entry (pool_names plan) (class_names_of plan) from.0) in
+    let same : check i (class_entry (pool_names plan) (class_names_of plan) from.0) ≡ check_class (length plan.pools) (take i (class_names_of plan)) i from.0 =
     ap (λ (n : ℕ). check_class n (take i (class_names (entries_in plan).classes)) i head) long
     ∙ ap (λ (names : List (List ℕ)). check_class (length plan.pools) (take i names) i head) (names_of_entries plan)
     ∙ ap (λ (class : Class). check_class (length plan.pools) (take i (class_names_of plan)) i class) (pool_place plan w i from.0 from.1) in
@@ -104,12 +104,12 @@ as_many : (plan : Plan) → length (class_names_of plan) ≡ length plan.classes
 as_many plan = length-map plan.classes (λ class. class.name)
 
 class_again : (plan : Plan) → IsWellFormed plan → (i : ℕ) (class : Class) → slice_get plan.classes i ≡ Some class
-    → class_of (pool_names_of plan) (class_names_of plan) i (class_entry (pool_names_of plan) (class_names_of plan) class) ≡ Ok class
+    → class_of (pool_names plan) (class_names_of plan) i (class_entry (pool_names plan) (class_names_of plan) class) ≡ Ok class
 class_again plan w i class e =
     let body = reads_back (class_names_of plan) part.Class i class.body w.class_names (class_names_lawful plan w) (rw (as_many plan) (class_body plan w i class e)) in
     let within = ltb-true _ _ (and_parts _ _ (and_parts _ _ (class_parts plan w i class e)).0).1 in
-    let long : length (pool_names_of plan) ≡ length plan.pools = length-map plan.pools (λ pool. pool.name) in
-    let place = place_is (pool_names_of plan) w.pool_names class.pool (rw long within) in
+    let long : length (pool_names plan) ≡ length plan.pools = length-map plan.pools (λ pool. pool.name) in
+    let place = place_is (pool_names plan) w.pool_names class.pool (rw long within) in
     rw (body, place) refl
 
 client_again : (plan : Plan) → IsWellFormed plan → (i : ℕ) (client : Client) → slice_get plan.clients i ≡ Some client
@@ -121,7 +121,7 @@ client_again plan w i client e =
 entries_again : (plan : Plan) → IsWellFormed plan → plan_of_entries (entries_in plan) ≡ Ok plan
 unfolding plan_of_entries
 entries_again plan w =
-    let classes = read_again (class_of (pool_names_of plan) (class_names_of plan)) (class_entry (pool_names_of plan) (class_names_of plan)) plan.classes (class_again plan w) in
+    let classes = read_again (class_of (pool_names plan) (class_names_of plan)) (class_entry (pool_names plan) (class_names_of plan)) plan.classes (class_again plan w) in
     let clients = read_again (client_of (class_names_of plan)) (client_entry (class_names_of plan)) plan.clients (client_again plan w) in
     rw (pools_checked plan w, classes_checked plan w, clients_checked plan w, classes, clients) refl
 

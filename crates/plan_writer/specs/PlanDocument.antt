@@ -4,7 +4,7 @@ use Rattle.std.specs.Ordering.{nat_cmp, match_ordering}
 use Rattle.std.specs.Cmp.Lexicographic.{slice_cmp}
 use Rattle.toml.specs.Data.{Data, string, integer, boolean, array, table, Members, no_members, member}
 use Rattle.toml.specs.View.{items_of}
-use Rattle.job_bodies.specs.Plan.{Pool, Class, Client, Plan}
+use Rattle.job_bodies.specs.Plan.{Pool, Class, Client, Plan, pool_names}
 use Rattle.plan_writer.specs.Spelling.{name_at, body_texts}
 
 -- a whole number, a list, and the texts of a body
@@ -48,7 +48,7 @@ client_data classes client =
 -- the whole document
 unfoldable pub plan_document : Plan → Members
 plan_document plan =
-    let pools = map (λ pool. pool.name) plan.pools in
+    let pools = pool_names plan in
     let classes = map (λ class. class.name) plan.classes in
     member (codes "class") (list_data (map (class_data pools classes) plan.classes))
     (member (codes "client") (list_data (map (client_data classes) plan.clients))

@@ -4,6 +4,7 @@ ghost use Rattle.std.specs.Prelude.{◌≡◌, ◌≤◌, true, if◌then◌else
 ghost use Rattle.toml.specs.Data.{boolean};
 ghost use Rattle.toml.specs.View.{view, table_view};
 ghost use Rattle.job_bodies.specs.declared.limits.TheConstants.{MOST_UNITS};
+ghost use Rattle.job_bodies.specs.Plan.{pool_names};
 ghost use Rattle.job_bodies.specs.WellFormed.{is_lawful_pool, is_within, IsWellFormed};
 ghost use Rattle.plan_writer.specs.Spelling.{name_at};
 ghost use Rattle.plan_writer.specs.PlanDocument as spec;
@@ -130,7 +131,7 @@ fn pool_values(alloc: Global, plan: &Plan) -> Result<Value, AllocError>
 
 fn class_values(alloc: Global, plan: &Plan) -> Result<Value, AllocError>
     ensures well_formed { IsWellFormed plan.now }
-    ensures value { IfOk result (λ value. view value ≡ spec.list_data (map (spec.class_data (map (λ pool. pool.name) plan.now.pools) (map (λ class. class.name) plan.now.classes)) plan.now.classes)) }
+    ensures value { IfOk result (λ value. view value ≡ spec.list_data (map (spec.class_data (pool_names plan.now) (map (λ class. class.name) plan.now.classes)) plan.now.classes)) }
 {
     let pools = plan.pools();
     let classes = plan.classes();
