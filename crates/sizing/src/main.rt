@@ -7,7 +7,7 @@ use std::alloc::AllocError;
 use std::process::ExitCode;
 use std::{env, io};
 
-/// The exit status of bad words or bad text.
+/// The exit status of bad arguments or bad text.
 const USAGE: u8 = 2;
 /// The exit status where there is no answer.
 const NO_ANSWER: u8 = 3;
