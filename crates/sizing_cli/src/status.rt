@@ -2,6 +2,7 @@
 
 ghost use Rattle.std.specs.Prelude.{◌≡◌, Some};
 ghost use Rattle.faults.specs.Name.{head};
+ghost use Rattle.faults.specs.declared.number.TheConstants.{MEMORY, WRITE_FAILED};
 ghost use Rattle.sizing_cli.specs.Answer.{code};
 ghost use Rattle.sizing_cli.specs.ServeFault.{fault_of_input};
 
@@ -45,7 +46,7 @@ pub struct ServeFault {
 }
 
 impl From<AllocError> for ServeFault {
-    ghost from_gives = { λ _ fault. fault.number ≡ 20 };
+    ghost from_gives = { λ _ fault. fault.number ≡ MEMORY };
 
     fn from(_error: AllocError) -> ServeFault {
         ServeFault { number: MEMORY }
@@ -65,7 +66,7 @@ impl From<InputError> for ServeFault {
 }
 
 impl From<IoFault> for ServeFault {
-    ghost from_gives = { λ _ fault. fault.number ≡ 61 };
+    ghost from_gives = { λ _ fault. fault.number ≡ WRITE_FAILED };
 
     fn from(_fault: IoFault) -> ServeFault {
         ServeFault {
