@@ -1,6 +1,7 @@
 //! What a line of events says.
 
-ghost use Rattle.std.specs.Prelude.{◌≡◌, map, IfOk, option_map};
+ghost use Rattle.std.specs.Prelude.{◌≡◌, ◌+◌, ◌-◌, ◌^◌, min, map, IfOk, option_map};
+ghost use Rattle.readings.specs.Reading.{some_or};
 ghost use Rattle.readings.specs.Given.{Gives};
 ghost use Rattle.event_lines.specs.EventLine.{line_seen};
 ghost use Rattle.event_lines.specs.EventLine as spec;
@@ -8,7 +9,7 @@ ghost use Rattle.event_lines.specs.EventLine as spec;
 use crate::number::number_of;
 use crate::pieces::{lines_of, split_space, words_of};
 use job_bodies::Plan;
-use readings::ReadError;
+use readings::{ReadError, read_each};
 use std::alloc::{AllocError, Global};
 use written_machine::Event;
 
@@ -36,15 +37,24 @@ pub fn read_event_lines(
 ) -> Result<Vec<EventLine>, ReadError<usize>>
     ensures { Gives (λ lines. map line_seen lines.items) result (spec.event_lines plan.now text.now) }
 {
-    let mut lines = Vec::new(alloc);
     let texts = lines_of(alloc, text)?;
-    for (place, text) in texts.iter().enumerate() {
-        match event_line(alloc, plan, text)? {
-            Some(line) => lines.push(line)?,
-            None => return Err(ReadError::Fault(place + 1)),
-        }
-    }
-    Ok(lines)
+    read_each(
+        alloc,
+        &texts,
+        |place, text| line_at(alloc, plan, place, text),
+    )
+}
+
+/// The line at a place. A text has fewer lines than there are places, so each line has its number.
+fn line_at(
+    alloc: Global,
+    plan: &Plan,
+    place: usize,
+    text: &[u8],
+) -> Result<EventLine, ReadError<usize>>
+    ensures { Gives line_seen result (some_or (spec.line_of plan.now text.now) (min (place + 1) (2 ^ 64 - 1))) }
+{
+    event_line(alloc, plan, text)?.ok_or(ReadError::Fault(place.saturating_add(1)))
 }
 
 #[tactic(auto, unfolding(crate::specs::EventLine::line_of, crate::specs::EventLine::line_of_verb))]

@@ -3,33 +3,31 @@ use Rattle.std.proofs.Common.{◌≡◌, ℕ, ◌+◌, ◌≤◌, ◌++◌, Bool
 use Rattle.std.specs.Prelude.{position}
 use Rattle.std.specs.List.{position_or_len}
 use Rattle.std.specs.Map.{lookup}
+use Rattle.std.specs.Option.{unwrap_or}
 use Rattle.std.specs.Str.{bytes_eq}
 use Rattle.std.proofs.lemmas.Bool.{ltb-false}
-use Rattle.std.proofs.lemmas.List.{map_push}
+use Rattle.std.proofs.lemmas.List.{length-map, map_push}
 use Rattle.std.proofs.lemmas.List.Sums.{prefix_len-le-length}
 
 -- the place of an element by its image
-pub position_or_len_of_map : {X Y : Type 0} (test : Y → Bool) (f : X → Y) (xs : List X) → position_or_len (λ x. test (f x)) xs ≡ position_or_len test (map f xs)
+position_or_len_of_map : {X Y : Type 0} (test : Y → Bool) (f : X → Y) (xs : List X) → position_or_len (λ x. test (f x)) xs ≡ position_or_len test (map f xs)
 position_or_len_of_map test f [] = refl
 position_or_len_of_map test f (x ∷ xs) = ap (λ (n : ℕ). cond (not (test (f x))) (1 + n) 0) (position_or_len_of_map test f xs)
 
-chosen : (b : Bool) (i n : ℕ) → Some i ≡ cond b (Some n) None → i ≡ n
-chosen true i n e = cc
-chosen false i n e = absurd cc
+-- the same, where there may be none
+pub position_of_map : {X Y : Type 0} (test : Y → Bool) (f : X → Y) (xs : List X) → position (λ x. test (f x)) xs ≡ position test (map f xs)
+position_of_map test f xs = rw (position_or_len_of_map test f xs, length-map) refl
 
-not_chosen : (b : Bool) (n : ℕ) → None ≡ cond b (Some n) None → b ≡ false
-not_chosen true n e = absurd cc
-not_chosen false n e = refl
+chosen_or : (b : Bool) (n d : ℕ) → (b ≡ false → d ≡ n) → unwrap_or (cond b (Some n) None) d ≡ n
+chosen_or true n d other = refl
+chosen_or false n d other = other refl
 
--- the place that was found
-pub place_found : {X : Type 0} (test : X → Bool) (xs : List X) (i : ℕ) → Some i ≡ position test xs → i ≡ position_or_len test xs
-place_found test xs i e = chosen (ltb (position_or_len test xs) (length xs)) i (position_or_len test xs) e
-
--- where none was found
-pub place_missing : {X : Type 0} (test : X → Bool) (xs : List X) → None ≡ position test xs → length xs ≡ position_or_len test xs
-place_missing test xs e =
-    let past : length xs ≤ position_or_len test xs = ltb-false _ _ (not_chosen (ltb (position_or_len test xs) (length xs)) (position_or_len test xs) e) in
-    omega (arith, prefix_len-le-length (λ x. not (test x)) xs)
+-- its place, or the length where it has none
+pub place_or_len : {X : Type 0} (test : X → Bool) (xs : List X) → unwrap_or (position test xs) (length xs) ≡ position_or_len test xs
+place_or_len test xs =
+    chosen_or (ltb (position_or_len test xs) (length xs)) (position_or_len test xs) (length xs) (λ none.
+    let past : length xs ≤ position_or_len test xs = ltb-false _ _ none in
+    omega (arith, prefix_len-le-length (λ x. not (test x)) xs))
 
 -- the position of a slot among the entries of the map that keeps it
 pub slot_in_entries : (slot : List ℕ) (entries : List (Bor (List ℕ) × ℕ)) → lookup (λ (name : Bor (List ℕ)). bytes_eq slot name.now) entries ≡ lookup (bytes_eq slot) (map (λ e. (e.0.now, e.1)) entries)

@@ -5,6 +5,7 @@ ghost use Rattle.readings.specs.Reading as each;
 ghost use Rattle.readings.specs.Given.{Gives};
 ghost use Rattle.job_bodies.specs.Checks.{at_action};
 ghost use Rattle.plan_text.specs.Bodies as spec;
+ghost use Rattle.plan_text.specs.Checks.{place_of};
 ghost use Rattle.plan_text.specs.Orders.{order_of, order_view};
 ghost use Rattle.plan_text.specs.Slots.{position_in, filled_by};
 
@@ -37,11 +38,9 @@ impl ActionPlace {
 fn class_named(classes: &Names, place: ActionPlace, name: &str) -> Result<usize, TextError>
     ensures { Gives (λ class. class) result (spec.class_named classes.now (at_action place.part place.index place.action) name.now) }
 {
-    let class = classes.place(name);
-    if class >= classes.len() {
-        return Err(place.refuses(NO_SUCH_CLASS));
-    }
-    Ok(class)
+    classes
+        .place(name)
+        .ok_or_else(|| place.refuses(NO_SUCH_CLASS))
 }
 
 fn action_of<'a>(
@@ -116,6 +115,12 @@ fn body_of<'a>(
     Ok(body)
 }
 
+fn place_or_len(names: &Names, name: &str) -> usize
+    ensures { result ≡ place_of names.now name.now }
+{
+    names.place(name).unwrap_or(names.len())
+}
+
 fn class_of<'a>(
     alloc: Global,
     pools: &Names<'a>,
@@ -129,7 +134,7 @@ fn class_of<'a>(
     let name = String::from_str(alloc, class.name)?;
     Ok(Class {
         name,
-        pool: pools.place(class.pool),
+        pool: place_or_len(pools, class.pool),
         body,
     })
 }

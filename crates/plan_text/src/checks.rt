@@ -53,7 +53,7 @@ fn check_class<'a>(
     ensures names { OnOk result (names.new ≡ names.old ++ class.now.name ∷ []) }
 {
     check_name(names, Part::Class, index, class.name)?;
-    if pools.place(class.pool) >= pools.len() {
+    if pools.place(class.pool).is_none() {
         return Err(ReadError::Fault(PlanFault::at_entry(Part::Class, index, NO_SUCH_POOL)));
     }
     Ok(())

@@ -47,16 +47,13 @@ fn text_of(bytes: &[u8]) -> Result<&str, TextError>
 fn table_of(alloc: Global, text: &str) -> Result<Table, TextError>
     ensures { Gives table_view result (spec.table_of text.now) }
 {
-    match toml::table_from_str(alloc, text) {
-        Ok(table) => Ok(table),
-        Err(error) => {
-            if error.is_memory() {
-                Err(ReadError::Memory)
-            } else {
-                Err(ReadError::Fault(PlanFault::at_text(NOT_TOML)))
-            }
+    toml::table_from_str(alloc, text).map_err(|error| {
+        if error.is_memory() {
+            ReadError::Memory
+        } else {
+            ReadError::Fault(PlanFault::at_text(NOT_TOML))
         }
-    }
+    })
 }
 
 /// Whether every key of the table is one of these.
@@ -83,10 +80,8 @@ pub fn value_at<'a>(table: &'a Table, key: &str) -> Option<&'a Value>
 pub fn list_in(value: &Value) -> Option<&[Value]>
     ensures { option_map (λ values. map view values.now) result ≡ spec.as_list (view value.now) }
 {
-    match value.as_array() {
-        Some(values) => Some(values.as_slice()),
-        None => None,
-    }
+    let values = value.as_array()?;
+    Some(values.as_slice())
 }
 
 /// The entries of a list at the top, none where its key is absent.
@@ -107,8 +102,5 @@ fn list_of(value: Option<&Value>) -> Result<&[Value], TextError>
     let Some(value) = value else {
         return Ok(&[]);
     };
-    match list_in(value) {
-        Some(values) => Ok(values),
-        None => Err(ReadError::Fault(PlanFault::at_text(WRONG_TYPE))),
-    }
+    list_in(value).ok_or_else(|| ReadError::Fault(PlanFault::at_text(WRONG_TYPE)))
 }

@@ -59,10 +59,7 @@ impl<'a> Entry<'a> {
     fn value(&self, key: &str) -> Result<&'a Value, TextError>
         ensures { Gives (λ value. view value.now) result (spec.value_at (entry_view self.now) key.now) }
     {
-        match value_at(self.table, key) {
-            Some(value) => Ok(value),
-            None => Err(self.refuses(MISSING_KEY)),
-        }
+        value_at(self.table, key).ok_or(self.refuses(MISSING_KEY))
     }
 
     /// The text at a key.
@@ -71,10 +68,7 @@ impl<'a> Entry<'a> {
         ensures { Gives (λ text. text.now) result (spec.text_at (entry_view self.now) key.now) }
     {
         let value = self.value(key)?;
-        match value.as_str() {
-            Some(text) => Ok(text),
-            None => Err(self.refuses(WRONG_TYPE)),
-        }
+        value.as_str().ok_or(self.refuses(WRONG_TYPE))
     }
 
     /// The whole number at a key.
@@ -83,10 +77,8 @@ impl<'a> Entry<'a> {
         ensures { Gives (λ number. number) result (spec.number_at (entry_view self.now) key.now) }
     {
         let value = self.value(key)?;
-        match value.as_integer() {
-            Some(number) => Ok(count_of(number)),
-            None => Err(self.refuses(WRONG_TYPE)),
-        }
+        let number = value.as_integer().ok_or(self.refuses(WRONG_TYPE))?;
+        Ok(count_of(number))
     }
 
     /// The truth value at a key, false where the key is absent.
@@ -97,10 +89,7 @@ impl<'a> Entry<'a> {
         let Some(value) = value_at(self.table, key) else {
             return Ok(false);
         };
-        match value.as_bool() {
-            Some(flag) => Ok(flag),
-            None => Err(self.refuses(WRONG_TYPE)),
-        }
+        value.as_bool().ok_or(self.refuses(WRONG_TYPE))
     }
 
     /// The texts at a key, as many as a body may have.
@@ -122,10 +111,9 @@ impl<'a> Entry<'a> {
 fn action_text(part: Part, index: usize, action: usize, value: &Value) -> Result<&str, TextError>
     ensures { Gives (λ text. text.now) result (spec.action_text part index action (view value.now)) }
 {
-    match value.as_str() {
-        Some(text) => Ok(text),
-        None => Err(ReadError::Fault(PlanFault::at_action(part, index, action, WRONG_TYPE))),
-    }
+    value.as_str().ok_or_else(|| ReadError::Fault(PlanFault::at_action(
+        part, index, action, WRONG_TYPE,
+    )))
 }
 
 fn action_texts(

@@ -1,7 +1,7 @@
 //! Names of a list, numbered in order of appearance.
 
-ghost use Rattle.std.specs.Prelude.{◌≡◌, ◌++◌, ◌∷◌, [], List, ℕ, map, not, length, if◌then◌else◌, IfOk};
-ghost use Rattle.std.specs.List.{list_any, position_or_len};
+ghost use Rattle.std.specs.Prelude.{◌≡◌, ◌++◌, ◌∷◌, [], List, ℕ, map, not, length, if◌then◌else◌, position, IfOk};
+ghost use Rattle.std.specs.List.{list_any};
 ghost use Rattle.std.specs.Str.{bytes_eq};
 
 use indexmap::IndexSet;
@@ -39,14 +39,11 @@ impl<'a> Names<'a> {
         Ok(is_new)
     }
 
-    /// The place of a name, or how many names there are where it is none of them.
-    pub fn place(&self, name: &str) -> usize
-        ensures { result ≡ position_or_len (bytes_eq name.now) self.now }
+    /// The place of a name, if it is one of them.
+    pub fn place(&self, name: &str) -> Option<usize>
+        ensures { result ≡ position (bytes_eq name.now) self.now }
     {
-        match self.names.get_index_of(name) {
-            Some(place) => place,
-            None => self.names.len(),
-        }
+        self.names.get_index_of(name)
     }
 
     /// How many names there are.

@@ -1,35 +1,30 @@
-use Rattle.std.proofs.Common.{◌≡◌, ◌≤◌, ◌+◌, [], ◌∷◌, ◌++◌, length, map, ◌∙◌, arith}
-use Rattle.std.proofs.lemmas.List.{length-map, map_push}
-use Rattle.readings.specs.declared.read_error.ReadError.TheVariants.{Fault}
-use Rattle.readings.proofs.Loops.{reads_more, reads_stop, reads_end}
+use Rattle.std.proofs.Common.{◌≡◌, ℕ, ◌+◌, ◌-◌, ◌^◌, ◌<◌, min, List, [], ◌∷◌, length, map, Bor, Result, refl, sym, subst, arith, rules}
+use Rattle.std.proofs.lemmas.List.{length-map}
+use Rattle.readings.specs.Reading.{some_or, read_each}
+use Rattle.readings.specs.Given.{Gives}
+use Rattle.readings.proofs.ReadingEach.{gives_each_viewed}
+use Rattle.job_bodies.specs.Plan.{Plan}
 use Rattle.event_lines.specs.Pieces.{lines_of}
-use Rattle.event_lines.specs.EventLine.{line_seen, line_at}
-use Rattle.event_lines.proofs.Texts.{now, text_at, event_lines_of, bad_line, good_line}
+use Rattle.event_lines.specs.EventLine.{Line, line_seen, line_of, line_at, event_lines}
+use Rattle.event_lines.proofs.Texts.{now}
 use Rattle.event_lines.proofs.event_line.read_event_lines.Goals as goal
 
-pub returns-in-None : goal.returns-in-None
-returns-in-None c =
-    let plan = c.args.plan.now in
-    let texts = c.deref-text-items.result.now in
-    let same : map now texts ≡ lines_of c.args.text.now = rw c.deref-text-items.ensures.value c.in_ok-texts.ensures in
-    let here = text_at texts c.loop-place.place _ c.loop-place-test.true in
-    let bad = bad_line plan c.loop-place.place _ (rw c.in-None.is at c.in_ok-line.ensures) in
-    event_lines_of plan c.args.text.now (map now texts) same ∙ reads_stop (Fault (c.loop-place.place + 1)) (line_at plan) (map now texts) _ _ _ here bad c.loop-place.invariant
+-- the line at a place, as the program counts
+abbrev counted : Plan → ℕ → List ℕ → Result Line ℕ
+counted plan place text = some_or (line_of plan text) (min (place + 1) (2 ^ 64 - 1))
 
-pub loop-place-preserved : goal.loop-place-preserved
-loop-place-preserved c =
-    let plan = c.args.plan.now in
-    let texts = c.deref-text-items.result.now in
-    let here = text_at texts c.loop-place.place _ c.loop-place-test.true in
-    let good = good_line plan c.loop-place.place _ _ (rw c.in-Some.is at c.in_ok-line.ensures) in
-    let pushed : map line_seen c.push.new.self.items ≡ map line_seen c.loop-place.lines.items ++ line_seen c.in-Some.line ∷ [] =
-    rw c.in_ok-push-in-Some.ensures.items (map_push line_seen c.loop-place.lines.items c.in-Some.line) in
-    rw pushed (reads_more (line_at plan) (map now texts) _ _ _ _ here good c.loop-place.invariant)
+-- no text has so many lines that a number would be wrong
+same_lines : (plan : Plan) (i : ℕ) (texts : List (List ℕ)) → i + length texts < 2 ^ 64 → read_each (counted plan) i texts ≡ read_each (line_at plan) i texts
+same_lines plan i [] few = refl
+same_lines plan i (text ∷ texts) few =
+    let number : min (i + 1) (2 ^ 64 - 1) ≡ i + 1 = omega arith in
+    rw (number, same_lines plan (i + 1) texts (omega arith)) refl
 
 pub returns : goal.returns
+unfolding event_lines
 returns c =
-    let plan = c.args.plan.now in
-    let texts = c.deref-text-items.result.now in
-    let same : map now texts ≡ lines_of c.args.text.now = rw c.deref-text-items.ensures.value c.in_ok-texts.ensures in
-    let past : length (map now texts) ≤ c.loop-place.place = simp length-map (omega arith) in
-    event_lines_of plan c.args.text.now (map now texts) same ∙ reads_end (line_at plan) (map now texts) c.loop-place.place _ past c.loop-place.invariant
+    let texts = c.deref.result.now in
+    let same : map now texts ≡ lines_of c.args.text.now = rw c.deref.ensures.value c.in_ok-texts.ensures in
+    let few : 0 + length (map now texts) < 2 ^ 64 = rw length-map (omega (arith, c.deref.type_inv.0)) in
+    let given = gives_each_viewed _ now line_seen (counted c.args.plan.now) (λ place text given h. search rules) texts c.read_each.result c.read_each.ensures in
+    rw (← same, ← same_lines c.args.plan.now 0 (map now texts) few) given
