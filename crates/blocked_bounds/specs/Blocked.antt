@@ -12,6 +12,7 @@ use Rattle.weights.specs.Vector.{Vector, job_weight, total}
 use Rattle.weights.specs.AtGet.{GivesBack}
 use Rattle.weights.specs.Rows.{rows, classes_of}
 
+-- is it a get?
 abbrev pub is_get : Action → Bool
 is_get (Get t) = true
 is_get _ = false
@@ -22,6 +23,7 @@ counted_rows counted v k class =
     map (λ entry. row B1 (place.ClassAction k entry.0) 1 (job_weight v k entry.0))
     (filter (λ entry. is_get entry.1 && counted k entry.0) (enumerate_from 0 class.body))
 
+-- all conditions of the blocked vector of pool p: V2 to V7, B1 at each counted get of its classes, and B2
 abbrev pub blocked_rows : Plan → ℕ → (ℕ → ℕ → Bool) → Vector → List Row
 blocked_rows plan p counted v =
     rows GivesBack plan v

@@ -1,5 +1,5 @@
 -- What the rows of a blocked vector say.
-use Rattle.std.proofs.Common.{◌≡◌, ℕ, ◌-◌, ◌≤◌, Bool, true, ◌&&◌, List, [], ◌∷◌, ◌++◌, length, flat_map, slice_get, Some, zero-add}
+use Rattle.std.proofs.Common.{◌≡◌, ℕ, ◌-◌, ◌≤◌, Bool, true, ◌&&◌, [], ◌∷◌, ◌++◌, flat_map, slice_get, Some, zero-add}
 use Rattle.numbered_lists.specs.In.{here}
 use Rattle.numbered_lists.proofs.Members.{In-append_left, In-append_right, In-map, In-flat_map, In-filter, In-enumerate_from}
 use Rattle.job_bodies.specs.declared.action.Action.{Action}
@@ -20,6 +20,7 @@ pub record BlockedLaws (plan : Plan) (counted : ℕ → ℕ → Bool) (p : ℕ) 
   pub blocked : (k i t : ℕ) → (class_at plan k).pool ≡ p → slice_get (class_at plan k).body i ≡ Some (action.Get t) → counted k i ≡ true → 1 ≤ job_weight v k i
   pub within : total plan v ≤ (pool_at plan p).core - 1
 
+-- they hold where the rows hold
 pub blocked_laws : (plan : Plan) (counted : ℕ → ℕ → Bool) (p : ℕ) (v : Vector) → AllHold (blocked_rows plan p counted v) → BlockedLaws plan counted p v
 blocked_laws plan counted p v hold =
     let of_class = λ (entry : ℕ × Class). counted_rows counted v entry.0 entry.1 in
@@ -28,10 +29,10 @@ blocked_laws plan counted p v hold =
     record {
       laws = vector_laws GivesBack plan v (λ x i. hold x (In-append_left (last ∷ []) (In-append_left of_classes i)));
       blocked = λ k i t of_pool is_there is_counted.
-      hold (row B1 (place.ClassAction k i) 1 (job_weight v k i))
-      (In-append_left (last ∷ []) (In-append_right (rows GivesBack plan v)
-      (In-flat_map of_class (numbered_class_of plan p k (class_of_action plan k i (action.Get t) is_there) of_pool)
-      (In-map (λ (entry : ℕ × Action). row B1 (place.ClassAction k entry.0) 1 (job_weight v k entry.0))
-      (In-filter (λ (entry : ℕ × Action). is_get entry.1 && counted k entry.0) (In-enumerate_from 0 (class_at plan k).body i (action.Get t) i is_there (zero-add i)) is_counted)))));
+          hold (row B1 (place.ClassAction k i) 1 (job_weight v k i))
+          (In-append_left (last ∷ []) (In-append_right (rows GivesBack plan v)
+          (In-flat_map of_class (numbered_class_of plan p k (class_of_action plan k i (action.Get t) is_there) of_pool)
+          (In-map (λ (entry : ℕ × Action). row B1 (place.ClassAction k entry.0) 1 (job_weight v k entry.0))
+          (In-filter (λ (entry : ℕ × Action). is_get entry.1 && counted k entry.0) (In-enumerate_from 0 (class_at plan k).body i (action.Get t) i is_there (zero-add i)) is_counted)))));
       within = hold last (In-append_right (rows GivesBack plan v ++ of_classes) here);
     }

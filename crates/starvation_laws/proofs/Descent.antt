@@ -1,22 +1,19 @@
 -- Ranks fall along children of uncounted gets, so no set of jobs waits only for its own members.
-use Rattle.std.proofs.Common.{◌≡◌, ◌≢◌, ℕ, zero, suc, ◌+◌, ◌<◌, ◌≤◌, Bool, true, false, not, ◌&&◌, eqb, ltb, List, length, get_or, slice_get, Option, Some, None, refl, sym, ap, subst, ◌∙◌, arith}
-use Rattle.std.specs.List.{count_by}
+use Rattle.std.proofs.Common.{◌≡◌, ◌≢◌, ℕ, zero, suc, ◌+◌, ◌<◌, ◌≤◌, true, false, eqb, ltb, List, length, slice_get, Option, Some, None, refl, sym, ap, subst, ◌∙◌, arith}
 use Rattle.std.proofs.lemmas.Bool.{and_parts, and_from, false_from_ne_true, not-false, ltb-true, eqb-true, eq-eqb}
 use Rattle.std.proofs.lemmas.Option.{same_Some}
 use Rattle.numbered_lists.proofs.Places.{passes_without}
 use Rattle.job_bodies.specs.declared.action.Action.{Action}
 use Rattle.job_bodies.specs.declared.action.Action.TheVariants as action
 use Rattle.job_bodies.specs.Plan.{Plan, pool_at, class_at, class_got}
-use Rattle.job_bodies.specs.WellFormed.{IsWellFormed}
 use Rattle.job_bodies.proofs.Bodies.{IsOrdered, ordered}
 use Rattle.written_machine.specs.declared.parent.Parent.TheVariants as parent
-use Rattle.written_machine.specs.State.{Stage, State, Made, no_job, job_at, pool_part, pool_of, is_at, is_busy_in, child}
+use Rattle.written_machine.specs.State.{Stage, State, Made, no_job, job_at, pool_of, is_at, is_busy_in, child}
 use Rattle.written_machine.specs.Step.{point_of_job}
 use Rattle.written_machine.specs.Waiting.{IsMember, WaitsAtGet, WaitsInQueue, WaitsAs, IsWaitingSet}
-use Rattle.written_machine.proofs.Standing.{At≢Claimed, job_made}
-use Rattle.written_machine.proofs.Kept.{HasChild, Kept, busy_jobs}
+use Rattle.written_machine.proofs.Standing.{job_made}
+use Rattle.written_machine.proofs.Kept.{HasChild, Kept}
 use Rattle.written_machine.proofs.Queues.{Queued≢Claimed, queued_in_queue, pool_of_made}
-use Rattle.written_machine.proofs.Actors.{same_position}
 use Rattle.written_machine.proofs.Reached.{kept}
 use Rattle.written_machine.proofs.ReachedLaws.{child_at_get}
 use Rattle.pool_ranks.specs.Ranks.{Ranks, rank, reach, is_counted_action, is_counted}
@@ -52,6 +49,7 @@ ends_here plan ranks s r j stage is_stage ends = record { number = j; comes = at
 ends_at_no_get : (plan : Plan) (ranks : Ranks) (s : State) (r j i : ℕ) (next : Option Action) → (job_at s j).stage ≡ Stage.At i → slice_get (class_at plan (job_at s j).class).body i ≡ next → ((t : ℕ) → next ≢ Some (action.Get t)) → ComesToEnd plan ranks s r j
 ends_at_no_get plan ranks s r j i next at is_next no_get = ends_here plan ranks s r j (Stage.At i) at (λ t e. no_get t (sym is_next ∙ e))
 
+-- a job at a position comes to an end, if later jobs do
 one_step_at : (plan : Plan) (ranks : Ranks) (s : State) (r j i : ℕ) (next : Option Action) → IsOrdered plan → RankLaws plan ranks → Kept plan s → LaterEnd plan ranks s r j → (job_at s j).stage ≡ Stage.At i → slice_get (class_at plan (job_at s j).class).body i ≡ next
     → reach ranks (job_at s j).class < r → ComesToEnd plan ranks s r j
 one_step_at plan ranks s r j i None ordered laws kept onward at is_next low = ends_at_no_get plan ranks s r j i None at is_next (λ t e. cc)
@@ -61,6 +59,7 @@ one_step_at plan ranks s r j i (Some (action.Get t)) ordered laws kept onward at
     let falls = laws.falls (job_at s j).class i t is_next in
     ends_by_child plan ranks s r j i t ordered kept onward at is_next (omega arith)
 
+-- and so does every job that is not claimed
 one_step : (plan : Plan) (ranks : Ranks) (s : State) (r j : ℕ) (stage : Stage) → IsOrdered plan → RankLaws plan ranks → Kept plan s → LaterEnd plan ranks s r j → (job_at s j).stage ≡ stage → stage ≢ Stage.Claimed → reach ranks (job_at s j).class < r → ComesToEnd plan ranks s r j
 one_step plan ranks s r j Stage.Queued ordered laws kept onward is_stage unclaimed low =
     let made = job_made s j (Queued≢Claimed is_stage) in
@@ -100,6 +99,7 @@ ranks_descend plan ranks s j i t well_formed hold reached at is_next uncounted =
 member_at : (plan : Plan) (s : State) (members : List ℕ) (j i : ℕ) → IsWaitingSet plan s members → IsMember members j → (job_at s j).stage ≡ Stage.At i → WaitsAtGet plan s members j i
 member_at plan s members j i waiting member at = subst (WaitsAs plan s members j) at (waiting.each j member)
 
+-- one get waits for one submit
 same_get : (t u : ℕ) → Some (action.Get t) ≡ Some (action.Get u) → t ≡ u
 same_get t u e = cc
 
@@ -147,12 +147,14 @@ record AtWork (plan : Plan) (p : ℕ) (job : Made) : Type 0 where
   stands : job.stage ≡ Stage.At position
   of_pool : pool_of plan job.class ≡ p
 
+-- a stage that is at a position
 position_of : (stage : Stage) → is_at stage ≡ true → (i : ℕ) × (stage ≡ Stage.At i)
 position_of (Stage.At i) at = (i, refl)
 position_of Stage.Queued at = absurd cc
 position_of Stage.Done at = absurd cc
 position_of Stage.Claimed at = absurd cc
 
+-- a job that is at work in a pool is of it, and at a position
 at_work : (plan : Plan) (p : ℕ) (job : Made) → is_busy_in plan p job ≡ true → AtWork plan p job
 at_work plan p job busy =
     let parts = and_parts (is_at job.stage) (eqb (pool_of plan job.class) p) busy in
@@ -194,6 +196,7 @@ none_below plan ranks s members zero r ordered laws kept few waiting within foun
 none_below plan ranks s members (suc most) r ordered laws kept few waiting within found =
     none_below plan ranks s members most (rank ranks (pool_of plan (job_at s found.number).class)) ordered laws kept few waiting (omega (arith, found.below)) (next_below plan ranks s members found.number ordered laws kept few waiting found.member found.queued)
 
+-- no set of jobs waits only for its own members
 pub none_waits : (plan : Plan) (ranks : Ranks) (s : State) (members : List ℕ) → IsOrdered plan → RankLaws plan ranks → Kept plan s → FewBlocked plan ranks s → ¬ IsWaitingSet plan s members
 none_waits plan ranks s members ordered laws kept few waiting =
     let first = waiting.first in

@@ -1,20 +1,18 @@
 -- Each job event and each taking lowers what a state has to do.
-use Rattle.std.proofs.Common.{◌≡◌, ◌≢◌, ℕ, zero, suc, ◌+◌, ◌-◌, ◌<◌, ◌≤◌, ◌⊎◌, Bool, true, false, List, [], ◌∷◌, ◌++◌, length, get_or, slice_get, drop, sum_by, Option, Some, None, refl, sym, ap, subst, ◌∙◌, add-one, arith}
+use Rattle.std.proofs.Common.{◌≡◌, ℕ, zero, suc, ◌+◌, ◌<◌, ◌≤◌, true, List, [], ◌∷◌, ◌++◌, length, get_or, slice_get, sum_by, Some, None, refl, sym, ap, ◌∙◌, add-one, arith}
 use Rattle.std.proofs.lemmas.List.Sums.{sum_by-cons, sum_by_push, sum_by-set, sum_by-drop_more}
 use Rattle.std.proofs.lemmas.Option.{slice_get_within, get_or_from_slice_get}
 use Rattle.job_bodies.specs.declared.action.Action.{Action}
 use Rattle.job_bodies.specs.declared.action.Action.TheVariants as action
-use Rattle.job_bodies.specs.Plan.{Plan, pool_at, class_at}
-use Rattle.written_machine.specs.declared.parent.Parent.{Parent}
+use Rattle.job_bodies.specs.Plan.{Plan, class_at}
 use Rattle.written_machine.specs.declared.parent.Parent.TheVariants as parent
 use Rattle.written_machine.specs.declared.event.Event.{Event}
-use Rattle.written_machine.specs.declared.event.Event.TheVariants as event
 use Rattle.written_machine.specs.declared.event.Outcome.{Outcome}
-use Rattle.written_machine.specs.State.{Stage, State, Made, no_job, job_at, pool_part, pool_of, child}
-use Rattle.written_machine.specs.Step.{point, with_stage, with_position, with_job, new_job, finished_job}
+use Rattle.written_machine.specs.State.{Stage, State, Made, no_job, job_at, pool_part, pool_of}
+use Rattle.written_machine.specs.Step.{with_stage, with_position, new_job, finished_job}
 use Rattle.written_machine.specs.Safe.{is_of_job_or_pool}
-use Rattle.written_machine.proofs.Events.{StandsAt, with_part, queued_state, event_of, Happens, works, starts, queues, is_refused, gets, finishes, loops, takes, retires}
-use Rattle.written_machine.proofs.Standing.{stage_of_standing, job_made, standing_made, job_at-with_position}
+use Rattle.written_machine.proofs.Events.{StandsAt, with_part, Happens, works, starts, queues, is_refused, gets, finishes, loops, takes, retires}
+use Rattle.written_machine.proofs.Standing.{stage_of_standing, job_made, standing_made}
 use Rattle.written_machine.proofs.Kept.{Kept}
 use Rattle.written_machine.proofs.Stages.{staged}
 use Rattle.written_machine.proofs.Queues.{head_of_queue}
@@ -33,6 +31,7 @@ sum_by-agree_each f g (x ∷ xs) same =
     let rest = sum_by-agree_each f g xs (λ i y e. same (suc i) y e) in
     omega (arith, sum_by-cons f x xs, sum_by-cons g x xs)
 
+-- of one action, where the two agree at the class that it submits
 of_submit-agree : (f g : ℕ → ℕ) (x : Action) → ((k : ℕ) → x ≡ action.Submit k → f k ≡ g k) → of_submit f x ≡ of_submit g x
 of_submit-agree f g (action.Work u) same = refl
 of_submit-agree f g (action.Submit k) same = same k refl
@@ -55,9 +54,11 @@ full_within-agree plan ranks ranks' (suc n) (suc m) k laws laws' low low' =
     let sinks' = laws'.sinks k i k' e in
     full_within-agree plan ranks ranks' n m k' laws laws' (omega arith) (omega arith)))
 
+-- whole jobs have the same to do by all ranks
 pub full_is_of_plan : (plan : Plan) (ranks ranks' : Ranks) (k : ℕ) → RankLaws plan ranks → RankLaws plan ranks' → full plan ranks k ≡ full plan ranks' k
 full_is_of_plan plan ranks ranks' k laws laws' = full_within-agree plan ranks ranks' (level ranks k + 1) (level ranks' k + 1) k laws laws' (omega arith) (omega arith)
 
+-- the actions of a whole job, its taking and its end, and the whole jobs that it submits
 pub full_is : (plan : Plan) (ranks : Ranks) → RankLaws plan ranks → (k : ℕ) → full plan ranks k ≡ length (class_at plan k).body + 2 + sum_by (of_submit (full plan ranks)) (class_at plan k).body
 full_is plan ranks laws k =
     let body = (class_at plan k).body in
@@ -68,17 +69,21 @@ full_is plan ranks laws k =
     let sinks = laws.sinks k i k' e in
     full_within-agree plan ranks ranks (level ranks k) (level ranks k' + 1) k' laws laws (omega arith) (omega arith)))
 
+-- the same, where the rows hold
 pub full_is_whole : FullIsWhole
 full_is_whole plan ranks k hold = full_is plan ranks (rank_laws plan ranks hold) k
 
+-- and by all ranks whose rows hold
 pub full_is_of_the_plan : FullIsOfThePlan
 full_is_of_the_plan plan ranks ranks' k hold hold' = full_is_of_plan plan ranks ranks' k (rank_laws plan ranks hold) (rank_laws plan ranks' hold')
 
 -- ---- what is to do after a change of the jobs
 
+-- what these jobs have to do
 abbrev jobs_todo : Plan → Ranks → List Made → ℕ
 jobs_todo plan ranks jobs = sum_by (λ (job : Made). stage_todo plan ranks job.class job.stage) jobs
 
+-- a job that comes to another stage has to do what that stage has
 jobs_todo-staged : (plan : Plan) (ranks : Ranks) (jobs : List Made) (j : ℕ) (stage was : Stage) → j < length jobs → (get_or jobs j no_job).stage ≡ was
     → jobs_todo plan ranks (staged jobs j stage) + stage_todo plan ranks (get_or jobs j no_job).class was ≡ jobs_todo plan ranks jobs + stage_todo plan ranks (get_or jobs j no_job).class stage
 jobs_todo-staged plan ranks jobs j stage was inside e =
@@ -86,6 +91,7 @@ jobs_todo-staged plan ranks jobs j stage was inside e =
     ap (λ (old : Stage). jobs_todo plan ranks (staged jobs j stage) + stage_todo plan ranks job.class old) (sym e)
     ∙ sum_by-set (λ (x : Made). stage_todo plan ranks x.class x.stage) jobs j (record job { stage = stage }) no_job inside
 
+-- a job that is made adds what it has to do
 jobs_todo_push : (plan : Plan) (ranks : Ranks) (jobs : List Made) (job : Made) → jobs_todo plan ranks (jobs ++ job ∷ []) ≡ jobs_todo plan ranks jobs + stage_todo plan ranks job.class job.stage
 jobs_todo_push plan ranks jobs job = sum_by_push (λ (x : Made). stage_todo plan ranks x.class x.stage) jobs job
 
@@ -116,6 +122,7 @@ todo_taken plan ranks k laws = omega (arith, full_is plan ranks laws k)
 abbrev HasLess : Plan → Ranks → State → State → Type 0
 HasLess plan ranks s s' = todo plan ranks s' + 1 ≤ todo plan ranks s
 
+-- a job that gets passes one action
 lowers_gets : (plan : Plan) (ranks : Ranks) (s : State) (n : ℕ) (body : List Action) (i t j : ℕ) → StandsAt plan s (parent.Job n) body i (Some (action.Get t)) → (job_at s j).stage ≡ Stage.Done → HasLess plan ranks s (with_stage j Stage.Claimed (with_position (parent.Job n) (i + 1) s))
 lowers_gets plan ranks s n body i t j at done =
     let moved : State = with_position (parent.Job n) (i + 1) s in
@@ -123,6 +130,7 @@ lowers_gets plan ranks s n body i t j at done =
     let inside : j < length moved.jobs = job_made moved j (λ claimed. cc) in
     omega (arith, todo-passed plan ranks s n body i (action.Get t) at, jobs_todo-staged plan ranks moved.jobs j Stage.Claimed Stage.Done inside still)
 
+-- a job that finishes had its end to do
 lowers_finishes : (plan : Plan) (ranks : Ranks) (s : State) (j : ℕ) (body : List Action) (i : ℕ) → Kept plan s → StandsAt plan s (parent.Job j) body i None → HasLess plan ranks s (finished_job plan s j (pool_of plan (job_at s j).class))
 lowers_finishes plan ranks s j body i kept at =
     let k = (job_at s j).class in
@@ -131,6 +139,7 @@ lowers_finishes plan ranks s j body i kept at =
     let long = ap (λ (b : List Action). length b) was.1 in
     omega (arith, jobs_todo-staged plan ranks s.jobs j Stage.Done (Stage.At i) (standing_made plan s j body i at.stands) was.0)
 
+-- a job that is taken had its taking to do
 lowers_takes : (plan : Plan) (ranks : Ranks) (s : State) (p j : ℕ) (queue : List ℕ) (idle : ℕ) → RankLaws plan ranks → Kept plan s → (pool_part s p).queue ≡ j ∷ queue → HasLess plan ranks s (with_part p queue idle (with_stage j (Stage.At 0) s))
 lowers_takes plan ranks s p j queue idle laws kept is_queue =
     let head = head_of_queue plan s p j queue kept is_queue in

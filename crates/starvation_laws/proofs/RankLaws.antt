@@ -1,11 +1,10 @@
 -- What the rows of ranks say.
 use Rattle.std.proofs.Common.{◌≡◌, ℕ, ◌+◌, ◌<◌, ◌≤◌, length, slice_get, Some, zero-add}
-use Rattle.numbered_lists.specs.In.{In, here, there}
+use Rattle.numbered_lists.specs.In.{here, there}
 use Rattle.numbered_lists.proofs.Members.{In-flat_map, In-enumerate_from}
 use Rattle.job_bodies.specs.declared.action.Action.{Action}
 use Rattle.job_bodies.specs.declared.action.Action.TheVariants as action
 use Rattle.job_bodies.specs.Plan.{Class, Plan, class_at, class_got}
-use Rattle.weights.specs.declared.row.Row.{Row}
 use Rattle.weights.specs.Row.{AllHold}
 use Rattle.pool_ranks.specs.Ranks.{Ranks, rank, reach, level, rank_rows_of_action, rank_rows_of_class, rank_rows}
 use Rattle.weight_laws.proofs.VectorLaws.{numbered_class, class_of_action}
@@ -26,6 +25,7 @@ action_holds plan ranks hold k i x is_next y at =
     let body = (class_at plan k).body in
     class_holds plan ranks hold k (class_of_action plan k i x is_next) y (there (In-flat_map (λ (entry : ℕ × Action). rank_rows_of_action ranks k body entry.0 entry.1) (In-enumerate_from 0 body i x i is_next (zero-add i)) at))
 
+-- they hold where the rows hold
 pub rank_laws : (plan : Plan) (ranks : Ranks) → AllHold (rank_rows plan ranks) → RankLaws plan ranks
 rank_laws plan ranks hold = record {
   reaches = λ k inside. class_holds plan ranks hold k inside _ here;

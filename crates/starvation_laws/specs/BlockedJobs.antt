@@ -16,6 +16,7 @@ abbrev pub is_counted_get : (ℕ → ℕ → Bool) → ℕ → ℕ → Option Ac
 is_counted_get counted k i (Some (Get t)) = counted k i
 is_counted_get counted k i _ = false
 
+-- a job of class k that is so far stands at a counted get
 abbrev pub is_blocked_stage : Plan → (ℕ → ℕ → Bool) → ℕ → Stage → Bool
 is_blocked_stage plan counted k (At i) = is_counted_get counted k i (slice_get (class_at plan k).body i)
 is_blocked_stage plan counted k _ = false

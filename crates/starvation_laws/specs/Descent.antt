@@ -1,6 +1,5 @@
 -- Following latest children from get to get.
 use Rattle.std.specs.Prelude.{◌≡◌, ◌≢◌, ◌<◌, ⊤, ℕ, false, Some, slice_get}
-use Rattle.job_bodies.specs.declared.action.Action.{Action}
 use Rattle.job_bodies.specs.declared.action.Action.TheVariants.{Get}
 use Rattle.job_bodies.specs.Plan.{Plan, class_at}
 use Rattle.job_bodies.specs.WellFormed.{IsWellFormed}

@@ -13,6 +13,7 @@ use Rattle.written_machine.specs.Step.{step}
 use Rattle.written_machine.specs.Reach.{replay, IsReached}
 use Rattle.written_machine.specs.Safe.{is_of_job_or_pool}
 
+-- f of the class that the action submits, else 0
 abbrev pub of_submit : (ℕ → ℕ) → Action → ℕ
 of_submit f (Submit k) = f k
 of_submit f _ = 0

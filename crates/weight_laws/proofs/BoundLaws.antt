@@ -1,8 +1,8 @@
 -- What the rows of a standing vector and of a lifetime vector say.
-use Rattle.std.proofs.Common.{◌≡◌, ℕ, ◌+◌, ◌<◌, ◌≤◌, ◌&&◌, true, List, [], ◌∷◌, ◌++◌, length, map, flat_map, get_or, eqb, arith}
+use Rattle.std.proofs.Common.{◌≡◌, ℕ, ◌+◌, ◌<◌, ◌≤◌, ◌&&◌, true, [], ◌∷◌, ◌++◌, length, map, flat_map, get_or, eqb, arith}
 use Rattle.std.specs.List.{enumerate_from, list_all}
 use Rattle.std.proofs.lemmas.Bool.{and_parts, eqb-true}
-use Rattle.numbered_lists.specs.In.{In, here, there}
+use Rattle.numbered_lists.specs.In.{here}
 use Rattle.numbered_lists.proofs.Members.{In-append_left, In-append_right, In-map, In-flat_map, In-get_or, list_all_at_In}
 use Rattle.job_bodies.specs.Plan.{Pool, Class, Client, Plan, pool_at, class_at}
 use Rattle.weights.specs.declared.row.Rule.TheVariants.{S1, S2, L1, L2, L3}
@@ -26,6 +26,7 @@ pub record StandingLaws (plan : Plan) (p : ℕ) (v : Vector) : Type 0 where
   pub queued : (k : ℕ) → k < length plan.classes → (class_at plan k).pool ≡ p → 1 ≤ queued_weight v k
   pub within : total plan v ≤ (pool_at plan p).queue
 
+-- they hold where the rows hold
 pub standing_laws : (plan : Plan) (p : ℕ) (v : Vector) → AllHold (standing_rows plan p v) → StandingLaws plan p v
 standing_laws plan p v hold =
     let queued_row = λ (entry : ℕ × Class). row S1 (place.Class entry.0) 1 (queued_weight v entry.0) in
@@ -58,6 +59,7 @@ class_weights-length plan v k fits inside =
     let each : classes ≡ true = (and_parts as_many classes (and_parts (as_many && classes) (list_all of_client (enumerate_from 0 plan.clients)) shape).0).1 in
     eqb-true (length (class_weights v k)) (length (class_at plan k).body + 3) (list_all_at_In of_class each (numbered_class plan k inside))
 
+-- they hold where the rows of a vector hold that fits
 pub lifetime_laws : (plan : Plan) (p : ℕ) (v : Vector) → vector_fits plan v ≡ true → AllHold (lifetime_rows plan p v) → LifetimeLaws plan p v
 lifetime_laws plan p v fits hold =
     let of_workers = map (λ (entry : ℕ × Pool). row L1 (place.Worker entry.0) (workers_weight v entry.0) 0) (enumerate_from 0 plan.pools) in
@@ -84,6 +86,7 @@ abbrev pub BoundLaws : Plan → ℕ → Bound → Type 0
 BoundLaws plan p (Standing v) = StandingLaws plan p v
 BoundLaws plan p (Lifetime v) = LifetimeLaws plan p v
 
+-- they hold where the rows of a bound hold that fits
 pub bound_laws : (plan : Plan) (p : ℕ) (bound : Bound) → vector_fits plan (bound_vector bound) ≡ true → AllHold (bound_rows plan p bound) → BoundLaws plan p bound
 bound_laws plan p (Standing v) fits hold = standing_laws plan p v hold
 bound_laws plan p (Lifetime v) fits hold = lifetime_laws plan p v fits hold

@@ -1,5 +1,5 @@
 -- No event raises what a state weighs.
-use Rattle.std.proofs.Common.{◌≡◌, ◌≢◌, ℕ, zero, suc, ◌+◌, ◌*◌, ◌<◌, ◌≤◌, ◌⊎◌, cond, true, List, [], ◌∷◌, ◌++◌, length, get_or, slice_get, sum_by, flat_map, Some, None, refl, sym, ap, subst, ◌∙◌, arith}
+use Rattle.std.proofs.Common.{◌≡◌, ◌≢◌, ℕ, zero, suc, ◌+◌, ◌*◌, ◌<◌, ◌≤◌, cond, true, List, [], ◌∷◌, length, get_or, slice_get, sum_by, flat_map, Some, None, refl, sym, ap, subst, ◌∙◌, arith}
 use Rattle.std.specs.List.{enumerate_from}
 use Rattle.std.proofs.lemmas.List.Folds.{sum_by-replicate}
 use Rattle.std.proofs.lemmas.List.Sums.{sum_by_push, sum_by-set}
@@ -7,7 +7,7 @@ use Rattle.std.proofs.lemmas.Option.{same_Some, slice_get_within, get_or_from_sl
 use Rattle.numbered_lists.proofs.Sums.{sum_by-agree, sum_by-flat_map}
 use Rattle.job_bodies.specs.declared.action.Action.{Action}
 use Rattle.job_bodies.specs.declared.action.Action.TheVariants as action
-use Rattle.job_bodies.specs.Plan.{Client, Plan, pool_at, class_at, client_at, class_got}
+use Rattle.job_bodies.specs.Plan.{Client, Plan, class_at, client_at, class_got}
 use Rattle.job_bodies.proofs.Bodies.{IsOrdered}
 use Rattle.written_machine.specs.declared.client_state.ClientState.{ClientState}
 use Rattle.written_machine.specs.declared.parent.Parent.{Parent}
@@ -24,7 +24,7 @@ use Rattle.written_machine.proofs.Stages.{staged}
 use Rattle.written_machine.proofs.Queues.{head_of_queue}
 use Rattle.written_machine.proofs.KeptSubmits.{class_exists}
 use Rattle.written_machine.proofs.ReachedLaws.{child_at_get}
-use Rattle.weights.specs.Vector.{Vector, workers_weight, queued_weight, job_weight, done_weight, client_weight}
+use Rattle.weights.specs.Vector.{Vector, workers_weight, job_weight, done_weight, client_weight}
 use Rattle.weights.specs.AtGet.{AtGet, GivesBack, GivesNothing, given_back, claimed_weight}
 use Rattle.weight_laws.specs.WeightedSum.{stage_weight}
 use Rattle.weight_laws.proofs.VectorLaws.{BodyLaws, VectorLaws}
@@ -43,6 +43,7 @@ spent at_get plan v s = sum_by (λ (client : ClientState). client_weight v clien
 abbrev pub loan : Plan → Vector → ℕ → Stage → ℕ
 loan plan v k stage = cond (is_at stage) (workers_weight v (pool_of plan k)) 0
 
+-- what the workers of these jobs weigh that are at a position
 abbrev pub jobs_lent : Plan → Vector → List Made → ℕ
 jobs_lent plan v jobs = sum_by (λ (job : Made). loan plan v job.class job.stage) jobs
 
@@ -64,6 +65,7 @@ IsNoHeavier at_get plan v s s' = spent at_get plan v s' + lent plan v s ≤ spen
 
 -- ---- the start
 
+-- the clients weigh what is given to them, and there are no jobs
 pub balanced_start : (at_get : AtGet) (plan : Plan) (v : Vector) → IsBalanced at_get plan v (start plan)
 balanced_start at_get plan v =
     let weight = λ (client : ClientState). client_weight v client.kind client.position in
@@ -76,6 +78,7 @@ balanced_start at_get plan v =
 
 -- ---- a job comes to another stage
 
+-- the jobs weigh by the new stage in place of the old one
 pub jobs_spent-staged : (at_get : AtGet) (plan : Plan) (v : Vector) (jobs : List Made) (j : ℕ) (stage was : Stage) → j < length jobs → (get_or jobs j no_job).stage ≡ was
     → jobs_spent at_get plan v (staged jobs j stage) + stage_weight at_get plan v (get_or jobs j no_job).class was ≡ jobs_spent at_get plan v jobs + stage_weight at_get plan v (get_or jobs j no_job).class stage
 jobs_spent-staged at_get plan v jobs j stage was inside e =
@@ -83,6 +86,7 @@ jobs_spent-staged at_get plan v jobs j stage was inside e =
     ap (λ (old : Stage). jobs_spent at_get plan v (staged jobs j stage) + stage_weight at_get plan v job.class old) (sym e)
     ∙ sum_by-set (λ (x : Made). stage_weight at_get plan v x.class x.stage) jobs j (record job { stage = stage }) no_job inside
 
+-- and so do their workers
 pub jobs_lent-staged : (plan : Plan) (v : Vector) (jobs : List Made) (j : ℕ) (stage was : Stage) → j < length jobs → (get_or jobs j no_job).stage ≡ was
     → jobs_lent plan v (staged jobs j stage) + loan plan v (get_or jobs j no_job).class was ≡ jobs_lent plan v jobs + loan plan v (get_or jobs j no_job).class stage
 jobs_lent-staged plan v jobs j stage was inside e =
@@ -110,6 +114,7 @@ spent-with_position at_get plan v s (parent.Job j) body i i' stands =
     let was = (stage_of_standing plan (job_at s j).class (job_at s j).stage body i stands).0 in
     omega (arith, jobs_spent-staged at_get plan v s.jobs j (Stage.At i') (Stage.At i) (standing_made plan s j body i stands) was)
 
+-- a job that was at a position is at one, so its worker weighs what it did
 pub lent-with_position : (plan : Plan) (v : Vector) (s : State) (a : Parent) (body : List Action) (i i' : ℕ) → point plan s a ≡ Some (record { body = body; position = i }) → lent plan v (with_position a i' s) ≡ lent plan v s
 lent-with_position plan v s (parent.Client c) body i i' stands = refl
 lent-with_position plan v s (parent.Job j) body i i' stands =
@@ -131,19 +136,23 @@ actor_laws at_get plan v s (parent.Job j) body i laws stands =
 
 -- ---- a job is made
 
+-- a new job weighs by its stage
 pub spent-with_job : (at_get : AtGet) (plan : Plan) (v : Vector) (s : State) (job : Made) → spent at_get plan v (with_job job s) ≡ spent at_get plan v s + stage_weight at_get plan v job.class job.stage
 spent-with_job at_get plan v s job = omega (arith, sum_by_push (λ (x : Made). stage_weight at_get plan v x.class x.stage) s.jobs job)
 
+-- and so does its worker
 pub lent-with_job : (plan : Plan) (v : Vector) (s : State) (job : Made) → lent plan v (with_job job s) ≡ lent plan v s + loan plan v job.class job.stage
 lent-with_job plan v s job = sum_by_push (λ (x : Made). loan plan v x.class x.stage) s.jobs job
 
 -- ---- each event
 
+-- V2: work makes its actor no heavier
 never_rises_works : (at_get : AtGet) (plan : Plan) (v : Vector) (s : State) (a : Parent) (body : List Action) (i u : ℕ) → VectorLaws at_get plan v → StandsAt plan s a body i (Some (action.Work u)) → IsNoHeavier at_get plan v s (with_position a (i + 1) s)
 never_rises_works at_get plan v s a body i u laws at =
     let falls = (actor_laws at_get plan v s a body i laws at.stands).work i u at.is_there in
     omega (arith, falls, spent-with_position at_get plan v s a body i (i + 1) at.stands, lent-with_position plan v s a body i (i + 1) at.stands)
 
+-- V3 and V4: the actor pays for a queued job, and with a worker that pays for a job at work
 never_rises_starts : (at_get : AtGet) (plan : Plan) (v : Vector) (s : State) (a : Parent) (body : List Action) (i k : ℕ) → k < length plan.classes → VectorLaws at_get plan v → StandsAt plan s a body i (Some (action.Submit k))
     → IsNoHeavier at_get plan v s (with_job (new_job k a i (Stage.At 0)) (with_position a (i + 1) s))
 never_rises_starts at_get plan v s a body i k inside laws at =
@@ -165,12 +174,15 @@ shares : (at_get : AtGet) (plan : Plan) (v : Vector) (k : ℕ) → given_back at
 shares GivesBack plan v k = omega arith
 shares GivesNothing plan v k = omega arith
 
+-- a done job is at no position
 done_nowhere : {stage : Stage} → stage ≡ Stage.Done → (n : ℕ) → stage ≢ Stage.At n
 done_nowhere done n e = cc
 
+-- a done job is not claimed
 done_unclaimed : {stage : Stage} → stage ≡ Stage.Done → stage ≢ Stage.Claimed
 done_unclaimed done e = cc
 
+-- V5 or L5: the actor gets no more than the done job gives back
 never_rises_gets : (at_get : AtGet) (plan : Plan) (v : Vector) (s : State) (a : Parent) (body : List Action) (i t j : ℕ) → IsOrdered plan → VectorLaws at_get plan v → Kept plan s → StandsAt plan s a body i (Some (action.Get t))
     → child s a t ≡ Some j → (job_at s j).stage ≡ Stage.Done → IsNoHeavier at_get plan v s (with_stage j Stage.Claimed (with_position a (i + 1) s))
 never_rises_gets at_get plan v s a body i t j ordered laws kept at is_child done =
@@ -184,8 +196,17 @@ never_rises_gets at_get plan v s a body i t j ordered laws kept at is_child done
     let gives = (actor_laws at_get plan v s a body i laws at.stands).get i t at.is_there in
     let was = ap (λ (k : ℕ). done_weight plan v k) of_class in
     let left = ap (λ (k : ℕ). claimed_weight at_get plan v k) of_class in
-    omega (arith, gives, was, left, shares at_get plan v (class_got body t), spent-with_position at_get plan v s a body i (i + 1) at.stands, lent-with_position plan v s a body i (i + 1) at.stands,
-    jobs_spent-staged at_get plan v moved.jobs j Stage.Claimed Stage.Done inside still_done, jobs_lent-staged plan v moved.jobs j Stage.Claimed Stage.Done inside still_done)
+    omega (
+      arith,
+      gives,
+      was,
+      left,
+      shares at_get plan v (class_got body t),
+      spent-with_position at_get plan v s a body i (i + 1) at.stands,
+      lent-with_position plan v s a body i (i + 1) at.stands,
+      jobs_spent-staged at_get plan v moved.jobs j Stage.Claimed Stage.Done inside still_done,
+      jobs_lent-staged plan v moved.jobs j Stage.Claimed Stage.Done inside still_done,
+    )
 
 -- where no action stands the body is at its end
 at_end : (body : List Action) (i : ℕ) → slice_get body i ≡ None → length body ≤ i
@@ -199,6 +220,7 @@ stands_at_end plan s a body i kept at =
     let inside = (kept.actors a body i at.stands).inside in
     omega (arith, at_end body i at.is_there)
 
+-- V6: a job at its end pays for the done job and its worker
 never_rises_finishes : (at_get : AtGet) (plan : Plan) (v : Vector) (s : State) (j : ℕ) (body : List Action) (i : ℕ) → VectorLaws at_get plan v → Kept plan s → StandsAt plan s (parent.Job j) body i None
     → IsNoHeavier at_get plan v s (finished_job plan s j (pool_of plan (job_at s j).class))
 never_rises_finishes at_get plan v s j body i laws kept at =
@@ -210,6 +232,7 @@ never_rises_finishes at_get plan v s j body i laws kept at =
     let weighs = ap (job_weight v k) last in
     omega (arith, ends, weighs, jobs_spent-staged at_get plan v s.jobs j Stage.Done (Stage.At i) inside was.0, jobs_lent-staged plan v s.jobs j Stage.Done (Stage.At i) inside was.0)
 
+-- V7: a client at its end pays for its beginning
 never_rises_loops : (at_get : AtGet) (plan : Plan) (v : Vector) (s : State) (c : ℕ) (client : ClientState) (body : List Action) (i : ℕ) → VectorLaws at_get plan v → Kept plan s → StandsAt plan s (parent.Client c) body i None
     → slice_get s.clients c ≡ Some client → (client_at plan client.kind).repeat ≡ true → IsNoHeavier at_get plan v s (with_position (parent.Client c) 0 s)
 never_rises_loops at_get plan v s c client body i laws kept at is_client repeats =
@@ -221,12 +244,14 @@ never_rises_loops at_get plan v s c client body i laws kept at is_client repeats
     let weighs = ap (client_weight v kind) last in
     omega (arith, pays, weighs, spent-with_position at_get plan v s (parent.Client c) body i 0 at.stands)
 
+-- V4: a queued job and a worker pay for a job at work
 never_rises_takes : (at_get : AtGet) (plan : Plan) (v : Vector) (s : State) (p j : ℕ) (queue : List ℕ) (idle : ℕ) → VectorLaws at_get plan v → Kept plan s → (pool_part s p).queue ≡ j ∷ queue → IsNoHeavier at_get plan v s (with_part p queue idle (with_stage j (Stage.At 0) s))
 never_rises_takes at_get plan v s p j queue idle laws kept is_queue =
     let head = head_of_queue plan s p j queue kept is_queue in
     let begins = laws.begins (job_at s j).class (kept.classes j no_job head.inside) in
     omega (arith, begins, jobs_spent-staged at_get plan v s.jobs j (Stage.At 0) Stage.Queued head.inside head.queued, jobs_lent-staged plan v s.jobs j (Stage.At 0) Stage.Queued head.inside head.queued)
 
+-- every event
 pub never_rises : (at_get : AtGet) (plan : Plan) (v : Vector) (s s' : State) (o : Outcome) {e : Event} → IsOrdered plan → VectorLaws at_get plan v → Kept plan s → Happens plan s e s' o → IsNoHeavier at_get plan v s s'
 never_rises at_get plan v s s' o ordered laws kept (works a body i u at) = never_rises_works at_get plan v s a body i u laws at
 never_rises at_get plan v s s' o ordered laws kept (starts a body i k at below) = never_rises_starts at_get plan v s a body i k (class_exists plan s a body i k ordered at) laws at

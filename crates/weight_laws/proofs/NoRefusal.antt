@@ -1,5 +1,5 @@
 -- Where a pool's bound holds, the pool refuses no submit.
-use Rattle.std.proofs.Common.{◌≡◌, ℕ, ◌+◌, ◌<◌, ◌≤◌, inl, inr, Bool, true, cond, ◌&&◌, eqb, List, [], ◌∷◌, ◌++◌, length, get_or, slice_get, Some, refl, sym, ap, subst, ◌∙◌, arith}
+use Rattle.std.proofs.Common.{◌≡◌, ℕ, ◌+◌, ◌<◌, ◌≤◌, inl, inr, eqb, List, length, get_or, Some, refl, sym, ap, subst, ◌∙◌, arith}
 use Rattle.std.specs.List.{count_by}
 use Rattle.std.proofs.lemmas.Bool.{and_parts, eqb-true}
 use Rattle.std.proofs.lemmas.Option.{slice_get_within}
@@ -7,16 +7,16 @@ use Rattle.numbered_lists.proofs.Places.{length-places}
 use Rattle.numbered_lists.proofs.Sums.{count_by-le-sum_by}
 use Rattle.job_bodies.specs.declared.action.Action.{Action}
 use Rattle.job_bodies.specs.declared.action.Action.TheVariants as action
-use Rattle.job_bodies.specs.Plan.{Plan, pool_at, class_at, first_workers}
+use Rattle.job_bodies.specs.Plan.{Plan, pool_at, class_at}
 use Rattle.job_bodies.proofs.Bodies.{IsOrdered}
 use Rattle.written_machine.specs.declared.parent.Parent.{Parent}
 use Rattle.written_machine.specs.declared.parent.Parent.TheVariants as parent
 use Rattle.written_machine.specs.declared.event.Event.{Event}
 use Rattle.written_machine.specs.declared.event.Outcome.TheVariants as outcome
 use Rattle.written_machine.specs.State.{Stage, State, Made, no_job, job_at, pool_part, pool_of, is_queued, is_queued_in, threads}
-use Rattle.written_machine.specs.Step.{point, point_of_job, with_position, new_job, moved_jobs}
+use Rattle.written_machine.specs.Step.{point_of_job, with_position, new_job, moved_jobs}
 use Rattle.written_machine.specs.JobsMade.{is_of_pool, jobs_made}
-use Rattle.written_machine.proofs.Events.{StandsAt, queued_state, Happens, is_refused}
+use Rattle.written_machine.proofs.Events.{StandsAt, Happens, is_refused}
 use Rattle.written_machine.proofs.Kept.{Kept}
 use Rattle.written_machine.proofs.Stages.{HaveClasses, classes_moved}
 use Rattle.written_machine.proofs.Queues.{queued_stage, places-moved}
@@ -54,6 +54,7 @@ queued-le-spent plan v p jobs laws classes =
     let parts = and_parts (is_queued job.stage) (eqb (pool_of plan job.class) p) passes in
     subst (λ (stage : Stage). 1 ≤ stage_weight GivesBack plan v job.class stage) (sym (queued_stage job.stage parts.0)) (laws.queued job.class (classes j no_job inside) (eqb-true (pool_of plan job.class) p parts.1)))
 
+-- so a full queue and one more job would weigh more than the total
 standing_refuses_nothing : (plan : Plan) (v : Vector) (s : State) (a : Parent) (body : List Action) (i k : ℕ) → IsOrdered plan → StandingLaws plan (pool_of plan k) v → Kept plan s → IsBalanced GivesBack plan v s → StandsAt plan s a body i (Some (action.Submit k))
     → (pool_at plan (pool_of plan k)).queue ≤ length (pool_part s (pool_of plan k)).queue → ⊥
 standing_refuses_nothing plan v s a body i k ordered laws kept balanced at no_room =
@@ -74,6 +75,7 @@ standing_refuses_nothing plan v s a body i k ordered laws kept balanced at no_ro
 abbrev AreInside : Plan → List Made → Type 0
 AreInside plan jobs = (j n : ℕ) → (get_or jobs j no_job).stage ≡ Stage.At n → n ≤ length (class_at plan (get_or jobs j no_job).class).body
 
+-- in a state that keeps what every reached state keeps
 are_inside : (plan : Plan) (s : State) → Kept plan s → AreInside plan s.jobs
 are_inside plan s kept j n e = (kept.actors (parent.Job j) (class_at plan (job_at s j).class).body n (ap (point_of_job plan (job_at s j).class) e)).inside
 
@@ -97,6 +99,7 @@ job_weighs_one plan v p k (Stage.At n) laws exists of_pool inside = laws.positio
 job_weighs_one plan v p k Stage.Done laws exists of_pool inside = laws.done k exists of_pool
 job_weighs_one plan v p k Stage.Claimed laws exists of_pool inside = laws.done k exists of_pool
 
+-- so the jobs that were made of the pool weigh at least 1 each
 made-le-spent : (plan : Plan) (v : Vector) (p : ℕ) (jobs : List Made) → LifetimeLaws plan p v → HaveClasses (length plan.classes) jobs → AreInside plan jobs → made_jobs plan jobs p ≤ jobs_spent GivesNothing plan v jobs
 made-le-spent plan v p jobs laws classes inside =
     count_by-le-sum_by (is_of_pool plan p) (λ (job : Made). stage_weight GivesNothing plan v job.class job.stage) jobs no_job
@@ -104,6 +107,7 @@ made-le-spent plan v p jobs laws classes inside =
     let job = get_or jobs j no_job in
     job_weighs_one plan v p job.class job.stage laws (classes j no_job made) (eqb-true (pool_of plan job.class) p passes) (inside j))
 
+-- so as many jobs as the queue and the threads hold, and one more, would weigh more than the total
 lifetime_refuses_nothing : (plan : Plan) (v : Vector) (s : State) (a : Parent) (body : List Action) (i k : ℕ) → IsOrdered plan → LifetimeLaws plan (pool_of plan k) v → Kept plan s → HaveJobs plan s → IsBalanced GivesNothing plan v s → StandsAt plan s a body i (Some (action.Submit k))
     → (pool_at plan (pool_of plan k)).queue ≤ length (pool_part s (pool_of plan k)).queue → (pool_at plan (pool_of plan k)).max ≤ threads plan s (pool_of plan k) → ⊥
 lifetime_refuses_nothing plan v s a body i k ordered laws kept have balanced at no_room all_started =
@@ -123,6 +127,7 @@ jobs-le-total plan v s p ordered laws kept balanced =
 
 -- ---- either
 
+-- no submit comes to a pool that is full
 pub not_refused : (plan : Plan) (bound : Bound) (s : State) (a : Parent) (body : List Action) (i k : ℕ) → IsOrdered plan → BoundLaws plan (pool_of plan k) bound → Kept plan s → HaveJobs plan s
     → IsBalanced (bound_at_get bound) plan (bound_vector bound) s → StandsAt plan s a body i (Some (action.Submit k))
     → (pool_at plan (pool_of plan k)).queue ≤ length (pool_part s (pool_of plan k)).queue → (pool_at plan (pool_of plan k)).max ≤ threads plan s (pool_of plan k) → ⊥

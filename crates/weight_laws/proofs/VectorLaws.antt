@@ -1,5 +1,5 @@
 -- What the rows of a vector say, rule by rule.
-use Rattle.std.proofs.Common.{◌≡◌, ℕ, ◌+◌, ◌<◌, ◌≤◌, true, false, inl, inr, List, [], ◌∷◌, ◌++◌, length, map, flat_map, slice_get, Some, None, refl, sym, ap, subst, ◌∙◌, cond, eqb, arith, zero-add}
+use Rattle.std.proofs.Common.{◌≡◌, ℕ, ◌+◌, ◌<◌, ◌≤◌, true, false, inl, inr, List, [], ◌∷◌, length, flat_map, slice_get, Some, None, sym, ap, subst, cond, eqb, zero-add}
 use Rattle.std.specs.List.{enumerate_from}
 use Rattle.std.proofs.lemmas.Bool.{cases_lt, eq-eqb}
 use Rattle.std.proofs.lemmas.List.{get_or_past}
@@ -37,6 +37,7 @@ pub record VectorLaws (at_get : AtGet) (plan : Plan) (v : Vector) : Type 0 where
 pub numbered_class : (plan : Plan) (k : ℕ) → k < length plan.classes → In (k, class_at plan k) (enumerate_from 0 plan.classes)
 numbered_class plan k inside = In-enumerate_from 0 plan.classes k (class_at plan k) k (slice_get-get_or plan.classes k no_class inside) (zero-add k)
 
+-- and so does each kind of clients
 numbered_client : (plan : Plan) (c : ℕ) → c < length plan.clients → In (c, client_at plan c) (enumerate_from 0 plan.clients)
 numbered_client plan c inside = In-enumerate_from 0 plan.clients c (client_at plan c) c (slice_get-get_or plan.clients c no_client inside) (zero-add c)
 
@@ -60,6 +61,7 @@ row_of_action : (at_get : AtGet) (plan : Plan) (v : Vector) (weight : ℕ → �
     → In (action_row at_get plan v weight place_at body i x) (body_rows at_get plan v weight place_at body)
 row_of_action at_get plan v weight place_at body i x e = In-map (λ (entry : ℕ × Action). action_row at_get plan v weight place_at body entry.0 entry.1) (In-enumerate_from 0 body i x i e (zero-add i))
 
+-- where the rows of a body hold, its laws do
 body_laws : (at_get : AtGet) (plan : Plan) (v : Vector) (weight : ℕ → ℕ) (place_at : ℕ → Place) (body : List Action) → AllHold (body_rows at_get plan v weight place_at body) → BodyLaws at_get plan v weight body
 body_laws at_get plan v weight place_at body hold = record {
   work = λ i u e. hold _ (row_of_action at_get plan v weight place_at body i (action.Work u) e);
@@ -77,17 +79,20 @@ class_holds at_get plan v hold k inside x i =
     hold x (In-append_left (flat_map (λ (entry : ℕ × Client). client_rows at_get plan v entry.0 entry.1) (enumerate_from 0 plan.clients))
     (In-flat_map (λ (entry : ℕ × Class). class_rows at_get plan v entry.0 entry.1) (numbered_class plan k inside) i))
 
+-- of a kind of clients
 client_holds : (at_get : AtGet) (plan : Plan) (v : Vector) → AllHold (rows at_get plan v) → (c : ℕ) → c < length plan.clients → AllHold (client_rows at_get plan v c (client_at plan c))
 client_holds at_get plan v hold c inside x i =
     hold x (In-append_right (flat_map (λ (entry : ℕ × Class). class_rows at_get plan v entry.0 entry.1) (enumerate_from 0 plan.classes))
     (In-flat_map (λ (entry : ℕ × Client). client_rows at_get plan v entry.0 entry.1) (numbered_client plan c inside) i))
 
+-- the laws of each class, also past the end of the list, where the body is empty
 class_body_laws : (at_get : AtGet) (plan : Plan) (v : Vector) → AllHold (rows at_get plan v) → (k : ℕ) → BodyLaws at_get plan v (job_weight v k) (class_at plan k).body
 class_body_laws at_get plan v hold k = elim (cases_lt k (length plan.classes)) [
   | inl inside ↦ body_laws at_get plan v (job_weight v k) (place.ClassAction k) (class_at plan k).body (λ x i. class_holds at_get plan v hold k inside x (there (In-append_left _ i)))
   | inr past ↦ subst (λ (class : Class). BodyLaws at_get plan v (job_weight v k) class.body) (sym (get_or_past plan.classes k no_class past)) (no_body_laws at_get plan v (job_weight v k))
 ]
 
+-- and of each kind of clients
 client_body_laws : (at_get : AtGet) (plan : Plan) (v : Vector) → AllHold (rows at_get plan v) → (c : ℕ) → BodyLaws at_get plan v (client_weight v c) (client_at plan c).body
 client_body_laws at_get plan v hold c = elim (cases_lt c (length plan.clients)) [
   | inl inside ↦ body_laws at_get plan v (client_weight v c) (place.ClientAction c) (client_at plan c).body (λ x i. client_holds at_get plan v hold c inside x (In-append_left _ i))
@@ -103,6 +108,7 @@ repeating_client plan c repeats = elim (cases_lt c (length plan.clients)) [
       absurd cc
 ]
 
+-- a kind that repeats has its row at the end of its body
 client_loops : (at_get : AtGet) (plan : Plan) (v : Vector) → AllHold (rows at_get plan v) → (c : ℕ) → (client_at plan c).repeat ≡ true → client_weight v c 0 ≤ client_weight v c (length (client_at plan c).body)
 client_loops at_get plan v hold c repeats =
     let body = (client_at plan c).body in
@@ -110,6 +116,7 @@ client_loops at_get plan v hold c repeats =
     client_holds at_get plan v hold c (repeating_client plan c repeats) last
     (In-append_right (body_rows at_get plan v (client_weight v c) (place.ClientAction c) body) (subst (λ b. In last (cond b (last ∷ []) [])) (sym repeats) here))
 
+-- where all rows hold, all laws do
 pub vector_laws : (at_get : AtGet) (plan : Plan) (v : Vector) → AllHold (rows at_get plan v) → VectorLaws at_get plan v
 vector_laws at_get plan v hold = record {
   classes = class_body_laws at_get plan v hold;

@@ -1,6 +1,6 @@
 -- The weighted sum of a state, and that no event raises it, so that it stays within the total.
-use Rattle.std.proofs.Common.{◌≡◌, ◌≢◌, ℕ, ◌+◌, ◌-◌, ◌*◌, ◌<◌, ◌≤◌, ◌⊎◌, ⊎_elim, Bool, true, false, cond, ◌&&◌, eqb, List, [], ◌∷◌, length, get_or, sum_by, All, refl, sym, ap, subst, ◌∙◌, arith, le_of_eq}
-use Rattle.std.specs.List.{enumerate_from, count_by}
+use Rattle.std.proofs.Common.{◌≡◌, ◌≢◌, ℕ, ◌+◌, ◌-◌, ◌*◌, ◌<◌, ◌≤◌, ⊎_elim, Bool, true, false, cond, ◌&&◌, eqb, List, [], ◌∷◌, length, get_or, sum_by, refl, sym, ap, subst, ◌∙◌, arith, le_of_eq}
+use Rattle.std.specs.List.{enumerate_from}
 use Rattle.std.proofs.Math.Nat.{mul-add}
 use Rattle.std.proofs.lemmas.Bool.{cases_eq, eq-eqb, ne_eqb}
 use Rattle.std.proofs.lemmas.List.{get_or_default}
@@ -26,6 +26,7 @@ use Rattle.weight_laws.proofs.NeverRises.{jobs_lent, spent, lent, loan, IsBalanc
 
 -- ---- sums of which at most one term is not 0
 
+-- terms of 0 have the sum 0
 sum_by_zero : {X : Type 0} (f : X → ℕ) (xs : List X) → ((x : X) → f x ≡ 0) → sum_by f xs ≡ 0
 sum_by_zero f [] zeros = refl
 sum_by_zero f (x ∷ xs) zeros = omega (arith, sum_by-cons f x xs, zeros x, sum_by_zero f xs zeros)
@@ -64,6 +65,7 @@ worker_of_one v pools q true inside =
     (λ entry other. let none : one_if (eqb q entry.0) ≡ 0 = ap one_if (ne_eqb q entry.0 (λ same. other (sym same))) in ap (λ (n : ℕ). workers_weight v entry.0 * n) none ∙ omega arith)
 worker_of_one v pools q false inside = sum_by_zero (λ (entry : ℕ × Pool). workers_weight v entry.0 * 0) (enumerate_from 0 pools) (λ entry. omega arith)
 
+-- pool by pool they weigh what they weigh job by job
 lent_by_pool : (plan : Plan) (v : Vector) (jobs : List Made) → ((job : Made) → In job jobs → pool_of plan job.class < length plan.pools) → pools_lent plan v jobs ≡ jobs_lent plan v jobs
 lent_by_pool plan v [] inside = sum_by_zero (λ (entry : ℕ × Pool). workers_weight v entry.0 * 0) (enumerate_from 0 plan.pools) (λ entry. omega arith)
 lent_by_pool plan v (job ∷ jobs) inside =
@@ -103,6 +105,7 @@ parts_of w max busy within =
     let both : max - busy + busy ≡ max = omega arith in
     sym (mul-add w (max - busy) busy) ∙ ap (λ (n : ℕ). w * n) both
 
+-- together they are all workers
 free_and_lent : (plan : Plan) (v : Vector) (s : State) → IsOrdered plan → Kept plan s → free_workers plan v s + lent plan v s ≡ all_workers plan v
 free_and_lent plan v s ordered kept =
     let numbered = enumerate_from 0 plan.pools in
@@ -121,11 +124,13 @@ free_and_lent plan v s ordered kept =
 pub sum_of_is : (at_get : AtGet) (plan : Plan) (v : Vector) (s : State) → IsOrdered plan → Kept plan s → sum_of at_get plan v s + lent plan v s ≡ spent at_get plan v s + all_workers plan v
 sum_of_is at_get plan v s ordered kept = omega (arith, free_and_lent plan v s ordered kept)
 
+-- so those at work weigh no more than all
 pub lent-le : (plan : Plan) (v : Vector) (s : State) → IsOrdered plan → Kept plan s → lent plan v s ≤ all_workers plan v
 lent-le plan v s ordered kept = omega (arith, free_and_lent plan v s ordered kept)
 
 -- ---- what stays
 
+-- what was given and all workers are the total
 pub spent-le-total : (at_get : AtGet) (plan : Plan) (v : Vector) (s : State) → IsOrdered plan → Kept plan s → IsBalanced at_get plan v s → spent at_get plan v s ≤ total plan v
 spent-le-total at_get plan v s ordered kept balanced = omega (arith, lent-le plan v s ordered kept)
 

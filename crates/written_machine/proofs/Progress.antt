@@ -1,8 +1,7 @@
 -- As long as a job is unfinished, and no set of jobs waits only for its own members, an event of a job or a taking is possible.
-use Rattle.std.proofs.Common.{◌≡◌, ◌≢◌, ℕ, zero, suc, ◌≤◌, ⊎_elim, inl, inr, Bool, true, false, not, ◌&&◌, eqb, List, [], ◌∷◌, length, get_or, slice_get, Option, Some, None, is_some, refl, sym, ap, ap₂, subst, ◌∙◌, arith}
+use Rattle.std.proofs.Common.{◌≡◌, ◌≢◌, ℕ, zero, suc, ◌≤◌, ⊎_elim, Bool, true, false, not, eqb, List, [], ◌∷◌, length, slice_get, Option, Some, None, is_some, refl, sym, ap, ap₂, ◌∙◌, arith}
 use Rattle.std.specs.List.{list_all}
 use Rattle.std.proofs.lemmas.Bool.{and_parts, and_cases, eqb-false, false_from_ne_true}
-use Rattle.std.proofs.lemmas.Option.{same_Some}
 use Rattle.numbered_lists.specs.In.{In, here, there}
 use Rattle.numbered_lists.specs.Places.{places_where}
 use Rattle.numbered_lists.proofs.Places.{passes_at_In, In-places_where, list_all_from_where}
@@ -14,7 +13,7 @@ use Rattle.pool_machine.specs.PoolState.{taken_from}
 use Rattle.written_machine.specs.declared.parent.Parent.TheVariants as parent
 use Rattle.written_machine.specs.declared.event.Event.TheVariants as event
 use Rattle.written_machine.specs.State.{Stage, State, Made, no_job, job_at, pool_part, pool_of, pool_seen, is_at, is_busy_in, is_unfinished, child}
-use Rattle.written_machine.specs.Step.{point_of_job, got, got_child, acted, stepped, took, step}
+use Rattle.written_machine.specs.Step.{point_of_job, got, got_child, acted, stepped, took}
 use Rattle.written_machine.specs.Waiting.{is_member, is_some_member, waits_at, waits_as, waits, is_none, is_waiting_set, IsWaitingSet}
 use Rattle.written_machine.specs.Safe.{CanGoOn}
 use Rattle.written_machine.proofs.Standing.{job_made}
@@ -25,6 +24,7 @@ use Rattle.written_machine.proofs.ReachedLaws.{child_at_get}
 
 -- ---- one element of a list that fails
 
+-- where not all elements pass, one fails
 fails_somewhere : {X : Type 0} (test : X → Bool) (xs : List X) → list_all test xs ≡ false → (x : X) × In x xs × (test x ≡ false)
 fails_somewhere test [] none = absurd cc
 fails_somewhere test (x ∷ xs) none =
@@ -32,15 +32,19 @@ fails_somewhere test (x ∷ xs) none =
 
 -- ---- the unfinished jobs
 
+-- their numbers
 abbrev unfinished : State → List ℕ
 unfinished s = places_where (λ (job : Made). is_unfinished job.stage) s.jobs
 
+-- none of them is claimed
 unfinished_unclaimed : (stage : Stage) → is_unfinished stage ≡ true → stage ≢ Stage.Claimed
 unfinished_unclaimed stage still claimed = let over : is_unfinished stage ≡ false = ap is_unfinished claimed in cc
 
+-- each unfinished job is among them
 In-unfinished : (s : State) (j : ℕ) → is_unfinished (job_at s j).stage ≡ true → In j (unfinished s)
 In-unfinished s j still = In-places_where (λ (job : Made). is_unfinished job.stage) s.jobs j no_job (job_made s j (unfinished_unclaimed (job_at s j).stage still)) still
 
+-- a job at a position is unfinished
 at_unfinished : (stage : Stage) → is_at stage ≡ true → is_unfinished stage ≡ true
 at_unfinished (Stage.At i) at = refl
 at_unfinished Stage.Queued at = absurd cc
@@ -122,6 +126,7 @@ not_none : (ns : List ℕ) (n : ℕ) → In n ns → not (is_none ns) ≡ true
 not_none (m ∷ ns) n i = refl
 not_none [] n i = absurd (elim i [ ])
 
+-- the unfinished jobs are no waiting set, so one of them does not wait for the others alone
 pub goes_on : (plan : Plan) (s : State) (j : ℕ) → IsOrdered plan → Kept plan s → ((members : List ℕ) → ¬ IsWaitingSet plan s members) → is_unfinished (job_at s j).stage ≡ true → CanGoOn plan s
 goes_on plan s j ordered kept none still =
     let members = unfinished s in
