@@ -1,14 +1,11 @@
 -- What a get gives back to its actor of the weight of the job that it gets.
 use Rattle.std.specs.Prelude.{ℕ}
 use Rattle.job_bodies.specs.Plan.{Plan}
+pub use Rattle.weights.specs.declared.at_get.AtGet.{AtGet}
+pub use Rattle.weights.specs.declared.at_get.AtGet.TheVariants.{GivesBack, GivesNothing}
 use Rattle.weights.specs.declared.row.Rule.{Rule}
 use Rattle.weights.specs.declared.row.Rule.TheVariants.{V5, L5}
 use Rattle.weights.specs.Vector.{Vector, done_weight}
-
--- all of the job's done number, or nothing
-pub data AtGet : Type 0 where
-  GivesBack : AtGet
-  GivesNothing : AtGet
 
 -- the rule that a get keeps
 abbrev pub get_rule : AtGet → Rule

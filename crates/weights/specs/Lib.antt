@@ -1,6 +1,8 @@
 pub mod Row
+pub mod Takes
 pub mod Vector
 pub mod AtGet
+pub mod Body
 pub mod Rows
 pub mod Standing
 pub mod Lifetime

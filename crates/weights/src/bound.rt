@@ -1,6 +1,14 @@
 //! The vector that bounds a pool's queue.
 
-use crate::Vector;
+ghost use Rattle.std.specs.Prelude.{◌≡◌, ◌<◌, IsTrue, length};
+ghost use Rattle.job_bodies.specs.Plan.{pool_at};
+ghost use Rattle.weights.specs.Vector.{vector_fits};
+ghost use Rattle.weights.specs.Bound.{bound_vector, bound_limit, bound_rows};
+ghost use Rattle.weights.specs.Takes.{Takes};
+
+use crate::lifetime::lifetime_limit;
+use crate::{RowVisitor, Vector};
+use job_bodies::Plan;
 
 /// The vector that bounds a pool's queue: with it the pool refuses no job.
 #[derive(Debug, Drop)]
@@ -9,4 +17,39 @@ pub enum Bound {
     Standing(Vector),
     /// No more jobs are ever made than the queue and the threads take.
     Lifetime(Vector),
+}
+
+impl Bound {
+    /// The vector.
+    pub fn vector(&self) -> &Vector
+        ensures { result.now ≡ bound_vector self.now }
+    {
+        match self {
+            Bound::Standing(vector) | Bound::Lifetime(vector) => vector,
+        }
+    }
+
+    /// What the vector's total is compared with: the queue, or all jobs that the pool takes before it can refuse one.
+    pub fn limit(&self, plan: &Plan, pool: usize) -> u64
+        requires { pool < length plan.now.pools }
+        ensures { result ≡ bound_limit plan.now pool self.now }
+    {
+        let pool = &plan.pools()[pool];
+        match self {
+            Bound::Standing(_) => pool.queue,
+            Bound::Lifetime(_) => lifetime_limit(pool),
+        }
+    }
+
+    /// Looks at the conditions of the pool's bound.
+    pub fn visit_rows<V: RowVisitor>(&self, plan: &Plan, pool: usize, visitor: &mut V)
+        requires fits { IsTrue (vector_fits plan.now (bound_vector self.now)) }
+        requires pool { pool < length plan.now.pools }
+        ensures { Takes V.HasSeen visitor.old visitor.new (bound_rows plan.now pool self.now) }
+    {
+        match self {
+            Bound::Standing(vector) => vector.visit_standing_rows(plan, pool, visitor),
+            Bound::Lifetime(vector) => vector.visit_lifetime_rows(plan, pool, visitor),
+        }
+    }
 }

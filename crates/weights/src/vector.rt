@@ -1,6 +1,6 @@
 //! Vectors of weights.
 
-ghost use Rattle.std.specs.Prelude.{map};
+ghost use Rattle.std.specs.Prelude.{◌≡◌, ◌<◌, length, map};
 ghost use Rattle.weights.specs.Vector as spec;
 
 use std::marker::Model;
@@ -21,4 +21,30 @@ impl Model for Vector {
     ghost Value = { spec.Vector };
 
     ghost view = { λ v. record { workers = v.workers.items; classes = map (λ row. row.items) v.classes.items; clients = map (λ row. row.items) v.clients.items } };
+}
+
+impl Vector {
+    /// What one worker of the pool weighs.
+    pub fn workers_weight(&self, pool: usize) -> u64
+        requires { pool < length self.now.workers }
+        ensures { result ≡ spec.workers_weight self.now pool }
+    {
+        self.workers[pool]
+    }
+
+    /// What a job of the class weighs: queued, at each position of its body, and done.
+    pub fn class_weights(&self, class: usize) -> &[u64]
+        requires { class < length self.now.classes }
+        ensures { result.now ≡ spec.class_weights self.now class }
+    {
+        &self.classes[class]
+    }
+
+    /// What a client of the kind weighs at each position of its body.
+    pub fn client_weights(&self, client: usize) -> &[u64]
+        requires { client < length self.now.clients }
+        ensures { result.now ≡ spec.client_weights self.now client }
+    {
+        &self.clients[client]
+    }
 }

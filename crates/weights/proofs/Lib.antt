@@ -1,0 +1,4 @@
+pub mod Seen
+pub mod Walks
+pub mod Fitting
+pub mod Loops

@@ -1,0 +1,7 @@
+-- The rows of the classes before this one have been seen.
+use Rattle.weights.specs.Rows.{class_rows}
+use Rattle.weights.proofs.Walks.{Walked}
+use Rattle.weights.proofs.rows.visit_classes.Given as goal
+
+abbrev pub invariant-loop-number : goal.invariant-loop-number
+invariant-loop-number g l = Walked g.V.RowVisitor.HasSeen l.initial.visitor l.visitor (class_rows l.at_get l.plan l.vector) l.plan.classes l.number

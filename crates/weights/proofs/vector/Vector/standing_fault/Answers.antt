@@ -1,0 +1,5 @@
+use Rattle.std.proofs.Common.{[]}
+use Rattle.weights.proofs.vector.Vector.standing_fault.Goals as goal
+
+pub returns : goal.returns
+returns c = c.visit_standing_rows.ensures.behind [] c.new-first.ensures

@@ -1,0 +1,21 @@
+-- A body, and what its actor weighs at each of its positions.
+use Rattle.std.specs.Prelude.{◌≤◌, ◌<◌, ℕ, List, length, slice_index}
+use Rattle.job_bodies.specs.declared.action.Action.{Action}
+use Rattle.job_bodies.specs.Plan.{Plan}
+use Rattle.job_bodies.proofs.Bodies.{IsLawful}
+use Rattle.weights.specs.declared.limits.TheConstants.{MOST_WEIGHT}
+use Rattle.weights.specs.declared.row.Place.{Place}
+use Rattle.weights.specs.declared.row.Place.TheVariants.{ClassAction, ClientAction}
+use Rattle.weights.specs.declared.body.Actor.{Actor}
+use Rattle.weights.specs.declared.body.Actor.TheVariants.{Class, Client}
+
+-- the actor's action at position i
+abbrev pub place_at : Actor → ℕ → Place
+place_at (Class k) i = ClassAction k i
+place_at (Client c) i = ClientAction c i
+
+-- a lawful body, with a weight for each of its positions, none above the limit
+pub record IsWeighed (plan : Plan) (actions : List Action) (weights : List ℕ) : Type 0 where
+  pub lawful : IsLawful plan actions
+  pub long : length actions < length weights
+  pub small : (i : ℕ) → slice_index weights i ≤ MOST_WEIGHT

@@ -1,0 +1,116 @@
+//! The rows of a body, one for each of its actions.
+
+ghost use Rattle.std.specs.Prelude.{◌≡◌, ◌<◌, ℕ, List, length, slice_index, slice_index_or, IsTrue};
+ghost use Rattle.job_bodies.specs.declared.action.Action.TheVariants.{Work};
+ghost use Rattle.job_bodies.specs.Plan.{class_got};
+ghost use Rattle.weights.specs.Vector as spec;
+ghost use Rattle.weights.specs.AtGet.{given_back};
+ghost use Rattle.weights.specs.Body.{place_at, IsWeighed};
+ghost use Rattle.weights.specs.Rows.{action_row, body_rows};
+ghost use Rattle.weights.specs.Takes.{Takes};
+
+use crate::{AtGet, Place, Row, RowVisitor, Rule, Vector};
+use job_bodies::{Action, Plan};
+
+/// Whose body it is.
+#[derive(Clone, Copy)]
+pub(crate) enum Actor {
+    /// A job of the class of this number.
+    Class(usize),
+    /// A client of the kind of this number.
+    Client(usize),
+}
+
+impl Actor {
+    /// The actor's action at this position.
+    fn place_at(self, position: usize) -> Place
+        ensures { result ≡ place_at self position }
+    {
+        match self {
+            Actor::Class(class) => Place::ClassAction(class, position),
+            Actor::Client(client) => Place::ClientAction(client, position),
+        }
+    }
+}
+
+/// A body, and what its actor weighs at each of its positions.
+#[derive(Clone, Copy)]
+pub(crate) struct Body<'a> {
+    pub(crate) actor: Actor,
+    pub(crate) actions: &'a [Action],
+    pub(crate) weights: &'a [u64],
+}
+
+/// The class of the job that a get of the submit at this position waits for.
+pub fn class_got(actions: &[Action], submit: usize) -> usize
+    ensures { result ≡ class_got actions.now submit }
+{
+    match actions.get(submit) {
+        Some(Action::Submit(class)) => *class,
+        _ => 0,
+    }
+}
+
+/// What the get of a job of the class gives back.
+fn given_back(at_get: AtGet, plan: &Plan, vector: &Vector, class: usize) -> u64
+    requires fits { IsTrue (spec.vector_fits plan.now vector.now) }
+    requires class { class < length plan.now.classes }
+    ensures { result ≡ given_back at_get plan.now vector.now class }
+{
+    match at_get {
+        AtGet::GivesBack => {
+            let weights = vector.class_weights(class);
+            weights[weights.len() - 1]
+        }
+        AtGet::GivesNothing => 0,
+    }
+}
+
+/// The row of the action at this position.
+fn action_row(at_get: AtGet, plan: &Plan, vector: &Vector, body: &Body, position: usize) -> Row
+    requires fits { IsTrue (spec.vector_fits plan.now vector.now) }
+    requires weighed { IsWeighed plan.now body.now.actions.now body.now.weights.now }
+    requires position { position < length body.now.actions.now }
+    ensures { let actions = body.now.actions.now in
+        result ≡ action_row at_get plan.now vector.now (slice_index body.now.weights.now) (place_at body.now.actor) actions position (slice_index_or actions position (Work 0)) }
+{
+    let place = body.actor.place_at(position);
+    let weight = body.weights[position];
+    let next = body.weights[position + 1];
+    let (rule, left, right) = match body.actions[position] {
+        Action::Work(_) => (Rule::V2, next, weight),
+        Action::Submit(class) => (Rule::V3, next + vector.class_weights(class)[0], weight),
+        Action::Get(submit) => {
+            let class = class_got(body.actions, submit);
+            (
+                at_get.rule(),
+                next,
+                weight + given_back(at_get, plan, vector, class),
+            )
+        }
+    };
+    Row {
+        rule,
+        place,
+        left,
+        right,
+    }
+}
+
+/// Looks at the row of each action of a body.
+pub(crate) fn visit_body_rows<V: RowVisitor>(
+    at_get: AtGet,
+    plan: &Plan,
+    vector: &Vector,
+    body: &Body,
+    visitor: &mut V,
+)
+    requires fits { IsTrue (spec.vector_fits plan.now vector.now) }
+    requires weighed { IsWeighed plan.now body.now.actions.now body.now.weights.now }
+    ensures { let rows = body_rows at_get plan.now vector.now (slice_index body.now.weights.now) (place_at body.now.actor) body.now.actions.now in
+        Takes V.HasSeen visitor.old visitor.new rows }
+{
+    for position in 0..body.actions.len() {
+        visitor.visit(action_row(at_get, plan, vector, body, position));
+    }
+}

@@ -1,0 +1,82 @@
+//! Whether a vector has the shape of a plan, and numbers within the limit.
+
+ghost use Rattle.std.specs.Prelude.{◌≡◌, ◌+◌, ◌==◌, length, map};
+ghost use Rattle.std.specs.List.{list_all, enumerate_from};
+ghost use Rattle.weights.specs.Vector as spec;
+
+use crate::{MOST_WEIGHT, Vector};
+use job_bodies::Plan;
+
+/// Whether none of the numbers is above [`MOST_WEIGHT`].
+pub fn are_small(numbers: &[u64]) -> bool
+    ensures { result ≡ list_all spec.is_small numbers.now }
+{
+    numbers.iter().all(|number| *number <= MOST_WEIGHT)
+}
+
+/// Whether no number of the rows is above the limit.
+#[tactic(auto, using(crate::proofs::Loops::images_turn))]
+fn are_small_rows(rows: &[Vec<u64>]) -> bool
+    ensures { result ≡ list_all (list_all spec.is_small) (map (λ row. row.items) rows.now) }
+{
+    for row in rows {
+        if !are_small(row) {
+            return false;
+        }
+    }
+    true
+}
+
+impl Vector {
+    /// Whether there is a number for each pool, for each point of each class and for each position of each kind of
+    /// clients, and no number is above [`MOST_WEIGHT`].
+    pub fn fits(&self, plan: &Plan) -> bool
+        ensures { result ≡ spec.vector_fits plan.now self.now }
+    {
+        self.has_shape(plan) && self.has_small_numbers()
+    }
+
+    /// Whether there is a number for each point of the plan.
+    fn has_shape(&self, plan: &Plan) -> bool
+        ensures { result ≡ spec.has_shape plan.now self.now }
+    {
+        self.workers.len() == plan.pools().len()
+            && self.classes.len() == plan.classes().len()
+            && self.clients.len() == plan.clients().len()
+            && self.has_class_shapes(plan)
+            && self.has_client_shapes(plan)
+    }
+
+    /// Whether each class has a number for queued, for each position of its body, and for done.
+    fn has_class_shapes(&self, plan: &Plan) -> bool
+        requires { length self.now.classes ≡ length plan.now.classes }
+        ensures { result ≡ list_all (λ entry. length (spec.class_weights self.now entry.0) == length entry.1.body + 3) (enumerate_from 0 plan.now.classes) }
+    {
+        for (number, class) in plan.classes().iter().enumerate() {
+            if self.class_weights(number).len() != class.body.as_slice().len() + 3 {
+                return false;
+            }
+        }
+        true
+    }
+
+    /// Whether each kind of clients has a number for each position of its body.
+    fn has_client_shapes(&self, plan: &Plan) -> bool
+        requires { length self.now.clients ≡ length plan.now.clients }
+        ensures { result ≡ list_all (λ entry. length (spec.client_weights self.now entry.0) == length entry.1.body + 1) (enumerate_from 0 plan.now.clients) }
+    {
+        for (number, client) in plan.clients().iter().enumerate() {
+            if self.client_weights(number).len() != client.body.as_slice().len() + 1 {
+                return false;
+            }
+        }
+        true
+    }
+
+    /// Whether no number is above the limit.
+    fn has_small_numbers(&self) -> bool
+        ensures { result ≡ spec.has_small_numbers self.now }
+    {
+        are_small(&self.workers) && are_small_rows(&self.classes) && are_small_rows(&self.clients)
+    }
+}

@@ -1,0 +1,115 @@
+//! The conditions of a pool's lifetime vector: no more jobs are ever made than the queue and the threads hold.
+
+ghost use Rattle.std.specs.Prelude.{◌≡◌, ◌==◌, ◌<◌, ◌∷◌, [], if◌then◌else◌, IsTrue, Some, length, map, slice_get};
+ghost use Rattle.std.specs.List.{flat_map, enumerate_from};
+ghost use Rattle.job_bodies.specs.WellFormed.{IsWellFormed, has_lawful_sizes};
+ghost use Rattle.weights.specs.declared.row.Rule.TheVariants.{L1, L2};
+ghost use Rattle.weights.specs.declared.row.Place.TheVariants as place;
+ghost use Rattle.weights.specs.Row.{row, first_failing};
+ghost use Rattle.weights.specs.Rows.{classes_of};
+ghost use Rattle.weights.specs.Lifetime as lifetime;
+ghost use Rattle.weights.specs.Vector as spec;
+ghost use Rattle.weights.specs.Takes.{Takes};
+
+use crate::{AtGet, FirstFault, Place, Row, RowVisitor, Rule, StandingFault, Vector};
+use job_bodies::{Class, Plan, Pool};
+
+/// How many jobs a pool takes before it can refuse one: its queue and its threads, but for those that no job made.
+pub(crate) fn lifetime_limit(pool: &Pool) -> u64
+    requires { IsTrue (has_lawful_sizes pool.now) }
+    ensures { result ≡ lifetime.lifetime_limit pool.now }
+{
+    pool.queue + pool.max - pool.first_workers()
+}
+
+/// Looks at L1 of each pool.
+fn visit_worker_rows<V: RowVisitor>(plan: &Plan, vector: &Vector, visitor: &mut V)
+    requires { IsTrue (spec.vector_fits plan.now vector.now) }
+    ensures { let all = map (λ entry. row L1 (place.Worker entry.0) (spec.workers_weight vector.now entry.0) 0) (enumerate_from 0 plan.now.pools) in
+        Takes V.HasSeen visitor.old visitor.new all }
+{
+    for pool in 0..plan.pools().len() {
+        visitor.visit(Row {
+            rule: Rule::L1,
+            place: Place::Worker(pool),
+            left: vector.workers_weight(pool),
+            right: 0,
+        });
+    }
+}
+
+/// Looks at L2 of a class with these weights.
+fn visit_made_rows<V: RowVisitor>(class: usize, weights: &[u64], visitor: &mut V)
+    ensures { Takes V.HasSeen visitor.old visitor.new (map (λ weight. row L2 (place.Class class) 1 weight) weights.now) }
+{
+    for weight in weights {
+        visitor.visit(Row {
+            rule: Rule::L2,
+            place: Place::Class(class),
+            left: 1,
+            right: *weight,
+        });
+    }
+}
+
+/// Looks at L2 of a class, if it is one of the pool.
+fn visit_made_rows_of<V: RowVisitor>(
+    plan: &Plan,
+    pool: usize,
+    vector: &Vector,
+    number: usize,
+    class: &Class,
+    visitor: &mut V,
+)
+    requires fits { IsTrue (spec.vector_fits plan.now vector.now) }
+    requires well_formed { IsWellFormed plan.now }
+    requires class { slice_get plan.now.classes number ≡ Some class.now }
+    ensures { let all = map (λ weight. row L2 (place.Class number) 1 weight) (spec.class_weights vector.now number) in
+        Takes V.HasSeen visitor.old visitor.new (if class.now.pool == pool then all else []) }
+{
+    if class.pool == pool {
+        visit_made_rows(number, vector.class_weights(number), visitor);
+    }
+}
+
+/// Looks at L2 of each class of the pool.
+fn visit_all_made_rows<V: RowVisitor>(plan: &Plan, pool: usize, vector: &Vector, visitor: &mut V)
+    requires { IsTrue (spec.vector_fits plan.now vector.now) }
+    ensures { let all = flat_map (λ entry. map (λ weight. row L2 (place.Class entry.0) 1 weight) (spec.class_weights vector.now entry.0)) (classes_of plan.now pool) in
+        Takes V.HasSeen visitor.old visitor.new all }
+{
+    for (number, class) in plan.classes().iter().enumerate() {
+        visit_made_rows_of(plan, pool, vector, number, class, visitor);
+    }
+}
+
+impl Vector {
+    /// Looks at the conditions of the pool's lifetime vector: L1 of each pool, then V2 to V7 with L5 in place of V5, then
+    /// L2 of each class of the pool, then L3.
+    pub fn visit_lifetime_rows<V: RowVisitor>(&self, plan: &Plan, pool: usize, visitor: &mut V)
+        requires fits { IsTrue (spec.vector_fits plan.now self.now) }
+        requires pool { pool < length plan.now.pools }
+        ensures { Takes V.HasSeen visitor.old visitor.new (lifetime.lifetime_rows plan.now pool self.now) }
+    {
+        visit_worker_rows(plan, self, visitor);
+        self.visit_rows(plan, AtGet::GivesNothing, visitor);
+        visit_all_made_rows(plan, pool, self, visitor);
+        visitor.visit(Row {
+            rule: Rule::L3,
+            place: Place::Total,
+            left: self.total(plan),
+            right: lifetime_limit(&plan.pools()[pool]),
+        });
+    }
+
+    /// The first of the conditions of the pool's lifetime vector that fails. It takes no memory.
+    pub fn lifetime_fault(&self, plan: &Plan, pool: usize) -> Option<StandingFault>
+        requires fits { IsTrue (spec.vector_fits plan.now self.now) }
+        requires pool { pool < length plan.now.pools }
+        ensures { result ≡ first_failing (lifetime.lifetime_rows plan.now pool self.now) }
+    {
+        let mut first = FirstFault::new();
+        self.visit_lifetime_rows(plan, pool, &mut first);
+        first.found
+    }
+}

@@ -1,0 +1,151 @@
+//! The rows that a vector keeps at each point of a plan.
+
+ghost use Rattle.std.specs.Prelude.{◌≡◌, ◌+◌, IsTrue, Some, length, slice_get};
+ghost use Rattle.std.specs.List.{flat_map, enumerate_from};
+ghost use Rattle.job_bodies.specs.WellFormed.{IsWellFormed};
+ghost use Rattle.weights.specs.declared.row.Rule.TheVariants.{V4, V6, V7};
+ghost use Rattle.weights.specs.declared.row.Place.TheVariants as place;
+ghost use Rattle.weights.specs.Row.{row};
+ghost use Rattle.weights.specs.Vector as spec;
+ghost use Rattle.weights.specs.Rows.{class_rows, client_rows, rows};
+ghost use Rattle.weights.specs.Takes.{Takes};
+
+use crate::body::{Actor, Body, visit_body_rows};
+use crate::{AtGet, Place, Row, RowVisitor, Rule, Vector};
+use job_bodies::{Class, Client, Plan};
+
+/// V4 of a class: the job pays, with the worker that takes it, for the job at work.
+fn taking_row(plan: &Plan, vector: &Vector, number: usize, class: &Class) -> Row
+    requires fits { IsTrue (spec.vector_fits plan.now vector.now) }
+    requires well_formed { IsWellFormed plan.now }
+    requires class { slice_get plan.now.classes number ≡ Some class.now }
+    ensures { result ≡ row V4 (place.Class number) (spec.job_weight vector.now number 0) (spec.queued_weight vector.now number + spec.workers_weight vector.now class.now.pool) }
+{
+    let weights = vector.class_weights(number);
+    let worker = vector.workers_weight(class.pool);
+    Row {
+        rule: Rule::V4,
+        place: Place::Class(number),
+        left: weights[1],
+        right: weights[0] + worker,
+    }
+}
+
+/// V6 of a class: the job at its end pays for the done job and the idle worker.
+fn ending_row(plan: &Plan, vector: &Vector, number: usize, class: &Class) -> Row
+    requires fits { IsTrue (spec.vector_fits plan.now vector.now) }
+    requires well_formed { IsWellFormed plan.now }
+    requires class { slice_get plan.now.classes number ≡ Some class.now }
+    ensures { let end = length class.now.body in
+        result ≡ row V6 (place.Class number) (spec.done_weight plan.now vector.now number + spec.workers_weight vector.now class.now.pool) (spec.job_weight vector.now number end) }
+{
+    let weights = vector.class_weights(number);
+    let worker = vector.workers_weight(class.pool);
+    let done = weights.len() - 1;
+    Row {
+        rule: Rule::V6,
+        place: Place::Class(number),
+        left: weights[done] + worker,
+        right: weights[done - 1],
+    }
+}
+
+/// Looks at the rows of a class: V4, its actions, V6.
+fn visit_class_rows<V: RowVisitor>(
+    at_get: AtGet,
+    plan: &Plan,
+    vector: &Vector,
+    number: usize,
+    class: &Class,
+    visitor: &mut V,
+)
+    requires fits { IsTrue (spec.vector_fits plan.now vector.now) }
+    requires well_formed { IsWellFormed plan.now }
+    requires class { slice_get plan.now.classes number ≡ Some class.now }
+    ensures { Takes V.HasSeen visitor.old visitor.new (class_rows at_get plan.now vector.now number class.now) }
+{
+    let body = Body {
+        actor: Actor::Class(number),
+        actions: &class.body,
+        weights: &vector.class_weights(number)[1..],
+    };
+    visitor.visit(taking_row(plan, vector, number, class));
+    visit_body_rows(at_get, plan, vector, &body, visitor);
+    visitor.visit(ending_row(plan, vector, number, class));
+}
+
+/// V7 of a kind of clients: a client at its end pays for its beginning.
+fn loop_row(plan: &Plan, vector: &Vector, number: usize, client: &Client) -> Row
+    requires fits { IsTrue (spec.vector_fits plan.now vector.now) }
+    requires well_formed { IsWellFormed plan.now }
+    requires client { slice_get plan.now.clients number ≡ Some client.now }
+    ensures { let end = length client.now.body in
+        result ≡ row V7 (place.Client number) (spec.client_weight vector.now number 0) (spec.client_weight vector.now number end) }
+{
+    let weights = vector.client_weights(number);
+    Row {
+        rule: Rule::V7,
+        place: Place::Client(number),
+        left: weights[0],
+        right: weights[weights.len() - 1],
+    }
+}
+
+/// Looks at the rows of a kind of clients: its actions, and V7 if it repeats.
+fn visit_client_rows<V: RowVisitor>(
+    at_get: AtGet,
+    plan: &Plan,
+    vector: &Vector,
+    number: usize,
+    client: &Client,
+    visitor: &mut V,
+)
+    requires fits { IsTrue (spec.vector_fits plan.now vector.now) }
+    requires well_formed { IsWellFormed plan.now }
+    requires client { slice_get plan.now.clients number ≡ Some client.now }
+    ensures { Takes V.HasSeen visitor.old visitor.new (client_rows at_get plan.now vector.now number client.now) }
+{
+    let body = Body {
+        actor: Actor::Client(number),
+        actions: &client.body,
+        weights: vector.client_weights(number),
+    };
+    visit_body_rows(at_get, plan, vector, &body, visitor);
+    if client.repeat {
+        visitor.visit(loop_row(plan, vector, number, client));
+    }
+}
+
+/// Looks at the rows of all classes.
+fn visit_classes<V: RowVisitor>(at_get: AtGet, plan: &Plan, vector: &Vector, visitor: &mut V)
+    requires { IsTrue (spec.vector_fits plan.now vector.now) }
+    ensures { let all = flat_map (λ entry. class_rows at_get plan.now vector.now entry.0 entry.1) (enumerate_from 0 plan.now.classes) in
+        Takes V.HasSeen visitor.old visitor.new all }
+{
+    for (number, class) in plan.classes().iter().enumerate() {
+        visit_class_rows(at_get, plan, vector, number, class, visitor);
+    }
+}
+
+/// Looks at the rows of all kinds of clients.
+fn visit_clients<V: RowVisitor>(at_get: AtGet, plan: &Plan, vector: &Vector, visitor: &mut V)
+    requires { IsTrue (spec.vector_fits plan.now vector.now) }
+    ensures { let all = flat_map (λ entry. client_rows at_get plan.now vector.now entry.0 entry.1) (enumerate_from 0 plan.now.clients) in
+        Takes V.HasSeen visitor.old visitor.new all }
+{
+    for (number, client) in plan.clients().iter().enumerate() {
+        visit_client_rows(at_get, plan, vector, number, client, visitor);
+    }
+}
+
+impl Vector {
+    /// Looks at the rows V2 to V7, or L5 in place of V5 where a get gives nothing back: of each class, then of each kind of
+    /// clients.
+    pub fn visit_rows<V: RowVisitor>(&self, plan: &Plan, at_get: AtGet, visitor: &mut V)
+        requires fits { IsTrue (spec.vector_fits plan.now self.now) }
+        ensures { Takes V.HasSeen visitor.old visitor.new (rows at_get plan.now self.now) }
+    {
+        visit_classes(at_get, plan, self, visitor);
+        visit_clients(at_get, plan, self, visitor);
+    }
+}

@@ -1,0 +1,91 @@
+//! The conditions of a pool's standing vector: no more jobs are ever queued than the queue holds.
+
+ghost use Rattle.std.specs.Prelude.{◌≡◌, ◌==◌, ◌<◌, ◌∷◌, [], if◌then◌else◌, IsTrue, Some, length, map, slice_get};
+ghost use Rattle.job_bodies.specs.WellFormed.{IsWellFormed};
+ghost use Rattle.weights.specs.declared.row.Rule.TheVariants.{S1};
+ghost use Rattle.weights.specs.declared.row.Place.TheVariants as place;
+ghost use Rattle.weights.specs.AtGet.{GivesBack};
+ghost use Rattle.weights.specs.Row.{row, first_failing};
+ghost use Rattle.weights.specs.Rows.{rows, classes_of};
+ghost use Rattle.weights.specs.Standing.{standing_rows};
+ghost use Rattle.weights.specs.Vector as spec;
+ghost use Rattle.weights.specs.Takes.{Takes};
+
+use crate::{AtGet, FirstFault, Place, Row, RowFault, RowVisitor, Rule, StandingFault, Vector};
+use job_bodies::{Class, Plan};
+
+/// Looks at S1 of a class, if it is one of the pool.
+fn visit_queued_row<V: RowVisitor>(
+    plan: &Plan,
+    pool: usize,
+    vector: &Vector,
+    number: usize,
+    class: &Class,
+    visitor: &mut V,
+)
+    requires fits { IsTrue (spec.vector_fits plan.now vector.now) }
+    requires well_formed { IsWellFormed plan.now }
+    requires class { slice_get plan.now.classes number ≡ Some class.now }
+    ensures { let one = row S1 (place.Class number) 1 (spec.queued_weight vector.now number) in
+        Takes V.HasSeen visitor.old visitor.new (if class.now.pool == pool then one ∷ [] else []) }
+{
+    if class.pool == pool {
+        visitor.visit(Row {
+            rule: Rule::S1,
+            place: Place::Class(number),
+            left: 1,
+            right: vector.class_weights(number)[0],
+        });
+    }
+}
+
+/// Looks at S1 of each class of the pool.
+fn visit_queued_rows<V: RowVisitor>(plan: &Plan, pool: usize, vector: &Vector, visitor: &mut V)
+    requires { IsTrue (spec.vector_fits plan.now vector.now) }
+    ensures { let all = map (λ entry. row S1 (place.Class entry.0) 1 (spec.queued_weight vector.now entry.0)) (classes_of plan.now pool) in
+        Takes V.HasSeen visitor.old visitor.new all }
+{
+    for (number, class) in plan.classes().iter().enumerate() {
+        visit_queued_row(plan, pool, vector, number, class, visitor);
+    }
+}
+
+impl Vector {
+    /// Looks at the conditions of the pool's standing vector: V2 to V7, then S1 of each class of the pool, then S2.
+    pub fn visit_standing_rows<V: RowVisitor>(&self, plan: &Plan, pool: usize, visitor: &mut V)
+        requires fits { IsTrue (spec.vector_fits plan.now self.now) }
+        requires pool { pool < length plan.now.pools }
+        ensures { Takes V.HasSeen visitor.old visitor.new (standing_rows plan.now pool self.now) }
+    {
+        self.visit_rows(plan, AtGet::GivesBack, visitor);
+        visit_queued_rows(plan, pool, self, visitor);
+        let pool = &plan.pools()[pool];
+        visitor.visit(Row {
+            rule: Rule::S2,
+            place: Place::Total,
+            left: self.total(plan),
+            right: pool.queue,
+        });
+    }
+
+    /// The first of the conditions V2 to V7 that fails. It takes no memory.
+    pub fn first_fault(&self, plan: &Plan) -> Option<RowFault>
+        requires { IsTrue (spec.vector_fits plan.now self.now) }
+        ensures { result ≡ first_failing (rows GivesBack plan.now self.now) }
+    {
+        let mut first = FirstFault::new();
+        self.visit_rows(plan, AtGet::GivesBack, &mut first);
+        first.found
+    }
+
+    /// The first of the conditions of the pool's standing vector that fails: V2 to V7, then S1, then S2. It takes no memory.
+    pub fn standing_fault(&self, plan: &Plan, pool: usize) -> Option<StandingFault>
+        requires fits { IsTrue (spec.vector_fits plan.now self.now) }
+        requires pool { pool < length plan.now.pools }
+        ensures { result ≡ first_failing (standing_rows plan.now pool self.now) }
+    {
+        let mut first = FirstFault::new();
+        self.visit_standing_rows(plan, pool, &mut first);
+        first.found
+    }
+}

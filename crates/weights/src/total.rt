@@ -1,0 +1,46 @@
+//! What the start of a plan weighs.
+
+ghost use Rattle.std.specs.Prelude.{◌≡◌, ◌≤◌, ◌*◌, sum_by, IsTrue};
+ghost use Rattle.std.specs.List.{enumerate_from};
+ghost use Rattle.job_bodies.specs.declared.limits.TheConstants.{MOST_UNITS, MOST_POOLS, MOST_CLIENTS};
+ghost use Rattle.weights.specs.declared.limits.TheConstants.{MOST_WEIGHT};
+ghost use Rattle.weights.specs.Vector as spec;
+
+use crate::Vector;
+use job_bodies::Plan;
+
+/// What all clients weigh at their beginning.
+fn clients_total(plan: &Plan, vector: &Vector) -> u64
+    requires { IsTrue (spec.vector_fits plan.now vector.now) }
+    ensures value { result ≡ sum_by (λ entry. entry.1.count * spec.client_weight vector.now entry.0 0) (enumerate_from 0 plan.now.clients) }
+    ensures few { result ≤ MOST_CLIENTS * (MOST_UNITS * MOST_WEIGHT) }
+{
+    let mut total = 0;
+    for (number, client) in plan.clients().iter().enumerate() {
+        total += client.count * vector.client_weights(number)[0];
+    }
+    total
+}
+
+/// What the workers of all pools weigh, as many as there can be.
+fn workers_total(plan: &Plan, vector: &Vector) -> u64
+    requires { IsTrue (spec.vector_fits plan.now vector.now) }
+    ensures value { result ≡ sum_by (λ entry. spec.workers_weight vector.now entry.0 * entry.1.max) (enumerate_from 0 plan.now.pools) }
+    ensures few { result ≤ MOST_POOLS * (MOST_WEIGHT * MOST_UNITS) }
+{
+    let mut total = 0;
+    for (number, pool) in plan.pools().iter().enumerate() {
+        total += vector.workers_weight(number) * pool.max;
+    }
+    total
+}
+
+impl Vector {
+    /// What the start weighs: every client at its beginning, and each pool's maximum of workers. It is below 2 to the 59th.
+    pub fn total(&self, plan: &Plan) -> u64
+        requires { IsTrue (spec.vector_fits plan.now self.now) }
+        ensures { result ≡ spec.total plan.now self.now }
+    {
+        clients_total(plan, self) + workers_total(plan, self)
+    }
+}
