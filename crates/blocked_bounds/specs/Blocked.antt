@@ -1,5 +1,5 @@
 -- The conditions of a pool's blocked vector: fewer jobs than core stand at counted gets.
-use Rattle.std.specs.Prelude.{ℕ, ◌-◌, ◌&&◌, Bool, true, false, List, [], ◌∷◌, ◌++◌, map, filter}
+use Rattle.std.specs.Prelude.{ℕ, ◌-◌, Bool, true, false, ◌&&◌, List, [], ◌∷◌, ◌++◌, map, filter}
 use Rattle.std.specs.List.{flat_map, enumerate_from}
 use Rattle.job_bodies.specs.declared.action.Action.{Action}
 use Rattle.job_bodies.specs.declared.action.Action.TheVariants.{Get}
@@ -9,10 +9,9 @@ use Rattle.weights.specs.declared.row.Place.TheVariants as place
 use Rattle.weights.specs.declared.row.Row.{Row}
 use Rattle.weights.specs.Row.{row}
 use Rattle.weights.specs.Vector.{Vector, job_weight, total}
-use Rattle.weights.specs.AtGet.{GivesBack}
+use Rattle.weights.specs.declared.at_get.AtGet.TheVariants.{GivesBack}
 use Rattle.weights.specs.Rows.{rows, classes_of}
 
--- is it a get?
 abbrev pub is_get : Action → Bool
 is_get (Get t) = true
 is_get _ = false
@@ -23,7 +22,6 @@ counted_rows counted v k class =
     map (λ entry. row B1 (place.ClassAction k entry.0) 1 (job_weight v k entry.0))
     (filter (λ entry. is_get entry.1 && counted k entry.0) (enumerate_from 0 class.body))
 
--- all conditions of the blocked vector of pool p: V2 to V7, B1 at each counted get of its classes, and B2
 abbrev pub blocked_rows : Plan → ℕ → (ℕ → ℕ → Bool) → Vector → List Row
 blocked_rows plan p counted v =
     rows GivesBack plan v

@@ -20,7 +20,7 @@ use Rattle.written_machine.proofs.KeptStep.{kept_step}
 use Rattle.written_machine.proofs.JobsMade.{HaveJobs, have_jobs_start, have_jobs_step}
 use Rattle.written_machine.proofs.Reached.{replay_none, replay_keeps, reached_keeps}
 use Rattle.written_machine.proofs.Progress.{goes_on}
-use Rattle.weights.specs.AtGet.{GivesBack}
+use Rattle.weights.specs.declared.at_get.AtGet.TheVariants.{GivesBack}
 use Rattle.weights.specs.Bound.{bound_vector, bound_at_get}
 use Rattle.pool_ranks.specs.Ranks.{is_counted}
 use Rattle.certificates.specs.Cert.{Cert, pool_cert_at}

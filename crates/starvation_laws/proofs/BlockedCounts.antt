@@ -9,8 +9,8 @@ use Rattle.job_bodies.proofs.Bodies.{IsOrdered, ordered}
 use Rattle.written_machine.specs.State.{Stage, State, Made, no_job, job_at, pool_of}
 use Rattle.written_machine.proofs.Kept.{Kept}
 use Rattle.written_machine.proofs.Reached.{kept}
+use Rattle.weights.specs.declared.at_get.AtGet.TheVariants.{GivesBack}
 use Rattle.weights.specs.Vector.{Vector, job_weight}
-use Rattle.weights.specs.AtGet.{GivesBack}
 use Rattle.weight_laws.specs.WeightedSum.{stage_weight}
 use Rattle.weight_laws.proofs.NeverRises.{IsBalanced}
 use Rattle.weight_laws.proofs.WithinTotal.{spent-le-total}

@@ -5,11 +5,11 @@ use Rattle.numbered_lists.proofs.Members.{In-append_left, In-append_right, In-ma
 use Rattle.job_bodies.specs.declared.action.Action.{Action}
 use Rattle.job_bodies.specs.declared.action.Action.TheVariants as action
 use Rattle.job_bodies.specs.Plan.{Class, Plan, pool_at, class_at}
+use Rattle.weights.specs.declared.at_get.AtGet.TheVariants.{GivesBack}
 use Rattle.weights.specs.declared.row.Rule.TheVariants.{B1, B2}
 use Rattle.weights.specs.declared.row.Place.TheVariants as place
 use Rattle.weights.specs.Row.{row, AllHold}
 use Rattle.weights.specs.Vector.{Vector, job_weight, total}
-use Rattle.weights.specs.AtGet.{GivesBack}
 use Rattle.weights.specs.Rows.{rows, classes_of}
 use Rattle.blocked_bounds.specs.Blocked.{is_get, counted_rows, blocked_rows}
 use Rattle.weight_laws.proofs.VectorLaws.{VectorLaws, vector_laws, numbered_class_of, class_of_action}

@@ -1,22 +1,22 @@
 -- What the rows of a standing vector and of a lifetime vector say.
-use Rattle.std.proofs.Common.{◌≡◌, ℕ, ◌+◌, ◌<◌, ◌≤◌, ◌&&◌, true, [], ◌∷◌, ◌++◌, length, map, flat_map, get_or, eqb, arith}
-use Rattle.std.specs.List.{enumerate_from, list_all}
-use Rattle.std.proofs.lemmas.Bool.{and_parts, eqb-true}
+use Rattle.std.proofs.Common.{◌≡◌, ℕ, ◌+◌, ◌<◌, ◌≤◌, true, [], ◌∷◌, ◌++◌, length, map, flat_map, get_or, arith}
+use Rattle.std.specs.List.{enumerate_from}
 use Rattle.numbered_lists.specs.In.{here}
-use Rattle.numbered_lists.proofs.Members.{In-append_left, In-append_right, In-map, In-flat_map, In-get_or, list_all_at_In}
-use Rattle.job_bodies.specs.Plan.{Pool, Class, Client, Plan, pool_at, class_at}
+use Rattle.numbered_lists.proofs.Members.{In-append_left, In-append_right, In-map, In-flat_map, In-get_or}
+use Rattle.job_bodies.specs.Plan.{Pool, Class, Plan, pool_at, class_at}
+use Rattle.weights.specs.declared.at_get.AtGet.TheVariants.{GivesBack, GivesNothing}
 use Rattle.weights.specs.declared.row.Rule.TheVariants.{S1, S2, L1, L2, L3}
 use Rattle.weights.specs.declared.row.Place.TheVariants as place
 use Rattle.weights.specs.declared.bound.Bound.{Bound}
 use Rattle.weights.specs.declared.bound.Bound.TheVariants.{Standing, Lifetime}
 use Rattle.weights.specs.Row.{row, AllHold}
-use Rattle.weights.specs.Vector.{Vector, workers_weight, class_weights, client_weights, queued_weight, job_weight, done_weight, has_shape, has_small_numbers, vector_fits, total}
-use Rattle.weights.specs.AtGet.{GivesBack, GivesNothing}
+use Rattle.weights.specs.Vector.{Vector, workers_weight, class_weights, queued_weight, job_weight, done_weight, vector_fits, total}
 use Rattle.weights.specs.Rows.{rows, classes_of}
 use Rattle.weights.specs.Standing.{standing_rows}
 use Rattle.weights.specs.Lifetime.{lifetime_limit, lifetime_rows}
 use Rattle.weights.specs.Bound.{bound_vector, bound_at_get, bound_rows}
-use Rattle.weight_laws.proofs.VectorLaws.{VectorLaws, numbered_class, numbered_class_of, vector_laws}
+use Rattle.weights.proofs.Fitting.{fits}
+use Rattle.weight_laws.proofs.VectorLaws.{VectorLaws, numbered_class_of, vector_laws}
 
 -- ---- a standing vector
 
@@ -48,20 +48,9 @@ pub record LifetimeLaws (plan : Plan) (p : ℕ) (v : Vector) : Type 0 where
   pub done : (k : ℕ) → k < length plan.classes → (class_at plan k).pool ≡ p → 1 ≤ done_weight plan v k
   pub within : total plan v ≤ lifetime_limit (pool_at plan p)
 
--- a vector that fits has a number for each point of each class
-pub class_weights-length : (plan : Plan) (v : Vector) (k : ℕ) → vector_fits plan v ≡ true → k < length plan.classes → length (class_weights v k) ≡ length (class_at plan k).body + 3
-class_weights-length plan v k fits inside =
-    let as_many = eqb (length v.workers) (length plan.pools) && eqb (length v.classes) (length plan.classes) && eqb (length v.clients) (length plan.clients) in
-    let of_class = λ (entry : ℕ × Class). eqb (length (class_weights v entry.0)) (length entry.1.body + 3) in
-    let of_client = λ (entry : ℕ × Client). eqb (length (client_weights v entry.0)) (length entry.1.body + 1) in
-    let classes = list_all of_class (enumerate_from 0 plan.classes) in
-    let shape = (and_parts (has_shape plan v) (has_small_numbers v) fits).0 in
-    let each : classes ≡ true = (and_parts as_many classes (and_parts (as_many && classes) (list_all of_client (enumerate_from 0 plan.clients)) shape).0).1 in
-    eqb-true (length (class_weights v k)) (length (class_at plan k).body + 3) (list_all_at_In of_class each (numbered_class plan k inside))
-
 -- they hold where the rows of a vector hold that fits
 pub lifetime_laws : (plan : Plan) (p : ℕ) (v : Vector) → vector_fits plan v ≡ true → AllHold (lifetime_rows plan p v) → LifetimeLaws plan p v
-lifetime_laws plan p v fits hold =
+lifetime_laws plan p v fit hold =
     let of_workers = map (λ (entry : ℕ × Pool). row L1 (place.Worker entry.0) (workers_weight v entry.0) 0) (enumerate_from 0 plan.pools) in
     let of_class = λ (entry : ℕ × Class). map (λ (weight : ℕ). row L2 (place.Class entry.0) 1 weight) (class_weights v entry.0) in
     let of_classes = flat_map of_class (classes_of plan p) in
@@ -73,9 +62,9 @@ lifetime_laws plan p v fits hold =
     (In-flat_map of_class (numbered_class_of plan p k inside of_pool) (In-map (λ (weight : ℕ). row L2 (place.Class k) 1 weight) (In-get_or (class_weights v k) n 0 there_is))))) in
     record {
       laws = vector_laws GivesNothing plan v (λ x i. hold x (In-append_left (last ∷ []) (In-append_left of_classes (In-append_right of_workers i))));
-      queued = λ k inside of_pool. each k 0 inside of_pool (let long = class_weights-length plan v k fits inside in omega arith);
-      position = λ k i inside of_pool within. each k (i + 1) inside of_pool (let long = class_weights-length plan v k fits inside in omega arith);
-      done = λ k inside of_pool. each k (length (class_at plan k).body + 2) inside of_pool (let long = class_weights-length plan v k fits inside in omega arith);
+      queued = λ k inside of_pool. each k 0 inside of_pool (let long = (fits plan v fit).class k inside in omega arith);
+      position = λ k i inside of_pool within. each k (i + 1) inside of_pool (let long = (fits plan v fit).class k inside in omega arith);
+      done = λ k inside of_pool. each k (length (class_at plan k).body + 2) inside of_pool (let long = (fits plan v fit).class k inside in omega arith);
       within = hold last (In-append_right ((of_workers ++ rows GivesNothing plan v) ++ of_classes) here);
     }
 
@@ -88,8 +77,8 @@ BoundLaws plan p (Lifetime v) = LifetimeLaws plan p v
 
 -- they hold where the rows of a bound hold that fits
 pub bound_laws : (plan : Plan) (p : ℕ) (bound : Bound) → vector_fits plan (bound_vector bound) ≡ true → AllHold (bound_rows plan p bound) → BoundLaws plan p bound
-bound_laws plan p (Standing v) fits hold = standing_laws plan p v hold
-bound_laws plan p (Lifetime v) fits hold = lifetime_laws plan p v fits hold
+bound_laws plan p (Standing v) fit hold = standing_laws plan p v hold
+bound_laws plan p (Lifetime v) fit hold = lifetime_laws plan p v fit hold
 
 -- its vector keeps V2 to V7, or L5 in place of V5
 pub bound_vector_laws : (plan : Plan) (p : ℕ) (bound : Bound) → BoundLaws plan p bound → VectorLaws (bound_at_get bound) plan (bound_vector bound)

@@ -24,8 +24,10 @@ use Rattle.written_machine.proofs.Stages.{staged}
 use Rattle.written_machine.proofs.Queues.{head_of_queue}
 use Rattle.written_machine.proofs.KeptSubmits.{class_exists}
 use Rattle.written_machine.proofs.ReachedLaws.{child_at_get}
+use Rattle.weights.specs.declared.at_get.AtGet.{AtGet}
+use Rattle.weights.specs.declared.at_get.AtGet.TheVariants.{GivesBack, GivesNothing}
 use Rattle.weights.specs.Vector.{Vector, workers_weight, job_weight, done_weight, client_weight}
-use Rattle.weights.specs.AtGet.{AtGet, GivesBack, GivesNothing, given_back, claimed_weight}
+use Rattle.weights.specs.AtGet.{given_back, claimed_weight}
 use Rattle.weight_laws.specs.WeightedSum.{stage_weight}
 use Rattle.weight_laws.proofs.VectorLaws.{BodyLaws, VectorLaws}
 

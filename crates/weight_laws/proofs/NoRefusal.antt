@@ -23,10 +23,11 @@ use Rattle.written_machine.proofs.Queues.{queued_stage, places-moved}
 use Rattle.written_machine.proofs.Actors.{standing-moved}
 use Rattle.written_machine.proofs.KeptSubmits.{class_exists}
 use Rattle.written_machine.proofs.JobsMade.{made_jobs, made_jobs-moved, HaveJobs}
+use Rattle.weights.specs.declared.at_get.AtGet.{AtGet}
+use Rattle.weights.specs.declared.at_get.AtGet.TheVariants.{GivesBack, GivesNothing}
 use Rattle.weights.specs.declared.bound.Bound.{Bound}
 use Rattle.weights.specs.declared.bound.Bound.TheVariants.{Standing, Lifetime}
 use Rattle.weights.specs.Vector.{Vector, queued_weight, total}
-use Rattle.weights.specs.AtGet.{AtGet, GivesBack, GivesNothing}
 use Rattle.weights.specs.Bound.{bound_vector, bound_at_get}
 use Rattle.weight_laws.specs.WeightedSum.{stage_weight}
 use Rattle.weight_laws.proofs.VectorLaws.{VectorLaws}

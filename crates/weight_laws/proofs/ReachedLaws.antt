@@ -11,8 +11,9 @@ use Rattle.written_machine.proofs.KeptStart.{kept_start}
 use Rattle.written_machine.proofs.KeptStep.{kept_step}
 use Rattle.written_machine.proofs.Reached.{reached_keeps, kept}
 use Rattle.written_machine.proofs.ReachedLaws.{threads_have_made}
+use Rattle.weights.specs.declared.at_get.AtGet.{AtGet}
+use Rattle.weights.specs.declared.at_get.AtGet.TheVariants.{GivesNothing}
 use Rattle.weights.specs.Vector.{Vector}
-use Rattle.weights.specs.AtGet.{AtGet, GivesNothing}
 use Rattle.weights.specs.Bound.{bound_vector, bound_at_get}
 use Rattle.weight_laws.specs.WeightLaws.{SumNeverRises, SumStaysWithinTotal, BoundsRefuseNothing, JobsStayWithinTotal}
 use Rattle.weight_laws.proofs.VectorLaws.{VectorLaws, vector_laws}

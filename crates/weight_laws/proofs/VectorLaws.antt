@@ -9,12 +9,13 @@ use Rattle.numbered_lists.proofs.Members.{not_In_nil, In-append_left, In-append_
 use Rattle.job_bodies.specs.declared.action.Action.{Action}
 use Rattle.job_bodies.specs.declared.action.Action.TheVariants as action
 use Rattle.job_bodies.specs.Plan.{Class, Client, Plan, no_class, no_client, class_at, client_at, class_got}
+use Rattle.weights.specs.declared.at_get.AtGet.{AtGet}
 use Rattle.weights.specs.declared.row.Place.{Place}
 use Rattle.weights.specs.declared.row.Place.TheVariants as place
 use Rattle.weights.specs.declared.row.Rule.TheVariants.{V7}
 use Rattle.weights.specs.Row.{row, AllHold}
 use Rattle.weights.specs.Vector.{Vector, workers_weight, queued_weight, job_weight, done_weight, client_weight}
-use Rattle.weights.specs.AtGet.{AtGet, given_back}
+use Rattle.weights.specs.AtGet.{given_back}
 use Rattle.weights.specs.Rows.{action_row, body_rows, class_rows, client_rows, rows, classes_of}
 
 -- V2, V3, and V5 or L5, at each position of a body, whose actor weighs weight i at i

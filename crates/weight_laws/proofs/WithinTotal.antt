@@ -17,8 +17,8 @@ use Rattle.written_machine.proofs.Events.{Happens}
 use Rattle.written_machine.proofs.Kept.{Kept, busy_jobs}
 use Rattle.written_machine.proofs.Busy.{one_if}
 use Rattle.written_machine.proofs.KeptStep.{kept_step}
+use Rattle.weights.specs.declared.at_get.AtGet.{AtGet}
 use Rattle.weights.specs.Vector.{Vector, workers_weight, total}
-use Rattle.weights.specs.AtGet.{AtGet}
 use Rattle.weight_laws.specs.WeightedSum.{sum_of}
 use Rattle.weight_laws.proofs.VectorLaws.{VectorLaws}
 use Rattle.weight_laws.proofs.NeverRises as rises

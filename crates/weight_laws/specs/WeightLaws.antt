@@ -9,10 +9,10 @@ use Rattle.written_machine.specs.State.{State}
 use Rattle.written_machine.specs.Step.{step}
 use Rattle.written_machine.specs.Reach.{IsReached}
 use Rattle.written_machine.specs.JobsMade.{jobs_made}
+use Rattle.weights.specs.declared.at_get.AtGet.{AtGet}
 use Rattle.weights.specs.declared.bound.Bound.{Bound}
 use Rattle.weights.specs.Row.{AllHold}
 use Rattle.weights.specs.Vector.{Vector, vector_fits, total}
-use Rattle.weights.specs.AtGet.{AtGet}
 use Rattle.weights.specs.Rows.{rows}
 use Rattle.weights.specs.Lifetime.{lifetime_rows}
 use Rattle.weights.specs.Bound.{bound_vector, bound_rows}

@@ -4,8 +4,9 @@ use Rattle.std.specs.List.{enumerate_from}
 use Rattle.job_bodies.specs.Plan.{Plan}
 use Rattle.written_machine.specs.State.{Stage, State, busy}
 use Rattle.written_machine.specs.State.Stage.{Queued, At, Done, Claimed}
+use Rattle.weights.specs.declared.at_get.AtGet.{AtGet}
 use Rattle.weights.specs.Vector.{Vector, workers_weight, queued_weight, job_weight, done_weight, client_weight}
-use Rattle.weights.specs.AtGet.{AtGet, claimed_weight}
+use Rattle.weights.specs.AtGet.{claimed_weight}
 
 -- a job of class k that is so far
 abbrev pub stage_weight : AtGet → Plan → Vector → ℕ → Stage → ℕ
