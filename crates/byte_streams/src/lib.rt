@@ -13,14 +13,12 @@ mod reading;
 mod scripted_fault;
 mod std_sink;
 mod std_source;
-#[cfg(test)]
-mod tests;
 mod writing;
 
 pub use io_fault::IoFault;
 pub use memory_sink::MemorySink;
 pub use memory_source::MemorySource;
-pub use reading::{ReadError, Source, read_up_to};
+pub use reading::{InputError, Source, read_up_to};
 pub use std_sink::StdSink;
 pub use std_source::StdSource;
 pub use writing::{Sink, write_all};

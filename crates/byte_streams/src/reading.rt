@@ -3,7 +3,7 @@ ghost use Rattle.std.specs.Prelude.{◌≡◌, ℕ, ◌+◌, ◌≤◌, ◌<◌,
 ghost use Rattle.std.specs.Io.{ReadsAtMost};
 ghost use Rattle.std.specs.Io.KnownBytes.{Consumes, IsAtEnd, Keeps, ReadConsumes};
 ghost use Rattle.byte_streams.specs.Reading.{ConsumesAtMost, error_text, fault_count};
-ghost use Rattle.byte_streams.specs.declared.reading.ReadError.TheVariants.{Fault, Memory};
+ghost use Rattle.byte_streams.specs.declared.reading.InputError.TheVariants.{Fault, Memory};
 
 use crate::IoFault;
 use std::alloc::{AllocError, Global};
@@ -28,39 +28,39 @@ pub trait Source {
 
 /// Why an input was not read.
 #[derive(Clone, Copy, Debug, PartialEq, Eq)]
-pub enum ReadError {
+pub enum InputError {
     /// There was no memory for its bytes.
     Memory,
     /// A call of the source failed.
     Fault,
 }
 
-impl fmt::Display for ReadError {
+impl fmt::Display for InputError {
     ghost output = { λ error. Some (error_text error) };
 
     fn fmt<W: fmt::Write>(&self, f: &mut fmt::Formatter<W>) -> fmt::Result {
         match self {
-            ReadError::Memory => write!(f, "out of memory"),
-            ReadError::Fault => write!(f, "the input could not be read"),
+            InputError::Memory => write!(f, "out of memory"),
+            InputError::Fault => write!(f, "the input could not be read"),
         }
     }
 }
 
-impl Error for ReadError {}
+impl Error for InputError {}
 
-impl From<AllocError> for ReadError {
+impl From<AllocError> for InputError {
     ghost from_gives = { λ _ error. error ≡ Memory };
 
-    fn from(_error: AllocError) -> ReadError {
-        ReadError::Memory
+    fn from(_error: AllocError) -> InputError {
+        InputError::Memory
     }
 }
 
-impl From<IoFault> for ReadError {
+impl From<IoFault> for InputError {
     ghost from_gives = { λ _ error. error ≡ Fault };
 
-    fn from(_fault: IoFault) -> ReadError {
-        ReadError::Fault
+    fn from(_fault: IoFault) -> InputError {
+        InputError::Fault
     }
 }
 
@@ -75,7 +75,7 @@ pub fn read_up_to<S: Source>(
     alloc: Global,
     source: &mut S,
     limit: usize,
-) -> Result<Vec<u8>, ReadError>
+) -> Result<Vec<u8>, InputError>
     ensures within { IfOk result (λ bytes. vec_len bytes ≤ limit) }
     ensures front { IfOk result (λ bytes. IfSome (S.remaining source.old)
         (λ input. bytes.items ≡ take limit input)) }

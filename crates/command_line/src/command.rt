@@ -22,7 +22,7 @@ pub enum Command {
 /// # Errors
 ///
 /// Words that `clap` refuses, and a request for help: the `Display` of the error is `clap`'s own
-/// text for the user. Want of memory, where the error's `kind` is `ErrorKind::OutOfMemory`.
+/// text for the user. Out of memory, where the error's `kind` is `ErrorKind::OutOfMemory`.
 pub fn read_words(alloc: Global, words: &[&str]) -> Result<Option<Command>, Error>
     ensures command { IfOk result (λ found. found ≡ command_of (map (λ word. word.now) words.now)) }
     ensures fails { FailsBy (fault_of sizing (map (λ word. word.now) words.now)) result }

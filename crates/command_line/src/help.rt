@@ -16,7 +16,7 @@ on standard output. To begin, paste the example of `sizing replay --help` into a
 Exit status:
   0  yes, or done
   1  no: something is refused, and the answer says what
-  2  bad text in the input, or bad words on the command line
+  2  bad text in the input, or bad arguments
   3  memory ran out, or reading or writing failed";
 
 /// What `replay` does, in the list of commands and at the top of its own help.
@@ -42,7 +42,7 @@ numbers of refusals and of unfinished jobs.
 Exit status:
   0  each event was possible, no job was refused, and no jobs were stuck
   1  a job was refused, an event was not possible, or jobs were stuck
-  2  bad text in INPUT, or bad words on the command line
+  2  bad text in INPUT, or bad arguments
   3  memory ran out, or reading or writing failed
 
 Example, to be pasted into a shell. The last event is refused: the pool may have one thread, its

@@ -8,7 +8,5 @@
 mod application;
 mod command;
 mod help;
-#[cfg(test)]
-mod tests;
 
 pub use command::{Command, read_words};

@@ -1,5 +1,8 @@
 pub mod FirstSpace
 pub mod Members
-pub mod Names
 pub mod Numbers
+pub mod Splits
 pub mod Texts
+pub mod WrittenLines
+pub mod WrittenNumbers
+pub mod WrittenTexts

@@ -1,6 +1,7 @@
 -- Texts that a loop reads, one at each place.
 use Rattle.std.proofs.Common.{◌≡◌, ℕ, zero, suc, ◌+◌, ◌<◌, List, [], ◌∷◌, length, get_or, map, slice_get, Option, Some, None, Err, Ok, Bor, refl, sym, ap, arith}
 use Rattle.readings.specs.Reading.{some_or, read_each}
+use Rattle.job_bodies.specs.Plan.{Plan}
 use Rattle.event_lines.specs.Number.{number_of}
 use Rattle.event_lines.specs.Pieces.{words_of, lines_of}
 use Rattle.event_lines.specs.EventLine.{Line, Stuck, all_of, stuck_of, line_of, line_at, event_lines}
@@ -26,14 +27,14 @@ unfolding stuck_of
 stuck_some text words members same some = rw (← same, some) refl
 
 -- the texts are the lines of the whole
-pub event_lines_of : (pools : List (List ℕ)) (text : List ℕ) (texts : List (List ℕ)) → texts ≡ lines_of text → event_lines pools text ≡ read_each (line_at pools) 0 texts
+pub event_lines_of : (plan : Plan) (text : List ℕ) (texts : List (List ℕ)) → texts ≡ lines_of text → event_lines plan text ≡ read_each (line_at plan) 0 texts
 unfolding event_lines
-event_lines_of pools text texts same = rw (← same) refl
+event_lines_of plan text texts same = rw (← same) refl
 
 -- a bad line's fault is its number
-pub bad_line : (pools : List (List ℕ)) (place : ℕ) (text : List ℕ) → None ≡ line_of pools text → line_at pools place text ≡ Err (place + 1)
-bad_line pools place text none = ap (λ (line : Option Line). some_or line (place + 1)) (sym none)
+pub bad_line : (plan : Plan) (place : ℕ) (text : List ℕ) → None ≡ line_of plan text → line_at plan place text ≡ Err (place + 1)
+bad_line plan place text none = ap (λ (line : Option Line). some_or line (place + 1)) (sym none)
 
 -- a good line has no fault
-pub good_line : (pools : List (List ℕ)) (place : ℕ) (text : List ℕ) (line : Line) → Some line ≡ line_of pools text → line_at pools place text ≡ Ok line
-good_line pools place text line some = ap (λ (line : Option Line). some_or line (place + 1)) (sym some)
+pub good_line : (plan : Plan) (place : ℕ) (text : List ℕ) (line : Line) → Some line ≡ line_of plan text → line_at plan place text ≡ Ok line
+good_line plan place text line some = ap (λ (line : Option Line). some_or line (place + 1)) (sym some)

@@ -1,4 +1,6 @@
 pub mod Pieces
 pub mod Number
 pub mod EventLine
-pub mod AnswerLine
+pub mod LineText
+pub mod Reply
+pub mod Laws

@@ -10,9 +10,9 @@ abbrev pub has_leading_zero : List ℕ → Bool
 has_leading_zero text = nat_lt 1 (length text) && slice_index text 0 == 48
 
 -- one digit, or more of which the first is not 0
-unfoldable pub is_decimal : List ℕ → Bool
-is_decimal text = not (length text == 0) && not (has_leading_zero text) && list_all is_ascii_digit text
+unfoldable pub is_whole_number : List ℕ → Bool
+is_whole_number text = not (length text == 0) && not (has_leading_zero text) && list_all is_ascii_digit text
 
 -- the number that a text writes
 unfoldable pub number_of : List ℕ → Option ℕ
-number_of text = if is_decimal text && nat_le (digits_value 10 text) MOST_NUMBER then Some (digits_value 10 text) else None
+number_of text = if is_whole_number text && nat_le (digits_value 10 text) MOST_NUMBER then Some (digits_value 10 text) else None

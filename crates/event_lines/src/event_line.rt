@@ -2,7 +2,7 @@
 
 ghost use Rattle.std.specs.Prelude.{◌≡◌, map, IfOk, option_map};
 ghost use Rattle.readings.specs.Given.{Gives};
-ghost use Rattle.event_lines.specs.EventLine.{line_seen, pool_names};
+ghost use Rattle.event_lines.specs.EventLine.{line_seen};
 ghost use Rattle.event_lines.specs.EventLine as spec;
 
 use crate::number::number_of;
@@ -34,7 +34,7 @@ pub fn read_event_lines(
     plan: &Plan,
     text: &[u8],
 ) -> Result<Vec<EventLine>, ReadError<usize>>
-    ensures { Gives (λ lines. map line_seen lines.items) result (spec.event_lines (map (λ pool. pool.name) plan.now.pools) text.now) }
+    ensures { Gives (λ lines. map line_seen lines.items) result (spec.event_lines plan.now text.now) }
 {
     let mut lines = Vec::new(alloc);
     let texts = lines_of(alloc, text)?;
@@ -49,7 +49,7 @@ pub fn read_event_lines(
 
 #[tactic(auto, unfolding(crate::specs::EventLine::line_of, crate::specs::EventLine::line_of_verb))]
 fn event_line(alloc: Global, plan: &Plan, text: &[u8]) -> Result<Option<EventLine>, AllocError>
-    ensures { IfOk result (λ line. option_map line_seen line ≡ spec.line_of (pool_names plan.now) text.now) }
+    ensures { IfOk result (λ line. option_map line_seen line ≡ spec.line_of plan.now text.now) }
 {
     let Some((verb, rest)) = split_space(text) else {
         return Ok(None);
@@ -62,7 +62,7 @@ fn event_line(alloc: Global, plan: &Plan, text: &[u8]) -> Result<Option<EventLin
 
 #[tactic(auto, unfolding(crate::specs::EventLine::event_of))]
 fn event_of(plan: &Plan, verb: &[u8], rest: &[u8]) -> Option<Event>
-    ensures { result ≡ spec.event_of (pool_names plan.now) verb.now rest.now }
+    ensures { result ≡ spec.event_of plan.now verb.now rest.now }
 {
     match verb {
         b"client" => number_of(rest).map(Event::Client),
@@ -88,7 +88,7 @@ fn stuck_line(alloc: Global, text: &[u8]) -> Result<Option<EventLine>, AllocErro
 }
 
 fn pool_named(plan: &Plan, name: &[u8]) -> Option<usize>
-    ensures { result ≡ spec.pool_named (pool_names plan.now) name.now }
+    ensures { result ≡ spec.pool_named plan.now name.now }
 {
     plan.pools()
         .iter()

@@ -5,14 +5,13 @@
 //! each with the number of the line that it answers.
 #![tactic(auto)]
 
-mod answer_line;
 mod event_line;
+mod laws;
 mod number;
 mod pieces;
+mod reply;
 
-pub use answer_line::{push_not_possible, push_outcome, push_stuck, push_summary};
 pub use event_line::{EventLine, read_event_lines};
+pub use laws::event_lines_are_canonical;
 pub use number::MOST_NUMBER;
-
-#[cfg(test)]
-mod tests;
+pub use reply::{Reply, push_reply, push_summary};

@@ -12,7 +12,7 @@ pub const MOST_NUMBER: usize = 1_000_000_000;
 pub fn number_of(text: &[u8]) -> Option<usize>
     ensures { result ≡ spec.number_of text.now }
 {
-    if !is_decimal(text) {
+    if !is_whole_number(text) {
         return None;
     }
     let mut value = 0;
@@ -25,9 +25,9 @@ pub fn number_of(text: &[u8]) -> Option<usize>
     Some(value)
 }
 
-#[tactic(auto, unfolding(crate::specs::Number::is_decimal))]
-fn is_decimal(text: &[u8]) -> bool
-    ensures { result ≡ spec.is_decimal text.now }
+#[tactic(auto, unfolding(crate::specs::Number::is_whole_number))]
+fn is_whole_number(text: &[u8]) -> bool
+    ensures { result ≡ spec.is_whole_number text.now }
 {
     !text.is_empty() && !has_leading_zero(text) && are_digits(text)
 }

@@ -1,6 +1,5 @@
 -- What reached states say of an actor's jobs: a done one is its latest, and none is left where a get asked for them.
 use Rattle.std.proofs.Common.{◌≡◌, ◌≢◌, ℕ, suc, ◌&&◌, Bool, true, false, if◌then◌else◌, List, [], ◌∷◌, slice_get, Option, Some, None, ⊎_elim, refl, sym, ap, subst, ◌∙◌, arith}
-use Rattle.std.specs.List.{list_any}
 use Rattle.std.specs.Option.{option_map}
 use Rattle.std.proofs.lemmas.Bool.{and_parts, eqb-true, false_from_ne_true, or_cases}
 use Rattle.std.proofs.lemmas.List.{get_or_default}
@@ -8,7 +7,7 @@ use Rattle.std.proofs.lemmas.Option.{same_Some}
 use Rattle.numbered_lists.proofs.LastPlace.{last_where_none}
 use Rattle.job_bodies.specs.declared.action.Action.{Action}
 use Rattle.job_bodies.specs.declared.action.Action.TheVariants.{Work, Submit, Get}
-use Rattle.job_bodies.specs.Plan.{Plan, submits, gets}
+use Rattle.job_bodies.specs.Plan.{Plan, submits, gets, is_got}
 use Rattle.job_bodies.specs.WellFormed.{IsWellFormed}
 use Rattle.written_machine.specs.declared.parent.Parent.{Parent}
 use Rattle.written_machine.specs.State.{Stage, Made, State, job_at, is_made_by, child}
@@ -25,11 +24,11 @@ use Rattle.live_views.specs.ViewStep.{live_job, is_live_child, live_child, is_do
 use Rattle.live_views.proofs.View.{view_at, point_seen}
 use Rattle.live_views.proofs.Children.{live_child_is}
 use Rattle.live_views.proofs.Reached.{settled}
-use Rattle.interleaving.specs.declared.place.Place.{Place}
-use Rattle.interleaving.specs.Place.{place_at}
-use Rattle.interleaving.specs.Index.{DoneAreLatest}
+use Rattle.interleaving.specs.declared.next_action.NextAction.{NextAction}
+use Rattle.interleaving.specs.NextAction.{next_action_at}
+use Rattle.interleaving.specs.LiveJobs.{DoneAreLatest}
 use Rattle.interleaving.specs.OfPlan.{IsOf}
-use Rattle.interleaving.proofs.OfPlan.{point_of_place}
+use Rattle.interleaving.proofs.OfPlan.{point_of_next}
 
 -- ---- a job that is done
 
@@ -99,16 +98,16 @@ none_left_at plan s a body i g w reached stands asks k = false_from_ne_true (is_
     let found = live_unclaimed s a i k made made.stage (sym (ap (is_live_child a i) (view_at plan s k)) ∙ live) in
     ⊎_elim found.1 (λ latest. absurd (omega (arith, latest.0))) (((settled plan s w reached).actors a body i stands).settled g i k asks (job_made s k found.1) found.0))
 
-get_of : (body : List Action) (t : ℕ) → list_any (gets t) body ≡ true → (g : ℕ) × (slice_get body g ≡ Some (Get t))
+get_of : (body : List Action) (t : ℕ) → is_got body t ≡ true → (g : ℕ) × (slice_get body g ≡ Some (Get t))
 get_of [] t e = absurd cc
-get_of (action ∷ body) t e = ⊎_elim (λ here. (0, ap Some (is_get action t here))) (λ later. let found = get_of body t later in (suc found.0, found.1)) (or_cases (gets t action) (list_any (gets t) body) e)
+get_of (action ∷ body) t e = ⊎_elim (λ here. (0, ap Some (is_get action t here))) (λ later. let found = get_of body t later in (suc found.0, found.1)) (or_cases (gets t action) (is_got body t) e)
   where
     is_get : (action : Action) (t : ℕ) → gets t action ≡ true → action ≡ Get t
     is_get (Work u) t e = absurd cc
     is_get (Submit k) t e = absurd cc
     is_get (Get u) t e = ap Get (sym (eqb-true t u e))
 
-none_left_in_state : (plan : Plan) (s : State) (a : Parent) (x : Point) → IsWellFormed plan → IsReached plan s → point_in plan (live_view plan s) a ≡ Some x → list_any (gets x.position) x.body ≡ true → live_child (live_view plan s).jobs a x.position ≡ None
+none_left_in_state : (plan : Plan) (s : State) (a : Parent) (x : Point) → IsWellFormed plan → IsReached plan s → point_in plan (live_view plan s) a ≡ Some x → is_got x.body x.position ≡ true → live_child (live_view plan s).jobs a x.position ≡ None
 none_left_in_state plan s a x w reached stands asked =
     let get = get_of x.body x.position asked in
     let jobs = (live_view plan s).jobs in
@@ -116,12 +115,12 @@ none_left_in_state plan s a x w reached stands asked =
     last_where_none test jobs (λ i d inside. ap test (get_or_default jobs i d None inside) ∙ none_left_at plan s a x.body x.position get.0 w reached (sym (point_seen plan s a) ∙ stands) get.1 i)
 
 -- an actor at a submit whose job a get asks for has no live job from there
-pub none_left : (plan : Plan) (view : View) (a : Parent) (place : Place) → IsOf plan view → IsWellFormed plan → option_map place_at (point_in plan view a) ≡ Some place → place.asked ≡ true → live_child view.jobs a place.position ≡ None
-none_left plan view a place of w e asked =
-    let found = point_of_place (point_in plan view a) place e in
+pub none_left : (plan : Plan) (view : View) (a : Parent) (next : NextAction) → IsOf plan view → IsWellFormed plan → option_map next_action_at (point_in plan view a) ≡ Some next → next.asked ≡ true → live_child view.jobs a next.position ≡ None
+none_left plan view a next of w e asked =
+    let found = point_of_next (point_in plan view a) next e in
     let x = found.0 in
-    let names : (submits (slice_get x.body x.position) && list_any (gets x.position) x.body) ≡ true = ap (λ (p : Place). p.asked) found.2 ∙ asked in
+    let names : (submits (slice_get x.body x.position) && is_got x.body x.position) ≡ true = ap (λ (p : NextAction). p.asked) found.2 ∙ asked in
     let gone : live_child view.jobs a x.position ≡ None =
     subst (λ (v : View). point_in plan v a ≡ Some x → live_child v.jobs a x.position ≡ None) of.2
-    (λ stands. none_left_in_state plan of.0 a x w of.1 stands (and_parts (submits (slice_get x.body x.position)) (list_any (gets x.position) x.body) names).1) found.1 in
-    subst (λ n. live_child view.jobs a n ≡ None) (ap (λ (p : Place). p.position) found.2) gone
+    (λ stands. none_left_in_state plan of.0 a x w of.1 stands (and_parts (submits (slice_get x.body x.position)) (is_got x.body x.position) names).1) found.1 in
+    subst (λ n. live_child view.jobs a n ≡ None) (ap (λ (p : NextAction). p.position) found.2) gone

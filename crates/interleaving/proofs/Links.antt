@@ -2,15 +2,14 @@
 use Rattle.std.proofs.Common.{◌≡◌, ◌≢◌, ℕ, ◌+◌, ◌<◌, ◌≤◌, ◌==◌, ◌&&◌, false, List, [], ◌∷◌, ◌++◌, length, set, Option, Some, None, inl, inr, ⊎_elim, refl, sym, ap, subst, ◌∙◌, arith, length-set}
 use Rattle.std.proofs.lemmas.Bool.{cases_lt, cases_eq, cases_Bool, both_ways}
 use Rattle.std.proofs.lemmas.List.{get_or_past, get_or-set_same, get_or-set_other, get_or_append_left, get_or_push, length_push}
-use Rattle.written_machine.specs.declared.client_state.ClientState.{ClientState}
 use Rattle.written_machine.specs.declared.parent.Parent.{Parent}
 use Rattle.written_machine.specs.declared.parent.Parent.TheVariants as parent
 use Rattle.written_machine.specs.State.{same_parent}
 use Rattle.live_views.specs.declared.job_view.JobView.{JobView}
 use Rattle.live_views.specs.ViewStep.{live_job, is_live_child}
 use Rattle.written_machine.proofs.Children.{same_actor_true, same_actor_refl}
-use Rattle.interleaving.specs.declared.index.Link.{Link}
-use Rattle.interleaving.specs.Index.{no_link, link_at, end_of, NoneBetween, IsNext, IsLink, AreLinked, StandBelow, IsIndexed, ends_after, ended, links_after, HasEnd}
+use Rattle.interleaving.specs.declared.live_jobs.Link.{Link}
+use Rattle.interleaving.specs.LiveJobs.{no_link, link_at, end_of, NoneBetween, IsNext, IsLink, AreLinked, StandBelow, IsIndexed, ends_after, ended, links_after, HasEnd}
 use Rattle.interleaving.proofs.Fading.{fades_child, AreFading}
 
 -- ---- where an actor's jobs stand
@@ -32,11 +31,8 @@ below_fading jobs after links a end w f = record {
   next = w.next;
 }
 
-pub indexed_fading : (jobs after : List (Option JobView)) (clients : List ClientState) (links : List Link) (ends : List ℕ) → IsIndexed jobs clients links ends → AreFading jobs after → IsIndexed after clients links ends
-indexed_fading jobs after clients links ends x f = record { as_many = x.as_many; actors = λ a. below_fading jobs after links a (end_of links ends a) (x.actors a) f }
-
-pub indexed_clients : (jobs : List (Option JobView)) (clients after : List ClientState) (links : List Link) (ends : List ℕ) → length after ≡ length clients → IsIndexed jobs clients links ends → IsIndexed jobs after links ends
-indexed_clients jobs clients after links ends long x = record { as_many = x.as_many ∙ sym long; actors = x.actors }
+pub indexed_fading : (jobs after : List (Option JobView)) (links : List Link) (ends : List ℕ) → IsIndexed jobs links ends → AreFading jobs after → IsIndexed after links ends
+indexed_fading jobs after links ends x f = record { actors = λ a. below_fading jobs after links a (end_of links ends a) (x.actors a) f }
 
 -- the link of the job just below the number
 pub next_link : (jobs : List (Option JobView)) (links : List Link) (a : Parent) (n below : ℕ) → AreLinked jobs links → IsNext links a below → below ≡ n + 1 → below ≤ length jobs → IsLink jobs links n a (link_at links n).before
@@ -44,7 +40,7 @@ next_link jobs links a n below l next e inside = subst (λ m. IsLink jobs links 
 
 -- ---- the links once a new job was made
 
-length-ends_after : (a : Parent) (n : ℕ) (ends : List ℕ) → length (ends_after a n ends) ≡ length ends
+pub length-ends_after : (a : Parent) (n : ℕ) (ends : List ℕ) → length (ends_after a n ends) ≡ length ends
 length-ends_after (parent.Client c) n ends = length-set ends c (n + 1)
 length-ends_after (parent.Job j) n ends = refl
 
@@ -82,7 +78,7 @@ pushed_end links new j none = elim (cases_lt j (length links)) [
       (cases_eq j (length links))
 ]
 
-module _ (jobs : List (Option JobView)) (job : JobView) (clients : List ClientState) (links : List Link) (ends : List ℕ) (x : IsIndexed jobs clients links ends) (there : HasEnd job.parent links ends) where
+module _ (jobs : List (Option JobView)) (job : JobView) (links : List Link) (ends : List ℕ) (x : IsIndexed jobs links ends) (there : HasEnd job.parent links ends) where
   abbrev last_link : Link
   last_link = record { maker = job.parent; before = end_of links ends job.parent; end = 0 }
 
@@ -195,22 +191,21 @@ end_other (parent.Job j) (parent.Job i) n e links ends other =
     pushed_end (ended (parent.Job j) n links) (record { maker = parent.Job j; before = e; end = 0 }) i refl
     ∙ ap (λ (x : Link). x.end) (get_or-set_other links j i (record (link_at links j) { end = n + 1 }) no_link (λ same. other (ap parent.Job same)))
 
-pub indexed_push : (jobs : List (Option JobView)) (job : JobView) (clients : List ClientState) (links : List Link) (ends : List ℕ) → IsIndexed jobs clients links ends → HasEnd job.parent links ends
-    → IsIndexed (jobs ++ Some job ∷ []) clients (links_after job.parent (length jobs) links ends) (ends_after job.parent (length jobs) ends)
-indexed_push jobs job clients links ends x there =
+pub indexed_push : (jobs : List (Option JobView)) (job : JobView) (links : List Link) (ends : List ℕ) → IsIndexed jobs links ends → HasEnd job.parent links ends
+    → IsIndexed (jobs ++ Some job ∷ []) (links_after job.parent (length jobs) links ends) (ends_after job.parent (length jobs) ends)
+indexed_push jobs job links ends x there =
     let a = job.parent in
     let n = length jobs in
     let e = end_of links ends a in
     let new_links = links_after a n links ends in
     record {
-      as_many = length-ends_after a n ends ∙ x.as_many;
       actors = λ b. ⊎_elim
           (λ own.
           let same : b ≡ a = same_actor_true b a own in
           subst (λ c. StandBelow (jobs ++ Some job ∷ []) new_links c (end_of new_links (ends_after a n ends) c)) (sym same)
-          (subst (StandBelow (jobs ++ Some job ∷ []) new_links a) (sym (end_own a n e links ends there)) (below_own jobs job clients links ends x there)))
+          (subst (StandBelow (jobs ++ Some job ∷ []) new_links a) (sym (end_own a n e links ends there)) (below_own jobs job links ends x there)))
           (λ other.
           let apart : b ≢ a = λ same. both_ways (same_parent b a) other (ap (λ c. same_parent c a) same ∙ same_actor_refl a) in
-          subst (StandBelow (jobs ++ Some job ∷ []) new_links b) (sym (end_other a b n e links ends apart)) (below_other jobs job clients links ends x there b other))
+          subst (StandBelow (jobs ++ Some job ∷ []) new_links b) (sym (end_other a b n e links ends apart)) (below_other jobs job links ends x there b other))
           (cases_Bool (same_parent b a));
     }

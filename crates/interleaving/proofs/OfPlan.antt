@@ -23,8 +23,8 @@ use Rattle.live_views.specs.LiveView.{View, live_view, phase_seen, job_with, job
 use Rattle.live_views.specs.ViewStep.{live_job, point_of_phase, point_of_live_job, point_in, pool_in}
 use Rattle.written_machine.proofs.Reached.{kept}
 use Rattle.live_views.proofs.View.{length-pools, pool_at_view, view_at, point_seen}
-use Rattle.interleaving.specs.declared.place.Place.{Place}
-use Rattle.interleaving.specs.Place.{place_at}
+use Rattle.interleaving.specs.declared.next_action.NextAction.{NextAction}
+use Rattle.interleaving.specs.NextAction.{next_action_at}
 use Rattle.interleaving.specs.OfPlan.{IsOf, HasWorker, IsAtWork}
 use Rattle.interleaving.proofs.Reached.{class_inside}
 
@@ -52,18 +52,18 @@ lawful_point : (plan : Plan) (view : View) (a : Parent) (at : Point) → IsOrder
 lawful_point plan view (parent.Client c) at o e = lawful_client plan (slice_get view.clients c) at o e
 lawful_point plan view (parent.Job j) at o e = lawful_job plan (live_job view.jobs j) at o e
 
--- the point of a place
-pub point_of_place : (at : Option Point) (place : Place) → option_map place_at at ≡ Some place → (x : Point) × (at ≡ Some x) × (place_at x ≡ place)
-point_of_place None place e = absurd cc
-point_of_place (Some x) place e = (x, refl, same_Some _ place e)
+-- the point where an actor has this next action
+pub point_of_next : (at : Option Point) (next : NextAction) → option_map next_action_at at ≡ Some next → (x : Point) × (at ≡ Some x) × (next_action_at x ≡ next)
+point_of_next None next e = absurd cc
+point_of_next (Some x) next e = (x, refl, same_Some _ next e)
 
 -- the pool of a class that is submitted is one of the view
-pub pool_of_submit : (plan : Plan) (view : View) (a : Parent) (place : Place) (k : ℕ) → IsOf plan view → IsWellFormed plan → option_map place_at (point_in plan view a) ≡ Some place → place.action ≡ Some (Submit k) → pool_of plan k < length view.pools
-pool_of_submit plan view a place k of w e submits =
+pub pool_of_submit : (plan : Plan) (view : View) (a : Parent) (next : NextAction) (k : ℕ) → IsOf plan view → IsWellFormed plan → option_map next_action_at (point_in plan view a) ≡ Some next → next.action ≡ Some (Submit k) → pool_of plan k < length view.pools
+pool_of_submit plan view a next k of w e submits =
     let o = ordered plan w in
-    let found = point_of_place (point_in plan view a) place e in
+    let found = point_of_next (point_in plan view a) next e in
     let lawful = lawful_point plan view a found.0 o found.1 in
-    let class = lawful.submit found.0.position k (ap (λ (p : Place). p.action) found.2 ∙ submits) in
+    let class = lawful.submit found.0.position k (ap (λ (p : NextAction). p.action) found.2 ∙ submits) in
     let pools = as_many_pools plan view of in
     let inside = o.pools k class in
     omega arith
@@ -109,10 +109,10 @@ job_at_work plan s j at reached w e =
     subst (λ (o : Option JobView). IfSome o (HasWorker plan (live_view plan s))) (sym seen) (has_worker plan s j at.position job refl stage inside)
 
 -- an actor that stands somewhere is a client, or a job whose pool has a busy worker
-pub at_work : (plan : Plan) (view : View) (a : Parent) (place : Place) → IsOf plan view → IsWellFormed plan → option_map place_at (point_in plan view a) ≡ Some place → IsAtWork plan view a
-at_work plan view (parent.Client c) place of w e = tt
-at_work plan view (parent.Job j) place of w e =
-    let found = point_of_place (point_in plan view (parent.Job j)) place e in
+pub at_work : (plan : Plan) (view : View) (a : Parent) (next : NextAction) → IsOf plan view → IsWellFormed plan → option_map next_action_at (point_in plan view a) ≡ Some next → IsAtWork plan view a
+at_work plan view (parent.Client c) next of w e = tt
+at_work plan view (parent.Job j) next of w e =
+    let found = point_of_next (point_in plan view (parent.Job j)) next e in
     subst (λ (v : View). point_in plan v (parent.Job j) ≡ Some found.0 → IsAtWork plan v (parent.Job j)) of.2 (job_at_work plan of.0 j found.0 of.1 w) found.1
 
 -- ---- live jobs

@@ -1,12 +1,13 @@
 -- What the code does on views is what the written machine says.
-use Rattle.std.proofs.Common.{◌≡◌, ℕ, Bool, List, [], count_by, Option, Some, None, Result, Ok, Err, IfOk, OnErr, refl, sym, ap, subst, ◌∙◌}
+use Rattle.std.proofs.Common.{◌≡◌, ℕ, Bool, List, [], count_by, Option, Some, None, Result, Ok, Err, IfOk, OnErr, IsTrue, ◌↔◌, refl, sym, ap, subst, ◌∙◌}
 use Rattle.job_bodies.specs.Plan.{Plan}
 use Rattle.job_bodies.specs.WellFormed.{IsWellFormed}
 use Rattle.written_machine.specs.declared.event.Event.{Event}
 use Rattle.written_machine.specs.declared.event.Outcome.{Outcome}
 use Rattle.written_machine.specs.State.{State, is_unfinished}
 use Rattle.written_machine.specs.Reach.{start, IsReached}
-use Rattle.written_machine.specs.Waiting.{is_waiting_set}
+use Rattle.written_machine.specs.Waiting.{IsWaitingSet, is_waiting_set}
+use Rattle.written_machine.proofs.WaitingSets.{waiting_set_test}
 use Rattle.live_views.specs.LiveView.{View, live_view}
 use Rattle.live_views.specs.ViewStep.{is_unfinished_job}
 use Rattle.live_views.specs.Waiting.{is_waiting_set_in}
@@ -50,3 +51,7 @@ unfinished_seen plan s view n e same = e ∙ ap (λ (v : View). count_by is_unfi
 
 pub set_seen : (plan : Plan) (s : State) (view : View) (members : List ℕ) (answer : Bool) → IsWellFormed plan → IsReached plan s → live_view plan s ≡ view → answer ≡ is_waiting_set_in plan view members → answer ≡ is_waiting_set plan s members
 set_seen plan s view members answer w reached same e = e ∙ ap (λ v. is_waiting_set_in plan v members) (sym same) ∙ sym (sets_seen plan s members w reached)
+
+-- an answer that is the test says whether they are a waiting set
+pub set_in_words : (plan : Plan) (s : State) (members : List ℕ) (answer : Bool) → answer ≡ is_waiting_set plan s members → IsTrue answer ↔ IsWaitingSet plan s members
+set_in_words plan s members answer e = subst (λ b. IsTrue b ↔ IsWaitingSet plan s members) (sym e) (waiting_set_test plan s members)

@@ -1,8 +1,7 @@
 -- Which of an actor's jobs can be stale.
-use Rattle.std.proofs.Common.{◌≡◌, ◌≢◌, ℕ, ◌<◌, ◌≤◌, ◌==◌, ◌&&◌, false, if◌then◌else◌, List, [], length, set, Option, Some, None, inl, inr, ⊎_elim, refl, sym, ap, ◌∙◌, arith, length-set}
+use Rattle.std.proofs.Common.{◌≡◌, ◌≢◌, ℕ, ◌==◌, ◌&&◌, false, if◌then◌else◌, List, length, set, Option, Some, None, inl, inr, ⊎_elim, refl, sym, ap, ◌∙◌, arith, length-set}
 use Rattle.std.proofs.lemmas.Bool.{cases_lt, cases_eq, cases_Bool, and_right, and_parts, and_from, both_ways, eq-eqb}
 use Rattle.std.proofs.lemmas.List.{get_or_past, get_or-set_same, get_or-set_other}
-use Rattle.std.proofs.lemmas.Option.{same_Some}
 use Rattle.written_machine.specs.declared.parent.Parent.{Parent}
 use Rattle.written_machine.specs.declared.parent.Parent.TheVariants as parent
 use Rattle.written_machine.specs.State.{same_parent}
@@ -10,7 +9,7 @@ use Rattle.live_views.specs.declared.job_view.Phase.TheVariants as phase
 use Rattle.live_views.specs.declared.job_view.JobView.{JobView}
 use Rattle.live_views.specs.LiveView.{View}
 use Rattle.live_views.specs.ViewStep.{live_job, is_live_child, live_child, is_done, in_phase, with_phase, unless_stale, unless_orphan, moved_live_jobs}
-use Rattle.interleaving.specs.Index.{DoneAreLatest, NoOtherIsStale}
+use Rattle.interleaving.specs.LiveJobs.{DoneAreLatest, NoOtherIsStale}
 
 -- a job at a position is not stale
 stays_at : (a : Parent) (t i : ℕ) (job : Option JobView) → unless_stale a t (in_phase (phase.At i) job) ≡ in_phase (phase.At i) job
@@ -25,19 +24,18 @@ phased_stays jobs a t j i =
       | inr past ↦ let e = get_or_past (set jobs j new) j None (omega (arith, length-set jobs j new)) in ap (unless_stale a t) e ∙ sym e
     ]
 
-stale_moved : (a b : Parent) (t i : ℕ) (latest : Option ℕ) (view : View) → NoOtherIsStale view.jobs latest a t → NoOtherIsStale (moved_live_jobs b i view) latest a t
+-- nor once an actor moved on
+pub stale_moved : (a b : Parent) (t i : ℕ) (latest : Option ℕ) (view : View) → NoOtherIsStale view.jobs latest a t → NoOtherIsStale (moved_live_jobs b i view) latest a t
 stale_moved a (parent.Client c) t i latest view none = none
 stale_moved a (parent.Job j) t i latest view none = λ k other. ⊎_elim
     (λ (same : k ≡ j). ap (λ n. unless_stale a t (live_job (with_phase j (phase.At i) view.jobs) n)) same ∙ phased_stays view.jobs a t j i ∙ ap (live_job (with_phase j (phase.At i) view.jobs)) (sym same))
     (λ (apart : k ≢ j). let e = get_or-set_other view.jobs j k (in_phase (phase.At i) (live_job view.jobs j)) None apart in ap (unless_stale a t) e ∙ none k other ∙ sym e)
     (cases_eq k j)
 
--- what is known of the jobs, after the actor moved on
-pub no_other_moved : (old now moved : List (Option JobView)) (latest : Option ℕ) (a : Parent) (t i : ℕ) → ((view : View) → view.jobs ≡ old → now ≡ moved_live_jobs a i view) → moved ≡ now → NoOtherIsStale old latest a t → NoOtherIsStale moved latest a t
-no_other_moved old now moved latest a t i moves same none =
-    let view : View = record { jobs = old; pools = []; clients = []; refusals = 0 } in
-    let e : moved ≡ moved_live_jobs a i view = same ∙ moves view refl in
-    λ k other. ap (λ js. unless_stale a t (live_job js k)) e ∙ stale_moved a a t i latest view none k other ∙ sym (ap (λ js. live_job js k) e)
+-- as many jobs as before
+pub length-moved : (a : Parent) (i : ℕ) (view : View) → length (moved_live_jobs a i view) ≡ length view.jobs
+length-moved (parent.Client c) i view = refl
+length-moved (parent.Job j) i view = length-set view.jobs j (in_phase (phase.At i) (live_job view.jobs j))
 
 -- ---- the latest live job alone
 
@@ -60,10 +58,3 @@ not_orphan j (Some job) none =
     let at : (same_parent (parent.Job j) job.parent && job.slot == job.slot) ≡ false = none job.slot in
     let other : same_parent (parent.Job j) job.parent ≡ false = ⊎_elim (λ own. absurd (both_ways _ at (and_from _ _ own (eq-eqb job.slot job.slot refl)))) (λ e. e) (cases_Bool (same_parent (parent.Job j) job.parent)) in
     ap (λ b. if b && is_done job.phase then None else Some job) other
-
--- where the latest is past the end none is stale
-pub none_past : (jobs : List (Option JobView)) (a : Parent) (t : ℕ) (latest : Option ℕ) (n : ℕ) → latest ≡ Some n → length jobs ≤ n → NoOtherIsStale jobs latest a t → (k : ℕ) → unless_stale a t (live_job jobs k) ≡ live_job jobs k
-none_past jobs a t latest n e past none k = ⊎_elim
-    (λ (inside : k < length jobs). none k (λ f. let same : n ≡ k = same_Some n k (sym e ∙ f) in absurd (omega arith)))
-    (λ (behind : length jobs ≤ k). let gone = get_or_past jobs k None behind in ap (unless_stale a t) gone ∙ sym gone)
-    (cases_lt k (length jobs))

@@ -1,5 +1,6 @@
 pub mod OfPlan
 pub mod Answers
-pub mod Place
-pub mod Index
+pub mod NextAction
+pub mod JobList
+pub mod LiveJobs
 pub mod Stuck

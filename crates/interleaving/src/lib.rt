@@ -1,14 +1,12 @@
 //! The running machine of a plan: many bounded thread pools, the clients that submit to them, and the live jobs.
 #![tactic(auto)]
 
-mod changes;
 mod clients;
 mod finish;
 mod get;
-mod index;
-mod jobs;
+mod live_jobs;
 mod moves;
-mod place;
+mod next_action;
 mod plans;
 mod pools;
 mod step;

@@ -1,25 +1,23 @@
 //! Actors that move on.
 
-ghost use Rattle.std.specs.Prelude.{◌≡◌, ℕ, List};
+ghost use Rattle.std.specs.Prelude.{◌≡◌};
 ghost use Rattle.live_views.specs.LiveView.{View};
 ghost use Rattle.live_views.specs.ViewStep.{moved_live_jobs, moved_live_clients};
-ghost use Rattle.interleaving.specs.declared.index.Link.{Link};
-ghost use Rattle.interleaving.specs.Index.{IsIndexed};
 
-use crate::changes::set_phase;
-use live_views::{JobView, Phase};
+use crate::live_jobs::LiveJobs;
+use live_views::Phase;
 use written_machine::{ClientState, Parent};
 
 /// The actor comes to this position of its body.
 pub(crate) fn move_actor(
-    jobs: &mut [Option<JobView>],
+    jobs: &mut LiveJobs,
     clients: &mut [ClientState],
     actor: Parent,
     position: usize,
 )
-    ensures jobs { (view : View) → view.jobs ≡ jobs.old → jobs.new ≡ moved_live_jobs actor position view }
+    ensures jobs { (view : View) → view.jobs ≡ jobs.old.jobs → jobs.new.jobs ≡ moved_live_jobs actor position view }
+    ensures jobs_alone { jobs.new ≡ record jobs.old { jobs = jobs.new.jobs } }
     ensures clients { (view : View) → view.clients ≡ clients.old → clients.new ≡ moved_live_clients actor position view }
-    ensures index { (links : List Link) (ends : List ℕ) → IsIndexed jobs.old clients.old links ends → IsIndexed jobs.new clients.new links ends }
 {
     match actor {
         Parent::Client(client) => {
@@ -27,6 +25,6 @@ pub(crate) fn move_actor(
                 clients[client].position = position;
             }
         }
-        Parent::Job(number) => set_phase(jobs, number, Phase::At(position)),
+        Parent::Job(number) => jobs.set_phase(number, Phase::At(position)),
     }
 }

@@ -1,7 +1,7 @@
 //! What a world looks up in its plan.
 
 ghost use Rattle.std.specs.Prelude.{◌≡◌, slice_index_or};
-ghost use Rattle.job_bodies.specs.Plan.{no_class, no_client, client_at};
+ghost use Rattle.job_bodies.specs.Plan.{no_class, no_client};
 ghost use Rattle.written_machine.specs.State.{pool_of};
 
 use job_bodies::{Action, Class, Client, Plan};
@@ -10,10 +10,7 @@ use job_bodies::{Action, Class, Client, Plan};
 pub(crate) fn pool_of(plan: &Plan, class: usize) -> usize
     ensures { result ≡ pool_of plan.now class }
 {
-    match plan.classes().get(class) {
-        Some(class) => class.pool,
-        None => 0,
-    }
+    plan.class_at(class).map_or(0, |class| class.pool)
 }
 
 /// The body of the class of this number; empty where there is no such class.
@@ -33,15 +30,5 @@ pub(crate) fn body_of_kind(kinds: &[Client], kind: usize) -> &[Action]
     match kinds.get(kind) {
         Some(kind) => &kind.body,
         None => &[],
-    }
-}
-
-/// Whether clients of this kind repeat their body; false where there is no such kind.
-pub(crate) fn repeats(plan: &Plan, kind: usize) -> bool
-    ensures { result ≡ (client_at plan.now kind).repeat }
-{
-    match plan.clients().get(kind) {
-        Some(kind) => kind.repeat,
-        None => false,
     }
 }

@@ -3,17 +3,16 @@
 ghost use Rattle.std.specs.Prelude.{◌≡◌, length, map, All, IsTrue, IfOk};
 ghost use Rattle.job_bodies.specs.WellFormed.{IsWellFormed, has_lawful_sizes};
 ghost use Rattle.pool_machine.specs.PoolState.{new_pool, taken, retired};
-ghost use Rattle.live_views.specs.ViewStep.{pool_in, take_in, retire_in};
+ghost use Rattle.live_views.specs.ViewStep.{pool_in, took_in, let_go_in};
 
 use crate::World;
-use crate::changes::set_phase;
 use job_bodies::{Plan, Pool};
 use live_views::Phase;
 use pool_machine::PoolState;
 use std::alloc::{AllocError, Global};
 use written_machine::Outcome;
 
-/// Each pool, with no threads and an empty queue.
+/// Each pool, with an empty queue, and with core idle workers where it is prestarted.
 pub(crate) fn new_pools(alloc: Global, pools: &[Pool]) -> Result<Vec<PoolState>, AllocError>
     requires { All (λ pool. IsTrue (has_lawful_sizes pool)) pools.now }
     ensures { IfOk result (λ new. new.items ≡ map new_pool pools.now) }
@@ -31,21 +30,21 @@ impl World {
     /// An idle worker of the pool takes the head of its queue.
     pub(crate) fn take(&mut self, plan: &Plan, pool: usize) -> Option<Outcome>
         requires { length self.old.pools ≡ length plan.now.pools }
-        ensures value { AreOf (take_in self.old pool (taken (pool_in self.old pool))) self.old result self.new }
+        ensures value { AreOf (took_in self.old pool (taken (pool_in self.old pool))) self.old result self.new }
         ensures well_formed { IsWellFormed plan.now }
     {
         if pool >= plan.pools().len() {
             return None;
         }
         let number = self.pools[pool].take()?;
-        set_phase(&mut self.jobs, number, Phase::At(0));
+        self.jobs.set_phase(number, Phase::At(0));
         Some(Outcome::Took(number))
     }
 
     /// An idle worker of the pool ends.
     pub(crate) fn retire(&mut self, plan: &Plan, pool: usize) -> Option<Outcome>
         requires { length self.old.pools ≡ length plan.now.pools }
-        ensures value { AreOf (retire_in self.old pool (retired (pool_in self.old pool))) self.old result self.new }
+        ensures value { AreOf (let_go_in self.old pool (retired (pool_in self.old pool))) self.old result self.new }
         ensures well_formed { IsWellFormed plan.now }
     {
         if pool < plan.pools().len() && self.pools[pool].retire() {

@@ -16,6 +16,7 @@ use written_machine::{Event, Outcome, Parent};
 
 impl World {
     ghost use Rattle.interleaving.specs.Answers.{AreOf, AnswersIn};
+    ghost use Rattle.interleaving.specs.NextAction.{IsAtSubmit, StandsAtSubmit};
     ghost use Rattle.interleaving.specs.OfPlan.{IsOf};
 
     /// Makes the event, if it is possible, and says what came of it: None where it is not possible.
@@ -38,6 +39,7 @@ impl World {
         ensures of_plan { IsOf plan.now self.new }
         ensures well_formed { IsWellFormed plan.now }
         ensures error_unchanged { OnErr result (self.new ≡ self.old) }
+        ensures error_only_at_submit { OnErr result (StandsAtSubmit plan.now self.old event) }
     {
         self.act(plan, event)
     }
@@ -48,6 +50,7 @@ impl World {
         ensures answered { IfOk result (λ answer. AnswersIn plan.now self.old event answer self.new) }
         ensures well_formed { IsWellFormed plan.now }
         ensures error_unchanged { OnErr result (self.new ≡ self.old) }
+        ensures error_only_at_submit { OnErr result (StandsAtSubmit plan.now self.old event) }
     {
         match event {
             Event::Client(client) => self.step_actor(plan, Parent::Client(client)),
@@ -62,20 +65,19 @@ impl World {
         ensures answered { IfOk result (λ answer. AreOf (step_actor plan.now self.old actor (point_in plan.now self.old actor)) self.old answer self.new) }
         ensures well_formed { IsWellFormed plan.now }
         ensures error_unchanged { OnErr result (self.new ≡ self.old) }
+        ensures error_only_at_submit { OnErr result (IsAtSubmit plan.now self.old actor) }
     {
-        let Some(place) = self.place(plan, actor) else {
+        let Some(next) = self.next_action(plan, actor) else {
             return Ok(None);
         };
-        match place.action {
+        match next.action {
             None => Ok(self.end(plan, actor)),
             Some(Action::Work(units)) => {
-                move_actor(&mut self.jobs, &mut self.clients, actor, place.position + 1);
+                move_actor(&mut self.jobs, &mut self.clients, actor, next.position + 1);
                 Ok(Some(Outcome::Worked(units)))
             }
-            Some(Action::Submit(class)) => {
-                Ok(Some(self.submit(plan, actor, place.position, class, place.asked)?))
-            }
-            Some(Action::Get(slot)) => Ok(self.get(actor, place.position, slot)),
+            Some(Action::Submit(class)) => Ok(Some(self.submit(plan, actor, next, class)?)),
+            Some(Action::Get(submit)) => Ok(self.get(actor, next.position, submit)),
         }
     }
 }

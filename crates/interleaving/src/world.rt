@@ -9,8 +9,7 @@ ghost use Rattle.written_machine.specs.State.{State, is_unfinished};
 ghost use Rattle.written_machine.specs.Reach.{start};
 
 use crate::clients::new_clients;
-use crate::index::Link;
-use crate::jobs;
+use crate::live_jobs::LiveJobs;
 use crate::pools::new_pools;
 use job_bodies::Plan;
 use live_views::JobView;
@@ -25,15 +24,10 @@ use written_machine::ClientState;
 /// their makers are kept, so a world grows by one place and one link for each job that is made.
 #[derive(Debug, Drop)]
 pub struct World {
-    // By number; None where the job is not live any more.
-    pub(crate) jobs: Vec<Option<JobView>>,
+    pub(crate) jobs: LiveJobs,
     pub(crate) pools: Vec<PoolState>,
     pub(crate) clients: Vec<ClientState>,
     pub(crate) refusals: u64,
-    // By number, of each job that was made: where to look for other jobs of its maker, and for those that it made.
-    pub(crate) links: Vec<Link>,
-    // For each client the number below which the live jobs that it made stand.
-    pub(crate) ends: Vec<usize>,
 }
 
 impl Model for World {
@@ -41,17 +35,18 @@ impl Model for World {
 
     ghost Value = { View };
 
-    ghost view = { λ w. record { jobs = w.jobs.items; pools = w.pools.items; clients = w.clients.items; refusals = w.refusals } };
+    ghost view = { λ w. record { jobs = w.jobs.jobs; pools = w.pools.items; clients = w.clients.items; refusals = w.refusals } };
 
-    ghost use Rattle.interleaving.specs.Index.{IsIndexed};
+    ghost use Rattle.std.specs.Prelude.{◌≡◌, length};
 
-    ghost invariant = { λ w. IsIndexed w.jobs.items w.clients.items w.links.items w.ends.items };
+    ghost invariant = { λ w. w.jobs.clients ≡ length w.clients.items };
 }
 
 impl World {
     ghost use Rattle.interleaving.specs.OfPlan.{IsOf};
 
-    /// The plan's world before its first event: no jobs, no threads, each client at the start of its body.
+    /// The plan's world before its first event: no jobs, core idle workers in each pool that is prestarted and no threads
+    /// in the others, each client at the start of its body.
     ///
     /// # Errors
     ///
@@ -63,14 +58,11 @@ impl World {
     {
         let pools = new_pools(alloc, plan.pools())?;
         let clients = new_clients(alloc, plan.clients())?;
-        let ends = vec![in alloc; 0; clients.len()]?;
         Ok(World {
-            jobs: Vec::new(alloc),
+            jobs: LiveJobs::new(alloc, clients.len())?,
             pools,
             clients,
             refusals: 0,
-            links: Vec::new(alloc),
-            ends,
         })
     }
 
@@ -86,7 +78,7 @@ impl World {
         ensures value { (plan : spec.Plan) (s : State) → live_view plan s ≡ self.now → result ≡ count_by (λ job. is_unfinished job.stage) s.jobs }
         ensures in_view { result ≡ count_by is_unfinished_job self.now.jobs }
     {
-        jobs::unfinished(&self.jobs) as u64
+        self.jobs.unfinished() as u64
     }
 
     /// How many jobs were ever made.
@@ -115,6 +107,6 @@ impl World {
     pub fn job(&self, job: usize) -> Option<JobView>
         ensures { result ≡ live_job self.now.jobs job }
     {
-        jobs::live_job(&self.jobs, job)
+        self.jobs.get(job)
     }
 }

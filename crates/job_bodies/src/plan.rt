@@ -12,8 +12,7 @@ use std::alloc::Global;
 use std::marker::Model;
 
 /// A pool of threads before an array queue, as Java's `ThreadPoolExecutor` over an `ArrayBlockingQueue` with the default
-/// handler, `AbortPolicy`: a job that comes while fewer than `core` threads are there starts a thread; else it is queued
-/// where the queue has room; else it starts a thread where fewer than `max` are there; else it is refused.
+/// handler, `AbortPolicy`. What it does with a job that comes is told once, at `PoolState::offer` of `pool_machine`.
 ///
 /// The constructors' ranges are those of the Javadoc (a maximum of at least 1 and of at least core, a capacity of at
 /// least 1), and narrower in two ways: core is at least 1, and no size is above [`MOST_UNITS`].

@@ -16,7 +16,7 @@ use Rattle.written_machine.proofs.Kept.{Kept}
 use Rattle.written_machine.proofs.Standing.{lawful_point, standing_made}
 use Rattle.written_machine.proofs.Queues.{pool_of_made}
 use Rattle.live_views.specs.LiveView.{View, live_view}
-use Rattle.live_views.specs.ViewStep.{end_in, act_in, step_actor, view_step}
+use Rattle.live_views.specs.ViewStep.{ended_in, acted_in, step_actor, view_step}
 use Rattle.live_views.specs.Laws.{seen_after}
 use Rattle.live_views.proofs.View.{point_seen}
 use Rattle.live_views.proofs.Moves.{move_seen, loop_commutes, get_commutes}
@@ -26,12 +26,12 @@ use Rattle.live_views.proofs.Finishes.{finish_commutes}
 use Rattle.live_views.proofs.Pools.{take_commutes, retire_commutes}
 
 module _ (plan : Plan) (s : State) (ordered : IsOrdered plan) (kept : Kept plan s) (settled : Settled plan s) where
-  end_commutes : (a : Parent) (body : List Action) (i : ℕ) → point plan s a ≡ Some (record { body = body; position = i }) → option_map (seen_after plan) (ended plan s a) ≡ end_in plan (live_view plan s) a
+  end_commutes : (a : Parent) (body : List Action) (i : ℕ) → point plan s a ≡ Some (record { body = body; position = i }) → option_map (seen_after plan) (ended plan s a) ≡ ended_in plan (live_view plan s) a
   end_commutes (parent.Client c) body i stands = loop_commutes plan s c (slice_get s.clients c)
   end_commutes (parent.Job j) body i stands = finish_commutes plan s j body i kept settled stands (pool_of_made plan s j ordered kept (standing_made plan s j body i stands))
 
   act_commutes : (a : Parent) (body : List Action) (i : ℕ) (action : Option Action) → point plan s a ≡ Some (record { body = body; position = i }) → slice_get body i ≡ action
-      → option_map (seen_after plan) (acted plan s a i action) ≡ act_in plan (live_view plan s) a i action
+      → option_map (seen_after plan) (acted plan s a i action) ≡ acted_in plan (live_view plan s) a i action
   act_commutes a body i None stands there = end_commutes a body i stands
   act_commutes a body i (Some (Work u)) stands there = ap (λ (v : View). Some (v, outcome.Worked u)) (move_seen plan s a body i (i + 1) stands)
   act_commutes a body i (Some (Submit k)) stands there =

@@ -21,7 +21,7 @@ use Rattle.live_views.specs.declared.job_view.JobView.{JobView}
 use Rattle.written_machine.specs.State.{pool_of}
 use Rattle.written_machine.specs.Step.{Point}
 use Rattle.live_views.specs.LiveView.{View}
-use Rattle.live_views.specs.ViewStep.{live_job, live_child, is_done, in_phase, with_phase, unless_stale, unless_orphan, finished_or_gone, move_actor, new_live_job, made, answered_in, get_live, get_in, finish_live, loop_in, act_in, point_in, step_actor, take_in, retire_in, pool_in, view_step}
+use Rattle.live_views.specs.ViewStep.{live_job, live_child, is_done, in_phase, with_phase, unless_stale, unless_orphan, finished_or_gone, move_actor, new_live_job, made, answered_in, got_in, got_child_in, finished_job_in, looped_in, acted_in, point_in, step_actor, took_in, let_go_in, pool_in, view_step}
 
 -- what is not live stays so, and no number is taken back
 pub record Gone (jobs jobs' : List (Option JobView)) : Type 0 where
@@ -87,29 +87,29 @@ answered_leaves plan view a i k offer.Started = gone_made a i (new_live_job k a 
 answered_leaves plan view a i k offer.Queued = gone_made a i (new_live_job k a i phase.Queued) view
 answered_leaves plan view a i k offer.Refused = gone_same view.jobs
 
-get_leaves : (view : View) (a : Parent) (i j : ℕ) (o : Option JobView) → Leaves view (get_live view a i j o)
+get_leaves : (view : View) (a : Parent) (i j : ℕ) (o : Option JobView) → Leaves view (got_in view a i j o)
 get_leaves view a i j None = tt
 get_leaves view a i j (Some job) =
     let moved = move_actor a (i + 1) view in
     leaves_if view (is_done job.phase) (record moved { jobs = set moved.jobs j None }, outcome.Got j)
     (gone_then view.jobs moved.jobs (set moved.jobs j None) (gone_moved a (i + 1) view) (gone_set moved.jobs j None (λ gone. refl)))
 
-get_child_leaves : (view : View) (a : Parent) (i : ℕ) (o : Option ℕ) → Leaves view (get_in view a i o)
+get_child_leaves : (view : View) (a : Parent) (i : ℕ) (o : Option ℕ) → Leaves view (got_child_in view a i o)
 get_child_leaves view a i None = tt
 get_child_leaves view a i (Some j) = get_leaves view a i j (live_job view.jobs j)
 
-finish_leaves : (plan : Plan) (view : View) (j : ℕ) (o : Option JobView) → live_job view.jobs j ≡ o → Leaves view (finish_live plan view j o)
+finish_leaves : (plan : Plan) (view : View) (j : ℕ) (o : Option JobView) → live_job view.jobs j ≡ o → Leaves view (finished_job_in plan view j o)
 finish_leaves plan view j None e = tt
 finish_leaves plan view j (Some job) e =
     let here = finished_or_gone view.jobs j job in
     let after = set view.jobs j here in
     gone_then view.jobs after (map (unless_orphan j) after) (gone_set view.jobs j here (λ gone. let f : Some job ≡ None = sym e ∙ gone in absurd cc)) (gone_map (unless_orphan j) after refl)
 
-loop_leaves : (plan : Plan) (view : View) (c : ℕ) (o : Option ClientState) → Leaves view (loop_in plan view c o)
+loop_leaves : (plan : Plan) (view : View) (c : ℕ) (o : Option ClientState) → Leaves view (looped_in plan view c o)
 loop_leaves plan view c None = tt
 loop_leaves plan view c (Some client) = leaves_if view (client_at plan client.kind).repeat (move_actor (parent.Client c) 0 view, outcome.Looped) (gone_moved (parent.Client c) 0 view)
 
-act_leaves : (plan : Plan) (view : View) (a : Parent) (i : ℕ) (o : Option Action) → Leaves view (act_in plan view a i o)
+act_leaves : (plan : Plan) (view : View) (a : Parent) (i : ℕ) (o : Option Action) → Leaves view (acted_in plan view a i o)
 act_leaves plan view (parent.Client c) i None = loop_leaves plan view c (slice_get view.clients c)
 act_leaves plan view (parent.Job j) i None = finish_leaves plan view j (live_job view.jobs j) refl
 act_leaves plan view a i (Some (Work u)) = gone_moved a (i + 1) view
@@ -120,11 +120,11 @@ actor_leaves : (plan : Plan) (view : View) (a : Parent) (o : Option Point) → L
 actor_leaves plan view a None = tt
 actor_leaves plan view a (Some at) = act_leaves plan view a at.position (slice_get at.body at.position)
 
-take_leaves : (view : View) (p : ℕ) (o : Option (ℕ × PoolView)) → Leaves view (take_in view p o)
+take_leaves : (view : View) (p : ℕ) (o : Option (ℕ × PoolView)) → Leaves view (took_in view p o)
 take_leaves view p None = tt
 take_leaves view p (Some x) = gone_phase view.jobs x.0 (phase.At 0)
 
-retire_leaves : (view : View) (p : ℕ) (o : Option PoolView) → Leaves view (retire_in view p o)
+retire_leaves : (view : View) (p : ℕ) (o : Option PoolView) → Leaves view (let_go_in view p o)
 retire_leaves view p None = tt
 retire_leaves view p (Some pool) = gone_same view.jobs
 

@@ -22,7 +22,7 @@ use Rattle.written_machine.proofs.Standing.{At≢Claimed}
 use Rattle.written_machine.proofs.Stages.{get_or-staged_same, get_or-staged_other, child-stage}
 use Rattle.written_machine.proofs.Children.{same_actor_true, same_actor_refl}
 use Rattle.live_views.specs.LiveView.{may_ask, is_number, phase_seen, job_with, job_seen, View, live_view}
-use Rattle.live_views.specs.ViewStep.{live_job, live_child, is_done, may_ask_for, pool_in, put_pool, unless_orphan, finished_or_gone, finish_live}
+use Rattle.live_views.specs.ViewStep.{live_job, live_child, is_done, may_ask_for, pool_in, with_pool_in, unless_orphan, finished_or_gone, finished_job_in}
 use Rattle.live_views.proofs.View.{seen, phase_with, job_seen-with, length-view, view_at, jobs_are, pool_at_view, same_views, may_ask_seen, pools-put}
 use Rattle.live_views.proofs.Changes.{as_seen, seen_same, seen_at, may_ask-staged_other, job_standing}
 use Rattle.live_views.proofs.Children.{made_by_itself, child_seen}
@@ -150,12 +150,12 @@ module _ (plan : Plan) (s : State) (j : ℕ) (body : List Action) (i : ℕ) (kep
   finished_as : live_job (live_view plan s).jobs j ≡ Some (as_seen (job_at s j) (phase.At i))
   finished_as = view_at plan s j ∙ seen_at s j (At i) (phase.At i) (job_standing plan s j body i stands).1 refl
 
-  pub finish_commutes : ◌≡◌ {A = Option (View × Outcome)} (Some (live_view plan (finished_job plan s j (pool_of plan (job_at s j).class)), outcome.Finished j)) (finish_live plan (live_view plan s) j (live_job (live_view plan s).jobs j))
+  pub finish_commutes : ◌≡◌ {A = Option (View × Outcome)} (Some (live_view plan (finished_job plan s j (pool_of plan (job_at s j).class)), outcome.Finished j)) (finished_job_in plan (live_view plan s) j (live_job (live_view plan s).jobs j))
   finish_commutes =
       let view = live_view plan s in
       let p = pool_of plan (job_at s j).class in
       let here = finished_or_gone view.jobs j (as_seen (job_at s j) (phase.At i)) in
-      let after : View = put_pool p (finished (pool_in view p)) (record view { jobs = map (unless_orphan j) (set view.jobs j here) }) in
+      let after : View = with_pool_in p (finished (pool_in view p)) (record view { jobs = map (unless_orphan j) (set view.jobs j here) }) in
       let same : live_view plan (finished_job plan s j p) ≡ after = same_views (live_view plan (finished_job plan s j p)) after jobs_after pools_after refl refl in
-      let seen_as : finish_live plan view j (live_job view.jobs j) ≡ Some (after, outcome.Finished j) = ap (finish_live plan view j) finished_as in
+      let seen_as : finished_job_in plan view j (live_job view.jobs j) ≡ Some (after, outcome.Finished j) = ap (finished_job_in plan view j) finished_as in
       ap (λ (v : View). Some (v, outcome.Finished j)) same ∙ sym seen_as

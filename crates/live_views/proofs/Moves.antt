@@ -18,7 +18,7 @@ use Rattle.written_machine.proofs.Busy.{busy_in-as, busy-staged_same, busy-moved
 use Rattle.written_machine.proofs.Kept.{Kept}
 use Rattle.written_machine.proofs.Standing.{job_made, job_at-with_position}
 use Rattle.live_views.specs.LiveView.{job_seen, View, live_view}
-use Rattle.live_views.specs.ViewStep.{live_job, live_child, in_phase, move_actor, get_live, get_in, loop_in}
+use Rattle.live_views.specs.ViewStep.{live_job, live_child, in_phase, move_actor, got_in, got_child_in, looped_in}
 use Rattle.live_views.specs.Laws.{seen_after}
 use Rattle.live_views.proofs.View.{seen, view_at, same_pools, same_views, pool_seen-busy}
 use Rattle.live_views.proofs.Changes.{as_seen, seen_at, jobs-staged, job_standing, standing_asks}
@@ -42,7 +42,7 @@ loops_if : (plan : Plan) (s : State) (c : ℕ) (b : Bool) → option_map (seen_a
 loops_if plan s c true = refl
 loops_if plan s c false = refl
 
-pub loop_commutes : (plan : Plan) (s : State) (c : ℕ) (o : Option ClientState) → option_map (seen_after plan) (looped plan s c o) ≡ loop_in plan (live_view plan s) c o
+pub loop_commutes : (plan : Plan) (s : State) (c : ℕ) (o : Option ClientState) → option_map (seen_after plan) (looped plan s c o) ≡ looped_in plan (live_view plan s) c o
 loop_commutes plan s c None = refl
 loop_commutes plan s c (Some client) = loops_if plan s c (client_at plan client.kind).repeat
 
@@ -70,16 +70,16 @@ claimed_seen plan s a body i j stands done =
     subst (λ (v : View). live_view plan (with_stage j Claimed moved) ≡ record v { jobs = set v.jobs j None }) now claimed
 
 got_commutes : (plan : Plan) (s : State) (a : Parent) (body : List Action) (i t j : ℕ) (stage : Stage) → point plan s a ≡ Some (record { body = body; position = i }) → child s a t ≡ Some j → (job_at s j).stage ≢ Claimed
-    → (job_at s j).stage ≡ stage → option_map (seen_after plan) (got s a i j stage) ≡ get_live (live_view plan s) a i j (seen s j)
-got_commutes plan s a body i t j Queued stands is_child unclaimed e = sym (ap (get_live (live_view plan s) a i j) (seen_at s j Queued phase.Queued e refl))
-got_commutes plan s a body i t j (At n) stands is_child unclaimed e = sym (ap (get_live (live_view plan s) a i j) (seen_at s j (At n) (phase.At n) e refl))
+    → (job_at s j).stage ≡ stage → option_map (seen_after plan) (got s a i j stage) ≡ got_in (live_view plan s) a i j (seen s j)
+got_commutes plan s a body i t j Queued stands is_child unclaimed e = sym (ap (got_in (live_view plan s) a i j) (seen_at s j Queued phase.Queued e refl))
+got_commutes plan s a body i t j (At n) stands is_child unclaimed e = sym (ap (got_in (live_view plan s) a i j) (seen_at s j (At n) (phase.At n) e refl))
 got_commutes plan s a body i t j Done stands is_child unclaimed e =
     let view = live_view plan s in
-    ap (λ v. Some (v, Got j)) (claimed_seen plan s a body i j stands e) ∙ sym (ap (get_live view a i j) (done_seen s a t j (standing_asks plan s a body i stands) is_child e))
+    ap (λ v. Some (v, Got j)) (claimed_seen plan s a body i j stands e) ∙ sym (ap (got_in view a i j) (done_seen s a t j (standing_asks plan s a body i stands) is_child e))
 got_commutes plan s a body i t j Claimed stands is_child unclaimed e = absurd (unclaimed e)
 
 pub get_commutes : (plan : Plan) (s : State) (a : Parent) (body : List Action) (i t : ℕ) → IsLawful plan body → Kept plan s → point plan s a ≡ Some (record { body = body; position = i }) → slice_get body i ≡ Some (Get t)
-    → option_map (seen_after plan) (got_child s a i (child s a t)) ≡ get_in (live_view plan s) a i (live_child (live_view plan s).jobs a t)
+    → option_map (seen_after plan) (got_child s a i (child s a t)) ≡ got_child_in (live_view plan s) a i (live_child (live_view plan s).jobs a t)
 get_commutes plan s a body i t lawful kept stands there =
     let view = live_view plan s in
     let found = (kept.actors a body i stands).ready i t (le_refl i) (lawful.behind i t there) there in
@@ -87,5 +87,5 @@ get_commutes plan s a body i t lawful kept stands there =
     let is_child : child s a t ≡ Some j = found.is_child in
     ap (λ o. option_map (seen_after plan) (got_child s a i o)) is_child
     ∙ got_commutes plan s a body i t j (job_at s j).stage stands is_child found.unclaimed refl
-    ∙ ap (get_live view a i j) (sym (view_at plan s j))
-    ∙ sym (ap (get_in view a i) (child_seen plan s a t j (standing_asks plan s a body i stands) is_child found.unclaimed))
+    ∙ ap (got_in view a i j) (sym (view_at plan s j))
+    ∙ sym (ap (got_child_in view a i) (child_seen plan s a t j (standing_asks plan s a body i stands) is_child found.unclaimed))

@@ -15,7 +15,7 @@ use Rattle.written_machine.proofs.Busy.{one_if, busy-staged_here, busy-staged_el
 use Rattle.written_machine.proofs.Kept.{Kept}
 use Rattle.written_machine.proofs.Queues.{IsHead, head_of_queue}
 use Rattle.live_views.specs.LiveView.{job_seen, live_view}
-use Rattle.live_views.specs.ViewStep.{live_job, in_phase, with_phase, no_pool_view, pool_in, put_pool, take_in, retire_in}
+use Rattle.live_views.specs.ViewStep.{live_job, in_phase, with_phase, no_pool_view, pool_in, with_pool_in, took_in, let_go_in}
 use Rattle.live_views.specs.Laws.{seen_after}
 use Rattle.live_views.proofs.View.{seen, view_at, length-pools, pool_at_view, same_views, pools-put}
 use Rattle.live_views.proofs.Changes.{as_seen, seen_at, jobs-staged}
@@ -39,7 +39,7 @@ take_seen plan s p j idle queue kept inside is_idle head =
     same_views (live_view plan (with_pool p pool s2)) (record view { jobs = with_phase j (phase.At 0) view.jobs; pools = set view.pools p pool }) jobs pools refl refl
 
 taken_commutes : (plan : Plan) (s : State) (p : ℕ) → Kept plan s → p < length plan.pools → (idle : ℕ) (queue : List ℕ) → (pool_part s p).idle ≡ idle → (pool_part s p).queue ≡ queue
-    → option_map (seen_after plan) (took s p (taken_from (pool_seen plan s p) idle queue)) ≡ take_in (live_view plan s) p (taken_from (pool_seen plan s p) idle queue)
+    → option_map (seen_after plan) (took s p (taken_from (pool_seen plan s p) idle queue)) ≡ took_in (live_view plan s) p (taken_from (pool_seen plan s p) idle queue)
 taken_commutes plan s p kept inside zero [] is_idle is_queue = refl
 taken_commutes plan s p kept inside zero (j ∷ queue) is_idle is_queue = refl
 taken_commutes plan s p kept inside (suc idle) [] is_idle is_queue = refl
@@ -53,24 +53,24 @@ no_pool_there plan s p kept past = get_or_past s.pools p no_pool_part (omega (ar
 no_pool_in_view : (plan : Plan) (s : State) (p : ℕ) → length plan.pools ≤ p → pool_in (live_view plan s) p ≡ no_pool_view
 no_pool_in_view plan s p past = let long = length-pools plan s in get_or_past (live_view plan s).pools p no_pool_view (omega arith)
 
-pub take_commutes : (plan : Plan) (s : State) (p : ℕ) → Kept plan s → option_map (seen_after plan) (took s p (taken (pool_seen plan s p))) ≡ take_in (live_view plan s) p (taken (pool_in (live_view plan s) p))
+pub take_commutes : (plan : Plan) (s : State) (p : ℕ) → Kept plan s → option_map (seen_after plan) (took s p (taken (pool_seen plan s p))) ≡ took_in (live_view plan s) p (taken (pool_in (live_view plan s) p))
 take_commutes plan s p kept =
     let view = live_view plan s in
     ⊎_elim
-    (λ inside. taken_commutes plan s p kept inside (pool_part s p).idle (pool_part s p).queue refl refl ∙ sym (ap (λ pool. take_in view p (taken pool)) (pool_at_view plan s p inside)))
+    (λ inside. taken_commutes plan s p kept inside (pool_part s p).idle (pool_part s p).queue refl refl ∙ sym (ap (λ pool. took_in view p (taken pool)) (pool_at_view plan s p inside)))
     (λ past. ap (λ (part : PoolPart). option_map (seen_after plan) (took s p (taken_from (pool_seen plan s p) part.idle part.queue))) (no_pool_there plan s p kept past)
-    ∙ sym (ap (λ pool. take_in view p (taken pool)) (no_pool_in_view plan s p past)))
+    ∙ sym (ap (λ pool. took_in view p (taken pool)) (no_pool_in_view plan s p past)))
     (cases_lt p (length plan.pools))
 
 -- ---- a retirement
 
-retire_if : (plan : Plan) (s : State) (p : ℕ) (pool : PoolView) (b : Bool) → live_view plan (with_pool p pool s) ≡ put_pool p pool (live_view plan s)
-    → option_map (seen_after plan) (let_go s p (if b then Some pool else None)) ≡ retire_in (live_view plan s) p (if b then Some pool else None)
+retire_if : (plan : Plan) (s : State) (p : ℕ) (pool : PoolView) (b : Bool) → live_view plan (with_pool p pool s) ≡ with_pool_in p pool (live_view plan s)
+    → option_map (seen_after plan) (let_go s p (if b then Some pool else None)) ≡ let_go_in (live_view plan s) p (if b then Some pool else None)
 retire_if plan s p pool true same = ap (λ v. Some (v, outcome.Retired)) same
 retire_if plan s p pool false same = refl
 
 retired_commutes : (plan : Plan) (s : State) (p : ℕ) → Kept plan s → p < length plan.pools → (idle : ℕ) → (pool_part s p).idle ≡ idle
-    → option_map (seen_after plan) (let_go s p (retired_of (pool_seen plan s p) idle)) ≡ retire_in (live_view plan s) p (retired_of (pool_seen plan s p) idle)
+    → option_map (seen_after plan) (let_go s p (retired_of (pool_seen plan s p) idle)) ≡ let_go_in (live_view plan s) p (retired_of (pool_seen plan s p) idle)
 retired_commutes plan s p kept inside zero is_idle = refl
 retired_commutes plan s p kept inside (suc idle) is_idle =
     let seen_pool = pool_seen plan s p in
@@ -78,13 +78,13 @@ retired_commutes plan s p kept inside (suc idle) is_idle =
     let threads : idle + busy plan s p ≡ (pool_part s p).idle + busy plan s p - 1 = omega arith in
     let pool_now = ap (pool_view (pool_at plan p) (record { queue = pool.queue; idle = idle })) threads in
     let pools = pools-put plan s s p pool refl kept.as_many inside pool_now (λ q other. refl) in
-    retire_if plan s p pool (nat_lt seen_pool.core seen_pool.threads) (same_views (live_view plan (with_pool p pool s)) (put_pool p pool (live_view plan s)) refl pools refl refl)
+    retire_if plan s p pool (nat_lt seen_pool.core seen_pool.threads) (same_views (live_view plan (with_pool p pool s)) (with_pool_in p pool (live_view plan s)) refl pools refl refl)
 
-pub retire_commutes : (plan : Plan) (s : State) (p : ℕ) → Kept plan s → option_map (seen_after plan) (let_go s p (retired (pool_seen plan s p))) ≡ retire_in (live_view plan s) p (retired (pool_in (live_view plan s) p))
+pub retire_commutes : (plan : Plan) (s : State) (p : ℕ) → Kept plan s → option_map (seen_after plan) (let_go s p (retired (pool_seen plan s p))) ≡ let_go_in (live_view plan s) p (retired (pool_in (live_view plan s) p))
 retire_commutes plan s p kept =
     let view = live_view plan s in
     ⊎_elim
-    (λ inside. retired_commutes plan s p kept inside (pool_part s p).idle refl ∙ sym (ap (λ pool. retire_in view p (retired pool)) (pool_at_view plan s p inside)))
+    (λ inside. retired_commutes plan s p kept inside (pool_part s p).idle refl ∙ sym (ap (λ pool. let_go_in view p (retired pool)) (pool_at_view plan s p inside)))
     (λ past. ap (λ (part : PoolPart). option_map (seen_after plan) (let_go s p (retired_of (pool_seen plan s p) part.idle))) (no_pool_there plan s p kept past)
-    ∙ sym (ap (λ pool. retire_in view p (retired pool)) (no_pool_in_view plan s p past)))
+    ∙ sym (ap (λ pool. let_go_in view p (retired pool)) (no_pool_in_view plan s p past)))
     (cases_lt p (length plan.pools))

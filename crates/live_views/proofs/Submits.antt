@@ -23,7 +23,7 @@ use Rattle.written_machine.proofs.Kept.{Kept}
 use Rattle.written_machine.proofs.Stages.{HaveParents, parents_moved}
 use Rattle.written_machine.proofs.Children.{maker_of}
 use Rattle.live_views.specs.LiveView.{may_ask, is_number, phase_seen, job_with, job_seen, View, live_view}
-use Rattle.live_views.specs.ViewStep.{is_done, unless_stale, pool_in, move_actor, new_live_job, made, answered_in, submit_in}
+use Rattle.live_views.specs.ViewStep.{is_done, unless_stale, pool_in, move_actor, new_live_job, made, answered_in, submitted_in}
 use Rattle.live_views.proofs.View.{seen, phase_with, job_seen-with, length-view, view_at, jobs_are, pool_at_view, one_pool, same_views, pool_seen-busy, pools-put}
 use Rattle.live_views.proofs.Changes.{as_seen, seen_same}
 use Rattle.live_views.proofs.Children.{made_by_itself}
@@ -157,6 +157,6 @@ module _ (plan : Plan) (s : State) (a : Parent) (body : List Action) (i k : ℕ)
   answered_commutes offer.Queued = ap₂ (λ (v : View) (n : ℕ). (v, outcome.Queued n)) queued_seen (sym (length-view plan s))
   answered_commutes offer.Refused = refl
 
-  pub submit_commutes : ◌≡◌ {A = View × Outcome} (live_view plan (submitted plan s a i k).0, (submitted plan s a i k).1) (submit_in plan (live_view plan s) a i k)
+  pub submit_commutes : ◌≡◌ {A = View × Outcome} (live_view plan (submitted plan s a i k).0, (submitted plan s a i k).1) (submitted_in plan (live_view plan s) a i k)
   submit_commutes =
       answered_commutes (answer (pool_seen plan s (pool_of plan k))) ∙ ap (λ (pool : PoolView). answered_in plan (live_view plan s) a i k (answer pool)) (sym (pool_at_view plan s (pool_of plan k) inside))

@@ -110,8 +110,8 @@ moved_live_clients (parent.Job j) i view = view.clients
 abbrev pub move_actor : Parent → ℕ → View → View
 move_actor a i view = record view { jobs = moved_live_jobs a i view; clients = moved_live_clients a i view }
 
-abbrev pub put_pool : ℕ → PoolView → View → View
-put_pool p pool view = record view { pools = slice_set view.pools p pool }
+abbrev pub with_pool_in : ℕ → PoolView → View → View
+with_pool_in p pool view = record view { pools = slice_set view.pools p pool }
 
 -- ---- the events
 
@@ -126,67 +126,67 @@ made a i job view =
 
 abbrev pub answered_in : Plan → View → Parent → ℕ → ℕ → Offer → View × Outcome
 answered_in plan view a i k offer.Started = (
-  put_pool (pool_of plan k) (after_answer (pool_in view (pool_of plan k)) (length view.jobs) offer.Started)
+  with_pool_in (pool_of plan k) (after_answer (pool_in view (pool_of plan k)) (length view.jobs) offer.Started)
       (made a i (new_live_job k a i (phase.At 0)) view),
   Started (length view.jobs),
 )
 answered_in plan view a i k offer.Queued = (
-  put_pool (pool_of plan k) (after_answer (pool_in view (pool_of plan k)) (length view.jobs) offer.Queued)
+  with_pool_in (pool_of plan k) (after_answer (pool_in view (pool_of plan k)) (length view.jobs) offer.Queued)
       (made a i (new_live_job k a i phase.Queued) view),
   Queued (length view.jobs),
 )
 answered_in plan view a i k offer.Refused = (record view { refusals = view.refusals + 1 }, Refused (pool_of plan k))
 
-abbrev pub submit_in : Plan → View → Parent → ℕ → ℕ → View × Outcome
-submit_in plan view a i k = answered_in plan view a i k (answer (pool_in view (pool_of plan k)))
+abbrev pub submitted_in : Plan → View → Parent → ℕ → ℕ → View × Outcome
+submitted_in plan view a i k = answered_in plan view a i k (answer (pool_in view (pool_of plan k)))
 
 -- the get of the live job j by an actor at position i
-abbrev pub get_live : View → Parent → ℕ → ℕ → Option JobView → Option (View × Outcome)
-get_live view a i j None = None
-get_live view a i j (Some job) =
+abbrev pub got_in : View → Parent → ℕ → ℕ → Option JobView → Option (View × Outcome)
+got_in view a i j None = None
+got_in view a i j (Some job) =
     if is_done job.phase then (let moved = move_actor a (i + 1) view in Some (record moved { jobs = slice_set moved.jobs j None }, Got j)) else None
 
-abbrev pub get_in : View → Parent → ℕ → Option ℕ → Option (View × Outcome)
-get_in view a i None = None
-get_in view a i (Some j) = get_live view a i j (live_job view.jobs j)
+abbrev pub got_child_in : View → Parent → ℕ → Option ℕ → Option (View × Outcome)
+got_child_in view a i None = None
+got_child_in view a i (Some j) = got_in view a i j (live_job view.jobs j)
 
-abbrev pub finish_live : Plan → View → ℕ → Option JobView → Option (View × Outcome)
-finish_live plan view j None = None
-finish_live plan view j (Some job) = Some (
-  put_pool (pool_of plan job.class) (finished (pool_in view (pool_of plan job.class)))
+abbrev pub finished_job_in : Plan → View → ℕ → Option JobView → Option (View × Outcome)
+finished_job_in plan view j None = None
+finished_job_in plan view j (Some job) = Some (
+  with_pool_in (pool_of plan job.class) (finished (pool_in view (pool_of plan job.class)))
       (record view { jobs = map (unless_orphan j) (slice_set view.jobs j (finished_or_gone view.jobs j job)) }),
   Finished j,
 )
 
-abbrev pub loop_in : Plan → View → ℕ → Option ClientState → Option (View × Outcome)
-loop_in plan view c None = None
-loop_in plan view c (Some client) = if (client_at plan client.kind).repeat then Some (move_actor (parent.Client c) 0 view, Looped) else None
+abbrev pub looped_in : Plan → View → ℕ → Option ClientState → Option (View × Outcome)
+looped_in plan view c None = None
+looped_in plan view c (Some client) = if (client_at plan client.kind).repeat then Some (move_actor (parent.Client c) 0 view, Looped) else None
 
-abbrev pub end_in : Plan → View → Parent → Option (View × Outcome)
-end_in plan view (parent.Client c) = loop_in plan view c (slice_get view.clients c)
-end_in plan view (parent.Job j) = finish_live plan view j (live_job view.jobs j)
+abbrev pub ended_in : Plan → View → Parent → Option (View × Outcome)
+ended_in plan view (parent.Client c) = looped_in plan view c (slice_get view.clients c)
+ended_in plan view (parent.Job j) = finished_job_in plan view j (live_job view.jobs j)
 
-abbrev pub act_in : Plan → View → Parent → ℕ → Option Action → Option (View × Outcome)
-act_in plan view a i None = end_in plan view a
-act_in plan view a i (Some (Work u)) = Some (move_actor a (i + 1) view, Worked u)
-act_in plan view a i (Some (Submit k)) = Some (submit_in plan view a i k)
-act_in plan view a i (Some (Get t)) = get_in view a i (live_child view.jobs a t)
+abbrev pub acted_in : Plan → View → Parent → ℕ → Option Action → Option (View × Outcome)
+acted_in plan view a i None = ended_in plan view a
+acted_in plan view a i (Some (Work u)) = Some (move_actor a (i + 1) view, Worked u)
+acted_in plan view a i (Some (Submit k)) = Some (submitted_in plan view a i k)
+acted_in plan view a i (Some (Get t)) = got_child_in view a i (live_child view.jobs a t)
 
 abbrev pub step_actor : Plan → View → Parent → Option Point → Option (View × Outcome)
 step_actor plan view a None = None
-step_actor plan view a (Some at) = act_in plan view a at.position (slice_get at.body at.position)
+step_actor plan view a (Some at) = acted_in plan view a at.position (slice_get at.body at.position)
 
-abbrev pub take_in : View → ℕ → Option (ℕ × PoolView) → Option (View × Outcome)
-take_in view p None = None
-take_in view p (Some x) = Some (record view { jobs = with_phase x.0 (phase.At 0) view.jobs; pools = slice_set view.pools p x.1 }, Took x.0)
+abbrev pub took_in : View → ℕ → Option (ℕ × PoolView) → Option (View × Outcome)
+took_in view p None = None
+took_in view p (Some x) = Some (record view { jobs = with_phase x.0 (phase.At 0) view.jobs; pools = slice_set view.pools p x.1 }, Took x.0)
 
-abbrev pub retire_in : View → ℕ → Option PoolView → Option (View × Outcome)
-retire_in view p None = None
-retire_in view p (Some pool) = Some (put_pool p pool view, Retired)
+abbrev pub let_go_in : View → ℕ → Option PoolView → Option (View × Outcome)
+let_go_in view p None = None
+let_go_in view p (Some pool) = Some (with_pool_in p pool view, Retired)
 
 -- the view and the outcome after the event, or None where the event is not possible
 abbrev pub view_step : Plan → View → Event → Option (View × Outcome)
 view_step plan view (Client c) = step_actor plan view (parent.Client c) (point_in plan view (parent.Client c))
 view_step plan view (Job j) = step_actor plan view (parent.Job j) (point_in plan view (parent.Job j))
-view_step plan view (Take p) = take_in view p (taken (pool_in view p))
-view_step plan view (Retire p) = retire_in view p (retired (pool_in view p))
+view_step plan view (Take p) = took_in view p (taken (pool_in view p))
+view_step plan view (Retire p) = let_go_in view p (retired (pool_in view p))

@@ -1,5 +1,8 @@
 //! A live job: one that is queued or at work, or that is done and can still be asked for.
 
+ghost use Rattle.std.specs.Prelude.{◌≡◌, Some};
+ghost use Rattle.live_views.specs.ViewStep.{is_done, is_live_child, unless_stale, unless_orphan};
+
 use written_machine::Parent;
 
 /// How far a live job is.
@@ -22,4 +25,43 @@ pub struct JobView {
     /// The position, in its parent's body, of the submit that made it.
     pub slot: usize,
     pub phase: Phase,
+}
+
+impl JobView {
+    /// Whether it finished.
+    pub fn is_done(self) -> bool
+        ensures { result ≡ is_done self.phase }
+    {
+        matches!(self.phase, Phase::Done)
+    }
+
+    /// Whether the actor made it by the submit at this position of its body.
+    pub fn is_child_of(self, actor: Parent, submit: usize) -> bool
+        ensures { result ≡ is_live_child actor submit (Some self) }
+    {
+        actor == self.parent && submit == self.slot
+    }
+
+    /// What is left of it once the actor makes another job by the submit at this position: a done job of that submit is
+    /// live no more.
+    pub fn unless_stale(self, actor: Parent, submit: usize) -> Option<JobView>
+        ensures { result ≡ unless_stale actor submit (Some self) }
+    {
+        if self.is_child_of(actor, submit) && self.is_done() {
+            None
+        } else {
+            Some(self)
+        }
+    }
+
+    /// What is left of it once the job of this number finishes: a done job that this one made is live no more.
+    pub fn unless_orphan(self, parent: usize) -> Option<JobView>
+        ensures { result ≡ unless_orphan parent (Some self) }
+    {
+        if self.parent == Parent::Job(parent) && self.is_done() {
+            None
+        } else {
+            Some(self)
+        }
+    }
 }

@@ -7,8 +7,8 @@ ghost use Rattle.plan_text.specs.PlanOf.{plan_of};
 ghost use Rattle.plan_text.specs.Document.{table_of};
 
 use anyhow::{Result, bail};
+use faults::number::{MEMORY, NOT_TOML};
 use job_bodies::PlanFault;
-use job_bodies::fault_number::{MEMORY, NOT_TOML};
 use plan_text::read_plan;
 use std::alloc::Global;
 use std::{env, io};

@@ -19,56 +19,11 @@ use Rattle.job_bodies.specs.WellFormed.{is_within, is_lawful_get, is_lawful_acti
 use Rattle.job_bodies.specs.Checks.{at_action, check_action, check_body}
 use Rattle.job_bodies.proofs.Passing.{test_passes, each_passes, list_any_from}
 use Rattle.plan_text.specs.Checks.{place_of}
-use Rattle.plan_text.specs.Orders.{Order, work, submit, submit_as, get, name_of, is_decimal, units_of, split_space, submit_as_of, submit_parts, submit_of, order_of_verb, order_of}
+use Rattle.plan_text.specs.Orders.{Order, work, submit, submit_as, get, name_of, is_positive_decimal, units_of, split_space, submit_as_of, submit_parts, submit_of, order_of_verb, order_of}
 use Rattle.plan_text.specs.Slots.{filled}
 use Rattle.plan_text.specs.Bodies.{class_named, action_of, action_at, action_among, body_of}
+use Rattle.plan_text.proofs.ReadOrders.{read_spelled}
 use Rattle.plan_text.proofs.Fillings.{HasOrder, fills}
-
--- ---- the units of a piece of work
-units_within : (text : List ℕ) (units : ℕ) → units_of text ≡ Some units → is_within 1 MOST_UNITS units ≡ true
-unfolding units_of
-units_within text units e =
-    let found = cond_some (is_decimal text && is_within 1 MOST_UNITS (digits_value 10 text)) _ _ e in
-    let within = (and_parts (is_decimal text) _ found.0).1 in
-    subst (λ (n : ℕ). is_within 1 MOST_UNITS n ≡ true) found.1 within
-
-name_no_work : (text : List ℕ) (made : List ℕ → Order) (units : ℕ) → ((name : List ℕ) → made name ≡ work units → ⊥) → option_and_then (λ name. Some (made name)) (name_of text) ≡ Some (work units) → ⊥
-name_no_work text made units other e = option_and_then_some _ (name_of text) _ e (λ name here h. let same : made name ≡ work units = cc in other name same)
-
-submit_as_no_work : (class text : List ℕ) (units : ℕ) → submit_as_of class text ≡ Some (work units) → ⊥
-unfolding submit_as_of
-submit_as_no_work class text units e =
-    option_and_then_some _ (split_space text) _ e (λ words here h.
-    elim (cases_Bool (bytes_eq words.0 (codes "as"))) [
-      | inl word ↦ option_and_then_some _ (name_of class) _ (rw word at h) (λ name there g. name_no_work words.1 (submit_as name) units (λ slot k. cc) g)
-      | inr other ↦ let none = rw other at h in cc
-    ])
-
-submit_no_work : (text : List ℕ) (parts : Option (List ℕ × List ℕ)) (units : ℕ) → submit_parts text parts ≡ Some (work units) → ⊥
-submit_no_work text None units e = name_no_work text submit units (λ name k. cc) e
-submit_no_work text (Some words) units e = submit_as_no_work words.0 words.1 units e
-
-verb_within : (verb text : List ℕ) (units : ℕ) → order_of_verb verb text ≡ Some (work units) → is_within 1 MOST_UNITS units ≡ true
-unfolding order_of_verb submit_of
-verb_within verb text units e =
-    elim (cases_Bool (bytes_eq verb (codes "work"))) [
-      | inl is_work ↦ option_and_then_some _ (units_of text) _ (rw is_work at e) (λ found here h. let same : found ≡ units = cc in subst (λ (n : ℕ). is_within 1 MOST_UNITS n ≡ true) same (units_within text found here))
-      | inr no_work ↦
-          let second = rw no_work at e in
-          elim (cases_Bool (bytes_eq verb (codes "submit"))) [
-            | inl is_submit ↦ absurd (submit_no_work text (split_space text) units (rw is_submit at second))
-            | inr no_submit ↦
-                let third = rw no_submit at second in
-                elim (cases_Bool (bytes_eq verb (codes "get"))) [
-                  | inl is_get ↦ absurd (name_no_work text get units (λ name k. cc) (rw is_get at third))
-                  | inr no_get ↦ let none = rw no_get at third in absurd cc
-                ]
-          ]
-    ]
-
-order_within : (text : List ℕ) (units : ℕ) → order_of text ≡ Some (work units) → is_within 1 MOST_UNITS units ≡ true
-unfolding order_of
-order_within text units e = option_and_then_some _ (split_space text) _ e (λ words here h. verb_within words.0 words.1 units h)
 
 -- ---- what an order gave
 abbrev IsOf : ℕ → (List ℕ → Option ℕ) → Order → Action → Type 0
@@ -86,7 +41,7 @@ action_is x y e = cc
 class_there : (classes : List (List ℕ)) (fault : ℕ → PlanFault) (name : List ℕ) (k : ℕ) → class_named classes fault name ≡ Ok k → nat_lt k (length classes) ≡ true
 class_there classes fault name k e =
     let found = bind_ok (holds_or (nat_lt (place_of classes name) (length classes)) _) _ _ e in
-    let there = holds_ok _ _ found.1 in
+    let there : nat_lt (place_of classes name) (length classes) ≡ true = holds_ok _ _ found.1 in
     let same : place_of classes name ≡ k = cc in
     subst (λ (n : ℕ). nat_lt n (length classes) ≡ true) same there
 
@@ -202,7 +157,7 @@ lawful_get classes part index texts body i t slot e within ordered at =
 lawful_by : (classes : List (List ℕ)) (part : Part) (index : ℕ) (texts : List (List ℕ)) (body : List Action) (i : ℕ) (action : Action) (order : Order) → body_of classes part index texts ≡ Ok body → i < length texts
     → HasOrder texts i order → IsOf (length classes) (filled (take i texts)) order action → is_lawful_action (length classes) body i action ≡ true
 lawful_by classes part index texts body i action (work units) e within ordered is =
-    subst (λ (a : Action). is_lawful_action (length classes) body i a ≡ true) is (order_within ordered.text units ordered.gives)
+    subst (λ (a : Action). is_lawful_action (length classes) body i a ≡ true) is (read_spelled ordered.text (work units) ordered.gives).0
 lawful_by classes part index texts body i action (submit class) e within ordered is =
     subst (λ (a : Action). is_lawful_action (length classes) body i a ≡ true) is.1 is.2
 lawful_by classes part index texts body i action (submit_as class slot) e within ordered is =

@@ -10,14 +10,16 @@ use Rattle.job_bodies.specs.declared.fault.Part.{Part}
 use Rattle.job_bodies.specs.declared.fault.Part.TheVariants as part
 use Rattle.job_bodies.specs.declared.limits.TheConstants.{MOST_POOLS, MOST_CLASSES, MOST_CLIENTS, MOST_ACTIONS}
 use Rattle.job_bodies.specs.Plan.{Pool, Class, Client, Plan}
-use Rattle.job_bodies.specs.declared.fault_number.TheConstants.{TOO_MANY}
+use Rattle.faults.specs.declared.number.TheConstants.{TOO_MANY}
 use Rattle.job_bodies.specs.Checks.{at_text, check_pool, check_class, check_client, check_length, check_body}
 use Rattle.job_bodies.specs.Build.{check_counts, check_lengths, check_entries, check_bodies, build}
+use Rattle.job_bodies.specs.WellFormed.{IsWellFormed}
+use Rattle.job_bodies.proofs.BuildLaws.{well_formed}
 use Rattle.job_bodies.proofs.Passing.{both_pass, test_passes, each_passed, each_passes, EachPlace}
 use Rattle.plan_text.specs.Document.{list_of, list_at, as_list}
-use Rattle.plan_text.specs.Entry.{value_at, table_at, text_at, number_at, flag_at, texts_at, action_text}
+use Rattle.plan_text.specs.Entry.{Entry, value_at, entry_of, text_at, number_at, flag_at, texts_at, action_text}
 use Rattle.plan_text.specs.Entries.{ClassEntry, ClientEntry, Entries, AreWithinLimits, pool_at, class_at, client_at, entries_of}
-use Rattle.plan_text.specs.Checks.{pool_names, class_names, client_names, class_head, client_head, check_pools, check_classes, check_clients}
+use Rattle.plan_text.specs.Checks.{class_names, client_names, class_head, client_head, check_pools, check_classes, check_clients}
 use Rattle.plan_text.specs.Bodies.{body_of, class_of, client_of}
 use Rattle.plan_text.specs.PlanOf.{plan_of_entries}
 use Rattle.plan_text.proofs.BodyLaws.{body_length, body_passes}
@@ -31,35 +33,35 @@ few key most document values e =
     let same : found.0 ≡ values = given_same {F = PlanFault} found.0 values passed.2 in
     subst (λ (vs : List Data). nat_le (length vs) most ≡ true) same (holds_ok _ _ passed.1)
 
-few_texts : (at : Part) (index : ℕ) (table : Members) (key : List ℕ) (texts : List (List ℕ)) → texts_at at index table key ≡ Ok texts → nat_le (length texts) MOST_ACTIONS ≡ true
+few_texts : (entry : Entry) (key : List ℕ) (texts : List (List ℕ)) → texts_at entry key ≡ Ok texts → nat_le (length texts) MOST_ACTIONS ≡ true
 unfolding texts_at
-few_texts at index table key texts e =
-    let value = bind_ok (value_at at index table key) _ _ e in
+few_texts entry key texts e =
+    let value = bind_ok (value_at entry key) _ _ e in
     let values = bind_ok (some_or (as_list value.0) _) _ _ value.2 in
     let passed = bind_ok (holds_or (nat_le (length values.0) MOST_ACTIONS) _) _ _ values.2 in
-    let long = read_length (action_text at index) 0 values.0 texts passed.2 in
+    let long = read_length (action_text entry.part entry.index) 0 values.0 texts passed.2 in
     rw long (holds_ok _ _ passed.1)
 
 class_short : (index : ℕ) (value : Data) (class : ClassEntry) → class_at index value ≡ Ok class → nat_le (length class.body) MOST_ACTIONS ≡ true
 unfolding class_at
 class_short index value class e =
-    let table = bind_ok (table_at part.Class index _ value) _ _ e in
-    let name = bind_ok (text_at part.Class index table.0 (codes "name")) _ _ table.2 in
-    let pool = bind_ok (text_at part.Class index table.0 (codes "pool")) _ _ name.2 in
-    let body = bind_ok (texts_at part.Class index table.0 (codes "body")) _ _ pool.2 in
+    let entry = bind_ok (entry_of part.Class index _ value) _ _ e in
+    let name = bind_ok (text_at entry.0 (codes "name")) _ _ entry.2 in
+    let pool = bind_ok (text_at entry.0 (codes "pool")) _ _ name.2 in
+    let body = bind_ok (texts_at entry.0 (codes "body")) _ _ pool.2 in
     let same : body.0 ≡ class.body = ap (λ (c : ClassEntry). c.body) (given_same {F = PlanFault} _ class body.2) in
-    subst (λ (texts : List (List ℕ)). nat_le (length texts) MOST_ACTIONS ≡ true) same (few_texts part.Class index table.0 (codes "body") body.0 body.1)
+    subst (λ (texts : List (List ℕ)). nat_le (length texts) MOST_ACTIONS ≡ true) same (few_texts entry.0 (codes "body") body.0 body.1)
 
 client_short : (index : ℕ) (value : Data) (client : ClientEntry) → client_at index value ≡ Ok client → nat_le (length client.body) MOST_ACTIONS ≡ true
 unfolding client_at
 client_short index value client e =
-    let table = bind_ok (table_at part.Client index _ value) _ _ e in
-    let name = bind_ok (text_at part.Client index table.0 (codes "name")) _ _ table.2 in
-    let count = bind_ok (number_at part.Client index table.0 (codes "count")) _ _ name.2 in
-    let repeat = bind_ok (flag_at part.Client index table.0 (codes "repeat")) _ _ count.2 in
-    let body = bind_ok (texts_at part.Client index table.0 (codes "body")) _ _ repeat.2 in
+    let entry = bind_ok (entry_of part.Client index _ value) _ _ e in
+    let name = bind_ok (text_at entry.0 (codes "name")) _ _ entry.2 in
+    let count = bind_ok (number_at entry.0 (codes "count")) _ _ name.2 in
+    let repeat = bind_ok (flag_at entry.0 (codes "repeat")) _ _ count.2 in
+    let body = bind_ok (texts_at entry.0 (codes "body")) _ _ repeat.2 in
     let same : body.0 ≡ client.body = ap (λ (c : ClientEntry). c.body) (given_same {F = PlanFault} _ client body.2) in
-    subst (λ (texts : List (List ℕ)). nat_le (length texts) MOST_ACTIONS ≡ true) same (few_texts part.Client index table.0 (codes "body") body.0 body.1)
+    subst (λ (texts : List (List ℕ)). nat_le (length texts) MOST_ACTIONS ≡ true) same (few_texts entry.0 (codes "body") body.0 body.1)
 
 -- entries that were read are within the limits
 pub are_within_limits : (document : Members) (entries : Entries) → entries_of document ≡ Ok entries → AreWithinLimits entries
@@ -113,7 +115,7 @@ client_is classes index client made e =
 
 -- the checks of entries, where they passed
 abbrev PoolsPass : List Pool → Type 0
-PoolsPass pools = check_each (λ index. check_pool (take index (pool_names pools)) index) 0 pools ≡ Ok tt
+PoolsPass pools = check_each (λ index. check_pool (take index (map (λ pool. pool.name) pools)) index) 0 pools ≡ Ok tt
 
 abbrev ClassesPass : List (List ℕ) → List ClassEntry → Type 0
 ClassesPass pools classes = check_each (λ index class. check_class (length pools) (take index (class_names classes)) index (class_head pools class)) 0 classes ≡ Ok tt
@@ -121,7 +123,7 @@ ClassesPass pools classes = check_each (λ index class. check_class (length pool
 abbrev ClientsPass : List ClientEntry → Type 0
 ClientsPass clients = check_each (λ index client. check_client (take index (client_names clients)) index (client_head client)) 0 clients ≡ Ok tt
 
-pools_pass : (pools : List Pool) (names : List (List ℕ)) → check_pools pools ≡ Ok names → PoolsPass pools × (pool_names pools ≡ names)
+pools_pass : (pools : List Pool) (names : List (List ℕ)) → check_pools pools ≡ Ok names → PoolsPass pools × (map (λ pool. pool.name) pools ≡ names)
 unfolding check_pools
 pools_pass pools names e = bind_ok_then (check_each _ 0 pools) _ names e (λ passed at rest. (at, given_same {F = PlanFault} _ names rest))
 
@@ -135,7 +137,7 @@ clients_pass clients passed e = e
 
 -- the steps of a plan that was read
 record IsRead (entries : Entries) (pools classes : List (List ℕ)) (plan : Plan) : Type 0 where
-  pool_names_are : pool_names entries.pools ≡ pools
+  pool_names_are : map (λ pool. pool.name) entries.pools ≡ pools
   class_names_are : class_names entries.classes ≡ classes
   pools_pass : PoolsPass entries.pools
   classes_pass : ClassesPass pools entries.classes
@@ -228,8 +230,8 @@ bodies_pass entries pools classes plan r =
     let is = client_is classes i from.0 made from.2 in
     body_passes classes part.Client i from.0.body made.body is.body (length plan.classes) part.Client i long))
 
--- what is read is built
-pub builds_read : (entries : Entries) (plan : Plan) → AreWithinLimits entries → plan_of_entries entries ≡ Ok plan → build plan ≡ Ok plan
+-- what is read passes the checks of a plan
+builds_read : (entries : Entries) (plan : Plan) → AreWithinLimits entries → plan_of_entries entries ≡ Ok plan → build plan ≡ Ok plan
 builds_read entries plan limits e = is_read entries plan e (λ pools classes r.
     let few_pools : nat_le (length plan.pools) MOST_POOLS ≡ true = rw (← r.pools_are) limits.few_pools in
     let few_classes : nat_le (length plan.classes) MOST_CLASSES ≡ true = rw (read_length (class_of pools classes) 0 entries.classes plan.classes r.classes_are) limits.few_classes in
@@ -238,3 +240,7 @@ builds_read entries plan limits e = is_read entries plan e (λ pools classes r.
     (both_pass (check_lengths plan) _ plan (lengths_pass entries pools classes plan limits r)
     (both_pass (check_entries plan) _ plan (entries_pass entries pools classes plan r)
     (both_pass (check_bodies plan) _ plan (bodies_pass entries pools classes plan r) refl))))
+
+-- and so is well-formed
+pub well_formed_read : (entries : Entries) (plan : Plan) → AreWithinLimits entries → plan_of_entries entries ≡ Ok plan → IsWellFormed plan
+well_formed_read entries plan limits e = well_formed plan plan (builds_read entries plan limits e)

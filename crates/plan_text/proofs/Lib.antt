@@ -4,11 +4,8 @@ pub mod Numbers
 pub mod Filling
 pub mod OnLiterals
 mod Samples
-mod Fillings
+pub mod Fillings
 mod BodyLaws
 mod Buildable
-pub mod Images
-mod SpelledOrders
-mod SpelledBodies
-mod SpelledEntries
-mod SpelledPlan
+pub mod SpelledOrders
+pub mod ReadOrders

@@ -6,16 +6,17 @@ use Rattle.std.proofs.lemmas.Bool.Decides.{nat_tests}
 use Rattle.std.proofs.lemmas.Str.Parse.{IsNumeralModel, numerals_by_value, parse_gives}
 use Rattle.job_bodies.specs.declared.limits.TheConstants.{MOST_UNITS}
 use Rattle.job_bodies.specs.WellFormed.{is_within}
-use Rattle.plan_text.specs.Orders.{are_digits, is_decimal}
+use Rattle.plan_text.specs.Orders.{are_digits, is_positive_decimal}
 
-digits_are : IsNumeralModel (λ digits. are_digits digits ≡ true) (digits_value 10)
+-- what digits are, to the lemmas of std on numerals
+pub digits_are : IsNumeralModel (λ digits. are_digits digits ≡ true) (digits_value 10)
 digits_are = numerals_by_value _ (search rules)
 
-not_empty : (text : List ℕ) → not (length text == 0) ≡ true → 0 < length text
+pub not_empty : (text : List ℕ) → not (length text == 0) ≡ true → 0 < length text
 not_empty text h = grind (arith, nat_tests)
 
 -- a decimal number that does not fit 32 bits is above the limit
-pub too_large : {E : Type 0} (text : List ℕ) (e : E) → is_decimal text ≡ true → ParsesUnsigned 32 10 text (Err e) → is_within 1 MOST_UNITS (digits_value 10 text) ≡ false
+pub too_large : {E : Type 0} (text : List ℕ) (e : E) → is_positive_decimal text ≡ true → ParsesUnsigned 32 10 text (Err e) → is_within 1 MOST_UNITS (digits_value 10 text) ≡ false
 too_large {E} text e decimal parsed =
     let parts = and_parts _ (are_digits text) decimal in
     let some = (and_parts (not (length text == 0)) _ parts.0).0 in

@@ -1,5 +1,5 @@
 -- Texts whose plans or faults are known, computed from the definitions.
-use Rattle.std.proofs.Common.{◌≡◌, ℕ, List, [], ◌∷◌, ◌++◌, true, Ok, Err, codes, refl}
+use Rattle.std.proofs.Common.{◌≡◌, ℕ, List, [], ◌∷◌, ◌++◌, true, false, Ok, Err, codes, refl}
 use Rattle.job_bodies.specs.declared.action.Action.TheVariants.{Work, Submit, Get}
 use Rattle.job_bodies.specs.declared.fault.Part.TheVariants as part
 use Rattle.job_bodies.specs.Plan.{Plan}
@@ -18,7 +18,7 @@ client = codes "[[client]]\nname = \"c\"\ncount = 2\nrepeat = true\nbody = [\"su
 
 abbrev plan : Plan
 plan = record {
-  pools = record { name = codes "p"; core = 1; max = 1; queue = 2 } ∷ [];
+  pools = record { name = codes "p"; core = 1; max = 1; queue = 2; prestart = false } ∷ [];
   classes = record { name = codes "a"; pool = 0; body = Work 1 ∷ [] } ∷ [];
   clients = record { name = codes "c"; count = 2; repeat = true; body = Submit 0 ∷ Get 0 ∷ [] } ∷ [];
 }
@@ -34,6 +34,19 @@ again = record {
 one_of_each : plan_of (pool ++ class ++ client) ≡ Ok plan
 unfolding plan_on_literals
 one_of_each = refl
+
+abbrev prestarted : Plan
+prestarted = record { pools = record { name = codes "p"; core = 1; max = 1; queue = 2; prestart = true } ∷ []; classes = []; clients = [] }
+
+-- a pool whose core threads are started beforehand
+prestarted_pool : plan_of (pool ++ codes "prestart = true\n") ≡ Ok prestarted
+unfolding plan_on_literals
+prestarted_pool = refl
+
+-- no truth value
+no_truth : plan_of (pool ++ codes "prestart = 1\n") ≡ Err (at_entry part.Pool 0 5)
+unfolding plan_on_literals
+no_truth = refl
 
 abbrev client_of : List ℕ → List ℕ
 client_of body = codes "[[client]]\nname = \"c\"\ncount = 2\nbody = [" ++ body ++ codes "]\n"

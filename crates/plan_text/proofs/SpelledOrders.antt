@@ -1,4 +1,4 @@
--- The order of a text that the writer spells is the order that was spelled.
+-- A lawful order is read from its spelling.
 use Rattle.std.proofs.Common.{◌≡◌, ℕ, ◌+◌, ◌<◌, ◌≤◌, ◌^◌, Bool, true, false, not, ◌==◌, nat_lt, nat_le, List, [], ◌∷◌, ◌++◌, length, take, drop, slice_index, codes, Option, None, Some, refl, sym, ap, ap₂, subst, ◌∙◌, arith, rules, append_assoc, append-nil}
 use Rattle.std.specs.Prelude.{if◌then◌else◌, option_and_then, decimal}
 use Rattle.std.specs.List.{list_all, position_or_len, before_first, after_first}
@@ -7,12 +7,11 @@ use Rattle.std.specs.Str.Parse.{digits_value}
 use Rattle.std.proofs.lemmas.Bool.{and_parts, and_from, or_left, or_right, leb-true, le-leb, lt-ltb, le-ltb, not_from_false, ne_eqb, cond-true, cond-false}
 use Rattle.std.proofs.lemmas.Bool.Decides.{nat_tests}
 use Rattle.std.proofs.lemmas.List.{take_at, drop_at, length-append, length_push}
-use Rattle.std.proofs.lemmas.Str.Parse.{IsNumeralModel, numerals_by_value}
 use Rattle.std.proofs.lemmas.Fmt.{decimal_nonempty, length-decimal-le, first_decimal, digits_decimal, digits_value-decimal, decimal_injective}
 use Rattle.job_bodies.specs.declared.limits.TheConstants.{MOST_UNITS}
 use Rattle.job_bodies.specs.WellFormed.{is_within, is_letter, is_name_byte, is_lawful_name}
-use Rattle.plan_text.specs.Orders.{Order, work, submit, submit_as, get, split_space, name_of, is_digit, are_digits, is_decimal, units_of, submit_as_of, submit_parts, submit_of, order_of_verb, order_of}
-use Rattle.plan_text.specs.Spelling.{slot_name}
+use Rattle.plan_text.proofs.Numbers.{digits_are}
+use Rattle.plan_text.specs.Orders.{Order, work, submit, submit_as, get, split_space, name_of, is_digit, are_digits, is_positive_decimal, units_of, submit_as_of, submit_parts, submit_of, order_of_verb, order_of, spelling, IsLawfulOrder}
 
 -- ---- where a text splits
 abbrev is_space : ℕ → Bool
@@ -62,13 +61,10 @@ name_no_space : (name : List ℕ) → is_lawful_name name ≡ true → has_no_sp
 name_no_space name lawful = bytes_no_space name (and_parts _ (list_all is_name_byte name) lawful).1
 
 -- ---- numbers
-digits_are : IsNumeralModel (λ digits. are_digits digits ≡ true) (digits_value 10)
-digits_are = numerals_by_value _ (search rules)
-
 digit_in_name : (b : ℕ) → is_digit b ≡ true → is_name_byte b ≡ true
 digit_in_name b h = or_left _ _ (or_right (is_letter b) _ h)
 
-digits_in_name : (digits : List ℕ) → are_digits digits ≡ true → list_all is_name_byte digits ≡ true
+pub digits_in_name : (digits : List ℕ) → are_digits digits ≡ true → list_all is_name_byte digits ≡ true
 digits_in_name [] h = refl
 digits_in_name (b ∷ digits) h =
     let parts = and_parts (is_digit b) _ h in
@@ -83,22 +79,11 @@ units_read units within =
     let value : digits_value 10 (decimal units) ≡ units = digits_value-decimal digits_are units small in
     let filled : not (length (decimal units) == 0) ≡ true = not_from_false _ (ne_eqb _ 0 (λ e. omega (arith, decimal_nonempty units small))) in
     let leading : not (slice_index (decimal units) 0 == 48) ≡ true = not_from_false _ (ne_eqb _ 48 (λ e. omega (arith, first_decimal units some small))) in
-    let full : is_decimal (decimal units) ≡ true = and_from _ _ (and_from _ _ filled leading) (digits_decimal digits_are units small) in
+    let full : is_positive_decimal (decimal units) ≡ true = and_from _ _ (and_from _ _ filled leading) (digits_decimal digits_are units small) in
     let fits : is_within 1 MOST_UNITS (digits_value 10 (decimal units)) ≡ true = subst (λ (n : ℕ). is_within 1 MOST_UNITS n ≡ true) (sym value) within in
     cond-true _ _ _ (and_from _ _ full fits) ∙ ap (λ (n : ℕ). Some n) value
 
 -- ---- the spellings
--- a slot's name is lawful, and names one position
-pub slot_lawful : (position : ℕ) → position < 256 → is_lawful_name (slot_name position) ≡ true
-slot_lawful position within =
-    let small : position < 2 ^ 64 = omega arith in
-    let few : length (slot_name position) ≤ 32 = omega (arith, length-decimal-le 3 position (omega arith) (omega arith) small) in
-    let bytes : list_all is_name_byte (decimal position) ≡ true = digits_in_name (decimal position) (digits_decimal digits_are position small) in
-    and_from _ _ (and_from _ _ (and_from _ _ (le-leb 1 _ (omega arith)) (le-leb _ 32 few)) refl) bytes
-
-pub slot_injective : (i j : ℕ) → i < 256 → j < 256 → slot_name i ≡ slot_name j → i ≡ j
-slot_injective i j p q e = decimal_injective i j (omega arith) (omega arith) (ap (drop 1) e)
-
 -- what the reader makes of each spelling
 by_verb : (verb text : List ℕ) → has_no_space verb ≡ true → order_of (verb ++ 32 ∷ text) ≡ order_of_verb verb text
 unfolding order_of
@@ -127,18 +112,25 @@ submit_as_read class slot lawful named =
     ∙ ap (λ o. with_class o slot) (name_read class lawful)
     ∙ ap (with_slot class) (name_read slot named)
 
-pub spelled_work : (units : ℕ) → is_within 1 MOST_UNITS units ≡ true → order_of (codes "work " ++ decimal units) ≡ Some (work units)
+spelled_work : (units : ℕ) → is_within 1 MOST_UNITS units ≡ true → order_of (codes "work " ++ decimal units) ≡ Some (work units)
 unfolding order_of_verb
 spelled_work units within = by_verb (codes "work") (decimal units) refl ∙ ap (λ o. option_and_then (λ n. Some (work n)) o) (units_read units within)
 
-pub spelled_submit : (class : List ℕ) → is_lawful_name class ≡ true → order_of (codes "submit " ++ class ++ []) ≡ Some (submit class)
+spelled_submit : (class : List ℕ) → is_lawful_name class ≡ true → order_of (codes "submit " ++ class) ≡ Some (submit class)
 unfolding order_of_verb
-spelled_submit class lawful = by_verb (codes "submit") (class ++ []) refl ∙ ap submit_of (append-nil class) ∙ submit_read class lawful
+spelled_submit class lawful = by_verb (codes "submit") class refl ∙ submit_read class lawful
 
-pub spelled_submit_as : (class slot : List ℕ) → is_lawful_name class ≡ true → is_lawful_name slot ≡ true → order_of (codes "submit " ++ class ++ (codes " as " ++ slot)) ≡ Some (submit_as class slot)
+spelled_submit_as : (class slot : List ℕ) → is_lawful_name class ≡ true → is_lawful_name slot ≡ true → order_of (codes "submit " ++ class ++ (codes " as " ++ slot)) ≡ Some (submit_as class slot)
 unfolding order_of_verb
 spelled_submit_as class slot lawful named = by_verb (codes "submit") (class ++ 32 ∷ (codes "as" ++ 32 ∷ slot)) refl ∙ submit_as_read class slot lawful named
 
-pub spelled_get : (slot : List ℕ) → is_lawful_name slot ≡ true → order_of (codes "get " ++ slot) ≡ Some (get slot)
+spelled_get : (slot : List ℕ) → is_lawful_name slot ≡ true → order_of (codes "get " ++ slot) ≡ Some (get slot)
 unfolding order_of_verb
 spelled_get slot named = by_verb (codes "get") slot refl ∙ ap (λ o. option_and_then (λ name. Some (get name)) o) (name_read slot named)
+
+-- ---- a lawful order is read from its spelling
+pub spelled : (order : Order) → IsLawfulOrder order → order_of (spelling order) ≡ Some order
+spelled (work units) lawful = spelled_work units lawful
+spelled (submit class) lawful = spelled_submit class lawful
+spelled (submit_as class slot) lawful = let parts = and_parts (is_lawful_name class) (is_lawful_name slot) lawful in spelled_submit_as class slot parts.0 parts.1
+spelled (get slot) lawful = spelled_get slot lawful

@@ -6,7 +6,7 @@ use Rattle.job_bodies.specs.declared.action.Action.TheVariants.{Work, Submit, Ge
 use Rattle.job_bodies.specs.declared.fault.PlanFault.{PlanFault}
 use Rattle.job_bodies.specs.declared.fault.Part.{Part}
 use Rattle.job_bodies.specs.declared.fault.Part.TheVariants as part
-use Rattle.job_bodies.specs.declared.fault_number.TheConstants.{NO_SUCH_CLASS, BAD_ACTION, SLOT_OPEN, SLOT_EMPTY}
+use Rattle.faults.specs.declared.number.TheConstants.{NO_SUCH_CLASS, BAD_ACTION, SLOT_OPEN, SLOT_EMPTY}
 use Rattle.job_bodies.specs.Plan.{Class, Client}
 use Rattle.job_bodies.specs.Checks.{at_action}
 use Rattle.plan_text.specs.Entries.{ClassEntry, ClientEntry}

@@ -9,9 +9,6 @@ use Rattle.job_bodies.specs.Checks.{check_pool, check_class, check_client}
 use Rattle.plan_text.specs.Entries.{ClassEntry, ClientEntry}
 
 -- the names of a list, in order
-abbrev pub pool_names : List Pool → List (List ℕ)
-pool_names pools = map (λ pool. pool.name) pools
-
 abbrev pub class_names : List ClassEntry → List (List ℕ)
 class_names classes = map (λ class. class.name) classes
 
@@ -32,7 +29,9 @@ client_head client = record { name = client.name; count = client.count; repeat =
 
 -- the names of the pools, where their names and sizes are lawful
 unfoldable pub check_pools : List Pool → Result (List (List ℕ)) PlanFault
-check_pools pools = check_each (λ index. check_pool (take index (pool_names pools)) index) 0 pools >>= λ _. Ok (pool_names pools)
+check_pools pools =
+    check_each (λ index. check_pool (take index (map (λ pool. pool.name) pools)) index) 0 pools >>= λ _.
+    Ok (map (λ pool. pool.name) pools)
 
 -- the names of the classes, where their names are lawful and their pools are among these
 unfoldable pub check_classes : List (List ℕ) → List ClassEntry → Result (List (List ℕ)) PlanFault

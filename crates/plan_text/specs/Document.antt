@@ -6,7 +6,7 @@ use Rattle.toml.specs.Data.{Data, as_array, Items, no_items, item, Members, no_m
 use Rattle.toml.specs.Parse.{parse_document}
 use Rattle.readings.specs.Reading.{◌>>=◌, holds_or, some_or}
 use Rattle.job_bodies.specs.declared.fault.PlanFault.{PlanFault}
-use Rattle.job_bodies.specs.declared.fault_number.TheConstants.{NOT_TOML, TOO_MANY, UNKNOWN_KEY, WRONG_TYPE}
+use Rattle.faults.specs.declared.number.TheConstants.{NOT_TOML, TOO_MANY, UNKNOWN_KEY, WRONG_TYPE}
 use Rattle.job_bodies.specs.Checks.{at_text}
 use Rattle.plan_text.specs.declared.document.TheConstants.{MOST_TEXT_BYTES}
 

@@ -7,7 +7,7 @@ use Rattle.job_bodies.specs.declared.fault.Part.TheVariants as part
 use Rattle.job_bodies.specs.declared.limits.TheConstants.{MOST_POOLS, MOST_CLASSES, MOST_CLIENTS, MOST_ACTIONS}
 use Rattle.job_bodies.specs.Plan.{Pool}
 use Rattle.plan_text.specs.Document.{list_at}
-use Rattle.plan_text.specs.Entry.{table_at, text_at, number_at, flag_at, texts_at}
+use Rattle.plan_text.specs.Entry.{entry_of, text_at, number_at, flag_at, texts_at}
 
 -- a class as its text gives it: its pool by name, its actions as texts
 pub record ClassEntry : Type 0 where
@@ -39,30 +39,31 @@ pub record AreWithinLimits (entries : Entries) : Type 0 where
 -- a pool
 unfoldable pub pool_at : ℕ → Data → Result Pool PlanFault
 pool_at index value =
-    table_at part.Pool index (codes "name" ∷ codes "core" ∷ codes "max" ∷ codes "queue" ∷ []) value >>= λ table.
-    text_at part.Pool index table (codes "name") >>= λ name.
-    number_at part.Pool index table (codes "core") >>= λ core.
-    number_at part.Pool index table (codes "max") >>= λ max.
-    number_at part.Pool index table (codes "queue") >>= λ queue.
-    Ok (record { name = name; core = core; max = max; queue = queue })
+    entry_of part.Pool index (codes "name" ∷ codes "core" ∷ codes "max" ∷ codes "queue" ∷ codes "prestart" ∷ []) value >>= λ entry.
+    text_at entry (codes "name") >>= λ name.
+    number_at entry (codes "core") >>= λ core.
+    number_at entry (codes "max") >>= λ max.
+    number_at entry (codes "queue") >>= λ queue.
+    flag_at entry (codes "prestart") >>= λ prestart.
+    Ok (record { name = name; core = core; max = max; queue = queue; prestart = prestart })
 
 -- a class
 unfoldable pub class_at : ℕ → Data → Result ClassEntry PlanFault
 class_at index value =
-    table_at part.Class index (codes "name" ∷ codes "pool" ∷ codes "body" ∷ []) value >>= λ table.
-    text_at part.Class index table (codes "name") >>= λ name.
-    text_at part.Class index table (codes "pool") >>= λ pool.
-    texts_at part.Class index table (codes "body") >>= λ body.
+    entry_of part.Class index (codes "name" ∷ codes "pool" ∷ codes "body" ∷ []) value >>= λ entry.
+    text_at entry (codes "name") >>= λ name.
+    text_at entry (codes "pool") >>= λ pool.
+    texts_at entry (codes "body") >>= λ body.
     Ok (record { name = name; pool = pool; body = body })
 
 -- a kind of clients
 unfoldable pub client_at : ℕ → Data → Result ClientEntry PlanFault
 client_at index value =
-    table_at part.Client index (codes "name" ∷ codes "count" ∷ codes "repeat" ∷ codes "body" ∷ []) value >>= λ table.
-    text_at part.Client index table (codes "name") >>= λ name.
-    number_at part.Client index table (codes "count") >>= λ count.
-    flag_at part.Client index table (codes "repeat") >>= λ repeat.
-    texts_at part.Client index table (codes "body") >>= λ body.
+    entry_of part.Client index (codes "name" ∷ codes "count" ∷ codes "repeat" ∷ codes "body" ∷ []) value >>= λ entry.
+    text_at entry (codes "name") >>= λ name.
+    number_at entry (codes "count") >>= λ count.
+    flag_at entry (codes "repeat") >>= λ repeat.
+    texts_at entry (codes "body") >>= λ body.
     Ok (record { name = name; count = count; repeat = repeat; body = body })
 
 -- the entries of a document: first the three lists, then each entry's shape

@@ -6,5 +6,3 @@ pub mod Orders
 pub mod Slots
 pub mod Bodies
 pub mod PlanOf
-pub mod Spelling
-pub mod PlanDocument

@@ -1,5 +1,5 @@
 -- The grammar of an action: `work N`, `submit CLASS`, `submit CLASS as SLOT` and `get SLOT`.
-use Rattle.std.specs.Prelude.{ℕ, Bool, ◌==◌, ◌&&◌, not, nat_lt, if◌then◌else◌, List, length, codes, Option, None, Some, option_and_then, slice_index}
+use Rattle.std.specs.Prelude.{◌≡◌, ℕ, Bool, true, ◌++◌, decimal, ◌==◌, ◌&&◌, not, nat_lt, if◌then◌else◌, List, length, codes, Option, None, Some, option_and_then, slice_index}
 use Rattle.std.specs.List.{list_all, position_or_len, before_first, after_first}
 use Rattle.std.specs.Str.{bytes_eq}
 use Rattle.std.specs.Str.Parse.{digits_value}
@@ -44,12 +44,12 @@ abbrev pub are_digits : List ℕ → Bool
 are_digits bytes = list_all is_digit bytes
 
 -- one digit or more, the first of which is not 0
-abbrev pub is_decimal : List ℕ → Bool
-is_decimal digits = not (length digits == 0) && not (slice_index digits 0 == 48) && are_digits digits
+abbrev pub is_positive_decimal : List ℕ → Bool
+is_positive_decimal digits = not (length digits == 0) && not (slice_index digits 0 == 48) && are_digits digits
 
 -- the length of a piece of work: a decimal number from 1 to the limit
 unfoldable pub units_of : List ℕ → Option ℕ
-units_of text = if is_decimal text && is_within 1 MOST_UNITS (digits_value 10 text) then Some (digits_value 10 text) else None
+units_of text = if is_positive_decimal text && is_within 1 MOST_UNITS (digits_value 10 text) then Some (digits_value 10 text) else None
 
 -- a submit that fills a slot, from its class and what stands after the class
 unfoldable pub submit_as_of : List ℕ → List ℕ → Option Order
@@ -76,3 +76,20 @@ order_of_verb verb text =
 -- the order that a text gives
 unfoldable pub order_of : List ℕ → Option Order
 order_of text = split_space text >>? λ words. order_of_verb words.0 words.1
+
+-- ---- the spelling of an order
+abbrev pub spelling : Order → List ℕ
+spelling (work units) = codes "work " ++ decimal units
+spelling (submit class) = codes "submit " ++ class
+spelling (submit_as class slot) = codes "submit " ++ class ++ (codes " as " ++ slot)
+spelling (get slot) = codes "get " ++ slot
+
+-- its length of work is within the limit, or its names are lawful
+abbrev pub is_lawful_order : Order → Bool
+is_lawful_order (work units) = is_within 1 MOST_UNITS units
+is_lawful_order (submit class) = is_lawful_name class
+is_lawful_order (submit_as class slot) = is_lawful_name class && is_lawful_name slot
+is_lawful_order (get slot) = is_lawful_name slot
+
+abbrev pub IsLawfulOrder : Order → Type 0
+IsLawfulOrder order = is_lawful_order order ≡ true

@@ -1,32 +1,32 @@
 //! Bodies, action by action: classes get their places, gets the positions of their submits.
 
-ghost use Rattle.std.specs.Prelude.{◌≡◌, List, ℕ, map, OnOk, IfOk, Some};
-ghost use Rattle.readings.specs.Reading.{read_each};
+ghost use Rattle.std.specs.Prelude.{◌≡◌, List, ℕ, map, OnOk, Some};
+ghost use Rattle.readings.specs.Reading as each;
 ghost use Rattle.readings.specs.Given.{Gives};
 ghost use Rattle.job_bodies.specs.Checks.{at_action};
 ghost use Rattle.plan_text.specs.Bodies as spec;
 ghost use Rattle.plan_text.specs.Orders.{order_of, order_view};
 ghost use Rattle.plan_text.specs.Slots.{position_in, filled_by};
 
-use crate::entries::{ClassEntry, ClientEntry, PoolEntry};
+use crate::entries::{ClassEntry, ClientEntry};
 use crate::fault::TextError;
 use crate::names::Names;
 use crate::order::{Order, order_of};
 use crate::slots::Slots;
-use job_bodies::fault_number::{BAD_ACTION, NO_SUCH_CLASS, SLOT_EMPTY, SLOT_OPEN};
-use job_bodies::{Action, Class, Client, Part, PlanFault, Pool};
-use readings::ReadError;
-use std::alloc::{AllocError, Global};
+use faults::number::{BAD_ACTION, NO_SUCH_CLASS, SLOT_EMPTY, SLOT_OPEN};
+use job_bodies::{Action, Class, Client, Part, PlanFault};
+use readings::{ReadError, read_each};
+use std::alloc::Global;
 
 /// An action of an entry's body, and where it stands.
 #[derive(Clone, Copy)]
-struct Place {
+struct ActionPlace {
     part: Part,
     index: usize,
     action: usize,
 }
 
-impl Place {
+impl ActionPlace {
     fn refuses(self, number: u8) -> TextError
         ensures { result ≡ ReadError.Fault (at_action self.part self.index self.action number) }
     {
@@ -34,7 +34,7 @@ impl Place {
     }
 }
 
-fn class_named(classes: &Names, place: Place, name: &str) -> Result<usize, TextError>
+fn class_named(classes: &Names, place: ActionPlace, name: &str) -> Result<usize, TextError>
     ensures { Gives (λ class. class) result (spec.class_named classes.now (at_action place.part place.index place.action) name.now) }
 {
     let class = classes.place(name);
@@ -47,7 +47,7 @@ fn class_named(classes: &Names, place: Place, name: &str) -> Result<usize, TextE
 fn action_of<'a>(
     classes: &Names<'a>,
     slots: &mut Slots<'a>,
-    place: Place,
+    place: ActionPlace,
     order: Order<'a>,
 ) -> Result<Action, TextError>
     ensures action { Gives (λ action. action) result (spec.action_of classes.now (position_in slots.old) (at_action place.part place.index place.action) (order_view order.entry)) }
@@ -81,7 +81,7 @@ fn action_of<'a>(
 fn action_at<'a>(
     classes: &Names<'a>,
     slots: &mut Slots<'a>,
-    place: Place,
+    place: ActionPlace,
     text: &'a str,
 ) -> Result<Action, TextError>
     ensures action { Gives (λ action. action) result (spec.action_at classes.now (position_in slots.old) (at_action place.part place.index place.action) text.now) }
@@ -105,7 +105,7 @@ fn body_of<'a>(
     let mut slots = Slots::new(alloc);
     let mut body = Vec::new(alloc);
     for (position, text) in texts.iter().enumerate() {
-        let place = Place {
+        let place = ActionPlace {
             part,
             index,
             action: position,
@@ -152,23 +152,6 @@ fn client_of<'a>(
     })
 }
 
-/// The pools of these entries.
-pub fn pools_of(alloc: Global, entries: &[PoolEntry]) -> Result<Vec<Pool>, AllocError>
-    ensures { IfOk result (λ pools. pools.items ≡ entries.now) }
-{
-    let mut pools = Vec::new(alloc);
-    for entry in entries {
-        let name = String::from_str(alloc, entry.name)?;
-        pools.push(Pool {
-            name,
-            core: entry.core,
-            max: entry.max,
-            queue: entry.queue,
-        })?;
-    }
-    Ok(pools)
-}
-
 /// The classes of these entries, with their bodies.
 pub fn classes_of<'a>(
     alloc: Global,
@@ -176,14 +159,13 @@ pub fn classes_of<'a>(
     names: &Names<'a>,
     entries: &[ClassEntry<'a>],
 ) -> Result<Vec<Class>, TextError>
-    ensures { Gives (λ classes. classes.items) result (read_each (spec.class_of pools.now names.now) 0 entries.now) }
+    ensures { Gives (λ classes. classes.items) result (each.read_each (spec.class_of pools.now names.now) 0 entries.now) }
 {
-    let mut classes = Vec::new(alloc);
-    for (index, entry) in entries.iter().enumerate() {
-        let class = class_of(alloc, pools, names, index, entry)?;
-        classes.push(class)?;
-    }
-    Ok(classes)
+    read_each(
+        alloc,
+        entries,
+        |index, entry| class_of(alloc, pools, names, index, entry),
+    )
 }
 
 /// The clients of these entries, with their bodies.
@@ -192,12 +174,11 @@ pub fn clients_of<'a>(
     names: &Names<'a>,
     entries: &[ClientEntry<'a>],
 ) -> Result<Vec<Client>, TextError>
-    ensures { Gives (λ clients. clients.items) result (read_each (spec.client_of names.now) 0 entries.now) }
+    ensures { Gives (λ clients. clients.items) result (each.read_each (spec.client_of names.now) 0 entries.now) }
 {
-    let mut clients = Vec::new(alloc);
-    for (index, entry) in entries.iter().enumerate() {
-        let client = client_of(alloc, names, index, entry)?;
-        clients.push(client)?;
-    }
-    Ok(clients)
+    read_each(
+        alloc,
+        entries,
+        |index, entry| client_of(alloc, names, index, entry),
+    )
 }

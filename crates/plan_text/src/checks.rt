@@ -2,15 +2,14 @@
 
 ghost use Rattle.std.specs.Prelude.{◌≡◌, ◌++◌, ◌∷◌, [], OnOk, length};
 ghost use Rattle.readings.specs.Given.{Gives};
-ghost use Rattle.job_bodies.specs.WellFormed as lawful;
 ghost use Rattle.job_bodies.specs.Checks as checks;
 ghost use Rattle.plan_text.specs.Checks as spec;
 
-use crate::entries::{ClassEntry, ClientEntry, PoolEntry};
+use crate::entries::{ClassEntry, ClientEntry};
 use crate::fault::TextError;
 use crate::names::Names;
-use job_bodies::fault_number::{BAD_NAME, BAD_NUMBER, DOUBLE_NAME, NO_SUCH_POOL};
-use job_bodies::{MOST_UNITS, Part, PlanFault, is_lawful_name, is_within};
+use faults::number::{BAD_NAME, BAD_NUMBER, DOUBLE_NAME, NO_SUCH_POOL};
+use job_bodies::{MOST_UNITS, Part, PlanFault, Pool, is_lawful_name, is_within};
 use readings::ReadError;
 use std::alloc::Global;
 
@@ -33,24 +32,12 @@ fn check_name<'a>(
     Ok(())
 }
 
-fn has_lawful_sizes(pool: &PoolEntry) -> bool
-    ensures { result ≡ lawful.has_lawful_sizes pool.now }
-{
-    is_within(1, MOST_UNITS, pool.core)
-        && is_within(pool.core, MOST_UNITS, pool.max)
-        && is_within(1, MOST_UNITS, pool.queue)
-}
-
-fn check_pool<'a>(
-    names: &mut Names<'a>,
-    index: usize,
-    pool: &PoolEntry<'a>,
-) -> Result<(), TextError>
+fn check_pool<'a>(names: &mut Names<'a>, index: usize, pool: &'a Pool) -> Result<(), TextError>
     ensures check { Gives (λ _. tt) result (checks.check_pool names.old index pool.now) }
     ensures names { OnOk result (names.new ≡ names.old ++ pool.now.name ∷ []) }
 {
-    check_name(names, Part::Pool, index, pool.name)?;
-    if !has_lawful_sizes(pool) {
+    check_name(names, Part::Pool, index, &pool.name)?;
+    if !pool.has_lawful_sizes() {
         return Err(ReadError::Fault(PlanFault::at_entry(Part::Pool, index, BAD_NUMBER)));
     }
     Ok(())
@@ -89,7 +76,7 @@ fn check_client<'a>(
 
 /// The names of the pools, where their names and sizes are lawful.
 #[tactic(auto, unfolding(crate::specs::Checks::check_pools))]
-pub fn check_pools<'a>(alloc: Global, pools: &[PoolEntry<'a>]) -> Result<Names<'a>, TextError>
+pub fn check_pools<'a>(alloc: Global, pools: &'a [Pool]) -> Result<Names<'a>, TextError>
     ensures { Gives (λ names. names) result (spec.check_pools pools.now) }
 {
     let mut names = Names::new(alloc);

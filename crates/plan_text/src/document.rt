@@ -10,8 +10,8 @@ ghost use Rattle.readings.specs.Given.{Gives};
 ghost use Rattle.plan_text.specs.Document as spec;
 
 use crate::fault::TextError;
+use faults::number::{NOT_TOML, TOO_MANY, UNKNOWN_KEY, WRONG_TYPE};
 use job_bodies::PlanFault;
-use job_bodies::fault_number::{NOT_TOML, TOO_MANY, UNKNOWN_KEY, WRONG_TYPE};
 use readings::ReadError;
 use std::alloc::Global;
 use toml::{Table, Value};

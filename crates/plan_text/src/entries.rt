@@ -2,33 +2,18 @@
 
 ghost use Rattle.std.specs.Prelude.{◌≡◌, map};
 ghost use Rattle.toml.specs.View.{view, table_view};
-ghost use Rattle.readings.specs.Reading.{read_each};
+ghost use Rattle.readings.specs.Reading as each;
 ghost use Rattle.readings.specs.Given.{Gives};
-ghost use Rattle.job_bodies.specs.Plan as plan;
 ghost use Rattle.plan_text.specs.Entries as spec;
 
 use crate::document::list_at;
 use crate::entry::Entry;
 use crate::fault::TextError;
-use job_bodies::{MOST_CLASSES, MOST_CLIENTS, MOST_POOLS, Part};
+use job_bodies::{MOST_CLASSES, MOST_CLIENTS, MOST_POOLS, Part, Pool};
+use readings::read_each;
 use std::alloc::Global;
 use std::marker::Model;
 use toml::{Table, Value};
-
-/// A pool as its text gives it.
-#[derive(Drop)]
-pub struct PoolEntry<'a> {
-    pub name: &'a str,
-    pub core: u64,
-    pub max: u64,
-    pub queue: u64,
-}
-
-impl<'a> Model for PoolEntry<'a> {
-    ghost Value = { plan.Pool };
-
-    ghost view = { λ p. record { name = p.name.now; core = p.core; max = p.max; queue = p.queue } };
-}
 
 /// A class of jobs as its text gives it, its pool by name.
 #[derive(Drop)]
@@ -62,7 +47,7 @@ impl<'a> Model for ClientEntry<'a> {
 /// A document's entries.
 #[derive(Drop)]
 pub struct Entries<'a> {
-    pub pools: Vec<PoolEntry<'a>>,
+    pub pools: Vec<Pool>,
     pub classes: Vec<ClassEntry<'a>>,
     pub clients: Vec<ClientEntry<'a>>,
 }
@@ -74,19 +59,22 @@ impl<'a> Model for Entries<'a> {
 }
 
 #[tactic(auto, unfolding(crate::specs::Entries::pool_at))]
-fn pool_at(index: usize, value: &Value) -> Result<PoolEntry<'_>, TextError>
+fn pool_at(alloc: Global, index: usize, value: &Value) -> Result<Pool, TextError>
     ensures { Gives (λ pool. pool) result (spec.pool_at index (view value.now)) }
 {
-    let entry = Entry::of(value, Part::Pool, index, &["name", "core", "max", "queue"])?;
+    let keys = ["name", "core", "max", "queue", "prestart"];
+    let entry = Entry::of(value, Part::Pool, index, &keys)?;
     let name = entry.text("name")?;
     let core = entry.number("core")?;
     let max = entry.number("max")?;
     let queue = entry.number("queue")?;
-    Ok(PoolEntry {
-        name,
+    let prestart = entry.flag("prestart")?;
+    Ok(Pool {
+        name: String::from_str(alloc, name)?,
         core,
         max,
         queue,
+        prestart,
     })
 }
 
@@ -94,7 +82,8 @@ fn pool_at(index: usize, value: &Value) -> Result<PoolEntry<'_>, TextError>
 fn class_at(alloc: Global, index: usize, value: &Value) -> Result<ClassEntry<'_>, TextError>
     ensures { Gives (λ class. class) result (spec.class_at index (view value.now)) }
 {
-    let entry = Entry::of(value, Part::Class, index, &["name", "pool", "body"])?;
+    let keys = ["name", "pool", "body"];
+    let entry = Entry::of(value, Part::Class, index, &keys)?;
     let name = entry.text("name")?;
     let pool = entry.text("pool")?;
     let body = entry.texts(alloc, "body")?;
@@ -105,12 +94,8 @@ fn class_at(alloc: Global, index: usize, value: &Value) -> Result<ClassEntry<'_>
 fn client_at(alloc: Global, index: usize, value: &Value) -> Result<ClientEntry<'_>, TextError>
     ensures { Gives (λ client. client) result (spec.client_at index (view value.now)) }
 {
-    let entry = Entry::of(
-        value,
-        Part::Client,
-        index,
-        &["name", "count", "repeat", "body"],
-    )?;
+    let keys = ["name", "count", "repeat", "body"];
+    let entry = Entry::of(value, Part::Client, index, &keys)?;
     let name = entry.text("name")?;
     let count = entry.number("count")?;
     let repeat = entry.flag("repeat")?;
@@ -123,37 +108,22 @@ fn client_at(alloc: Global, index: usize, value: &Value) -> Result<ClientEntry<'
     })
 }
 
-fn pools_of(alloc: Global, values: &[Value]) -> Result<Vec<PoolEntry<'_>>, TextError>
-    ensures { Gives (λ pools. pools.items) result (read_each spec.pool_at 0 (map view values.now)) }
+fn pools_of(alloc: Global, values: &[Value]) -> Result<Vec<Pool>, TextError>
+    ensures { Gives (λ pools. pools.items) result (each.read_each spec.pool_at 0 (map view values.now)) }
 {
-    let mut pools = Vec::new(alloc);
-    for (index, value) in values.iter().enumerate() {
-        let pool = pool_at(index, value)?;
-        pools.push(pool)?;
-    }
-    Ok(pools)
+    read_each(alloc, values, |index, value| pool_at(alloc, index, value))
 }
 
-fn classes_of(alloc: Global, values: &[Value]) -> Result<Vec<ClassEntry<'_>>, TextError>
-    ensures { Gives (λ classes. classes.items) result (read_each spec.class_at 0 (map view values.now)) }
+fn class_entries_of(alloc: Global, values: &[Value]) -> Result<Vec<ClassEntry<'_>>, TextError>
+    ensures { Gives (λ classes. classes.items) result (each.read_each spec.class_at 0 (map view values.now)) }
 {
-    let mut classes = Vec::new(alloc);
-    for (index, value) in values.iter().enumerate() {
-        let class = class_at(alloc, index, value)?;
-        classes.push(class)?;
-    }
-    Ok(classes)
+    read_each(alloc, values, |index, value| class_at(alloc, index, value))
 }
 
-fn clients_of(alloc: Global, values: &[Value]) -> Result<Vec<ClientEntry<'_>>, TextError>
-    ensures { Gives (λ clients. clients.items) result (read_each spec.client_at 0 (map view values.now)) }
+fn client_entries_of(alloc: Global, values: &[Value]) -> Result<Vec<ClientEntry<'_>>, TextError>
+    ensures { Gives (λ clients. clients.items) result (each.read_each spec.client_at 0 (map view values.now)) }
 {
-    let mut clients = Vec::new(alloc);
-    for (index, value) in values.iter().enumerate() {
-        let client = client_at(alloc, index, value)?;
-        clients.push(client)?;
-    }
-    Ok(clients)
+    read_each(alloc, values, |index, value| client_at(alloc, index, value))
 }
 
 /// The entries of a document: first the three lists, then each entry's shape.
@@ -165,8 +135,8 @@ pub fn entries_of(alloc: Global, document: &Table) -> Result<Entries<'_>, TextEr
     let classes = list_at(document, "class", MOST_CLASSES)?;
     let clients = list_at(document, "client", MOST_CLIENTS)?;
     let pools = pools_of(alloc, pools)?;
-    let classes = classes_of(alloc, classes)?;
-    let clients = clients_of(alloc, clients)?;
+    let classes = class_entries_of(alloc, classes)?;
+    let clients = client_entries_of(alloc, clients)?;
     Ok(Entries {
         pools,
         classes,

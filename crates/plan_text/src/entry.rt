@@ -1,21 +1,22 @@
 //! One entry of a list: a table with known keys, whose values have known types.
 
-ghost use Rattle.std.specs.Prelude.{◌≡◌, map, IfOk};
-ghost use Rattle.toml.specs.View.{view, table_view};
-ghost use Rattle.readings.specs.Reading.{read_each};
+ghost use Rattle.std.specs.Prelude.{◌≡◌, map};
+ghost use Rattle.toml.specs.View.{view};
+ghost use Rattle.readings.specs.Reading as each;
 ghost use Rattle.readings.specs.Given.{Gives};
 ghost use Rattle.plan_text.specs.Entry as spec;
+ghost use Rattle.plan_text.specs.Entry.{entry_view};
 
 use crate::document::{has_only, list_in, value_at};
 use crate::fault::TextError;
-use job_bodies::fault_number::{MISSING_KEY, TOO_MANY, UNKNOWN_KEY, WRONG_TYPE};
+use faults::number::{MISSING_KEY, TOO_MANY, UNKNOWN_KEY, WRONG_TYPE};
 use job_bodies::{MOST_ACTIONS, Part, PlanFault};
-use readings::ReadError;
+use readings::{ReadError, read_each};
 use std::alloc::Global;
 use toml::{Table, Value};
 
 /// A table of a list, and where it stands.
-#[derive(Clone, Copy)]
+#[derive(Drop)]
 pub struct Entry<'a> {
     table: &'a Table,
     part: Part,
@@ -30,19 +31,15 @@ fn count_of(number: i64) -> u64
 }
 
 impl<'a> Entry<'a> {
-    ghost use Rattle.job_bodies.specs.Checks.{at_entry};
-
-    /// The table that a value is, with no other keys than these.
-    #[tactic(auto, unfolding(crate::specs::Entry::table_at))]
+    /// The entry that a value is: a table with no other keys than these.
+    #[tactic(auto, unfolding(crate::specs::Entry::entry_of))]
     pub fn of(
         value: &'a Value,
         part: Part,
         index: usize,
         keys: &[&str],
     ) -> Result<Entry<'a>, TextError>
-        ensures table { Gives (λ entry. table_view entry.table.now) result (spec.table_at part index (map (λ key. key.now) keys.now) (view value.now)) }
-        ensures part { IfOk result (λ entry. entry.part ≡ part) }
-        ensures index { IfOk result (λ entry. entry.index ≡ index) }
+        ensures { Gives entry_view result (spec.entry_of part index (map (λ key. key.now) keys.now) (view value.now)) }
     {
         let Some(table) = value.as_table() else {
             return Err(ReadError::Fault(PlanFault::at_entry(part, index, WRONG_TYPE)));
@@ -54,13 +51,13 @@ impl<'a> Entry<'a> {
     }
 
     fn refuses(&self, number: u8) -> TextError
-        ensures { result ≡ ReadError.Fault (at_entry self.now.part self.now.index number) }
+        ensures { result ≡ ReadError.Fault (spec.fault_at (entry_view self.now) number) }
     {
         ReadError::Fault(PlanFault::at_entry(self.part, self.index, number))
     }
 
     fn value(&self, key: &str) -> Result<&'a Value, TextError>
-        ensures { Gives (λ value. view value.now) result (spec.value_at self.now.part self.now.index (table_view self.now.table.now) key.now) }
+        ensures { Gives (λ value. view value.now) result (spec.value_at (entry_view self.now) key.now) }
     {
         match value_at(self.table, key) {
             Some(value) => Ok(value),
@@ -71,7 +68,7 @@ impl<'a> Entry<'a> {
     /// The text at a key.
     #[tactic(auto, unfolding(crate::specs::Entry::text_at))]
     pub fn text(&self, key: &str) -> Result<&'a str, TextError>
-        ensures { Gives (λ text. text.now) result (spec.text_at self.now.part self.now.index (table_view self.now.table.now) key.now) }
+        ensures { Gives (λ text. text.now) result (spec.text_at (entry_view self.now) key.now) }
     {
         let value = self.value(key)?;
         match value.as_str() {
@@ -83,7 +80,7 @@ impl<'a> Entry<'a> {
     /// The whole number at a key.
     #[tactic(auto, unfolding(crate::specs::Entry::number_at))]
     pub fn number(&self, key: &str) -> Result<u64, TextError>
-        ensures { Gives (λ number. number) result (spec.number_at self.now.part self.now.index (table_view self.now.table.now) key.now) }
+        ensures { Gives (λ number. number) result (spec.number_at (entry_view self.now) key.now) }
     {
         let value = self.value(key)?;
         match value.as_integer() {
@@ -95,7 +92,7 @@ impl<'a> Entry<'a> {
     /// The truth value at a key, false where the key is absent.
     #[tactic(auto, unfolding(crate::specs::Entry::flag_at))]
     pub fn flag(&self, key: &str) -> Result<bool, TextError>
-        ensures { Gives (λ flag. flag) result (spec.flag_at self.now.part self.now.index (table_view self.now.table.now) key.now) }
+        ensures { Gives (λ flag. flag) result (spec.flag_at (entry_view self.now) key.now) }
     {
         let Some(value) = value_at(self.table, key) else {
             return Ok(false);
@@ -109,7 +106,7 @@ impl<'a> Entry<'a> {
     /// The texts at a key, as many as a body may have.
     #[tactic(auto, unfolding(crate::specs::Entry::texts_at))]
     pub fn texts(&self, alloc: Global, key: &str) -> Result<Vec<&'a str>, TextError>
-        ensures { Gives (λ texts. map (λ text. text.now) texts.items) result (spec.texts_at self.now.part self.now.index (table_view self.now.table.now) key.now) }
+        ensures { Gives (λ texts. map (λ text. text.now) texts.items) result (spec.texts_at (entry_view self.now) key.now) }
     {
         let value = self.value(key)?;
         let Some(values) = list_in(value) else {
@@ -137,12 +134,11 @@ fn action_texts(
     index: usize,
     values: &[Value],
 ) -> Result<Vec<&str>, TextError>
-    ensures { Gives (λ texts. map (λ text. text.now) texts.items) result (read_each (spec.action_text part index) 0 (map view values.now)) }
+    ensures { Gives (λ texts. map (λ text. text.now) texts.items) result (each.read_each (spec.action_text part index) 0 (map view values.now)) }
 {
-    let mut texts = Vec::new(alloc);
-    for (action, value) in values.iter().enumerate() {
-        let text = action_text(part, index, action, value)?;
-        texts.push(text)?;
-    }
-    Ok(texts)
+    read_each(
+        alloc,
+        values,
+        |action, value| action_text(part, index, action, value),
+    )
 }

@@ -78,7 +78,7 @@ fn name_of(text: &str) -> Option<&str>
 fn units_of(text: &str) -> Option<u32>
     ensures { result ≡ spec.units_of text.now }
 {
-    if !is_decimal(text.as_bytes()) {
+    if !is_positive_decimal(text.as_bytes()) {
         return None;
     }
     match text.parse::<u32>() {
@@ -105,8 +105,8 @@ fn are_digits(bytes: &[u8]) -> bool
     bytes.iter().all(|byte| is_digit(*byte))
 }
 
-fn is_decimal(digits: &[u8]) -> bool
-    ensures { result ≡ spec.is_decimal digits.now }
+fn is_positive_decimal(digits: &[u8]) -> bool
+    ensures { result ≡ spec.is_positive_decimal digits.now }
 {
     if digits.is_empty() || digits[0] == b'0' {
         return false;

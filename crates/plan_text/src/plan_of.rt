@@ -4,16 +4,15 @@ ghost use Rattle.std.specs.Prelude.{◌≡◌, ◌≢◌, IfOk, IfErr, Ok, Err};
 ghost use Rattle.readings.specs.Given.{Gives};
 ghost use Rattle.job_bodies.specs.Checks.{at_text};
 ghost use Rattle.job_bodies.specs.Build.{given};
-ghost use Rattle.plan_text.specs.Entries.{AreWithinLimits};
 ghost use Rattle.plan_text.specs.PlanOf as spec;
 
-use crate::bodies::{classes_of, clients_of, pools_of};
+use crate::bodies::{classes_of, clients_of};
 use crate::checks::{check_classes, check_clients, check_pools};
 use crate::document::document_of;
 use crate::entries::{Entries, entries_of};
 use crate::fault::TextError;
-use job_bodies::fault_number::MEMORY;
-use job_bodies::{Class, Client, Plan, PlanFault, Pool};
+use faults::number::MEMORY;
+use job_bodies::{Class, Client, Plan, PlanFault};
 use readings::ReadError;
 use std::alloc::Global;
 
@@ -30,48 +29,32 @@ pub fn read_plan(alloc: Global, bytes: &[u8]) -> Result<Plan, PlanFault>
     }
 }
 
+/// Whatever passes the checks of a text is well-formed.
 #[tactic(auto, unfolding(crate::specs::PlanOf::plan_of))]
 fn plan_of(alloc: Global, bytes: &[u8]) -> Result<Plan, TextError>
     ensures { Gives (λ plan. plan) result (spec.plan_of bytes.now) }
 {
     let document = document_of(alloc, bytes)?;
     let entries = entries_of(alloc, &document)?;
-    plan_of_entries(alloc, &entries)
+    let bodies = bodies_of(alloc, &entries)?;
+    Ok(Plan::of_well_formed(entries.pools, bodies.classes, bodies.clients))
 }
 
-/// The lists of a plan.
+/// The classes and clients of a plan.
 #[derive(Drop)]
-struct Lists {
-    pools: Vec<Pool>,
+struct Bodies {
     classes: Vec<Class>,
     clients: Vec<Client>,
 }
 
-/// The plan of the entries. Whatever passes the checks of a text passes those of a plan.
-fn plan_of_entries(alloc: Global, entries: &Entries) -> Result<Plan, TextError>
-    requires { AreWithinLimits entries.now }
-    ensures { Gives (λ plan. plan) result (spec.plan_of_entries entries.now) }
-{
-    let lists = lists_of(alloc, entries)?;
-    match Plan::build(alloc, lists.pools, lists.classes, lists.clients) {
-        Ok(plan) => Ok(plan),
-        Err(fault) => Err(ReadError::Fault(fault)),
-    }
-}
-
 #[tactic(auto, unfolding(crate::specs::PlanOf::plan_of_entries))]
-fn lists_of(alloc: Global, entries: &Entries) -> Result<Lists, TextError>
-    ensures { Gives (λ lists. given lists.pools.items lists.classes.items lists.clients.items) result (spec.plan_of_entries entries.now) }
+fn bodies_of(alloc: Global, entries: &Entries) -> Result<Bodies, TextError>
+    ensures { Gives (λ bodies. given entries.now.pools bodies.classes.items bodies.clients.items) result (spec.plan_of_entries entries.now) }
 {
     let pool_names = check_pools(alloc, &entries.pools)?;
     let class_names = check_classes(alloc, &pool_names, &entries.classes)?;
     check_clients(alloc, &entries.clients)?;
     let classes = classes_of(alloc, &pool_names, &class_names, &entries.classes)?;
     let clients = clients_of(alloc, &class_names, &entries.clients)?;
-    let pools = pools_of(alloc, &entries.pools)?;
-    Ok(Lists {
-        pools,
-        classes,
-        clients,
-    })
+    Ok(Bodies { classes, clients })
 }

@@ -4,6 +4,8 @@
 //! name gives.
 #![tactic(auto)]
 
+mod each;
 mod read_error;
 
+pub use each::read_each;
 pub use read_error::ReadError;

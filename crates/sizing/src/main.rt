@@ -7,7 +7,7 @@ use std::alloc::AllocError;
 use std::process::ExitCode;
 use std::{env, io};
 
-/// The exit status of bad words or bad text.
+/// The exit status of bad arguments or bad text.
 const USAGE: u8 = 2;
 /// The exit status where there is no answer.
 const NO_ANSWER: u8 = 3;
@@ -63,9 +63,7 @@ fn out_of_memory(rt: &impl Eprint) -> ExitCode {
 /// The exit status of what was served. A fault is told; where standard error fails too, the status tells it alone.
 fn ended(rt: &impl Eprint, served: Result<Status, ServeFault>) -> ExitCode {
     match served {
-        Ok(Status::Done) => ExitCode::from(0),
-        Ok(Status::Refused) => ExitCode::from(1),
-        Ok(Status::BadText) => ExitCode::from(2),
+        Ok(status) => ExitCode::from(status.code()),
         Err(fault) => {
             let _ = eprintln!(rt; "{fault}");
             ExitCode::from(NO_ANSWER)

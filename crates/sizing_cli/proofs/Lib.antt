@@ -1,3 +1,4 @@
 pub mod Splitting
 pub mod Answering
 pub mod PastTheLimit
+pub mod LastSeparator

@@ -1,6 +1,8 @@
 -- An answer: its bytes, and the status that goes with them.
-use Rattle.std.specs.Prelude.{ℕ, Bool, if◌then◌else◌, List, [], ◌∷◌, ◌++◌, codes}
+use Rattle.std.specs.Prelude.{ℕ, List, [], ◌∷◌, ◌++◌, codes}
 use Rattle.std.specs.Fmt.{decimal}
+use Rattle.faults.specs.Name.{head}
+use Rattle.faults.specs.declared.number.TheConstants.{NO_SEPARATOR, BAD_EVENT, INPUT_TOO_LONG}
 use Rattle.sizing_cli.specs.declared.status.Status.{Status}
 use Rattle.sizing_cli.specs.declared.status.Status.TheVariants.{Done, Refused, BadText}
 
@@ -8,20 +10,32 @@ pub record Answer : Type 0 where
   pub text : List ℕ
   pub status : Status
 
--- the answer behind a line that is itself a reason to answer 1, or not
-abbrev pub behind_line : List ℕ → Bool → Answer → Answer
-behind_line line notable answer = record { text = line ++ answer.text; status = if notable then Refused else answer.status }
+-- the program's exit status
+abbrev pub code : Status → ℕ
+code Done = 0
+code Refused = 1
+code BadText = 2
+
+-- the status of two parts of an answer: that of the second, unless it is Done
+abbrev pub then_status : Status → Status → Status
+then_status status Done = status
+then_status status Refused = Refused
+then_status status BadText = BadText
+
+-- an answer, and the rest behind it
+abbrev pub followed_by : Answer → Answer → Answer
+followed_by front rest = record { text = front.text ++ rest.text; status = then_status front.status rest.status }
 
 -- one line that tells what is wrong with the input
 abbrev pub fault : List ℕ → Answer
 fault line = record { text = line ++ 10 ∷ []; status = BadText }
 
 abbrev pub no_separator : Answer
-no_separator = fault (codes "fault 50 NoSeparator")
+no_separator = fault (head NO_SEPARATOR)
 
 abbrev pub input_too_long : Answer
-input_too_long = fault (codes "fault 52 InputTooLong")
+input_too_long = fault (head INPUT_TOO_LONG)
 
 -- the line of this number, from 1, says none of what a line of events may say
 abbrev pub bad_event : ℕ → Answer
-bad_event line = fault (codes "fault 51 BadEvent at line " ++ decimal line)
+bad_event line = fault (head BAD_EVENT ++ (codes " at line " ++ decimal line))

@@ -4,3 +4,4 @@ pub mod Transcript
 pub mod Report
 pub mod ServeFault
 pub mod SoFar
+pub mod Laws

@@ -11,7 +11,7 @@ use Rattle.command_line.specs.declared.command.Command.TheVariants.{Replay}
 use Rattle.sizing_cli.specs.declared.limits.TheConstants.{MOST_INPUT_BYTES, MOST_EVENT_BYTES}
 use Rattle.sizing_cli.specs.Answer.{Answer, fault, no_separator, input_too_long, bad_event}
 use Rattle.sizing_cli.specs.Bundle.{Bundle, bundle_of}
-use Rattle.sizing_cli.specs.Transcript.{pool_names, transcript}
+use Rattle.sizing_cli.specs.Transcript.{transcript}
 
 abbrev pub replay_of_lines : Plan → Result (List Line) ℕ → Answer
 replay_of_lines plan (Err line) = bad_event line
@@ -21,7 +21,7 @@ replay_of_lines plan (Ok lines) = transcript plan (start plan) 1 lines
 abbrev pub replay_of_plan : List ℕ → Result Plan PlanFault → Answer
 replay_of_plan second (Err f) = fault (fault_line f)
 replay_of_plan second (Ok plan) =
-    if nat_lt MOST_EVENT_BYTES (length second) then input_too_long else replay_of_lines plan (event_lines (pool_names plan) second)
+    if nat_lt MOST_EVENT_BYTES (length second) then input_too_long else replay_of_lines plan (event_lines plan second)
 
 abbrev pub replay_of_bundle : Option Bundle → Answer
 replay_of_bundle None = no_separator

@@ -1,38 +1,60 @@
 -- What a replay of lines answers: the written machine's steps from a state on, and the written waiting sets.
-use Rattle.std.specs.Prelude.{ℕ, ◌+◌, Bool, true, false, List, [], ◌∷◌, map, count_by, codes, Option, Some, None}
+use Rattle.std.specs.Prelude.{ℕ, ◌+◌, Bool, true, false, if◌then◌else◌, List, [], ◌∷◌, count_by, Option, Some, None}
 use Rattle.job_bodies.specs.Plan.{Plan}
 use Rattle.written_machine.specs.declared.event.Outcome.{Outcome}
 use Rattle.written_machine.specs.declared.event.Outcome.TheVariants as outcome
 use Rattle.written_machine.specs.State.{State, is_unfinished}
 use Rattle.written_machine.specs.Step.{step}
 use Rattle.written_machine.specs.Waiting.{is_waiting_set}
+use Rattle.event_lines.specs.declared.reply.Reply.{Reply}
+use Rattle.event_lines.specs.declared.reply.Reply.TheVariants as reply
 use Rattle.event_lines.specs.EventLine.{Line, Happens, Stuck}
-use Rattle.event_lines.specs.AnswerLine.{outcome_text, not_possible_text, stuck_text, numbered, summary}
+use Rattle.event_lines.specs.Reply.{reply_text, numbered, summary}
 use Rattle.sizing_cli.specs.declared.status.Status.TheVariants.{Done, Refused}
-use Rattle.sizing_cli.specs.Answer.{Answer, behind_line}
+use Rattle.sizing_cli.specs.Answer.{Answer, followed_by}
 
-abbrev pub pool_names : Plan → List (List ℕ)
-pool_names plan = map (λ pool. pool.name) plan.pools
-
-abbrev pub unfinished : State → ℕ
-unfinished s = count_by (λ job. is_unfinished job.stage) s.jobs
-
+-- a job was refused
 abbrev pub is_refusal : Outcome → Bool
 is_refusal (outcome.Refused p) = true
 is_refusal _ = false
+
+-- a reply that makes the whole answer a no
+abbrev pub is_no : Reply → Bool
+is_no (reply.Happened outcome) = is_refusal outcome
+is_no reply.NotPossible = true
+is_no (reply.Stuck stuck) = stuck
+
+-- a reply behind which no line is replayed
+abbrev pub is_last : Reply → Bool
+is_last reply.NotPossible = true
+is_last _ = false
+
+-- the part of the answer that replies to the line of this number
+abbrev pub replied : Plan → ℕ → Reply → Answer
+replied plan number reply = record { text = numbered number (reply_text plan reply); status = if is_no reply then Refused else Done }
+
+abbrev pub unfinished : State → ℕ
+unfinished s = count_by (λ job. is_unfinished job.stage) s.jobs
 
 -- the last line of a replay that ends in this state
 abbrev pub ending : State → Answer
 ending s = record { text = summary s.refusals (unfinished s); status = Done }
 
--- what comes of an event at the line of this number, where rest is what the lines behind it answer
-abbrev pub happened : Plan → State → ℕ → Option (State × Outcome) → (State → Answer) → Answer
-happened plan s number None rest = behind_line (numbered number (not_possible_text)) true (ending s)
-happened plan s number (Some x) rest = behind_line (numbered number (outcome_text (pool_names plan) x.1)) (is_refusal x.1) (rest x.0)
+-- the state behind an event, and the reply to it
+abbrev pub happened : State → Option (State × Outcome) → State × Reply
+happened s None = (s, reply.NotPossible)
+happened s (Some x) = (x.0, reply.Happened x.1)
+
+-- the state behind a line, and the reply to it
+abbrev pub reply_to : Plan → State → Line → State × Reply
+reply_to plan s (Happens event) = happened s (step plan s event)
+reply_to plan s (Stuck members) = (s, reply.Stuck (is_waiting_set plan s members))
+
+-- a reply, and behind it the rest from the state there, or the end
+abbrev pub reply_then : Plan → ℕ → State × Reply → (State → Answer) → Answer
+reply_then plan number x rest = followed_by (replied plan number x.1) (if is_last x.1 then ending x.0 else rest x.0)
 
 -- the lines from this number on, replayed from a state
 abbrev pub transcript : Plan → State → ℕ → List Line → Answer
 transcript plan s number [] = ending s
-transcript plan s number (Stuck members ∷ lines) =
-    behind_line (numbered number (stuck_text (is_waiting_set plan s members))) (is_waiting_set plan s members) (transcript plan s (number + 1) lines)
-transcript plan s number (Happens event ∷ lines) = happened plan s number (step plan s event) (λ s'. transcript plan s' (number + 1) lines)
+transcript plan s number (line ∷ lines) = reply_then plan number (reply_to plan s line) (λ s'. transcript plan s' (number + 1) lines)

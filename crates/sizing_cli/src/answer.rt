@@ -1,11 +1,15 @@
 //! An answer: its text, and the status that goes with it.
 
-ghost use Rattle.std.specs.Prelude.{◌≡◌, ◌≢◌, ◌++◌, [], ◌∷◌, IfOk, string_bytes};
+ghost use Rattle.std.specs.Prelude.{◌≡◌, ◌++◌, [], IfOk, string_bytes};
 ghost use Rattle.job_bodies.specs.FaultText.{fault_line};
 ghost use Rattle.sizing_cli.specs.Answer as spec;
+ghost use Rattle.sizing_cli.specs.Transcript.{is_no, replied};
 
 use crate::Status;
-use job_bodies::PlanFault;
+use event_lines::{Reply, push_reply};
+use faults::{Head, number};
+use interleaving::Outcome;
+use job_bodies::{Plan, PlanFault};
 use std::alloc::{AllocError, Global};
 use std::marker::Model;
 
@@ -32,27 +36,47 @@ impl Answer {
             status: Status::Done,
         }
     }
+
+    /// Replies to the line of this number, counted from 1.
+    pub fn push_reply(&mut self, plan: &Plan, number: usize, reply: Reply) -> Result<(), AllocError>
+        ensures { IfOk result (λ _. self.new ≡ spec.followed_by self.old (replied plan.now number reply)) }
+    {
+        push_reply(&mut self.text, plan, number, reply)?;
+        if is_no(reply) {
+            self.status = Status::Refused;
+        }
+        Ok(())
+    }
+}
+
+fn is_no(reply: Reply) -> bool
+    ensures { result ≡ is_no reply }
+{
+    matches!(
+        reply,
+        Reply::Happened(Outcome::Refused(_)) | Reply::NotPossible | Reply::Stuck(true)
+    )
 }
 
 /// The answer to an input without a line `%%`.
 pub fn no_separator(alloc: Global) -> Result<Answer, AllocError>
     ensures { IfOk result (λ answer. answer ≡ spec.no_separator) }
 {
-    fault(String::from_str(alloc, "fault 50 NoSeparator")?)
+    fault(format!(in alloc; "{}", Head(number::NO_SEPARATOR))?)
 }
 
 /// The answer to an input, or to event lines, of too many bytes.
 pub fn input_too_long(alloc: Global) -> Result<Answer, AllocError>
     ensures { IfOk result (λ answer. answer ≡ spec.input_too_long) }
 {
-    fault(String::from_str(alloc, "fault 52 InputTooLong")?)
+    fault(format!(in alloc; "{}", Head(number::INPUT_TOO_LONG))?)
 }
 
 /// The answer to event lines of which this one, counted from 1, is bad.
 pub fn bad_event(alloc: Global, line: usize) -> Result<Answer, AllocError>
     ensures { IfOk result (λ answer. answer ≡ spec.bad_event line) }
 {
-    fault(format!(in alloc; "fault 51 BadEvent at line {line}")?)
+    fault(format!(in alloc; "{} at line {line}", Head(number::BAD_EVENT))?)
 }
 
 /// The answer to a plan text with this fault.

@@ -10,7 +10,8 @@ use crate::limits::{MOST_EVENT_BYTES, MOST_INPUT_BYTES};
 use crate::transcript::transcript;
 use command_line::Command;
 use event_lines::read_event_lines;
-use job_bodies::{Plan, PlanFault, fault_number};
+use faults::number;
+use job_bodies::{Plan, PlanFault};
 use plan_text::read_plan;
 use readings::ReadError;
 use std::alloc::{AllocError, Global};
@@ -41,7 +42,7 @@ fn replay_of_bundle(alloc: Global, plan: &[u8], second: &[u8]) -> Result<Answer,
 {
     match read_plan(alloc, plan) {
         Ok(plan) => replay_of_plan(alloc, &plan, second),
-        Err(fault) if fault == PlanFault::at_text(fault_number::MEMORY) => Err(AllocError),
+        Err(fault) if fault == PlanFault::at_text(number::MEMORY) => Err(AllocError),
         Err(fault) => plan_fault(alloc, fault),
     }
 }

@@ -9,9 +9,10 @@ ghost use Rattle.sizing_cli.specs.ServeFault.{count_of, is_known};
 
 use crate::limits::MOST_INPUT_BYTES;
 use crate::report::report;
-use crate::status::{READ_FAILED, ServeFault, Status, WRITE_FAILED};
+use crate::status::{ServeFault, Status};
 use byte_streams::{Sink, Source, read_up_to, write_all};
 use command_line::Command;
+use faults::number::{READ_FAILED, WRITE_FAILED};
 use std::alloc::Global;
 
 /// Reads an input, and writes the command's answer to it. The whole answer is made before its first byte is written.

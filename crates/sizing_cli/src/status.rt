@@ -1,30 +1,41 @@
 //! How a call that serves ends.
 
 ghost use Rattle.std.specs.Prelude.{◌≡◌, Some};
-ghost use Rattle.sizing_cli.specs.ServeFault.{fault_of_reading, name_of, fault_line};
+ghost use Rattle.faults.specs.Name.{head};
+ghost use Rattle.faults.specs.declared.number.TheConstants.{MEMORY, WRITE_FAILED};
+ghost use Rattle.sizing_cli.specs.Answer.{code};
+ghost use Rattle.sizing_cli.specs.ServeFault.{fault_of_input};
 
-use byte_streams::{IoFault, ReadError};
+use byte_streams::{InputError, IoFault};
+use faults::Head;
+use faults::number::{MEMORY, READ_FAILED, WRITE_FAILED};
 use std::alloc::AllocError;
 use std::error::Error;
 use std::fmt;
 
-/// How an answer ends, which is the program's exit status.
+/// How an answer ends.
 #[derive(Clone, Copy, Debug, PartialEq, Eq)]
 pub enum Status {
-    /// Yes, or done: status 0.
+    /// Yes, or done.
     Done,
-    /// No: something is refused, not possible or stuck. Status 1.
+    /// No: something is refused, not possible or stuck.
     Refused,
-    /// The input has a fault, which the answer tells. Status 2.
+    /// The input has a fault, which the answer tells.
     BadText,
 }
 
-/// Memory ran out.
-pub const MEMORY: u8 = 20;
-/// The reader failed.
-pub const READ_FAILED: u8 = 60;
-/// The writer failed.
-pub const WRITE_FAILED: u8 = 61;
+impl Status {
+    /// The program's exit status: 0, 1 for a no, or 2 for a fault of the input.
+    pub fn code(self) -> u8
+        ensures { result ≡ code self }
+    {
+        match self {
+            Status::Done => 0,
+            Status::Refused => 1,
+            Status::BadText => 2,
+        }
+    }
+}
 
 /// Why there is no answer: fault 20 Memory, 60 ReadFailed or 61 WriteFailed.
 ///
@@ -34,42 +45,28 @@ pub struct ServeFault {
     pub number: u8,
 }
 
-impl ServeFault {
-    /// The fault's name, as the program prints it.
-    fn name(self) -> &'static str
-        ensures { result.now ≡ name_of self.number }
-    {
-        match self.number {
-            MEMORY => "Memory",
-            READ_FAILED => "ReadFailed",
-            _ => "WriteFailed",
-        }
-    }
-}
-
 impl From<AllocError> for ServeFault {
-    ghost from_gives = { λ _ fault. fault.number ≡ 20 };
+    ghost from_gives = { λ _ fault. fault.number ≡ MEMORY };
 
     fn from(_error: AllocError) -> ServeFault {
         ServeFault { number: MEMORY }
     }
 }
 
-impl From<ReadError> for ServeFault {
-    ghost from_gives = { λ error fault. fault.number ≡ fault_of_reading error };
+impl From<InputError> for ServeFault {
+    ghost from_gives = { λ error fault. fault.number ≡ fault_of_input error };
 
-    fn from(error: ReadError) -> ServeFault {
-        match error {
-            ReadError::Memory => ServeFault { number: MEMORY },
-            ReadError::Fault => ServeFault {
-                number: READ_FAILED,
-            },
-        }
+    fn from(error: InputError) -> ServeFault {
+        let number = match error {
+            InputError::Memory => MEMORY,
+            InputError::Fault => READ_FAILED,
+        };
+        ServeFault { number }
     }
 }
 
 impl From<IoFault> for ServeFault {
-    ghost from_gives = { λ _ fault. fault.number ≡ 61 };
+    ghost from_gives = { λ _ fault. fault.number ≡ WRITE_FAILED };
 
     fn from(_fault: IoFault) -> ServeFault {
         ServeFault {
@@ -79,12 +76,10 @@ impl From<IoFault> for ServeFault {
 }
 
 impl fmt::Display for ServeFault {
-    ghost output = { λ fault. Some (fault_line fault) };
+    ghost output = { λ fault. Some (head fault.number) };
 
     fn fmt<W: fmt::Write>(&self, f: &mut fmt::Formatter<W>) -> fmt::Result {
-        let number = self.number;
-        let name = self.name();
-        write!(f, "fault {number} {name}")
+        write!(f, "{}", Head(self.number))
     }
 }
 

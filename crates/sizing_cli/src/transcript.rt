@@ -5,12 +5,11 @@ ghost use Rattle.event_lines.specs.EventLine.{line_seen};
 ghost use Rattle.interleaving.specs.OfPlan.{IsOf};
 ghost use Rattle.written_machine.specs.Reach.{start};
 ghost use Rattle.sizing_cli.specs.Transcript as spec;
-ghost use Rattle.sizing_cli.specs.SoFar.{IsEnded, HappensSo, AsksSo};
+ghost use Rattle.sizing_cli.specs.SoFar.{IsEnded, RepliesSo};
 
-use crate::Status;
 use crate::answer::Answer;
-use event_lines::{EventLine, push_not_possible, push_outcome, push_stuck, push_summary};
-use interleaving::{Event, Outcome, World};
+use event_lines::{EventLine, Reply, push_summary};
+use interleaving::World;
 use job_bodies::Plan;
 use std::alloc::{AllocError, Global};
 
@@ -21,68 +20,33 @@ pub fn transcript(alloc: Global, plan: &Plan, lines: &[EventLine]) -> Result<Ans
     let mut world = World::start(alloc, plan)?;
     let mut answer = Answer::empty(alloc);
     for (index, line) in lines.iter().enumerate() {
-        match line {
-            EventLine::Happens(event) => {
-                if !happen(&mut answer, &mut world, plan, index + 1, *event)? {
-                    return ended(answer, &world);
-                }
-            }
-            EventLine::Stuck(members) => ask(&mut answer, &world, plan, index + 1, members)?,
+        let reply = reply_to(&mut world, plan, line)?;
+        answer.push_reply(plan, index + 1, reply)?;
+        if is_last(reply) {
+            return ended(answer, &world);
         }
     }
     ended(answer, &world)
 }
 
-/// Lets an event happen, and tells what came of it. False where it was not possible.
-fn happen(
-    answer: &mut Answer,
-    world: &mut World,
-    plan: &Plan,
-    number: usize,
-    event: Event,
-) -> Result<bool, AllocError>
+/// Lets the event of the line happen, or answers its question.
+fn reply_to(world: &mut World, plan: &Plan, line: &EventLine) -> Result<Reply, AllocError>
     requires { IsOf plan.now world.old }
-    ensures { IfOk result (λ possible. HappensSo plan.now world.old world.new number event answer.old answer.new possible) }
+    ensures { IfOk result (λ reply. RepliesSo plan.now world.old world.new (line_seen line.now) reply) }
 {
-    match world.step(plan, event)? {
-        Some(outcome) => {
-            push_outcome(&mut answer.text, plan, number, outcome)?;
-            if is_refusal(outcome) {
-                answer.status = Status::Refused;
-            }
-            Ok(true)
-        }
-        None => {
-            push_not_possible(&mut answer.text, number)?;
-            answer.status = Status::Refused;
-            Ok(false)
-        }
+    match line {
+        EventLine::Happens(event) => match world.step(plan, *event)? {
+            Some(outcome) => Ok(Reply::Happened(outcome)),
+            None => Ok(Reply::NotPossible),
+        },
+        EventLine::Stuck(members) => Ok(Reply::Stuck(world.stuck(plan, members))),
     }
 }
 
-fn is_refusal(outcome: Outcome) -> bool
-    ensures { result ≡ spec.is_refusal outcome }
+fn is_last(reply: Reply) -> bool
+    ensures { result ≡ spec.is_last reply }
 {
-    matches!(outcome, Outcome::Refused(_))
-}
-
-/// Tells whether the members wait for each other alone.
-fn ask(
-    answer: &mut Answer,
-    world: &World,
-    plan: &Plan,
-    number: usize,
-    members: &[usize],
-) -> Result<(), AllocError>
-    requires { IsOf plan.now world.now }
-    ensures { IfOk result (λ _. AsksSo plan.now world.now number members.now answer.old answer.new) }
-{
-    let stuck = world.stuck(plan, members);
-    push_stuck(&mut answer.text, number, stuck)?;
-    if stuck {
-        answer.status = Status::Refused;
-    }
-    Ok(())
+    matches!(reply, Reply::NotPossible)
 }
 
 /// Ends the answer with the numbers of refusals and unfinished jobs.

@@ -1,23 +1,13 @@
-//! Tests that cross the crates: small plans, what is asked of them, and the answers by hand.
+//! Tests that cross the crates, where a row of a file cannot say what is asked.
 #![tactic(auto)]
 
 #[cfg(test)]
-mod faults;
+mod bytes;
+#[cfg(test)]
+mod event_texts;
+#[cfg(test)]
+mod help_texts;
 #[cfg(test)]
 mod limits;
 #[cfg(test)]
-mod lines;
-#[cfg(test)]
-mod numbers;
-#[cfg(test)]
-mod parts;
-#[cfg(test)]
-mod plans;
-#[cfg(test)]
-mod replays;
-#[cfg(test)]
-mod served;
-#[cfg(test)]
-mod streams;
-#[cfg(test)]
-mod words;
+mod pools;

@@ -1,69 +1,117 @@
-//! Events, and what a world shows after each.
+//! Lines, and what a world answers to each.
 
 ghost use Rattle.interleaving.specs.OfPlan.{IsOf};
 
-use crate::shown::shown;
+use crate::facts::{facts, push_changed, push_job, push_number};
+use crate::sets::push_stuck_sets;
 use interleaving::{Event, Outcome, World};
 use job_bodies::Plan;
 use std::alloc::{AllocError, Global};
-use std::process::Abort;
-use std::test::Fail;
 
-/// An event, what comes of it, and what the world shows after it.
-pub type Row<'a> = (Event, Option<Outcome>, &'a str);
-
-/// Lets the events of the rows happen one after another.
-pub fn follow(
-    rt: &impl Abort,
+/// What is said to each of the lines, a line for each.
+pub fn followed(
     alloc: Global,
+    kind: &str,
     plan: &Plan,
     world: &mut World,
-    rows: &[Row],
-) -> Result<(), Fail>
+    lines: &str,
+) -> Result<String, AllocError>
+    requires { IsOf plan.now world.old }
+{
+    let mut answer = String::new(alloc);
+    let mut known = facts(alloc, plan, world)?;
+    for (number, line) in lines.lines().enumerate() {
+        let mut said = said_to(alloc, plan, world, line)?;
+        push_view(&mut said, alloc, kind, plan, world, &mut known)?;
+        let end = if number == 0 { "" } else { "\n" };
+        write!(answer, "{end}{said}")?;
+    }
+    Ok(answer)
+}
+
+// What comes of the line where it is an event, and else what it asks for.
+fn said_to(alloc: Global, plan: &Plan, world: &mut World, line: &str) -> Result<String, AllocError>
     requires { IsOf plan.now world.old }
     ensures { IsOf plan.now world.new }
 {
-    for (event, outcome, line) in rows {
-        assert_eq!(rt; world.step(plan, *event)?, *outcome, "{event:?}");
-        assert_eq!(rt;
-            shown(alloc, plan, world)?.as_str(),
-            *line,
-            "after {event:?}"
-        );
+    if let Some(event) = event(line) {
+        let outcome = world.step(plan, event)?;
+        return outcome_text(alloc, outcome);
+    }
+    looked_up(alloc, plan, world, line)
+}
+
+// Adds what this kind of rows says behind each line.
+fn push_view(
+    said: &mut String,
+    alloc: Global,
+    kind: &str,
+    plan: &Plan,
+    world: &World,
+    known: &mut Vec<String>,
+) -> Result<(), AllocError>
+    requires { IsOf plan.now world.now }
+{
+    if kind == "facts" {
+        let now = facts(alloc, plan, world)?;
+        push_changed(said, known, &now)?;
+        *known = now;
+    } else if kind == "sets" {
+        push_stuck_sets(said, alloc, plan, world)?;
     }
     Ok(())
 }
 
-/// None of the events is possible, and after each of them the world shows the same line.
-pub fn follow_nothing(
-    rt: &impl Abort,
-    alloc: Global,
-    plan: &Plan,
-    world: &mut World,
-    line: &str,
-    events: &[Event],
-) -> Result<(), Fail>
-    requires { IsOf plan.now world.old }
-    ensures { IsOf plan.now world.new }
-{
-    for event in events {
-        assert_eq!(rt; world.step(plan, *event)?, None, "{event:?}");
-        assert_eq!(rt;
-            shown(alloc, plan, world)?.as_str(),
-            line,
-            "after {event:?}"
-        );
+fn event(line: &str) -> Option<Event> {
+    let (word, number) = line.split_once(' ')?;
+    let number = number.parse::<usize>().ok()?;
+    match word {
+        "client" => Some(Event::Client(number)),
+        "job" => Some(Event::Job(number)),
+        "take" => Some(Event::Take(number)),
+        "retire" => Some(Event::Retire(number)),
+        _ => None,
     }
-    Ok(())
 }
 
-/// Lets the events happen one after another.
-pub fn follow_quietly(plan: &Plan, world: &mut World, events: &[Event]) -> Result<(), AllocError>
-    requires { IsOf plan.now world.old }
-    ensures { IsOf plan.now world.new }
-{
-    for event in events {
-        world.step(plan, *event)?;
+fn outcome_text(alloc: Global, outcome: Option<Outcome>) -> Result<String, AllocError> {
+    let Some(outcome) = outcome else {
+        return String::from_str(alloc, "not possible");
+    };
+    match outcome {
+        Outcome::Started(job) => format!(in alloc; "started job {job}"),
+        Outcome::Queued(job) => format!(in alloc; "queued job {job}"),
+        Outcome::Refused(pool) => format!(in alloc; "refused by {pool}"),
+        Outcome::Worked(units) => format!(in alloc; "worked {units}"),
+        Outcome::Got(job) => format!(in alloc; "got job {job}"),
+        Outcome::Looped => String::from_str(alloc, "looped"),
+        Outcome::Finished(job) => format!(in alloc; "finished job {job}"),
+        Outcome::Took(job) => format!(in alloc; "took job {job}"),
+        Outcome::Retired => String::from_str(alloc, "retired"),
     }
-    Ok(())
+}
+
+// What the line asks for, which is no event.
+fn looked_up(alloc: Global, plan: &Plan, world: &World, line: &str) -> Result<String, AllocError>
+    requires { IsOf plan.now world.now }
+{
+    let mut said = String::new(alloc);
+    if let Some(members) = line.strip_prefix("stuck") {
+        let mut numbers = Vec::new(alloc);
+        for member in members.split_whitespace() {
+            numbers.push(member.parse::<usize>().unwrap_or(usize::MAX))?;
+        }
+        let is_stuck = world.stuck(plan, &numbers);
+        said.push_str(if is_stuck { "yes" } else { "no" })?;
+    } else if line == "start" {
+        push_changed(&mut said, &[], &facts(alloc, plan, world)?)?;
+    } else {
+        let (word, number) = line.rsplit_once(' ').unwrap_or((line, ""));
+        match (word, number.parse::<usize>()) {
+            ("see client", Ok(number)) => push_number(&mut said, world.client(number))?,
+            ("see job", Ok(number)) => push_job(&mut said, world.job(number))?,
+            _ => said.push_str("no such line")?,
+        }
+    }
+    Ok(said)
 }

@@ -2,7 +2,6 @@
 use Rattle.std.proofs.Common.{◌≡◌, ◌≢◌, ℕ, ◌+◌, ◌<◌, Bool, true, false, cond, ◌&&◌, eqb, List, [], ◌∷◌, ◌++◌, length, get_or, Some, refl, sym, ap, ◌∙◌, arith}
 use Rattle.std.proofs.lemmas.Bool.{and_right, eq-eqb, ne_eqb}
 use Rattle.std.proofs.lemmas.List.Sums.{sum_by_push}
-use Rattle.numbered_lists.proofs.Places.{length-places, places_where-set_same}
 use Rattle.numbered_lists.proofs.Sums.{count_by-set}
 use Rattle.job_bodies.specs.declared.action.Action.{Action}
 use Rattle.job_bodies.specs.Plan.{Plan}
@@ -12,7 +11,7 @@ use Rattle.written_machine.specs.State.{Stage, State, Made, no_job, job_at, pool
 use Rattle.written_machine.specs.Step.{point, moved_jobs}
 use Rattle.written_machine.proofs.Standing.{stage_of_standing}
 use Rattle.written_machine.proofs.Kept.{busy_jobs}
-use Rattle.written_machine.proofs.Stages.{staged}
+use Rattle.written_machine.proofs.Stages.{staged, count-staged}
 
 abbrev pub one_if : Bool → ℕ
 one_if b = cond b 1 0
@@ -39,9 +38,7 @@ busy_in_own plan p job of_pool = ap (λ (b : Bool). is_at job.stage && b) (eq-eq
 
 -- it is at work in the pool as it was
 pub busy-staged_same : (plan : Plan) (jobs : List Made) (j : ℕ) (stage : Stage) (p : ℕ) → is_busy_in plan p (record (get_or jobs j no_job) { stage = stage }) ≡ is_busy_in plan p (get_or jobs j no_job) → busy_jobs plan (staged jobs j stage) p ≡ busy_jobs plan jobs p
-busy-staged_same plan jobs j stage p same =
-    let at_work = is_busy_in plan p in
-    sym (length-places at_work (staged jobs j stage)) ∙ ap length (places_where-set_same at_work jobs j (record (get_or jobs j no_job) { stage = stage }) no_job same) ∙ length-places at_work jobs
+busy-staged_same plan jobs j stage p same = count-staged (is_busy_in plan p) jobs j stage same
 
 -- the pools that are not its own
 pub busy-staged_elsewhere : (plan : Plan) (jobs : List Made) (j : ℕ) (stage : Stage) (p : ℕ) → pool_of plan (get_or jobs j no_job).class ≢ p → busy_jobs plan (staged jobs j stage) p ≡ busy_jobs plan jobs p

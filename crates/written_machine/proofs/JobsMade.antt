@@ -1,10 +1,9 @@
 -- For each thread of a pool and each job in its queue a job was made, but for its first workers.
-use Rattle.std.proofs.Common.{◌≡◌, ℕ, suc, ◌+◌, ◌<◌, ◌≤◌, eqb, List, [], ◌∷◌, ◌++◌, length, get_or, Some, None, sym, ap, subst, refl, ◌∙◌, Bool, true, false, ◌&&◌, arith}
+use Rattle.std.proofs.Common.{◌≡◌, ℕ, suc, ◌+◌, ◌<◌, ◌≤◌, eqb, List, [], ◌∷◌, ◌++◌, length, Some, None, sym, ap, subst, refl, ◌∙◌, Bool, true, false, ◌&&◌, arith}
 use Rattle.std.specs.List.{count_by}
 use Rattle.std.proofs.lemmas.Bool.{eq-eqb, and_left}
 use Rattle.std.proofs.lemmas.List.{length_push}
 use Rattle.std.proofs.lemmas.List.Sums.{sum_by_push}
-use Rattle.numbered_lists.proofs.Places.{length-places, places_where-set_same}
 use Rattle.job_bodies.specs.declared.action.Action.{Action}
 use Rattle.job_bodies.specs.Plan.{Plan, pool_at, first_workers}
 use Rattle.job_bodies.proofs.Bodies.{IsOrdered}
@@ -13,14 +12,14 @@ use Rattle.written_machine.specs.declared.parent.Parent.TheVariants as parent
 use Rattle.written_machine.specs.declared.event.Event.{Event}
 use Rattle.written_machine.specs.declared.event.Outcome.{Outcome}
 use Rattle.written_machine.specs.declared.event.Outcome.TheVariants as outcome
-use Rattle.written_machine.specs.State.{Stage, State, Made, PoolPart, no_job, job_at, pool_part, pool_of, is_at, is_busy_in, threads}
+use Rattle.written_machine.specs.State.{Stage, State, Made, PoolPart, job_at, pool_part, pool_of, is_at, is_busy_in, threads}
 use Rattle.written_machine.specs.Step.{point, with_stage, with_position, with_job, new_job, moved_jobs, finished_job}
 use Rattle.written_machine.specs.Reach.{start}
 use Rattle.written_machine.specs.JobsMade.{is_of_pool, HasJobs}
 use Rattle.written_machine.proofs.Events.{StandsAt, with_part, Happens, works, starts, queues, is_refused, gets, finishes, loops, takes, retires}
 use Rattle.written_machine.proofs.Standing.{stage_of_standing, standing_made}
 use Rattle.written_machine.proofs.Kept.{Kept, busy_jobs}
-use Rattle.written_machine.proofs.Stages.{staged}
+use Rattle.written_machine.proofs.Stages.{staged, count-staged}
 use Rattle.written_machine.proofs.Queues.{head_of_queue}
 use Rattle.written_machine.proofs.Busy.{one_if, busy_in-as, busy-staged_same, busy-staged_elsewhere, busy-staged_here, busy-moved, busy_push, busy_push_same}
 use Rattle.written_machine.proofs.KeptPools.{pools_with_part}
@@ -36,9 +35,7 @@ made_jobs plan jobs p = count_by (is_of_pool plan p) jobs
 
 -- no change of a stage changes it, and no move of an actor
 pub made_jobs-staged : (plan : Plan) (jobs : List Made) (j : ℕ) (stage : Stage) (p : ℕ) → made_jobs plan (staged jobs j stage) p ≡ made_jobs plan jobs p
-made_jobs-staged plan jobs j stage p =
-    let of_pool = is_of_pool plan p in
-    sym (length-places of_pool (staged jobs j stage)) ∙ ap length (places_where-set_same of_pool jobs j (record (get_or jobs j no_job) { stage = stage }) no_job refl) ∙ length-places of_pool jobs
+made_jobs-staged plan jobs j stage p = count-staged (is_of_pool plan p) jobs j stage refl
 
 pub made_jobs-moved : (plan : Plan) (s : State) (a : Parent) (i p : ℕ) → made_jobs plan (moved_jobs a i s) p ≡ made_jobs plan s.jobs p
 made_jobs-moved plan s (parent.Client c) i p = refl

@@ -1,10 +1,11 @@
 -- The list of jobs after one of them came to another stage, and after one more was made.
-use Rattle.std.proofs.Common.{◌≡◌, ◌≢◌, ℕ, zero, suc, ◌<◌, inl, inr, List, [], ◌∷◌, ◌++◌, length, get_or, set, All, refl, sym, ap, subst, arith}
+use Rattle.std.proofs.Common.{◌≡◌, ◌≢◌, ℕ, zero, suc, ◌<◌, inl, inr, List, [], ◌∷◌, ◌++◌, length, get_or, set, All, refl, sym, ap, subst, ◌∙◌, Bool, arith}
+use Rattle.std.specs.List.{count_by}
 use Rattle.std.proofs.lemmas.Bool.{cases_lt}
 use Rattle.std.proofs.lemmas.List.{length-set, length_push, get_or-set_same, get_or-set_other, get_or_append_left, get_or_push}
 use Rattle.std.proofs.lemmas.List.Elements.{All-push}
 use Rattle.numbered_lists.specs.Places.{places_where, last_of}
-use Rattle.numbered_lists.proofs.Places.{places_where-set_same}
+use Rattle.numbered_lists.proofs.Places.{length-places, places_where-set_same}
 use Rattle.written_machine.specs.declared.parent.Parent.{Parent}
 use Rattle.written_machine.specs.declared.parent.Parent.TheVariants as parent
 use Rattle.written_machine.specs.State.{Stage, State, Made, no_job, is_made_by}
@@ -46,6 +47,11 @@ parent-staged jobs j stage n d = ap (λ (job : Made). job.parent) (job-staged jo
 -- an actor's latest job is the same
 pub child-stage : (jobs : List Made) (a : Parent) (t j : ℕ) (stage : Stage) → last_of (places_where (is_made_by a t) (staged jobs j stage)) ≡ last_of (places_where (is_made_by a t) jobs)
 child-stage jobs a t j stage = ap last_of (places_where-set_same (is_made_by a t) jobs j (record (get_or jobs j no_job) { stage = stage }) no_job refl)
+
+-- a count of jobs that the change does not touch
+pub count-staged : (test : Made → Bool) (jobs : List Made) (j : ℕ) (stage : Stage) → test (record (get_or jobs j no_job) { stage = stage }) ≡ test (get_or jobs j no_job) → count_by test (staged jobs j stage) ≡ count_by test jobs
+count-staged test jobs j stage same =
+    sym (length-places test (staged jobs j stage)) ∙ ap length (places_where-set_same test jobs j (record (get_or jobs j no_job) { stage = stage }) no_job same) ∙ length-places test jobs
 
 -- ---- after an actor moved
 

@@ -1,20 +1,7 @@
-use Rattle.std.proofs.lemmas.Result.{err_from_is_err_and}
-use Rattle.readings.proofs.Loops.{at_index, reads_begin, reads_more, reads_stop, reads_end}
+use Rattle.std.proofs.Common.{rules}
+use Rattle.readings.proofs.ReadingEach.{gives_each}
+use Rattle.plan_text.specs.Bodies as spec
 use Rattle.plan_text.proofs.bodies.clients_of.Goals as goal
 
-pub loop-index-init : goal.loop-index-init
-loop-index-init c = rw c.new-clients.ensures.items (reads_begin _ _)
-
-pub loop-index-preserved : goal.loop-index-preserved
-loop-index-preserved c =
-    let here = at_index c.args.entries.now c.loop-index.index c.index-entries-index.result c.loop-index-test.true c.index-entries-index.is in
-    rw c.in_ok-push.ensures.items (reads_more _ _ _ _ _ _ here c.in_ok-client.ensures c.loop-index.invariant)
-
-pub returns-in_err-client : goal.returns-in_err-client
-returns-in_err-client c =
-    let here = at_index c.args.entries.now c.loop-index.index c.index-entries-index.result c.loop-index-test.true c.index-entries-index.is in
-    let p = err_from_is_err_and c.from_residual.result c.from_residual.ensures.1 in
-    rw (p.1, p.2) (reads_stop _ _ _ _ _ _ here c.in_err-client.ensures c.loop-index.invariant)
-
 pub returns : goal.returns
-returns c = reads_end _ _ _ _ c.loop-index-test.false c.loop-index.invariant
+returns c = gives_each _ (spec.client_of c.args.names.now) (λ index entry given h. search rules) _ _ c.read_each.ensures

@@ -1,4 +1,4 @@
-use Rattle.std.proofs.Common.{◌≡◌, ◌≤◌, ◌∙◌, ◌++◌, ◌∷◌, [], List, ℕ, length, Result, Ok, sym, ap, subst}
+use Rattle.std.proofs.Common.{◌≡◌, ◌≤◌, ◌∙◌, ◌++◌, ◌∷◌, [], List, ℕ, length, map, Result, Ok, sym, ap, subst}
 use Rattle.std.proofs.lemmas.Result.{err_from_is_err_and}
 use Rattle.std.proofs.lemmas.List.{take_all, length-map}
 use Rattle.readings.specs.Reading.{◌>>=◌}
@@ -6,7 +6,7 @@ use Rattle.readings.specs.Given.{Fails}
 use Rattle.readings.proofs.Steps.{fails_first}
 use Rattle.readings.proofs.Loops.{at_index, checks_begin, checks_more, checks_stop, checks_end, images_more}
 use Rattle.job_bodies.specs.Checks.{check_pool}
-use Rattle.plan_text.specs.Checks.{check_pools, pool_names}
+use Rattle.plan_text.specs.Checks.{check_pools}
 use Rattle.plan_text.proofs.checks.check_pools.Goals as goal
 
 pub loop-index-init : goal.loop-index-init
@@ -34,7 +34,7 @@ returns-in_err-check_pool c =
 pub returns : goal.returns
 unfolding check_pools
 returns c =
-    let names = pool_names c.args.pools.now in
+    let names = map (λ pool. pool.name) c.args.pools.now in
     let past : length names ≤ c.loop-index.index = rw length-map c.loop-index-test.false in
     let all = c.loop-index.invariant.names ∙ take_all c.loop-index.index names past in
     ap (λ (r : Result (Unit {0}) _). r >>= λ _. Ok names) (checks_end _ _ _ c.loop-index-test.false c.loop-index.invariant.passed) ∙ ap (λ (ns : List (List ℕ)). Ok ns) (sym all)

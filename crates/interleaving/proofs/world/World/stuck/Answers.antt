@@ -1,6 +1,6 @@
 use Rattle.std.proofs.Common.{sym, ◌∙◌}
 use Rattle.interleaving.proofs.WaitingSets.{none_without_queues, set_as_others, some_members}
-use Rattle.interleaving.proofs.Raised.{set_seen}
+use Rattle.interleaving.proofs.Raised.{set_seen, set_in_words}
 use Rattle.interleaving.proofs.world.World.stuck.Goals as goal
 
 pub returns-then-queues_wait-clause-in_view : goal.returns-then-queues_wait-clause-in_view
@@ -12,6 +12,9 @@ pub returns-then-queues_wait-clause-value : goal.returns-then-queues_wait-clause
 returns-then-queues_wait-clause-value c = λ s reached same.
     set_seen c.args.plan.now s c.args.self.now c.args.members.now c.unqueued_wait.result c.queues_wait.ensures.well_formed reached same (returns-then-queues_wait-clause-in_view c)
 
+pub returns-then-queues_wait-clause-in_words : goal.returns-then-queues_wait-clause-in_words
+returns-then-queues_wait-clause-in_words c = λ s reached same. set_in_words c.args.plan.now s c.args.members.now c.unqueued_wait.result (returns-then-queues_wait-clause-value c s reached same)
+
 pub returns-else-queues_wait-clause-in_view : goal.returns-else-queues_wait-clause-in_view
 returns-else-queues_wait-clause-in_view c =
     c.if-queues_wait.false ∙ sym (none_without_queues c.args.plan.now c.args.self.now c.args.members.now c.queues_wait.result c.queues_wait.ensures.value c.if-queues_wait.false)
@@ -19,3 +22,6 @@ returns-else-queues_wait-clause-in_view c =
 pub returns-else-queues_wait-clause-value : goal.returns-else-queues_wait-clause-value
 returns-else-queues_wait-clause-value c = λ s reached same.
     set_seen c.args.plan.now s c.args.self.now c.args.members.now c.queues_wait.result c.queues_wait.ensures.well_formed reached same (returns-else-queues_wait-clause-in_view c)
+
+pub returns-else-queues_wait-clause-in_words : goal.returns-else-queues_wait-clause-in_words
+returns-else-queues_wait-clause-in_words c = λ s reached same. set_in_words c.args.plan.now s c.args.members.now c.queues_wait.result (returns-else-queues_wait-clause-value c s reached same)

@@ -1,0 +1,211 @@
+-- What is read fits the plan.
+use Rattle.std.proofs.Common.{◌≡◌, ℕ, ◌+◌, ◌==◌, ◌&&◌, ◌<◌, Bool, true, List, [], length, get_or, slice_get, Option, Some, None, Result, Ok, codes, sym, ap, subst, ◌∙◌, arith}
+use Rattle.std.specs.List.{list_all, enumerate_from}
+use Rattle.std.proofs.lemmas.Bool.{and_from, and_parts, eqb-true, eq-eqb}
+use Rattle.std.proofs.lemmas.Option.{slice_get-get_or, slice_get_within, get_or_from_slice_get}
+use Rattle.serde_json.specs.Data.{Data}
+use Rattle.readings.specs.Reading.{holds_or, some_or}
+use Rattle.readings.proofs.Steps.{bind_ok, holds_ok, given_same}
+use Rattle.readings.proofs.Laws.{read_length, read_at}
+use Rattle.job_bodies.specs.Plan.{Plan, Class, Client, no_class, no_client}
+use Rattle.job_bodies.proofs.Passing.{EachPlace, both_passed, list_all_from, list_all_enumerated_from}
+use Rattle.weights.specs.declared.bound.Bound.{Bound}
+use Rattle.weights.specs.declared.bound.Bound.TheVariants.{Standing, Lifetime}
+use Rattle.weights.specs.Vector.{Vector, has_shape, has_small_numbers, is_small}
+use Rattle.weights.specs.Bound.{bound_vector}
+use Rattle.pool_ranks.specs.Ranks.{Ranks, ranks_fit}
+use Rattle.certificates.specs.Cert.{PoolCert, Cert, pool_cert_fits, cert_fits}
+use Rattle.cert_text.specs.declared.fault.CertFault.{CertFault}
+use Rattle.cert_text.specs.declared.version.Version.{Version}
+use Rattle.cert_text.specs.declared.version.Version.TheVariants.{One, Two}
+use Rattle.cert_text.specs.Values.{fault, wrong_shape, number_of, as_list, elements_of, check_keys, value_at}
+use Rattle.faults.specs.declared.number.TheConstants.{WEIGHT_TOO_LARGE}
+use Rattle.cert_text.specs.Version.{version_of}
+use Rattle.cert_text.specs.Vectors.{numbers_of, class_points, client_points, class_rows, client_rows, vector_of}
+use Rattle.cert_text.specs.Shape.{standing_of, lifetime_of, lifetime_or_standing, bound_of, pool_of, pools_of, ranks_of, shape_of}
+use Rattle.cert_text.specs.Sizes.{pool_has_small_numbers, ranks_have_small_numbers, cert_has_small_numbers}
+use Rattle.cert_text.proofs.Lists.{list_all_place}
+use Rattle.cert_text.specs.CertOf.{document_of, cert_of_value, cert_of}
+
+elements_counted : (count : ℕ) (value : Data) (values : List Data) → elements_of count value ≡ Ok values → length values ≡ count
+unfolding elements_of
+elements_counted count value values e =
+    let found = bind_ok (some_or (as_list value) wrong_shape) _ _ e in
+    let counted = both_passed (holds_or (length found.0 == count) wrong_shape) _ values found.2 in
+    ap (λ (xs : List Data). length xs) (sym (given_same {F = CertFault} found.0 values counted.1)) ∙ eqb-true _ _ (holds_ok _ wrong_shape counted.0)
+
+numbers_counted : (count : ℕ) (value : Data) (numbers : List ℕ) → numbers_of count value ≡ Ok numbers → length numbers ≡ count
+unfolding numbers_of
+numbers_counted count value numbers e =
+    let found = bind_ok (elements_of count value) _ _ e in
+    read_length (λ _. number_of) 0 found.0 numbers found.2 ∙ elements_counted count value found.0 found.1
+
+-- a row for each element of a list of the plan, each of as many numbers as its element has points
+abbrev AreRows : ℕ → (ℕ → ℕ) → List (List ℕ) → Type 0
+AreRows count points rows = (length rows ≡ count) × EachPlace rows (λ k row. length row ≡ points k)
+
+class_rows_read : (plan : Plan) (value : Data) (rows : List (List ℕ)) → class_rows plan value ≡ Ok rows → AreRows (length plan.classes) (class_points plan) rows
+unfolding class_rows
+class_rows_read plan value rows e =
+    let found = bind_ok (elements_of (length plan.classes) value) _ _ e in
+    let read : ℕ → Data → Result (List ℕ) CertFault = λ k. numbers_of (class_points plan k) in (
+      read_length read 0 found.0 rows found.2 ∙ elements_counted _ value found.0 found.1,
+      λ k row here. let from = read_at read found.0 rows k row found.2 here in numbers_counted (class_points plan k) from.0 row from.2,
+    )
+
+client_rows_read : (plan : Plan) (value : Data) (rows : List (List ℕ)) → client_rows plan value ≡ Ok rows → AreRows (length plan.clients) (client_points plan) rows
+unfolding client_rows
+client_rows_read plan value rows e =
+    let found = bind_ok (elements_of (length plan.clients) value) _ _ e in
+    let read : ℕ → Data → Result (List ℕ) CertFault = λ c. numbers_of (client_points plan c) in (
+      read_length read 0 found.0 rows found.2 ∙ elements_counted _ value found.0 found.1,
+      λ c row here. let from = read_at read found.0 rows c row found.2 here in numbers_counted (client_points plan c) from.0 row from.2,
+    )
+
+-- rows as the shape of a vector looks them up
+rows_shaped : {X : Type 0} (points : X → ℕ) (none : X) (xs : List X) (rows : List (List ℕ)) → AreRows (length xs) (λ k. points (get_or xs k none)) rows
+    → list_all (λ (entry : ℕ × X). length (get_or rows entry.0 []) == points entry.1) (enumerate_from 0 xs) ≡ true
+rows_shaped {X = X} points none xs rows are =
+    list_all_enumerated_from (λ (entry : ℕ × X). length (get_or rows entry.0 []) == points entry.1) 0 xs (λ k x here. at k x here)
+  where
+    at : (k : ℕ) (x : X) → slice_get xs k ≡ Some x → (length (get_or rows (0 + k) []) == points x) ≡ true
+    at k x here =
+        let inside : k < length xs = slice_get_within xs k x here in
+        let within : k < length rows = omega (arith, are.0) in
+        let long = are.1 k (get_or rows k []) (slice_get-get_or rows k [] within) in
+        let place : 0 + k ≡ k = omega arith in
+        rw place (eq-eqb _ _ (long ∙ ap points (get_or_from_slice_get xs k x none here)))
+
+vector_read : (plan : Plan) (value : Data) (v : Vector) → vector_of plan value ≡ Ok v → has_shape plan v ≡ true
+unfolding vector_of
+vector_read plan value v e =
+    let keys = both_passed (check_keys 3 value) _ v e in
+    let at_workers = bind_ok (value_at (codes "workers") value) _ _ keys.1 in
+    let workers = bind_ok (numbers_of (length plan.pools) at_workers.0) _ _ at_workers.2 in
+    let at_classes = bind_ok (value_at (codes "classes") value) _ _ workers.2 in
+    let classes = bind_ok (class_rows plan at_classes.0) _ _ at_classes.2 in
+    let at_clients = bind_ok (value_at (codes "clients") value) _ _ classes.2 in
+    let clients = bind_ok (client_rows plan at_clients.0) _ _ at_clients.2 in
+    let class_are = class_rows_read plan at_classes.0 classes.0 classes.1 in
+    let client_are = client_rows_read plan at_clients.0 clients.0 clients.1 in
+    let made : Vector = record { workers = workers.0; classes = classes.0; clients = clients.0 } in
+    let shaped : has_shape plan made ≡ true =
+    and_from _ _ (and_from _ _ (and_from _ _ (and_from _ _
+    (eq-eqb _ _ (numbers_counted _ _ workers.0 workers.1))
+    (eq-eqb _ _ class_are.0))
+    (eq-eqb _ _ client_are.0))
+    (rows_shaped (λ (class : Class). length class.body + 3) no_class plan.classes classes.0 class_are))
+    (rows_shaped (λ (client : Client). length client.body + 1) no_client plan.clients clients.0 client_are) in
+    subst (λ (w : Vector). has_shape plan w ≡ true) (given_same {F = CertFault} made v clients.2) shaped
+
+standing_read : (plan : Plan) (pool : Data) (bound : Bound) → standing_of plan pool ≡ Ok bound → has_shape plan (bound_vector bound) ≡ true
+unfolding standing_of
+standing_read plan pool bound e =
+    let at_vector = bind_ok (value_at (codes "standing") pool) _ _ e in
+    let vector = bind_ok (vector_of plan at_vector.0) _ _ at_vector.2 in
+    subst (λ (b : Bound). has_shape plan (bound_vector b) ≡ true) (given_same {F = CertFault} (Standing vector.0) bound vector.2) (vector_read plan at_vector.0 vector.0 vector.1)
+
+lifetime_read : (plan : Plan) (value : Data) (bound : Bound) → lifetime_of plan value ≡ Ok bound → has_shape plan (bound_vector bound) ≡ true
+unfolding lifetime_of
+lifetime_read plan value bound e =
+    let vector = bind_ok (vector_of plan value) _ _ e in
+    subst (λ (b : Bound). has_shape plan (bound_vector b) ≡ true) (given_same {F = CertFault} (Lifetime vector.0) bound vector.2) (vector_read plan value vector.0 vector.1)
+
+either_read : (plan : Plan) (pool : Data) (found : Option Data) (bound : Bound) → lifetime_or_standing plan pool found ≡ Ok bound → has_shape plan (bound_vector bound) ≡ true
+either_read plan pool (Some value) bound e = lifetime_read plan value bound e
+either_read plan pool None bound e = standing_read plan pool bound e
+
+bound_read : (version : Version) (plan : Plan) (pool : Data) (bound : Bound) → bound_of version plan pool ≡ Ok bound → has_shape plan (bound_vector bound) ≡ true
+bound_read One plan pool bound e = standing_read plan pool bound e
+bound_read Two plan pool bound e = either_read plan pool _ bound e
+
+abbrev pool_has_shape : Plan → PoolCert → Bool
+pool_has_shape plan pool = has_shape plan (bound_vector pool.bound) && has_shape plan pool.blocked
+
+pool_read : (version : Version) (plan : Plan) (value : Data) (pool : PoolCert) → pool_of version plan value ≡ Ok pool → pool_has_shape plan pool ≡ true
+unfolding pool_of
+pool_read version plan value pool e =
+    let keys = both_passed (check_keys 2 value) _ pool e in
+    let bound = bind_ok (bound_of version plan value) _ _ keys.1 in
+    let at_blocked = bind_ok (value_at (codes "blocked") value) _ _ bound.2 in
+    let blocked = bind_ok (vector_of plan at_blocked.0) _ _ at_blocked.2 in
+    let made : PoolCert = record { bound = bound.0; blocked = blocked.0 } in
+    let shaped : pool_has_shape plan made ≡ true = and_from _ _ (bound_read version plan value bound.0 bound.1) (vector_read plan at_blocked.0 blocked.0 blocked.1) in
+    subst (λ (p : PoolCert). pool_has_shape plan p ≡ true) (given_same {F = CertFault} made pool blocked.2) shaped
+
+pools_read : (version : Version) (plan : Plan) (value : Data) (pools : List PoolCert) → pools_of version plan value ≡ Ok pools → (length pools ≡ length plan.pools) × EachPlace pools (λ p pool. pool_has_shape plan pool ≡ true)
+unfolding pools_of
+pools_read version plan value pools e =
+    let found = bind_ok (elements_of (length plan.pools) value) _ _ e in
+    let read : ℕ → Data → Result PoolCert CertFault = λ _. pool_of version plan in (
+      read_length read 0 found.0 pools found.2 ∙ elements_counted _ value found.0 found.1,
+      λ p pool here. let from = read_at read found.0 pools p pool found.2 here in pool_read version plan from.0 pool from.2,
+    )
+
+abbrev ranks_have_shape : Plan → Ranks → Bool
+ranks_have_shape plan ranks = length ranks.pools == length plan.pools && length ranks.reach == length plan.classes && length ranks.levels == length plan.classes
+
+ranks_read : (plan : Plan) (value : Data) (ranks : Ranks) → ranks_of plan value ≡ Ok ranks → ranks_have_shape plan ranks ≡ true
+unfolding ranks_of
+ranks_read plan value ranks e =
+    let keys = both_passed (check_keys 3 value) _ ranks e in
+    let at_pools = bind_ok (value_at (codes "pools") value) _ _ keys.1 in
+    let pools = bind_ok (numbers_of (length plan.pools) at_pools.0) _ _ at_pools.2 in
+    let at_reach = bind_ok (value_at (codes "reach") value) _ _ pools.2 in
+    let reach = bind_ok (numbers_of (length plan.classes) at_reach.0) _ _ at_reach.2 in
+    let at_levels = bind_ok (value_at (codes "levels") value) _ _ reach.2 in
+    let levels = bind_ok (numbers_of (length plan.classes) at_levels.0) _ _ at_levels.2 in
+    let made : Ranks = record { pools = pools.0; reach = reach.0; levels = levels.0 } in
+    let shaped : ranks_have_shape plan made ≡ true =
+    and_from _ _ (and_from _ _
+    (eq-eqb _ _ (numbers_counted _ _ pools.0 pools.1))
+    (eq-eqb _ _ (numbers_counted _ _ reach.0 reach.1)))
+    (eq-eqb _ _ (numbers_counted _ _ levels.0 levels.1)) in
+    subst (λ (r : Ranks). ranks_have_shape plan r ≡ true) (given_same {F = CertFault} made ranks levels.2) shaped
+
+-- a shape whose numbers are small fits
+pool_fits_of : (plan : Plan) (pool : PoolCert) → pool_has_shape plan pool ≡ true → pool_has_small_numbers pool ≡ true → pool_cert_fits plan pool ≡ true
+pool_fits_of plan pool shaped small =
+    let shapes = and_parts (has_shape plan (bound_vector pool.bound)) _ shaped in
+    let sizes = and_parts (has_small_numbers (bound_vector pool.bound)) _ small in
+    and_from _ _ (and_from _ _ shapes.0 sizes.0) (and_from _ _ shapes.1 sizes.1)
+
+ranks_fit_of : (plan : Plan) (ranks : Ranks) → ranks_have_shape plan ranks ≡ true → ranks_have_small_numbers ranks ≡ true → ranks_fit plan ranks ≡ true
+ranks_fit_of plan ranks shaped small =
+    let parts = and_parts (list_all is_small ranks.pools && list_all is_small ranks.reach) _ small in
+    let first = and_parts (list_all is_small ranks.pools) _ parts.0 in
+    and_from _ _ (and_from _ _ (and_from _ _ shaped first.0) first.1) parts.1
+
+shape_fits : (version : Version) (plan : Plan) (value : Data) (cert : Cert) → shape_of version plan value ≡ Ok cert → cert_has_small_numbers cert ≡ true → cert_fits plan cert ≡ true
+unfolding shape_of cert_has_small_numbers
+shape_fits version plan value cert e small =
+    let keys = both_passed (check_keys 3 value) _ cert e in
+    let at_pools = bind_ok (value_at (codes "pools") value) _ _ keys.1 in
+    let pools = bind_ok (pools_of version plan at_pools.0) _ _ at_pools.2 in
+    let at_ranks = bind_ok (value_at (codes "ranks") value) _ _ pools.2 in
+    let ranks = bind_ok (ranks_of plan at_ranks.0) _ _ at_ranks.2 in
+    let made : Cert = record { pools = pools.0; ranks = ranks.0 } in
+    let same : made ≡ cert = given_same {F = CertFault} made cert ranks.2 in
+    let sizes = and_parts (list_all pool_has_small_numbers made.pools) (ranks_have_small_numbers made.ranks) (subst (λ (c : Cert). (list_all pool_has_small_numbers c.pools && ranks_have_small_numbers c.ranks) ≡ true) (sym same) small) in
+    let pools_are = pools_read version plan at_pools.0 pools.0 pools.1 in
+    let fit : cert_fits plan made ≡ true =
+    and_from _ _ (and_from _ _
+    (eq-eqb _ _ pools_are.0)
+    (ranks_fit_of plan ranks.0 (ranks_read plan at_ranks.0 ranks.0 ranks.1) sizes.1))
+    (list_all_from (pool_cert_fits plan) pools.0 (λ p pool here. pool_fits_of plan pool (pools_are.1 p pool here) (list_all_place pool_has_small_numbers pools.0 sizes.0 p pool here))) in
+    subst (λ (c : Cert). cert_fits plan c ≡ true) {y = cert} same fit
+
+value_fits : (plan : Plan) (value : Data) (cert : Cert) → cert_of_value value plan ≡ Ok cert → cert_fits plan cert ≡ true
+unfolding cert_of_value
+value_fits plan value cert e =
+    let version = bind_ok (version_of value) _ _ e in
+    let shape = bind_ok (shape_of version.0 plan value) _ _ version.2 in
+    let sizes = both_passed (holds_or (cert_has_small_numbers shape.0) (fault WEIGHT_TOO_LARGE)) _ cert shape.2 in
+    let fit = shape_fits version.0 plan value shape.0 shape.1 (holds_ok _ (fault WEIGHT_TOO_LARGE) sizes.0) in
+    subst (λ (c : Cert). cert_fits plan c ≡ true) (given_same {F = CertFault} shape.0 cert sizes.1) fit
+
+pub cert_read_fits : (bytes : List ℕ) (plan : Plan) (cert : Cert) → cert_of bytes plan ≡ Ok cert → cert_fits plan cert ≡ true
+unfolding cert_of
+cert_read_fits bytes plan cert e =
+    let value = bind_ok (document_of bytes) _ _ e in
+    value_fits plan value.0 cert value.2

@@ -1,0 +1,7 @@
+pub mod Lists
+pub mod Fits
+pub mod OnLiterals
+pub mod Plain
+pub mod Percent
+pub mod ReadsBack
+mod Samples

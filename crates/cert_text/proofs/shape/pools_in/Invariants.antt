@@ -1,0 +1,8 @@
+use Rattle.std.proofs.Common.{map}
+use Rattle.serde_json.specs.View.{view}
+use Rattle.readings.proofs.Loops.{Reads}
+use Rattle.cert_text.specs.Shape.{pool_of}
+use Rattle.cert_text.proofs.shape.pools_in.Given as goal
+
+abbrev pub invariant-loop-value : goal.invariant-loop-value
+invariant-loop-value l = Reads (λ _. pool_of l.version l.plan) (map view l.values) l.value-index l.pools.items

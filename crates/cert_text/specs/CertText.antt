@@ -1,0 +1,64 @@
+-- The text of a certificate: compact JSON, the keys of each object ascending by their bytes.
+use Rattle.std.specs.Prelude.{ℕ, Bool, true, false, nat_eq, if◌then◌else◌, List, map, codes}
+use Rattle.std.specs.List.{list_any}
+use Rattle.serde_json.specs.Data.{Data, number, unsigned, array, object, member, no_members}
+use Rattle.serde_json.specs.View.{items_of}
+use Rattle.serde_json.specs.Written.{compact_text}
+use Rattle.weights.specs.declared.bound.Bound.{Bound}
+use Rattle.weights.specs.declared.bound.Bound.TheVariants.{Standing, Lifetime}
+use Rattle.weights.specs.Vector.{Vector}
+use Rattle.pool_ranks.specs.Ranks.{Ranks}
+use Rattle.certificates.specs.Cert.{PoolCert, Cert}
+
+abbrev pub number_data : ℕ → Data
+number_data n = number (unsigned n)
+
+abbrev pub list_data : List Data → Data
+list_data values = array (items_of values)
+
+abbrev pub numbers_data : List ℕ → Data
+numbers_data numbers = list_data (map number_data numbers)
+
+abbrev pub rows_data : List (List ℕ) → Data
+rows_data rows = list_data (map numbers_data rows)
+
+unfoldable pub vector_data : Vector → Data
+vector_data v =
+    object (member (codes "classes") (rows_data v.classes)
+    (member (codes "clients") (rows_data v.clients)
+    (member (codes "workers") (numbers_data v.workers) no_members)))
+
+-- a pool with its blocked vector and this bound
+unfoldable pub bounded_data : Data → Bound → Data
+bounded_data blocked (Standing v) = object (member (codes "blocked") blocked (member (codes "standing") (vector_data v) no_members))
+bounded_data blocked (Lifetime v) = object (member (codes "blocked") blocked (member (codes "lifetime") (vector_data v) no_members))
+
+abbrev pub pool_data : PoolCert → Data
+pool_data pool = bounded_data (vector_data pool.blocked) pool.bound
+
+unfoldable pub ranks_data : Ranks → Data
+ranks_data ranks =
+    object (member (codes "levels") (numbers_data ranks.levels)
+    (member (codes "pools") (numbers_data ranks.pools)
+    (member (codes "reach") (numbers_data ranks.reach) no_members)))
+
+abbrev pub is_lifetime : Bound → Bool
+is_lifetime (Standing v) = false
+is_lifetime (Lifetime v) = true
+
+-- 2 where some pool has a lifetime vector, and else 1
+abbrev pub version_number : Cert → ℕ
+version_number cert = if list_any (λ pool. is_lifetime pool.bound) cert.pools then 2 else 1
+
+unfoldable pub cert_data : Cert → Data
+cert_data cert =
+    object (member (codes "pools") (list_data (map pool_data cert.pools))
+    (member (codes "ranks") (ranks_data cert.ranks)
+    (member (codes "version") (number_data (version_number cert)) no_members)))
+
+abbrev pub cert_text : Cert → List ℕ
+cert_text cert = compact_text (cert_data cert)
+
+-- one of the bytes is a `%`
+abbrev pub has_percent : List ℕ → Bool
+has_percent text = list_any (nat_eq 37) text

@@ -1,0 +1,16 @@
+-- The numbers of a certificate are none of them above the limit.
+use Rattle.std.specs.Prelude.{Bool, ◌&&◌}
+use Rattle.std.specs.List.{list_all}
+use Rattle.weights.specs.Vector.{is_small, has_small_numbers}
+use Rattle.weights.specs.Bound.{bound_vector}
+use Rattle.pool_ranks.specs.Ranks.{Ranks}
+use Rattle.certificates.specs.Cert.{PoolCert, Cert}
+
+abbrev pub pool_has_small_numbers : PoolCert → Bool
+pool_has_small_numbers pool = has_small_numbers (bound_vector pool.bound) && has_small_numbers pool.blocked
+
+abbrev pub ranks_have_small_numbers : Ranks → Bool
+ranks_have_small_numbers ranks = list_all is_small ranks.pools && list_all is_small ranks.reach && list_all is_small ranks.levels
+
+unfoldable pub cert_has_small_numbers : Cert → Bool
+cert_has_small_numbers cert = list_all pool_has_small_numbers cert.pools && ranks_have_small_numbers cert.ranks

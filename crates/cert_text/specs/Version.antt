@@ -1,0 +1,17 @@
+-- The version of a certificate's text.
+use Rattle.std.specs.Prelude.{ℕ, ◌==◌, if◌then◌else◌, codes, Result, Ok, Err}
+use Rattle.serde_json.specs.Data.{Data}
+use Rattle.faults.specs.declared.number.TheConstants.{VERSION}
+use Rattle.readings.specs.Reading.{◌>>=◌}
+use Rattle.cert_text.specs.declared.fault.CertFault.{CertFault}
+use Rattle.cert_text.specs.declared.version.Version.{Version}
+use Rattle.cert_text.specs.declared.version.Version.TheVariants.{One, Two}
+use Rattle.cert_text.specs.Values.{fault, number_of, value_at}
+
+-- the version of this number, 1 or 2
+abbrev pub version_numbered : ℕ → Result Version CertFault
+version_numbered number = if number == 1 then Ok One else (if number == 2 then Ok Two else Err (fault VERSION))
+
+-- the version that an object says at its key
+unfoldable pub version_of : Data → Result Version CertFault
+version_of value = value_at (codes "version") value >>= λ version. number_of version >>= λ number. version_numbered number

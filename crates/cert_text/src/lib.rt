@@ -1,0 +1,23 @@
+//! The text of a certificate: a JSON object, of one of two versions.
+//!
+//! [`read_cert`] gives what the definition `cert_of` in `specs/` gives: a certificate that fits the plan, or the first
+//! fault. [`write_cert`] gives the text that reads back to the certificate.
+#![tactic(auto)]
+
+mod cert_value;
+mod document;
+mod fault;
+mod read;
+mod shape;
+mod sizes;
+#[cfg(test)]
+mod tests;
+mod values;
+mod vectors;
+mod version;
+mod write;
+
+pub use document::MOST_TEXT_BYTES;
+pub use fault::CertFault;
+pub use read::read_cert;
+pub use write::write_cert;

@@ -1,0 +1,65 @@
+//! The certificate of a text.
+
+ghost use Rattle.std.specs.Prelude.{◌≡◌, ◌≢◌, IfOk, IfErr, IsTrue, Ok, Err};
+ghost use Rattle.readings.specs.Given.{Gives};
+ghost use Rattle.certificates.specs.Cert.{cert_fits};
+ghost use Rattle.serde_json.specs.View.{view};
+ghost use Rattle.cert_text.specs.CertOf as spec;
+
+use crate::document::document_of;
+use crate::fault::{CertError, CertFault, fault};
+use crate::shape::shape_of;
+use crate::sizes::has_small_numbers;
+use crate::version::version_of;
+use certificates::Cert;
+use faults::number::{MEMORY, WEIGHT_TOO_LARGE};
+use job_bodies::Plan;
+use readings::ReadError;
+use serde_json::Value;
+use std::alloc::Global;
+
+/// The certificate that the bytes are the text of, for this plan, or the first fault. The fault's number is `MEMORY`
+/// where memory ran out; nothing else is then said of the text.
+///
+/// # Errors
+///
+/// In this order:
+///
+/// 1. 34: the text has more than [`MOST_TEXT_BYTES`](crate::MOST_TEXT_BYTES) bytes.
+/// 2. 30: it is not UTF-8, or not JSON.
+/// 3. 31: it is no object with a whole number at `version`.
+/// 4. 33: the version is neither 1 nor 2.
+/// 5. 31: a key is missing or one too many, a list is of another length than the plan has, or a value is no whole
+///    number of 64 bits.
+/// 6. 32: a number is above 1,000,000,000.
+pub fn read_cert(alloc: Global, bytes: &[u8], plan: &Plan) -> Result<Cert, CertFault>
+    ensures cert { IfOk result (λ cert. spec.cert_of bytes.now plan.now ≡ Ok cert) }
+    ensures fault { IfErr result (λ fault. fault.number ≢ MEMORY → spec.cert_of bytes.now plan.now ≡ Err fault) }
+    ensures fits { IfOk result (λ cert. IsTrue (cert_fits plan.now cert)) }
+{
+    match cert_of(alloc, bytes, plan) {
+        Ok(cert) => Ok(cert),
+        Err(ReadError::Memory) => Err(CertFault { number: MEMORY }),
+        Err(ReadError::Fault(fault)) => Err(fault),
+    }
+}
+
+#[tactic(auto, unfolding(crate::specs::CertOf::cert_of))]
+fn cert_of(alloc: Global, bytes: &[u8], plan: &Plan) -> Result<Cert, CertError>
+    ensures { Gives (λ cert. cert) result (spec.cert_of bytes.now plan.now) }
+{
+    let value = document_of(alloc, bytes)?;
+    cert_of_value(alloc, &value, plan)
+}
+
+#[tactic(auto, unfolding(crate::specs::CertOf::cert_of_value))]
+fn cert_of_value(alloc: Global, value: &Value, plan: &Plan) -> Result<Cert, CertError>
+    ensures { Gives (λ cert. cert) result (spec.cert_of_value (view value.now) plan.now) }
+{
+    let version = version_of(value)?;
+    let cert = shape_of(alloc, version, plan, value)?;
+    if !has_small_numbers(&cert) {
+        return Err(fault(WEIGHT_TOO_LARGE));
+    }
+    Ok(cert)
+}

@@ -1,0 +1,115 @@
+//! A vector of a certificate's text: numbers for the workers, and rows for the classes and the kinds of clients.
+
+ghost use Rattle.std.specs.Prelude.{◌≡◌, length, map};
+ghost use Rattle.readings.specs.Reading.{read_each};
+ghost use Rattle.readings.specs.Given.{Gives};
+ghost use Rattle.serde_json.specs.View.{view};
+ghost use Rattle.cert_text.specs.Values as value_spec;
+ghost use Rattle.cert_text.specs.Vectors as spec;
+
+use crate::fault::CertError;
+use crate::values::{check_keys, elements_of, number_of, value_at};
+use job_bodies::Plan;
+use serde_json::Value;
+use std::alloc::Global;
+use weights::Vector;
+
+/// The numbers that these values are.
+fn numbers_in(alloc: Global, values: &[Value]) -> Result<Vec<u64>, CertError>
+    ensures { Gives (λ numbers. numbers.items) result (read_each (λ _. value_spec.number_of) 0 (map view values.now)) }
+{
+    let mut numbers = Vec::with_capacity(alloc, values.len())?;
+    for value in values {
+        let number = number_of(value)?;
+        numbers.push(number)?;
+    }
+    Ok(numbers)
+}
+
+/// So many numbers.
+#[tactic(auto, unfolding(crate::specs::Vectors::numbers_of))]
+pub fn numbers_of(alloc: Global, value: &Value, count: usize) -> Result<Vec<u64>, CertError>
+    ensures { Gives (λ numbers. numbers.items) result (spec.numbers_of count (view value.now)) }
+{
+    let values = elements_of(value, count)?;
+    numbers_in(alloc, values)
+}
+
+/// How many numbers the row of a class has: queued, each position of its body, its end, and done.
+fn class_points(plan: &Plan, class: usize) -> usize
+    ensures { result ≡ spec.class_points plan.now class }
+{
+    match plan.class_at(class) {
+        Some(class) => class.body.len() + 3,
+        None => 3,
+    }
+}
+
+/// How many numbers the row of a kind of clients has: each position of its body, and its end.
+fn client_points(plan: &Plan, client: usize) -> usize
+    ensures { result ≡ spec.client_points plan.now client }
+{
+    match plan.client_at(client) {
+        Some(client) => client.body.len() + 1,
+        None => 1,
+    }
+}
+
+fn class_rows_in(alloc: Global, plan: &Plan, values: &[Value]) -> Result<Vec<Vec<u64>>, CertError>
+    ensures { Gives (λ rows. map (λ row. row.items) rows.items) result (read_each (λ k. spec.numbers_of (spec.class_points plan.now k)) 0 (map view values.now)) }
+{
+    let mut rows = Vec::with_capacity(alloc, values.len())?;
+    for (class, value) in values.iter().enumerate() {
+        let row = numbers_of(alloc, value, class_points(plan, class))?;
+        rows.push(row)?;
+    }
+    Ok(rows)
+}
+
+fn client_rows_in(alloc: Global, plan: &Plan, values: &[Value]) -> Result<Vec<Vec<u64>>, CertError>
+    ensures { Gives (λ rows. map (λ row. row.items) rows.items) result (read_each (λ c. spec.numbers_of (spec.client_points plan.now c)) 0 (map view values.now)) }
+{
+    let mut rows = Vec::with_capacity(alloc, values.len())?;
+    for (client, value) in values.iter().enumerate() {
+        let row = numbers_of(alloc, value, client_points(plan, client))?;
+        rows.push(row)?;
+    }
+    Ok(rows)
+}
+
+/// A row of numbers for each class.
+#[tactic(auto, unfolding(crate::specs::Vectors::class_rows))]
+fn class_rows(alloc: Global, plan: &Plan, value: &Value) -> Result<Vec<Vec<u64>>, CertError>
+    ensures { Gives (λ rows. map (λ row. row.items) rows.items) result (spec.class_rows plan.now (view value.now)) }
+{
+    let values = elements_of(value, plan.classes().len())?;
+    class_rows_in(alloc, plan, values)
+}
+
+/// A row of numbers for each kind of clients.
+#[tactic(auto, unfolding(crate::specs::Vectors::client_rows))]
+fn client_rows(alloc: Global, plan: &Plan, value: &Value) -> Result<Vec<Vec<u64>>, CertError>
+    ensures { Gives (λ rows. map (λ row. row.items) rows.items) result (spec.client_rows plan.now (view value.now)) }
+{
+    let values = elements_of(value, plan.clients().len())?;
+    client_rows_in(alloc, plan, values)
+}
+
+/// The vector that a value is.
+#[tactic(auto, unfolding(crate::specs::Vectors::vector_of))]
+pub fn vector_of(alloc: Global, plan: &Plan, value: &Value) -> Result<Vector, CertError>
+    ensures { Gives (λ vector. vector) result (spec.vector_of plan.now (view value.now)) }
+{
+    check_keys(value, 3)?;
+    let workers = value_at(value, "workers")?;
+    let workers = numbers_of(alloc, workers, plan.pools().len())?;
+    let classes = value_at(value, "classes")?;
+    let classes = class_rows(alloc, plan, classes)?;
+    let clients = value_at(value, "clients")?;
+    let clients = client_rows(alloc, plan, clients)?;
+    Ok(Vector {
+        workers,
+        classes,
+        clients,
+    })
+}

@@ -1,0 +1,39 @@
+//! The version of a certificate's text.
+
+ghost use Rattle.readings.specs.Given.{Gives};
+ghost use Rattle.serde_json.specs.View.{view};
+ghost use Rattle.cert_text.specs.Version as spec;
+
+use crate::fault::{CertError, fault};
+use crate::values::{number_of, value_at};
+use faults::number::VERSION;
+use serde_json::Value;
+
+/// A version that is read.
+#[derive(Clone, Copy, Debug, PartialEq, Eq)]
+pub enum Version {
+    /// Each pool has a standing vector.
+    One,
+    /// Each pool has a standing or a lifetime vector.
+    Two,
+}
+
+fn version_numbered(number: u64) -> Result<Version, CertError>
+    ensures { Gives (λ version. version) result (spec.version_numbered number) }
+{
+    match number {
+        1 => Ok(Version::One),
+        2 => Ok(Version::Two),
+        _ => Err(fault(VERSION)),
+    }
+}
+
+/// The version that a certificate's text says.
+#[tactic(auto, unfolding(crate::specs::Version::version_of))]
+pub fn version_of(value: &Value) -> Result<Version, CertError>
+    ensures { Gives (λ version. version) result (spec.version_of (view value.now)) }
+{
+    let version = value_at(value, "version")?;
+    let number = number_of(version)?;
+    version_numbered(number)
+}

@@ -1,0 +1,254 @@
+-- The line that a text writes is the one whose text it is.
+use Rattle.std.proofs.Common.{◌≡◌, ℕ, zero, suc, ◌+◌, ◌<◌, ◌⊎◌, inl, inr, ⊎_elim, Bool, true, false, cond, not, ◌==◌, ◌&&◌, nat_lt, nat_le, List, [], ◌∷◌, ◌++◌, length, take, drop, map, flat_map, get_or, slice_index_or, position, codes, decimal, bytes_eq, Option, Some, None, option_map, option_and_then, refl, sym, ap, ap₂, subst, ◌∙◌, arith, append_assoc, length-append, take_at, drop_at}
+use Rattle.std.specs.List.{list_all, list_any, position_or_len, before_first, after_first, join_with_byte}
+use Rattle.std.proofs.lemmas.Bool.{and_parts, and_from, lt-ltb, ltb-true, leb-true, le-leb, eqb-true, cond-true, cases_lt, not-true, or_parts}
+use Rattle.std.proofs.lemmas.Bool.Decides.{nat_tests}
+use Rattle.std.proofs.lemmas.List.{length_push}
+use Rattle.std.proofs.lemmas.List.Sums.{split_at_first, passes_at_first, AllPass-from_list_all}
+use Rattle.std.proofs.lemmas.List.Splits.{join_with_byte-slice_split, length-slice_split}
+use Rattle.std.proofs.lemmas.Option.{none-some, same_Some, cond_some, option_and_then_some}
+use Rattle.std.proofs.lemmas.Slice.Eq.{bytes_eq-Decides}
+use Rattle.job_bodies.specs.Plan.{Pool, Plan, no_pool, pool_at, pool_names}
+use Rattle.job_bodies.specs.WellFormed.{are_distinct}
+use Rattle.written_machine.specs.declared.event.Event.{Event}
+use Rattle.written_machine.specs.declared.event.Event.TheVariants.{Client, Job, Take, Retire}
+use Rattle.event_lines.specs.Pieces.{is_space, split_space, words_of}
+use Rattle.event_lines.specs.Number.{number_of}
+use Rattle.event_lines.specs.EventLine.{Line, Happens, Stuck, pool_named, all_of, event_of, stuck_of, line_of_verb, line_of}
+use Rattle.event_lines.specs.LineText.{event_text, line_text, is_lawful_number, is_lawful_event, is_lawful_line}
+use Rattle.event_lines.proofs.Splits.{has_no, cut_at, cut_joined, joined_behind, flat_map-map, is_piece}
+use Rattle.event_lines.proofs.WrittenNumbers.{number_read, number_written, decimal_has_no}
+
+-- ---- what a partial reading gives
+map_some : {X Y : Type 0} (f : X → Y) (o : Option X) (y : Y) → option_map f o ≡ Some y → (x : X) × (o ≡ Some x) × (f x ≡ y)
+map_some f None y e = absurd (none-some y e)
+map_some f (Some x) y e = (x, refl, same_Some (f x) y e)
+
+-- one branch or the other
+choose : {Y : Type 0} (b : Bool) (x y : Option Y) (z : Y) → cond b x y ≡ Some z → ((b ≡ true) × (x ≡ Some z)) ⊎ (y ≡ Some z)
+choose true x y z e = inl (refl, e)
+choose false x y z e = inr e
+
+-- ---- where a text splits
+place_of_space : (front rest : List ℕ) → has_no 32 front ≡ true → position_or_len is_space (front ++ 32 ∷ rest) ≡ length front
+place_of_space [] rest none = refl
+place_of_space (b ∷ front) rest none =
+    let parts = and_parts (not (is_space b)) _ none in
+    rw (parts.0, place_of_space front rest parts.1) (omega arith)
+
+splits : (front rest : List ℕ) → has_no 32 front ≡ true → split_space (front ++ 32 ∷ rest) ≡ Some (front, rest)
+unfolding split_space
+splits front rest none =
+    let at = place_of_space front rest none in
+    let text : List ℕ = front ++ 32 ∷ rest in
+    let within : nat_lt (position_or_len is_space text) (length text) ≡ true = lt-ltb _ _ (omega (arith, at, length-append front (32 ∷ rest))) in
+    let before : before_first is_space text ≡ front = ap (λ n. take n text) at ∙ take_at front (32 ∷ rest) (length front) refl in
+    let after : after_first is_space text ≡ rest = ap (λ n. drop (n + 1) text) at ∙ ap (drop (length front + 1)) (sym (append_assoc front (32 ∷ []) rest)) ∙ drop_at (front ++ 32 ∷ []) rest (length front + 1) (length_push front 32) in
+    ap (λ (o : Option ℕ). option_map (λ place. (take place text, drop (place + 1) text)) o) (cond-true _ _ _ within) ∙ ap₂ (λ (x y : List ℕ). Some (x, y)) before after
+
+split_parts : (text : List ℕ) (words : List ℕ × List ℕ) → split_space text ≡ Some words → text ≡ words.0 ++ 32 ∷ words.1
+unfolding split_space
+split_parts text words read =
+    let found = map_some (λ place. (take place text, drop (place + 1) text)) (position is_space text) words read in
+    let place = cond_some (nat_lt (position_or_len is_space text) (length text)) _ _ found.1 in
+    let within : position_or_len is_space text < length text = ltb-true _ _ place.0 in
+    let space : get_or text (position_or_len is_space text) 0 ≡ 32 = eqb-true _ 32 (passes_at_first is_space text 0 within) in
+    let cut : text ≡ before_first is_space text ++ 32 ∷ after_first is_space text = split_at_first is_space text 0 within ∙ ap (λ b. before_first is_space text ++ b ∷ after_first is_space text) space in
+    cut ∙ ap (λ p. take p text ++ 32 ∷ drop (p + 1) text) place.1 ∙ ap (λ (w : List ℕ × List ℕ). w.0 ++ 32 ∷ w.1) found.2
+
+-- ---- names
+name_read : (plan : Plan) (name : List ℕ) (p : ℕ) → pool_named plan name ≡ Some p → (nat_lt p (length plan.pools) ≡ true) × (name ≡ (pool_at plan p).name)
+unfolding pool_named
+name_read plan name p read =
+    let test = λ (pool : Pool). bytes_eq pool.name name in
+    let place = cond_some (nat_lt (position_or_len test plan.pools) (length plan.pools)) _ _ read in
+    let same : (pool_at plan (position_or_len test plan.pools)).name ≡ name = (bytes_eq-Decides _ name).0 (passes_at_first test plan.pools no_pool (ltb-true _ _ place.0)) in
+    (subst (λ (q : ℕ). nat_lt q (length plan.pools) ≡ true) place.1 place.0, sym same ∙ ap (λ q. (pool_at plan q).name) place.1)
+
+-- no name in the list is this one
+others_differ : (name : List ℕ) (pools : List Pool) (p : ℕ) → list_any (bytes_eq name) (map (λ (pool : Pool). pool.name) pools) ≡ false → p < length pools → bytes_eq name (slice_index_or pools p no_pool).name ≡ false
+others_differ name [] p none within = absurd (omega arith)
+others_differ name (pool ∷ pools) zero none within = (or_parts (bytes_eq name pool.name) _ none).0
+others_differ name (pool ∷ pools) (suc p) none within = others_differ name pools p (or_parts (bytes_eq name pool.name) _ none).1 (omega arith)
+
+place_among_distinct : (pools : List Pool) (p : ℕ) → are_distinct (map (λ (pool : Pool). pool.name) pools) ≡ true → p < length pools
+    → position_or_len (λ (pool : Pool). bytes_eq pool.name (slice_index_or pools p no_pool).name) pools ≡ p
+place_among_distinct [] p distinct within = absurd (omega arith)
+place_among_distinct (x ∷ pools) zero distinct within = rw ((bytes_eq-Decides x.name x.name).1 refl) refl
+place_among_distinct (x ∷ pools) (suc p) distinct within =
+    let parts = and_parts (not (list_any (bytes_eq x.name) (map (λ (pool : Pool). pool.name) pools))) (are_distinct (map (λ (pool : Pool). pool.name) pools)) distinct in
+    let inside : p < length pools = omega arith in
+    rw (others_differ x.name pools p (not-true _ parts.0) inside, place_among_distinct pools p parts.1 inside) (omega arith)
+
+name_written : (plan : Plan) (p : ℕ) → are_distinct (pool_names plan) ≡ true → nat_lt p (length plan.pools) ≡ true → pool_named plan (pool_at plan p).name ≡ Some p
+unfolding pool_named
+name_written plan p distinct within =
+    let test = λ (pool : Pool). bytes_eq pool.name (pool_at plan p).name in
+    let place = place_among_distinct plan.pools p distinct (ltb-true _ _ within) in
+    let inside : nat_lt (position_or_len test plan.pools) (length plan.pools) ≡ true = subst (λ (q : ℕ). nat_lt q (length plan.pools) ≡ true) (sym place) within in
+    cond-true _ _ _ inside ∙ ap (λ (q : ℕ). Some q) place
+
+-- ---- members
+-- the words are the digits of lawful numbers
+abbrev AreMembers : List (List ℕ) → List ℕ → Type 0
+AreMembers words members = (list_all is_lawful_number members ≡ true) × (words ≡ map decimal members)
+
+members_read : (words : List (List ℕ)) (members : List ℕ) → all_of number_of words ≡ Some members → AreMembers words members
+members_read [] [] read = (refl, refl)
+members_read [] (n ∷ members) read = absurd cc
+members_read (word ∷ words) members read =
+    option_and_then_some (λ y. option_map (λ ys. y ∷ ys) (all_of number_of words)) (number_of word) members read (λ n first rest.
+    let more = map_some (λ ys. n ∷ ys) (all_of number_of words) members rest in
+    let one = number_read word n first in
+    let others = members_read words more.0 more.1 in
+    subst (λ (ms : List ℕ). AreMembers (word ∷ words) ms) more.2 (and_from _ _ one.0 others.0, ap₂ (λ (x : List ℕ) (xs : List (List ℕ)). x ∷ xs) one.1 others.1))
+
+members_written : (members : List ℕ) → list_all is_lawful_number members ≡ true → all_of number_of (map decimal members) ≡ Some members
+members_written [] lawful = refl
+members_written (n ∷ members) lawful =
+    let parts = and_parts (is_lawful_number n) (list_all is_lawful_number members) lawful in
+    rw (number_written n parts.0, members_written members parts.1) refl
+
+-- the words behind `stuck`
+behind_stuck : (n : ℕ) (members : List ℕ) → 32 ∷ join_with_byte 32 (map decimal (n ∷ members)) ≡ flat_map (λ m. 32 ∷ decimal m) (n ∷ members)
+behind_stuck n members = joined_behind 32 (decimal n) (map decimal members) ∙ flat_map-map (λ x. 32 ∷ x) decimal (n ∷ members)
+
+-- the words of a text are those of a question
+words_read : (rest : List ℕ) (members : List ℕ) → words_of rest ≡ map decimal members → (nat_le 1 (length members) ≡ true) × (32 ∷ rest ≡ flat_map (λ m. 32 ∷ decimal m) members)
+unfolding words_of
+words_read rest [] same = absurd (omega (arith, length-slice_split is_space rest, ap (λ (ws : List (List ℕ)). length ws) same))
+words_read rest (n ∷ members) same =
+    (le-leb 1 _ (omega arith), ap (λ (r : List ℕ). 32 ∷ r) (sym (join_with_byte-slice_split 32 rest) ∙ ap (join_with_byte 32) same) ∙ behind_stuck n members)
+
+digits_without_space : (members : List ℕ) → list_all is_lawful_number members ≡ true → list_all (has_no 32) (map decimal members) ≡ true
+digits_without_space [] lawful = refl
+digits_without_space (n ∷ members) lawful =
+    let parts = and_parts (is_lawful_number n) (list_all is_lawful_number members) lawful in
+    and_from _ _ (decimal_has_no 32 n (omega arith) parts.0) (digits_without_space members parts.1)
+
+words_written : (n : ℕ) (members : List ℕ) → list_all is_lawful_number (n ∷ members) ≡ true → words_of (decimal n ++ flat_map (λ m. 32 ∷ decimal m) members) ≡ map decimal (n ∷ members)
+unfolding words_of
+words_written n members lawful =
+    let same : join_with_byte 32 (map decimal (n ∷ members)) ≡ decimal n ++ flat_map (λ m. 32 ∷ decimal m) members = ap (drop 1) (behind_stuck n members) in
+    ap (cut_at 32) (sym same) ∙ cut_joined 32 (decimal n) (map decimal members) (digits_without_space (n ∷ members) lawful)
+
+-- ---- a verb and the rest
+-- the verb and the rest are the lawful event's text
+abbrev IsEventText : Plan → List ℕ → List ℕ → Event → Type 0
+IsEventText plan verb rest event = (is_lawful_event plan event ≡ true) × (verb ++ 32 ∷ rest ≡ event_text plan event)
+
+-- the verb and the rest are the lawful line's text
+abbrev IsLineText : Plan → List ℕ → List ℕ → Line → Type 0
+IsLineText plan verb rest line = (is_lawful_line plan line ≡ true) × (verb ++ 32 ∷ rest ≡ line_text plan line)
+
+same_verb : (verb word rest text : List ℕ) → bytes_eq verb word ≡ true → rest ≡ text → verb ++ 32 ∷ rest ≡ word ++ 32 ∷ text
+same_verb verb word rest text same rests = ap₂ (λ (x y : List ℕ). x ++ 32 ∷ y) ((bytes_eq-Decides verb word).0 same) rests
+
+client_read : (plan : Plan) (verb rest : List ℕ) (event : Event) → bytes_eq verb (codes "client") ≡ true → option_map (λ n. Client n) (number_of rest) ≡ Some event → IsEventText plan verb rest event
+client_read plan verb rest event same read =
+    let found = map_some (λ n. Client n) (number_of rest) event read in
+    let number = number_read rest found.0 found.1 in
+    subst (λ (e : Event). IsEventText plan verb rest e) found.2 (number.0, same_verb verb (codes "client") rest _ same number.1)
+
+job_read : (plan : Plan) (verb rest : List ℕ) (event : Event) → bytes_eq verb (codes "job") ≡ true → option_map (λ n. Job n) (number_of rest) ≡ Some event → IsEventText plan verb rest event
+job_read plan verb rest event same read =
+    let found = map_some (λ n. Job n) (number_of rest) event read in
+    let number = number_read rest found.0 found.1 in
+    subst (λ (e : Event). IsEventText plan verb rest e) found.2 (number.0, same_verb verb (codes "job") rest _ same number.1)
+
+take_read : (plan : Plan) (verb rest : List ℕ) (event : Event) → bytes_eq verb (codes "take") ≡ true → option_map (λ p. Take p) (pool_named plan rest) ≡ Some event → IsEventText plan verb rest event
+take_read plan verb rest event same read =
+    let found = map_some (λ p. Take p) (pool_named plan rest) event read in
+    let pool = name_read plan rest found.0 found.1 in
+    subst (λ (e : Event). IsEventText plan verb rest e) found.2 (pool.0, same_verb verb (codes "take") rest _ same pool.1)
+
+retire_read : (plan : Plan) (verb rest : List ℕ) (event : Event) → bytes_eq verb (codes "retire") ≡ true → option_map (λ p. Retire p) (pool_named plan rest) ≡ Some event → IsEventText plan verb rest event
+retire_read plan verb rest event same read =
+    let found = map_some (λ p. Retire p) (pool_named plan rest) event read in
+    let pool = name_read plan rest found.0 found.1 in
+    subst (λ (e : Event). IsEventText plan verb rest e) found.2 (pool.0, same_verb verb (codes "retire") rest _ same pool.1)
+
+event_read : (plan : Plan) (verb rest : List ℕ) (event : Event) → event_of plan verb rest ≡ Some event → IsEventText plan verb rest event
+unfolding event_of
+event_read plan verb rest event read =
+    ⊎_elim (λ here. client_read plan verb rest event here.0 here.1)
+    (λ other. ⊎_elim (λ here. job_read plan verb rest event here.0 here.1)
+    (λ other. ⊎_elim (λ here. take_read plan verb rest event here.0 here.1)
+    (λ other. ⊎_elim (λ here. retire_read plan verb rest event here.0 here.1) (λ none. absurd (none-some event none))
+    (choose (bytes_eq verb (codes "retire")) _ None event other))
+    (choose (bytes_eq verb (codes "take")) _ _ event other))
+    (choose (bytes_eq verb (codes "job")) _ _ event other))
+    (choose (bytes_eq verb (codes "client")) _ _ event read)
+
+stuck_read : (plan : Plan) (verb rest : List ℕ) (line : Line) → bytes_eq verb (codes "stuck") ≡ true → stuck_of rest ≡ Some line → IsLineText plan verb rest line
+unfolding stuck_of
+stuck_read plan verb rest line same read =
+    let found = map_some Stuck (all_of number_of (words_of rest)) line read in
+    let members = members_read (words_of rest) found.0 found.1 in
+    let words = words_read rest found.0 members.1 in
+    subst (λ (l : Line). IsLineText plan verb rest l) found.2
+    (and_from _ _ words.0 members.0, ap (λ (v : List ℕ). v ++ 32 ∷ rest) ((bytes_eq-Decides verb (codes "stuck")).0 same) ∙ ap (λ (r : List ℕ). codes "stuck" ++ r) words.1)
+
+verb_read : (plan : Plan) (verb rest : List ℕ) (line : Line) → line_of_verb plan verb rest ≡ Some line → IsLineText plan verb rest line
+unfolding line_of_verb
+verb_read plan verb rest line read =
+    ⊎_elim (λ here. stuck_read plan verb rest line here.0 here.1)
+    (λ other. let found = map_some Happens (event_of plan verb rest) line other in
+    subst (λ (l : Line). IsLineText plan verb rest l) found.2 (event_read plan verb rest found.0 found.1))
+    (choose (bytes_eq verb (codes "stuck")) _ _ line read)
+
+-- ---- lines
+-- a text that writes a line is the line's text, and the line is lawful
+pub line_read : (plan : Plan) (text : List ℕ) (line : Line) → line_of plan text ≡ Some line → (is_lawful_line plan line ≡ true) × (text ≡ line_text plan line)
+unfolding line_of
+line_read plan text line read =
+    option_and_then_some (λ words. line_of_verb plan words.0 words.1) (split_space text) line read (λ words split verb.
+    let found = verb_read plan words.0 words.1 line verb in
+    (found.0, split_parts text words split ∙ found.1))
+
+by_verb : (plan : Plan) (verb rest : List ℕ) → has_no 32 verb ≡ true → line_of plan (verb ++ 32 ∷ rest) ≡ line_of_verb plan verb rest
+unfolding line_of
+by_verb plan verb rest none = ap (λ o. option_and_then (λ words. line_of_verb plan words.0 words.1) o) (splits verb rest none)
+
+-- the text of a lawful line writes that line, among distinct names
+pub line_written : (plan : Plan) (line : Line) → are_distinct (pool_names plan) ≡ true → is_lawful_line plan line ≡ true → line_of plan (line_text plan line) ≡ Some line
+unfolding line_of_verb event_of stuck_of
+line_written plan (Happens (Client c)) distinct lawful = by_verb plan (codes "client") (decimal c) refl ∙ ap (λ o. option_map Happens (option_map (λ n. Client n) o)) (number_written c lawful)
+line_written plan (Happens (Job j)) distinct lawful = by_verb plan (codes "job") (decimal j) refl ∙ ap (λ o. option_map Happens (option_map (λ n. Job n) o)) (number_written j lawful)
+line_written plan (Happens (Take p)) distinct lawful = by_verb plan (codes "take") ((pool_at plan p).name) refl ∙ ap (λ o. option_map Happens (option_map (λ n. Take n) o)) (name_written plan p distinct lawful)
+line_written plan (Happens (Retire p)) distinct lawful = by_verb plan (codes "retire") ((pool_at plan p).name) refl ∙ ap (λ o. option_map Happens (option_map (λ n. Retire n) o)) (name_written plan p distinct lawful)
+line_written plan (Stuck []) distinct lawful = absurd cc
+line_written plan (Stuck (n ∷ members)) distinct lawful =
+    let parts = and_parts (nat_le 1 (length (n ∷ members))) (list_all is_lawful_number (n ∷ members)) lawful in
+    by_verb plan (codes "stuck") (decimal n ++ flat_map (λ m. 32 ∷ decimal m) members) refl
+    ∙ ap (λ (words : List (List ℕ)). option_map Stuck (all_of number_of words)) (words_written n members parts.1)
+    ∙ ap (λ o. option_map Stuck o) (members_written (n ∷ members) parts.1)
+
+-- ---- the bytes of a line
+has_no-append : (c : ℕ) (front rest : List ℕ) → has_no c front ≡ true → has_no c rest ≡ true → has_no c (front ++ rest) ≡ true
+has_no-append c [] rest fronts rests = rests
+has_no-append c (b ∷ front) rest fronts rests =
+    let parts = and_parts (not (b == c)) (has_no c front) fronts in
+    and_from _ _ parts.0 (has_no-append c front rest parts.1 rests)
+
+members_on_one_line : (members : List ℕ) → list_all is_lawful_number members ≡ true → has_no 10 (flat_map (λ n. 32 ∷ decimal n) members) ≡ true
+members_on_one_line [] lawful = refl
+members_on_one_line (n ∷ members) lawful =
+    let parts = and_parts (is_lawful_number n) (list_all is_lawful_number members) lawful in
+    has_no-append 10 (decimal n) _ (decimal_has_no 10 n (omega arith) parts.0) (members_on_one_line members parts.1)
+
+-- the name of the pool has no newline
+abbrev pub has_plain_name : Pool → Bool
+has_plain_name pool = has_no 10 pool.name
+
+name_on_one_line : (plan : Plan) (p : ℕ) → list_all has_plain_name plan.pools ≡ true → nat_lt p (length plan.pools) ≡ true → has_no 10 (pool_at plan p).name ≡ true
+name_on_one_line plan p names within = AllPass-from_list_all has_plain_name plan.pools names p no_pool (ltb-true _ _ within)
+
+-- the text of a lawful line is not empty, and has no newline
+pub line_on_one_line : (plan : Plan) (line : Line) → list_all has_plain_name plan.pools ≡ true → is_lawful_line plan line ≡ true → is_piece 10 (line_text plan line) ≡ true
+line_on_one_line plan (Happens (Client c)) names lawful = and_from _ _ (lt-ltb 0 _ (omega arith)) (decimal_has_no 10 c (omega arith) lawful)
+line_on_one_line plan (Happens (Job j)) names lawful = and_from _ _ (lt-ltb 0 _ (omega arith)) (decimal_has_no 10 j (omega arith) lawful)
+line_on_one_line plan (Happens (Take p)) names lawful = and_from _ _ (lt-ltb 0 _ (omega arith)) (name_on_one_line plan p names lawful)
+line_on_one_line plan (Happens (Retire p)) names lawful = and_from _ _ (lt-ltb 0 _ (omega arith)) (name_on_one_line plan p names lawful)
+line_on_one_line plan (Stuck members) names lawful =
+    and_from _ _ (lt-ltb 0 _ (omega arith)) (members_on_one_line members (and_parts (nat_le 1 (length members)) (list_all is_lawful_number members) lawful).1)

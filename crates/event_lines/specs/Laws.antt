@@ -1,0 +1,16 @@
+-- What the reading of events keeps.
+use Rattle.std.specs.Prelude.{◌≡◌, ◌⊎◌, ◌↔◌, ℕ, IsTrue, List, [], ◌∷◌, ◌++◌, Ok}
+use Rattle.std.specs.List.{list_all}
+use Rattle.job_bodies.specs.Plan.{Plan}
+use Rattle.job_bodies.specs.WellFormed.{IsWellFormed}
+use Rattle.event_lines.specs.EventLine.{Line, event_lines}
+use Rattle.event_lines.specs.LineText.{lines_text, is_lawful_line}
+
+-- the text is those lines as they are written, or is so once it has the newline behind its last line
+abbrev pub Writes : Plan → List ℕ → List Line → Type 0
+Writes plan text lines = (text ≡ lines_text plan lines) ⊎ (text ++ 10 ∷ [] ≡ lines_text plan lines)
+
+-- a text is read as those lines just where it writes them, and they are lawful
+abbrev pub EventLinesAreCanonical : Type 0
+EventLinesAreCanonical = (plan : Plan) (text : List ℕ) (lines : List Line) → IsWellFormed plan
+    → event_lines plan text ≡ Ok lines ↔ IsTrue (list_all (is_lawful_line plan) lines) × Writes plan text lines

@@ -1,0 +1,35 @@
+-- The lines that answer lines of events, and the last line of a replay.
+use Rattle.std.specs.Prelude.{ℕ, true, false, List, [], ◌∷◌, ◌++◌, codes}
+use Rattle.std.specs.Fmt.{decimal}
+use Rattle.job_bodies.specs.Plan.{Plan, pool_at}
+use Rattle.written_machine.specs.declared.event.Outcome.{Outcome}
+use Rattle.written_machine.specs.declared.event.Outcome.TheVariants.{Started, Queued, Refused, Worked, Got, Looped, Finished, Took, Retired}
+use Rattle.event_lines.specs.declared.reply.Reply.{Reply}
+use Rattle.event_lines.specs.declared.reply.Reply.TheVariants.{Happened, NotPossible, Stuck}
+
+-- what came of an event
+abbrev pub outcome_text : Plan → Outcome → List ℕ
+outcome_text plan (Started j) = codes "started job " ++ decimal j
+outcome_text plan (Queued j) = codes "queued job " ++ decimal j
+outcome_text plan (Refused p) = codes "refused by " ++ (pool_at plan p).name
+outcome_text plan (Worked u) = codes "worked " ++ decimal u
+outcome_text plan (Got j) = codes "got job " ++ decimal j
+outcome_text plan Looped = codes "looped"
+outcome_text plan (Finished j) = codes "finished job " ++ decimal j
+outcome_text plan (Took j) = codes "took job " ++ decimal j
+outcome_text plan Retired = codes "retired"
+
+-- what a line of events is answered
+abbrev pub reply_text : Plan → Reply → List ℕ
+reply_text plan (Happened outcome) = outcome_text plan outcome
+reply_text plan NotPossible = codes "not possible"
+reply_text plan (Stuck true) = codes "stuck yes"
+reply_text plan (Stuck false) = codes "stuck no"
+
+-- a numbered line
+abbrev pub numbered : ℕ → List ℕ → List ℕ
+numbered number text = decimal number ++ codes ": " ++ text ++ 10 ∷ []
+
+-- the last line
+abbrev pub summary : ℕ → ℕ → List ℕ
+summary refusals unfinished = codes "refusals " ++ decimal refusals ++ codes ", unfinished " ++ decimal unfinished ++ 10 ∷ []

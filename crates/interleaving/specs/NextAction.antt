@@ -1,0 +1,34 @@
+-- Where an actor stands.
+use Rattle.std.specs.Prelude.{◌≡◌, ℕ, ◌&&◌, List, Some, slice_get}
+use Rattle.job_bodies.specs.declared.action.Action.{Action}
+use Rattle.job_bodies.specs.declared.action.Action.TheVariants.{Submit}
+use Rattle.job_bodies.specs.Plan.{Plan, submits, is_got}
+use Rattle.written_machine.specs.declared.event.Event.{Event}
+use Rattle.written_machine.specs.declared.event.Event.TheVariants.{Client, Job, Take, Retire}
+use Rattle.written_machine.specs.declared.parent.Parent.{Parent}
+use Rattle.written_machine.specs.declared.parent.Parent.TheVariants as parent
+use Rattle.written_machine.specs.Step.{Point}
+use Rattle.live_views.specs.LiveView.{View}
+use Rattle.live_views.specs.ViewStep.{point_in}
+use Rattle.interleaving.specs.declared.next_action.NextAction.{NextAction}
+
+-- the position in the body, the action there, and whether it is a submit whose job a get of the body asks for
+abbrev pub next_action_in : List Action → ℕ → NextAction
+next_action_in body i = record { position = i; action = slice_get body i; asked = submits (slice_get body i) && is_got body i }
+
+abbrev pub next_action_at : Point → NextAction
+next_action_at at = next_action_in at.body at.position
+
+-- the actor's next action is a submit
+pub record IsAtSubmit (plan : Plan) (view : View) (actor : Parent) : Type 0 where
+  pub at : Point
+  pub stands : point_in plan view actor ≡ Some at
+  pub class : ℕ
+  pub submits : slice_get at.body at.position ≡ Some (Submit class)
+
+-- the event is of an actor whose next action is a submit
+abbrev pub StandsAtSubmit : Plan → View → Event → Type 0
+StandsAtSubmit plan view (Client c) = IsAtSubmit plan view (parent.Client c)
+StandsAtSubmit plan view (Job j) = IsAtSubmit plan view (parent.Job j)
+StandsAtSubmit plan view (Take p) = ⊥
+StandsAtSubmit plan view (Retire p) = ⊥

@@ -1,0 +1,83 @@
+//! Where an actor stands.
+
+ghost use Rattle.std.specs.Prelude.{◌≡◌, ◌+◌, ◌<◌, ◌^◌, length, IsSome, IfSome, OnSome};
+ghost use Rattle.job_bodies.specs.WellFormed.{IsWellFormed};
+ghost use Rattle.std.specs.Option.{option_map};
+ghost use Rattle.written_machine.specs.declared.parent.Parent.TheVariants as parent;
+ghost use Rattle.live_views.specs.ViewStep.{point_in};
+ghost use Rattle.interleaving.specs.LiveJobs.{IsAmong};
+ghost use Rattle.interleaving.specs.NextAction.{next_action_in};
+
+use crate::World;
+use crate::plans::{body_of_class, body_of_kind};
+use job_bodies::{Action, Plan, is_got};
+use live_views::Phase;
+use written_machine::Parent;
+
+/// Where an actor stands, and its action there: None at the end of its body.
+#[derive(Clone, Copy, Debug)]
+pub(crate) struct NextAction {
+    pub(crate) position: usize,
+    pub(crate) action: Option<Action>,
+    // Whether it is a submit whose job a get of the body asks for.
+    pub(crate) asked: bool,
+}
+
+impl NextAction {
+    fn of(body: &[Action], position: usize) -> NextAction
+        ensures value { result ≡ next_action_in body.now position }
+        ensures can_move_on { IsSome result.action → position + 1 < 2 ^ 64 }
+    {
+        let action = body.get(position).copied();
+        NextAction {
+            position,
+            action,
+            asked: matches!(action, Some(Action::Submit(_))) && is_got(body, position),
+        }
+    }
+}
+
+impl World {
+    ghost use Rattle.interleaving.specs.NextAction.{next_action_at};
+
+    /// Where the actor stands; None for one that there is not, and for a job that is not at work.
+    pub(crate) fn next_action(&self, plan: &Plan, actor: Parent) -> Option<NextAction>
+        ensures value { result ≡ option_map next_action_at (point_in plan.now self.now actor) }
+        ensures can_move_on { IfSome result (λ next. IsSome next.action → next.position + 1 < 2 ^ 64) }
+        ensures well_formed { IsWellFormed plan.now }
+        ensures there { OnSome result (IsAmong (length self.now.clients) (length self.now.jobs) actor) }
+    {
+        match actor {
+            Parent::Client(client) => self.next_of_client(plan, client),
+            Parent::Job(number) => self.next_of_job(plan, number),
+        }
+    }
+
+    fn next_of_client(&self, plan: &Plan, client: usize) -> Option<NextAction>
+        ensures there { OnSome result (client < length self.now.clients) }
+        ensures value { result ≡ option_map next_action_at (point_in plan.now self.now (parent.Client client)) }
+        ensures can_move_on { IfSome result (λ next. IsSome next.action → next.position + 1 < 2 ^ 64) }
+        ensures well_formed { IsWellFormed plan.now }
+    {
+        let kinds = plan.clients();
+        let client = self.clients.get(client)?;
+        Some(NextAction::of(body_of_kind(kinds, client.kind), client.position))
+    }
+
+    fn next_of_job(&self, plan: &Plan, number: usize) -> Option<NextAction>
+        ensures there { OnSome result (number < length self.now.jobs) }
+        ensures value { result ≡ option_map next_action_at (point_in plan.now self.now (parent.Job number)) }
+        ensures can_move_on { IfSome result (λ next. IsSome next.action → next.position + 1 < 2 ^ 64) }
+        ensures well_formed { IsWellFormed plan.now }
+    {
+        let classes = plan.classes();
+        let job = self.jobs.get(number)?;
+        match job.phase {
+            Phase::At(position) => Some(NextAction::of(
+                body_of_class(classes, job.class),
+                position,
+            )),
+            Phase::Queued | Phase::Done => None,
+        }
+    }
+}

@@ -1,0 +1,5 @@
+use Rattle.plan_text.proofs.ReadOrders.{canonical}
+use Rattle.plan_text.proofs.laws.spelling_is_canonical.Goals as goal
+
+pub returns : goal.returns
+returns c = canonical

@@ -1,0 +1,6 @@
+pub mod Members
+pub mod Images
+mod SlotNames
+mod SpelledBodies
+mod SpelledEntries
+mod SpelledPlan

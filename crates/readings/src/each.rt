@@ -1,0 +1,27 @@
+//! Elements that are read one after another.
+
+ghost use Rattle.std.specs.Prelude.{◌≡◌};
+ghost use Rattle.std.specs.Borrow.{Bor};
+ghost use Rattle.readings.specs.Each.{IsReadOfEach};
+
+use crate::ReadError;
+use std::alloc::Global;
+
+/// What each element gives at its place, or the first error. The reader is told the element's place and the element.
+pub fn read_each<'a, X, Y: Drop, F, R>(
+    alloc: Global,
+    elements: &'a [X],
+    read: R,
+) -> Result<Vec<Y>, ReadError<F>>
+where
+    R: Fn(usize, &'a X) -> Result<Y, ReadError<F>>,
+    requires { R.IsAlwaysCallable read }
+    ensures { IsReadOfEach (λ place x given. (element : Bor X) × (element.now ≡ x) × R.post read place element given) elements.now result }
+{
+    let mut given = Vec::new(alloc);
+    for (place, element) in elements.iter().enumerate() {
+        let one = read(place, element)?;
+        given.push(one)?;
+    }
+    Ok(given)
+}

@@ -1,0 +1,52 @@
+//! The rows of a file.
+
+use std::alloc::{AllocError, Global};
+
+/// A row: its name, and its parts in their order.
+#[derive(Drop)]
+pub struct Row<'a> {
+    pub name: &'a str,
+    pub parts: Vec<Part<'a>>,
+}
+
+/// A part of a row: the words of its first line, and the lines behind that.
+#[derive(Clone, Copy)]
+pub struct Part<'a> {
+    pub head: &'a str,
+    pub text: &'a str,
+}
+
+impl<'a> Row<'a> {
+    /// The text of the part with this head.
+    pub fn part(&self, head: &str) -> Option<&'a str> {
+        for part in &self.parts {
+            if part.head == head {
+                return Some(part.text);
+            }
+        }
+        None
+    }
+}
+
+/// The rows of the file.
+pub fn read_rows(alloc: Global, file: &str) -> Result<Vec<Row<'_>>, AllocError> {
+    let mut rows = Vec::new(alloc);
+    for text in file.split("\n== ").skip(1) {
+        let (name, _note) = text.split_once('\n').unwrap_or((text, ""));
+        let parts = read_parts(alloc, text)?;
+        rows.push(Row { name, parts })?;
+    }
+    Ok(rows)
+}
+
+fn read_parts(alloc: Global, row: &str) -> Result<Vec<Part<'_>>, AllocError> {
+    let mut parts = Vec::new(alloc);
+    for part in row.split("\n-- ").skip(1) {
+        let (head, text) = part.split_once('\n').unwrap_or((part, ""));
+        parts.push(Part {
+            head,
+            text: text.trim_end_matches('\n'),
+        })?;
+    }
+    Ok(parts)
+}

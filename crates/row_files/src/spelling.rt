@@ -1,0 +1,39 @@
+//! Bytes that are spelled.
+
+use std::alloc::{AllocError, Global};
+
+/// The bytes of the text, each of those that are spelled with `^` as it is.
+pub fn spelled(alloc: Global, text: &str) -> Result<Vec<u8>, AllocError> {
+    let mut bytes = Vec::new(alloc);
+    for (number, piece) in text.split('^').enumerate() {
+        if number == 0 {
+            bytes.extend_from_slice(piece.as_bytes())?;
+        } else {
+            push_spelled(&mut bytes, piece.as_bytes())?;
+        }
+    }
+    Ok(bytes)
+}
+
+// Adds what stands behind a `^`.
+fn push_spelled(bytes: &mut Vec<u8>, piece: &[u8]) -> Result<(), AllocError> {
+    let (byte, behind) = match piece {
+        [b'n', behind @ ..] => (b'\n', behind),
+        [b'r', behind @ ..] => (b'\r', behind),
+        [b't', behind @ ..] => (b'\t', behind),
+        [b's', behind @ ..] => (b' ', behind),
+        [b'x', high, low, behind @ ..] => (digit(*high) << 4 | digit(*low), behind),
+        _ => (b'^', piece),
+    };
+    bytes.push(byte)?;
+    bytes.extend_from_slice(behind)
+}
+
+// The value of the hexadecimal digit, and 0 of another byte.
+fn digit(letter: u8) -> u8 {
+    match letter {
+        b'0'..=b'9' => letter - b'0',
+        b'a'..=b'f' => letter - b'a' + 10,
+        _ => 0,
+    }
+}

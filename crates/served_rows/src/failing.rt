@@ -1,0 +1,150 @@
+//! Sources and sinks that fail at one of their calls.
+
+ghost use Rattle.std.specs.Prelude.{◌<◌};
+
+use crate::served::{Ended, serve};
+use sizing_cli::{Command, MemorySink, MemorySource, ServeFault, StdSink, serve_alone};
+use std::alloc::{AllocError, Global};
+use std::io;
+use std::io::Write;
+
+const READ_FAILED: ServeFault = ServeFault { number: 60 };
+
+const WRITE_FAILED: ServeFault = ServeFault { number: 61 };
+
+/// Says where a failing call ends otherwise than it must. What ends so is what is answered where no call fails.
+pub fn push_otherwise(
+    answer: &mut String,
+    alloc: Global,
+    input: &[u8],
+    ended: &Ended,
+) -> Result<(), AllocError> {
+    push_failing_reads(answer, alloc, input, ended, 1)?;
+    push_failing_reads(answer, alloc, input, ended, 20)?;
+    push_failing_reads(answer, alloc, input, ended, 1_000)?;
+    push_failing_writes(answer, alloc, input, ended, 1)?;
+    push_failing_writes(answer, alloc, input, ended, 7)?;
+    push_failing_writes(answer, alloc, input, ended, 1_000)?;
+    push_stalling_writes(answer, alloc, input, ended)
+}
+
+// A source that fails gives 60, and nothing is written. One call more than those that give the bytes is made, which tells
+// their end. A failure of a later call is never met.
+fn push_failing_reads(
+    answer: &mut String,
+    alloc: Global,
+    input: &[u8],
+    ended: &Ended,
+    most: usize,
+) -> Result<(), AllocError>
+    requires { 0 < most }
+{
+    let last = input.len().div_ceil(most) as u64;
+    for calls in 0..=last.saturating_add(1) {
+        let mut source = MemorySource::new(input).at_most(most).failing_after(calls);
+        let failed = serve(alloc, &mut source, MemorySink::new(alloc))?;
+        let is_right = if calls <= last {
+            failed.written.is_empty() && failed.outcome == Err(READ_FAILED)
+        } else {
+            failed == *ended
+        };
+        if !is_right {
+            write!(
+                answer,
+                ", but not with a source of {most} that fails after {calls}"
+            )?;
+        }
+    }
+    Ok(())
+}
+
+// A sink that fails gives 61, and what it has is a front of the answer. A failure of a later call than those that take the
+// answer is never met.
+fn push_failing_writes(
+    answer: &mut String,
+    alloc: Global,
+    input: &[u8],
+    ended: &Ended,
+    most: usize,
+) -> Result<(), AllocError>
+    requires { 0 < most }
+{
+    for calls in 0..=ended.written.len().div_ceil(most) {
+        let sink = MemorySink::new(alloc)
+            .at_most(most)
+            .failing_after(calls as u64);
+        let failed = serve(alloc, &mut MemorySource::new(input), sink)?;
+        if !is_front_of(&failed, ended, most.saturating_mul(calls)) {
+            write!(
+                answer,
+                ", but not with a sink of {most} that fails after {calls}"
+            )?;
+        }
+    }
+    Ok(())
+}
+
+// So many bytes were written and the call failed; where there are no more, it ended well.
+fn is_front_of(failed: &Ended, ended: &Ended, length: usize) -> bool {
+    let whole = ended.written.len();
+    let outcome = if length < whole {
+        Err(WRITE_FAILED)
+    } else {
+        ended.outcome
+    };
+    failed.outcome == outcome
+        && failed.written.len() == length.min(whole)
+        && ended.written.starts_with(&failed.written)
+}
+
+// Takes seven bytes in each of so many calls, and then none.
+#[derive(Drop)]
+struct Stalling {
+    taken: Vec<u8>,
+    calls: usize,
+}
+
+impl Write for Stalling {
+    fn write(&mut self, piece: &[u8]) -> io::Result<usize> {
+        if self.calls == 0 {
+            return Ok(0);
+        }
+        self.calls -= 1;
+        let count = piece.len().min(7);
+        self.taken.extend_from_slice(&piece[..count])?;
+        Ok(count)
+    }
+
+    fn flush(&mut self) -> io::Result<()> {
+        Ok(())
+    }
+}
+
+// A writer that takes no byte has failed. A sink may not take none itself: its contract wants a byte or a fault.
+fn push_stalling_writes(
+    answer: &mut String,
+    alloc: Global,
+    input: &[u8],
+    ended: &Ended,
+) -> Result<(), AllocError> {
+    for calls in 0..=ended.written.len().div_ceil(7) {
+        let mut sink = StdSink::new(Stalling {
+            taken: Vec::new(alloc),
+            calls,
+        });
+        let mut source = MemorySource::new(input);
+        let outcome = serve_alone(alloc, Command::Replay, &mut source, &mut sink);
+        let Stalling { taken, calls: _ } = sink.into_inner();
+        let failed = Ended {
+            written: taken,
+            outcome,
+        };
+        if !is_front_of(&failed, ended, calls.saturating_mul(7)) {
+            write!(
+                answer,
+                ", but not with a writer that takes none after {calls}"
+            )?;
+        }
+    }
+    Ok(())
+}

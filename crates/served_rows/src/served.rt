@@ -1,0 +1,37 @@
+//! Serves an input to memory.
+
+use sizing_cli::{Command, MemorySink, ServeFault, Source, Status, serve_alone};
+use std::alloc::{AllocError, Global};
+
+/// What was written, and how the call ended.
+#[derive(PartialEq, Drop)]
+pub struct Ended {
+    pub written: Vec<u8>,
+    pub outcome: Result<Status, ServeFault>,
+}
+
+impl Ended {
+    /// What was written, with how the call ended behind it.
+    pub fn shown(&self, alloc: Global) -> Result<String, AllocError> {
+        let mut text = String::from_utf8_lossy(alloc, &self.written)?;
+        match self.outcome {
+            Ok(Status::Done) => text.push_str("status 0")?,
+            Ok(Status::Refused) => text.push_str("status 1")?,
+            Ok(Status::BadText) => text.push_str("status 2")?,
+            Err(fault) => write!(text, "{fault}")?,
+        }
+        Ok(text)
+    }
+}
+
+/// Serves what the source gives.
+pub fn serve<S: Source>(
+    alloc: Global,
+    source: &mut S,
+    sink: MemorySink,
+) -> Result<Ended, AllocError> {
+    let mut sink = sink;
+    let outcome = serve_alone(alloc, Command::Replay, source, &mut sink);
+    let written = sink.written().to_vec(alloc)?;
+    Ok(Ended { written, outcome })
+}

@@ -1,0 +1,14 @@
+//! Laws of an input, each the contract of a function with nothing to do.
+
+ghost use Rattle.sizing_cli.specs.Laws.{InputsSplitAtTheLastSeparator, NoBundleWithoutASeparator};
+
+/// An input is a bundle just where it is whole lines, which are the plan's text, then a line that is exactly `%%`, and
+/// then the second part, no line of which is `%%`.
+pub fn inputs_split_at_the_last_separator()
+    ensures { InputsSplitAtTheLastSeparator }
+{}
+
+/// An input is no bundle just where none of its lines is `%%`.
+pub fn no_bundle_without_a_separator()
+    ensures { NoBundleWithoutASeparator }
+{}

@@ -1,0 +1,101 @@
+//! Texts of events, and the lines that answer them.
+
+use event_lines::{EventLine, Reply, push_reply, push_summary, read_event_lines};
+use job_bodies::{Plan, Pool};
+use readings::ReadError;
+use std::alloc::Global;
+use std::test::Fail;
+use written_machine::{Event, Outcome};
+
+fn plan_of_p_and_q(alloc: Global) -> Result<Plan, Fail> {
+    let mut pools = Vec::new(alloc);
+    for name in ["p", "q"] {
+        pools.push(Pool {
+            name: String::from_str(alloc, name)?,
+            core: 1,
+            max: 1,
+            queue: 2,
+            prestart: false,
+        })?;
+    }
+    Ok(Plan::build(alloc, pools, Vec::new(alloc), Vec::new(alloc))?)
+}
+
+/// Each form of line is read. A line of none of them is told by its number.
+#[test]
+fn lines_that_are_read(rt: HostRuntime) -> Result<(), Fail> {
+    let plan = plan_of_p_and_q(rt.alloc())?;
+    let text = b"client 0\njob 1000000000\ntake q\nretire p\nstuck 0 1";
+    let lines = read_event_lines(rt.alloc(), &plan, text)?;
+    assert!(rt;
+        matches!(
+            lines.as_slice(),
+            [
+                EventLine::Happens(Event::Client(0)),
+                EventLine::Happens(Event::Job(1_000_000_000)),
+                EventLine::Happens(Event::Take(1)),
+                EventLine::Happens(Event::Retire(0)),
+                EventLine::Stuck(_),
+            ]
+        )
+    );
+    for line in &lines {
+        if let EventLine::Stuck(members) = line {
+            assert_eq!(rt; members.as_slice(), [0, 1].as_slice());
+        }
+    }
+    assert!(rt; read_event_lines(rt.alloc(), &plan, b"")?.is_empty());
+    let bad_lines = [
+        "",
+        "client",
+        "client ",
+        "client 01",
+        "client 1000000001",
+        "client +1",
+        "client 1 ",
+        "client 1\r",
+        " client 1",
+        "Job 1",
+        "take z",
+        "stuck",
+        "stuck ",
+        "stuck 0  1",
+    ];
+    for line in bad_lines {
+        let text = format!(in rt.alloc(); "client 0\n{line}\nclient 0\n")?;
+        let answer = read_event_lines(rt.alloc(), &plan, text.as_bytes());
+        assert!(rt; matches!(answer, Err(ReadError::Fault(2))), "{line}");
+    }
+    Ok(())
+}
+
+#[test]
+fn lines_that_answer(rt: HostRuntime) -> Result<(), Fail> {
+    let plan = plan_of_p_and_q(rt.alloc())?;
+    let replies = [
+        Reply::Happened(Outcome::Started(0)),
+        Reply::Happened(Outcome::Queued(1)),
+        Reply::Happened(Outcome::Refused(1)),
+        Reply::Happened(Outcome::Worked(3)),
+        Reply::Happened(Outcome::Got(0)),
+        Reply::Happened(Outcome::Looped),
+        Reply::Happened(Outcome::Finished(0)),
+        Reply::Happened(Outcome::Took(1)),
+        Reply::Happened(Outcome::Retired),
+        Reply::Stuck(true),
+        Reply::Stuck(false),
+        Reply::NotPossible,
+    ];
+    let mut text = String::new(rt.alloc());
+    for (place, reply) in replies.iter().enumerate() {
+        push_reply(&mut text, &plan, place + 1, *reply)?;
+    }
+    push_summary(&mut text, 1, 2)?;
+    assert_eq!(rt;
+        text.as_str(),
+        "1: started job 0\n2: queued job 1\n3: refused by q\n4: worked 3\n5: got job 0\n6: looped\n\
+         7: finished job 0\n8: took job 1\n9: retired\n10: stuck yes\n11: stuck no\n12: not possible\n\
+         refusals 1, unfinished 2\n"
+    );
+    Ok(())
+}

@@ -1,0 +1,63 @@
+//! One pool alone, without a plan around it.
+
+ghost use Rattle.std.specs.Prelude.{◌≡◌, []};
+
+use job_bodies::Pool;
+use pool_machine::{Offer, PoolState};
+use std::alloc::Global;
+use std::test::Fail;
+
+// A pool as a plan describes it. Its name is of no account here.
+fn described(alloc: Global, core: u64, max: u64, queue: u64) -> Pool
+    ensures { result ≡ record { name = []; core = core; max = max; queue = queue; prestart = false } }
+{
+    Pool {
+        name: String::new(alloc),
+        core,
+        max,
+        queue,
+        prestart: false,
+    }
+}
+
+#[test]
+fn below_core_a_thread_starts_though_a_worker_is_idle(rt: HostRuntime) -> Result<(), Fail> {
+    let mut pool = PoolState::new(rt.alloc(), &described(rt.alloc(), 2, 2, 2));
+    assert_eq!(rt; pool.offer(0)?, Offer::Started);
+    assert_eq!(rt; pool.busy(), 1);
+    pool.finish();
+    assert_eq!(rt; (pool.threads(), pool.idle(), pool.busy()), (1, 1, 0));
+
+    assert_eq!(rt; pool.offer(1)?, Offer::Started);
+    assert_eq!(rt; (pool.threads(), pool.idle(), pool.queued()), (2, 1, 0));
+    assert_eq!(rt; pool.offer(2)?, Offer::Queued);
+    assert_eq!(rt; pool.head(), Some(2));
+    assert_eq!(rt; pool.take(), Some(2));
+    assert_eq!(rt; (pool.busy(), pool.queued()), (2, 0));
+    Ok(())
+}
+
+#[test]
+fn the_queue_fills_before_the_threads_reach_the_maximum(rt: HostRuntime) -> Result<(), Fail> {
+    let mut pool = PoolState::new(rt.alloc(), &described(rt.alloc(), 1, 2, 1));
+    assert_eq!(rt; (pool.core(), pool.max(), pool.capacity()), (1, 2, 1));
+    assert_eq!(rt; pool.take(), None);
+    let answers = [
+        Offer::Started,
+        Offer::Queued,
+        Offer::Started,
+        Offer::Refused,
+    ];
+    for (job, answer) in answers.iter().enumerate() {
+        assert_eq!(rt; pool.offer(job)?, *answer, "to job {job}");
+    }
+
+    assert!(rt; pool.busy() == 2);
+    pool.finish();
+    assert!(rt; pool.retire());
+    assert!(rt; pool.busy() == 1);
+    pool.finish();
+    assert!(rt; !pool.retire(), "the threads are core");
+    assert_eq!(rt; pool.take(), Some(1));
+    Ok(())
+}

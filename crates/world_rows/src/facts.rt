@@ -1,0 +1,112 @@
+//! What the look-ups of a world say.
+
+ghost use Rattle.interleaving.specs.OfPlan.{IsOf};
+
+use interleaving::{JobView, Parent, Phase, World};
+use job_bodies::Plan;
+use pool_machine::PoolState;
+use std::alloc::{AllocError, Global};
+
+// No plan of these tests has more than three clients, so that the last number here is always nobody's.
+const CLIENTS_SHOWN: usize = 4;
+
+/// Each thing that a look-up of the world says: the counts, the pools, the clients, and the jobs with the two numbers behind
+/// the last, which no job has.
+#[tactic(auto, using(interleaving::proofs::OfPlan::as_many_pools))]
+pub fn facts(alloc: Global, plan: &Plan, world: &World) -> Result<Vec<String>, AllocError>
+    requires { IsOf plan.now world.now }
+{
+    let mut facts = counts(alloc, world)?;
+    for number in 0..plan.pools().len() {
+        push_pool(&mut facts, alloc, number, world.pool(number))?;
+    }
+    for number in 0..CLIENTS_SHOWN {
+        let mut fact = format!(in alloc; "client {number} at ")?;
+        push_number(&mut fact, world.client(number))?;
+        facts.push(fact)?;
+    }
+    for number in 0..world.made().saturating_add(2) {
+        let mut fact = format!(in alloc; "job {number}: ")?;
+        push_job(&mut fact, world.job(number))?;
+        facts.push(fact)?;
+    }
+    Ok(facts)
+}
+
+fn counts(alloc: Global, world: &World) -> Result<Vec<String>, AllocError> {
+    let mut facts = Vec::new(alloc);
+    facts.push(format!(in alloc; "refusals {}", world.refusals())?)?;
+    facts.push(format!(in alloc; "made {}", world.made())?)?;
+    facts.push(format!(in alloc; "unfinished {}", world.unfinished())?)?;
+    Ok(facts)
+}
+
+fn push_pool(
+    facts: &mut Vec<String>,
+    alloc: Global,
+    number: usize,
+    pool: &PoolState,
+) -> Result<(), AllocError> {
+    let (core, max, capacity) = (pool.core(), pool.max(), pool.capacity());
+    let (threads, idle, busy) = (pool.threads(), pool.idle(), pool.busy());
+    facts.push(format!(in alloc; "pool {number}: core {core}, max {max}, queue {capacity}")?)?;
+    facts.push(format!(in alloc; "pool {number}: threads {threads}, idle {idle}, busy {busy}")?)?;
+    let mut queue = format!(in alloc; "pool {number}: queued {}, head ", pool.queued())?;
+    push_number(&mut queue, pool.head())?;
+    facts.push(queue)?;
+    Ok(())
+}
+
+/// Adds a number, or `none`.
+pub fn push_number(text: &mut String, number: Option<usize>) -> Result<(), AllocError> {
+    match number {
+        Some(number) => write!(text, "{number}"),
+        None => text.push_str("none"),
+    }
+}
+
+/// Adds a job's class, parent, slot and phase, or `none`.
+pub fn push_job(text: &mut String, job: Option<JobView>) -> Result<(), AllocError> {
+    let Some(job) = job else {
+        return text.push_str("none");
+    };
+    let class = job.class;
+    write!(text, "class {class} of")?;
+    match job.parent {
+        Parent::Client(number) => write!(text, " client {number}")?,
+        Parent::Job(number) => write!(text, " job {number}")?,
+    }
+    let slot = job.slot;
+    write!(text, " slot {slot}")?;
+    match job.phase {
+        Phase::Queued => text.push_str(" queued"),
+        Phase::At(position) => write!(text, " at {position}"),
+        Phase::Done => text.push_str(" done"),
+    }
+}
+
+/// Adds each of the facts that was another before. A number that is new was nobody's.
+pub fn push_changed(
+    said: &mut String,
+    before: &[String],
+    now: &[String],
+) -> Result<(), AllocError> {
+    for (number, fact) in now.iter().enumerate() {
+        let is_new = match before.get(number) {
+            Some(old) => old != fact,
+            None => before.is_empty() || !fact.ends_with(" none"),
+        };
+        if is_new {
+            push_fact(said, fact)?;
+        }
+    }
+    Ok(())
+}
+
+/// Adds a fact behind those that are said.
+pub fn push_fact(said: &mut String, fact: &str) -> Result<(), AllocError> {
+    if !said.is_empty() {
+        said.push_str("; ")?;
+    }
+    said.push_str(fact)
+}
