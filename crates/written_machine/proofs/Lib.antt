@@ -17,4 +17,5 @@ pub mod Leaves
 pub mod FullWaitingSets
 pub mod JobsMade
 pub mod ReachedLaws
+pub mod Progress
 pub mod WorkedReplays

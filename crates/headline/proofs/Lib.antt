@@ -1,0 +1,4 @@
+pub mod CertLaws
+pub mod Faults
+pub mod Theorem
+pub mod WorkedCerts

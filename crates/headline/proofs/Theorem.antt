@@ -1,0 +1,169 @@
+-- Accepted plans are safe, go on, and drain.
+use Rattle.std.proofs.Common.{◌≡◌, ℕ, ◌<◌, ◌≤◌, true, false, List, [], ◌∷◌, length, IsTrue, Option, Some, None, is_some, refl, ap, arith}
+use Rattle.std.specs.List.{list_all}
+use Rattle.std.proofs.lemmas.Bool.{and_parts, false_from_ne_true}
+use Rattle.job_bodies.specs.Plan.{Plan}
+use Rattle.job_bodies.specs.WellFormed.{IsWellFormed}
+use Rattle.job_bodies.proofs.Bodies.{IsOrdered, ordered}
+use Rattle.written_machine.specs.declared.event.Event.{Event}
+use Rattle.written_machine.specs.declared.event.Outcome.{Outcome}
+use Rattle.written_machine.specs.State.{State, job_at, pool_of, is_unfinished}
+use Rattle.written_machine.specs.Step.{step}
+use Rattle.written_machine.specs.Reach.{start, state_after, replay, IsReached}
+use Rattle.written_machine.specs.Waiting.{IsWaitingSet}
+use Rattle.written_machine.specs.Safe.{Safe, is_of_job_or_pool, GoesOn}
+use Rattle.written_machine.proofs.Events.{Happens, happens, works, starts, queues, is_refused, gets, finishes, loops, takes, retires}
+use Rattle.written_machine.proofs.Kept.{Kept}
+use Rattle.written_machine.proofs.KeptStart.{kept_start}
+use Rattle.written_machine.proofs.KeptSubmits.{class_exists}
+use Rattle.written_machine.proofs.KeptStep.{kept_step}
+use Rattle.written_machine.proofs.JobsMade.{HaveJobs, have_jobs_start, have_jobs_step}
+use Rattle.written_machine.proofs.Reached.{replay_none, replay_keeps, reached_keeps}
+use Rattle.written_machine.proofs.Progress.{goes_on}
+use Rattle.weights.specs.declared.at_get.AtGet.TheVariants.{GivesBack}
+use Rattle.weights.specs.Bound.{bound_vector, bound_at_get}
+use Rattle.pool_ranks.specs.Ranks.{is_counted}
+use Rattle.certificates.specs.Cert.{Cert, pool_cert_at}
+use Rattle.weight_laws.proofs.BoundLaws.{bound_vector_laws}
+use Rattle.weight_laws.proofs.NeverRises.{IsBalanced, balanced_start, never_rises, balanced_step}
+use Rattle.weight_laws.proofs.NoRefusal.{not_refused}
+use Rattle.starvation_laws.specs.Drain.{todo, Drains}
+use Rattle.starvation_laws.proofs.BlockedCounts.{blocked-below_core}
+use Rattle.starvation_laws.proofs.Descent.{none_waits}
+use Rattle.starvation_laws.proofs.Draining.{lowers}
+use Rattle.headline.specs.Accepted.{accepted}
+use Rattle.headline.specs.Headline.{AcceptedPlansAreSafe, AcceptedPlansGoOn, AcceptedPlansDrain}
+use Rattle.headline.proofs.CertLaws.{CertLaws, cert_laws}
+
+-- ---- what every state that an accepted plan reaches keeps
+
+-- what every reached state keeps, each bounded pool is balanced, and nothing was refused
+pub record Sound (plan : Plan) (cert : Cert) (s : State) : Type 0 where
+  pub kept : Kept plan s
+  pub have_jobs : HaveJobs plan s
+  pub bound : (p : ℕ) → p < length plan.pools → IsBalanced (bound_at_get (pool_cert_at cert p).bound) plan (bound_vector (pool_cert_at cert p).bound) s
+  pub blocked : (p : ℕ) → p < length plan.pools → IsBalanced GivesBack plan (pool_cert_at cert p).blocked s
+  pub none_refused : s.refusals ≡ 0
+
+-- the start is sound
+sound_start : (plan : Plan) (cert : Cert) → IsOrdered plan → Sound plan cert (start plan)
+sound_start plan cert ordered = record {
+  kept = kept_start plan ordered;
+  have_jobs = have_jobs_start plan;
+  bound = λ p inside. balanced_start (bound_at_get (pool_cert_at cert p).bound) plan (bound_vector (pool_cert_at cert p).bound);
+  blocked = λ p inside. balanced_start GivesBack plan (pool_cert_at cert p).blocked;
+  none_refused = refl;
+}
+
+-- no event is a refusal
+refuses_nothing : (plan : Plan) (cert : Cert) (s s' : State) (o : Outcome) {e : Event} → IsOrdered plan → CertLaws plan cert → Sound plan cert s → Happens plan s e s' o → s'.refusals ≡ 0
+refuses_nothing plan cert s s' o ordered laws sound (works a body i u at) = sound.none_refused
+refuses_nothing plan cert s s' o ordered laws sound (starts a body i k at below) = sound.none_refused
+refuses_nothing plan cert s s' o ordered laws sound (queues a body i k at at_core room) = sound.none_refused
+refuses_nothing plan cert s s' o ordered laws sound (is_refused a body i k at no_room all_started) =
+    let inside = ordered.pools k (class_exists plan s a body i k ordered at) in
+    absurd (not_refused plan (pool_cert_at cert (pool_of plan k)).bound s a body i k ordered (laws.bound (pool_of plan k) inside) sound.kept sound.have_jobs (sound.bound (pool_of plan k) inside) at no_room all_started)
+refuses_nothing plan cert s s' o ordered laws sound (gets a body i t j at is_child done) = sound.none_refused
+refuses_nothing plan cert s s' o ordered laws sound (finishes j body i at) = sound.none_refused
+refuses_nothing plan cert s s' o ordered laws sound (loops c client body i at is_client repeats) = sound.none_refused
+refuses_nothing plan cert s s' o ordered laws sound (takes p j queue idle is_queue is_idle) = sound.none_refused
+refuses_nothing plan cert s s' o ordered laws sound (retires p idle is_idle above_core) = sound.none_refused
+
+-- every event keeps that
+sound_step : (plan : Plan) (cert : Cert) (s s' : State) (o : Outcome) {e : Event} → IsOrdered plan → CertLaws plan cert → Sound plan cert s → Happens plan s e s' o → Sound plan cert s'
+sound_step plan cert s s' o ordered laws sound happened = record {
+  kept = kept_step plan s s' o ordered sound.kept happened;
+  have_jobs = have_jobs_step plan s s' o sound.kept sound.have_jobs happened;
+  bound = λ p inside.
+      let bound = (pool_cert_at cert p).bound in
+      balanced_step (bound_at_get bound) plan (bound_vector bound) s s' (never_rises (bound_at_get bound) plan (bound_vector bound) s s' o ordered (bound_vector_laws plan p bound (laws.bound p inside)) sound.kept happened) (sound.bound p inside);
+  blocked = λ p inside.
+      let v = (pool_cert_at cert p).blocked in
+      balanced_step GivesBack plan v s s' (never_rises GivesBack plan v s s' o ordered (laws.blocked p inside).laws sound.kept happened) (sound.blocked p inside);
+  none_refused = refuses_nothing plan cert s s' o ordered laws sound happened;
+}
+
+-- so every reached state is sound
+sound : (plan : Plan) (cert : Cert) (s : State) → IsOrdered plan → CertLaws plan cert → IsReached plan s → Sound plan cert s
+sound plan cert s ordered laws reached = reached_keeps plan (Sound plan cert) (sound_start plan cert ordered) (λ s₁ e s₂ o held happened. sound_step plan cert s₁ s₂ o ordered laws held happened) s reached
+
+-- ---- the headline and its companion
+
+-- where the state is sound, no set of jobs waits only for its own members
+sound_waits : (plan : Plan) (cert : Cert) (s : State) → IsOrdered plan → CertLaws plan cert → Sound plan cert s → (members : List ℕ) → ¬ IsWaitingSet plan s members
+sound_waits plan cert s ordered laws held members =
+    none_waits plan cert.ranks s members ordered laws.ranks held.kept
+    (λ p inside. blocked-below_core plan (is_counted plan cert.ranks) (pool_cert_at cert p).blocked s p ordered inside (laws.blocked p inside) held.kept (held.blocked p inside))
+
+-- the headline: every reached state is safe
+pub safe : (plan : Plan) (cert : Cert) → IsWellFormed plan → IsTrue (accepted plan cert) → Safe plan
+safe plan cert well_formed is_accepted events s reached =
+    let is_ordered = ordered plan well_formed in
+    let laws = cert_laws plan cert is_accepted in
+    let held = sound plan cert s is_ordered laws (events, reached) in
+    record {
+      none_refused = held.none_refused;
+      within_max = λ p inside. (held.kept.pools p inside).within_max;
+      within_queue = λ p inside. (held.kept.pools p inside).within_queue;
+      none_waits = sound_waits plan cert s is_ordered laws held;
+    }
+
+-- its companion: every reached state with an unfinished job goes on
+pub goes_on_everywhere : (plan : Plan) (cert : Cert) → IsWellFormed plan → IsTrue (accepted plan cert) → GoesOn plan
+goes_on_everywhere plan cert well_formed is_accepted events s reached j still =
+    let is_ordered = ordered plan well_formed in
+    let laws = cert_laws plan cert is_accepted in
+    let held = sound plan cert s is_ordered laws (events, reached) in
+    goes_on plan s j is_ordered held.kept (sound_waits plan cert s is_ordered laws held) still
+
+-- ---- draining
+
+-- what follows the first of several events
+after_first : (plan : Plan) (cert : Cert) (s : State) (e : Event) (events : List Event) (s' : State) → IsOrdered plan → CertLaws plan cert → Sound plan cert s → is_of_job_or_pool e ≡ true
+    → ((next : State) → Sound plan cert next → replay plan (Some next) events ≡ Some s' → length events ≤ todo plan cert.ranks next)
+    → (found : Option (State × Outcome)) → step plan s e ≡ found → replay plan (state_after found) events ≡ Some s' → length (e ∷ events) ≤ todo plan cert.ranks s
+after_first plan cert s e events s' ordered laws held of_job_or_pool onward None is_step replayed =
+    let none : replay plan None events ≡ None = replay_none plan events in
+    absurd cc
+after_first plan cert s e events s' ordered laws held of_job_or_pool onward (Some (next, o)) is_step replayed =
+    let happened = happens plan s e next o is_step in
+    let held' = sound_step plan cert s next o ordered laws held happened in
+    let rest = onward next held' replayed in
+    let less = lowers plan cert.ranks s next o e laws.ranks held.kept held.none_refused held'.none_refused of_job_or_pool happened in
+    omega arith
+
+-- job events and takings are no more than what is to do
+no_more_events : (plan : Plan) (cert : Cert) (events : List Event) (s s' : State) → IsOrdered plan → CertLaws plan cert → Sound plan cert s → list_all is_of_job_or_pool events ≡ true → replay plan (Some s) events ≡ Some s' → length events ≤ todo plan cert.ranks s
+no_more_events plan cert [] s s' ordered laws held each replayed = omega arith
+no_more_events plan cert (e ∷ events) s s' ordered laws held each replayed =
+    let parts = and_parts (is_of_job_or_pool e) (list_all is_of_job_or_pool events) each in
+    after_first plan cert s e events s' ordered laws held parts.0 (λ next held' rest. no_more_events plan cert events next s' ordered laws held' parts.1 rest) (step plan s e) refl replayed
+
+-- so job events and takings come to an end, and where none is possible no job is unfinished
+pub drains : (plan : Plan) (cert : Cert) → IsWellFormed plan → IsTrue (accepted plan cert) → Drains plan cert.ranks
+drains plan cert well_formed is_accepted =
+    let is_ordered = ordered plan well_formed in
+    let laws = cert_laws plan cert is_accepted in
+    record {
+      bounded = λ s s' events leads. no_more_events plan cert events s s' is_ordered laws (sound plan cert s is_ordered laws leads.reached) leads.of_jobs_and_pools leads.replayed;
+      drained = λ s s' events leads rests j.
+          let held : Sound plan cert s' = replay_keeps plan (Sound plan cert) (λ s₁ e s₂ o before happened. sound_step plan cert s₁ s₂ o is_ordered laws before happened) events s s' (sound plan cert s is_ordered laws leads.reached) leads.replayed in
+          false_from_ne_true (is_unfinished (job_at s' j).stage)
+          (λ still.
+          let goes = goes_on plan s' j is_ordered held.kept (sound_waits plan cert s' is_ordered laws held) still in
+          let rest : is_some (step plan s' goes.event) ≡ false = ap (λ (x : Option (State × Outcome)). is_some x) (rests goes.event goes.of_job_or_pool) in
+          let possible = goes.possible in
+          cc);
+    }
+
+-- as laws
+pub accepted_plans_are_safe : AcceptedPlansAreSafe
+accepted_plans_are_safe plan cert well_formed is_accepted = safe plan cert well_formed is_accepted
+
+-- the companion
+pub accepted_plans_go_on : AcceptedPlansGoOn
+accepted_plans_go_on plan cert well_formed is_accepted = goes_on_everywhere plan cert well_formed is_accepted
+
+-- the bound
+pub accepted_plans_drain : AcceptedPlansDrain
+accepted_plans_drain plan cert well_formed is_accepted = drains plan cert well_formed is_accepted

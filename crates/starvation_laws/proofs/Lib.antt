@@ -1,0 +1,5 @@
+pub mod BlockedLaws
+pub mod BlockedCounts
+pub mod RankLaws
+pub mod Descent
+pub mod Draining

@@ -1,0 +1,61 @@
+-- How many job events and takings can follow.
+use Rattle.std.specs.Prelude.{◌≡◌, ◌≤◌, ℕ, zero, suc, ◌+◌, ◌-◌, IsTrue, IsFalse, List, length, drop, sum_by, Some, None}
+use Rattle.std.specs.List.{list_all}
+use Rattle.job_bodies.specs.declared.action.Action.{Action}
+use Rattle.job_bodies.specs.declared.action.Action.TheVariants.{Submit}
+use Rattle.job_bodies.specs.Plan.{Plan, class_at}
+use Rattle.weights.specs.Row.{AllHold}
+use Rattle.pool_ranks.specs.Ranks.{Ranks, level, rank_rows}
+use Rattle.written_machine.specs.declared.event.Event.{Event}
+use Rattle.written_machine.specs.State.{Stage, State, job_at, is_unfinished}
+use Rattle.written_machine.specs.State.Stage.{Queued, At}
+use Rattle.written_machine.specs.Step.{step}
+use Rattle.written_machine.specs.Reach.{replay, IsReached}
+use Rattle.written_machine.specs.Safe.{is_of_job_or_pool}
+
+-- f of the class that the action submits, else 0
+abbrev pub of_submit : (ℕ → ℕ) → Action → ℕ
+of_submit f (Submit k) = f k
+of_submit f _ = 0
+
+-- the job events and takings of a job of class k and of the jobs that it makes, as far as so many generations
+abbrev pub full_within : Plan → ℕ → ℕ → ℕ
+full_within plan zero k = 0
+full_within plan (suc n) k = length (class_at plan k).body + 2 + sum_by (of_submit (full_within plan n)) (class_at plan k).body
+
+-- of all generations, since the level falls from a class to those that it submits
+abbrev pub full : Plan → Ranks → ℕ → ℕ
+full plan ranks k = full_within plan (level ranks k + 1) k
+
+-- where the rows of the ranks hold: a whole job of class k has its actions, its taking and its end, and the whole jobs that it submits
+abbrev pub FullIsWhole : Type 0
+FullIsWhole = (plan : Plan) (ranks : Ranks) (k : ℕ) → AllHold (rank_rows plan ranks) → full plan ranks k ≡ length (class_at plan k).body + 2 + sum_by (of_submit (full plan ranks)) (class_at plan k).body
+
+-- all ranks whose rows hold give the same
+abbrev pub FullIsOfThePlan : Type 0
+FullIsOfThePlan = (plan : Plan) (ranks ranks' : Ranks) (k : ℕ) → AllHold (rank_rows plan ranks) → AllHold (rank_rows plan ranks') → full plan ranks k ≡ full plan ranks' k
+
+-- what a job of class k that is so far has still to do, with the jobs that it is still to make
+abbrev pub stage_todo : Plan → Ranks → ℕ → Stage → ℕ
+stage_todo plan ranks k Queued = full plan ranks k
+stage_todo plan ranks k (At i) = length (class_at plan k).body + 1 - i + sum_by (of_submit (full plan ranks)) (drop i (class_at plan k).body)
+stage_todo plan ranks k _ = 0
+
+-- what all jobs have still to do
+abbrev pub todo : Plan → Ranks → State → ℕ
+todo plan ranks s = sum_by (λ job. stage_todo plan ranks job.class job.stage) s.jobs
+
+-- the list has only job events and takings, and leads from the reached state s to s'
+pub record LeadsTo (plan : Plan) (s : State) (events : List Event) (s' : State) : Type 0 where
+  pub reached : IsReached plan s
+  pub of_jobs_and_pools : IsTrue (list_all is_of_job_or_pool events)
+  pub replayed : replay plan (Some s) events ≡ Some s'
+
+-- no job event and no taking is possible
+abbrev pub IsAtRest : Plan → State → Type 0
+IsAtRest plan s = (event : Event) → IsTrue (is_of_job_or_pool event) → step plan s event ≡ None
+
+-- such a list has at most as many events as its first state has to do, and where it comes to rest no job is unfinished
+pub record Drains (plan : Plan) (ranks : Ranks) : Type 0 where
+  pub bounded : (s s' : State) (events : List Event) → LeadsTo plan s events s' → length events ≤ todo plan ranks s
+  pub drained : (s s' : State) (events : List Event) → LeadsTo plan s events s' → IsAtRest plan s' → (j : ℕ) → IsFalse (is_unfinished (job_at s' j).stage)

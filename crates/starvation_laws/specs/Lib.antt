@@ -1,0 +1,3 @@
+pub mod BlockedJobs
+pub mod Descent
+pub mod Drain

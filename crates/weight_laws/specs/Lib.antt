@@ -1,0 +1,2 @@
+pub mod WeightedSum
+pub mod WeightLaws
