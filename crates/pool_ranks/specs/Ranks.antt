@@ -1,6 +1,6 @@
 -- Ranks of pools, reach and levels of classes, and which gets are counted.
-use Rattle.std.specs.Prelude.{ℕ, ◌+◌, ◌==◌, ◌&&◌, not, nat_lt, Bool, false, List, [], ◌∷◌, length, Option, Some, slice_index, slice_get}
-use Rattle.std.specs.List.{list_all, flat_map, enumerate_from}
+use Rattle.std.specs.Prelude.{ℕ, ◌+◌, ◌==◌, ◌&&◌, not, nat_lt, Bool, false, List, [], ◌∷◌, Option, Some, length, slice_index, slice_get}
+use Rattle.std.specs.List.{flat_map, list_all, enumerate_from}
 use Rattle.job_bodies.specs.declared.action.Action.{Action}
 use Rattle.job_bodies.specs.declared.action.Action.TheVariants.{Work, Submit, Get}
 use Rattle.job_bodies.specs.Plan.{Class, Plan, class_at, class_got}

@@ -1,15 +1,21 @@
 //! Ranks of pools, and reach and levels of classes.
 
+ghost use Rattle.std.specs.Prelude.{◌≡◌, ◌<◌, length};
 ghost use Rattle.pool_ranks.specs.Ranks as spec;
 
+use job_bodies::Plan;
 use std::marker::Model;
+use weights::are_small;
 
-/// A rank for each pool, and a reach and a level for each class: whole numbers from 0 to
-/// [`MOST_WEIGHT`](weights::MOST_WEIGHT), in plan order.
+/// Ranks of pools, and reach and levels of classes: whole numbers from 0 to [`MOST_WEIGHT`](weights::MOST_WEIGHT), in plan
+/// order.
 #[derive(Debug, Drop)]
 pub struct Ranks {
+    /// The rank of each pool.
     pub pools: Vec<u64>,
+    /// How high each class reaches: the ranks of its own pool, and of those of the jobs that it gets.
     pub reach: Vec<u64>,
+    /// The level of each class: above those of the classes that it submits.
     pub levels: Vec<u64>,
 }
 
@@ -17,4 +23,42 @@ impl Model for Ranks {
     ghost Value = { spec.Ranks };
 
     ghost view = { λ r. record { pools = r.pools.items; reach = r.reach.items; levels = r.levels.items } };
+}
+
+impl Ranks {
+    /// The rank of the pool.
+    pub fn rank_of(&self, pool: usize) -> u64
+        requires { pool < length self.now.pools }
+        ensures { result ≡ spec.rank self.now pool }
+    {
+        self.pools[pool]
+    }
+
+    /// How high the class reaches.
+    pub fn reach_of(&self, class: usize) -> u64
+        requires { class < length self.now.reach }
+        ensures { result ≡ spec.reach self.now class }
+    {
+        self.reach[class]
+    }
+
+    /// The level of the class.
+    pub fn level_of(&self, class: usize) -> u64
+        requires { class < length self.now.levels }
+        ensures { result ≡ spec.level self.now class }
+    {
+        self.levels[class]
+    }
+
+    /// Whether there is a rank for each pool and a reach and a level for each class, and no number is above the limit.
+    pub fn fits(&self, plan: &Plan) -> bool
+        ensures { result ≡ spec.ranks_fit plan.now self.now }
+    {
+        self.pools.len() == plan.pools().len()
+            && self.reach.len() == plan.classes().len()
+            && self.levels.len() == plan.classes().len()
+            && are_small(&self.pools)
+            && are_small(&self.reach)
+            && are_small(&self.levels)
+    }
 }

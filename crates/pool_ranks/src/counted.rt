@@ -1,0 +1,73 @@
+//! Which gets the ranks count.
+
+ghost use Rattle.std.specs.Prelude.{◌≡◌, ◌<◌, IsTrue, Some, length, slice_get};
+ghost use Rattle.job_bodies.specs.Plan.{class_at};
+ghost use Rattle.job_bodies.specs.WellFormed.{IsWellFormed};
+ghost use Rattle.pool_ranks.specs.Ranks as spec;
+
+use crate::Ranks;
+use blocked_bounds::Counted;
+use job_bodies::{Action, Class, Plan};
+use weights::class_got;
+
+/// Whether the action at this position of a class is a get that is counted.
+fn is_counted_in(plan: &Plan, ranks: &Ranks, number: usize, class: &Class, position: usize) -> bool
+    requires fits { IsTrue (spec.ranks_fit plan.now ranks.now) }
+    requires well_formed { IsWellFormed plan.now }
+    requires class { slice_get plan.now.classes number ≡ Some class.now }
+    requires position { position < length class.now.body }
+    ensures { result ≡ spec.is_counted plan.now ranks.now number position }
+{
+    let actions = class.body.as_slice();
+    match actions[position] {
+        Action::Get(submit) => {
+            let reached = ranks.reach_of(class_got(actions, submit));
+            reached >= ranks.rank_of(class.pool)
+        }
+        Action::Work(_) | Action::Submit(_) => false,
+    }
+}
+
+impl Ranks {
+    /// Whether the action at this position of the class is a get that is counted: all are, but for those whose job's class
+    /// reaches below the pool of this class.
+    pub fn is_counted(&self, plan: &Plan, class: usize, position: usize) -> bool
+        requires fits { IsTrue (spec.ranks_fit plan.now self.now) }
+        requires class { class < length plan.now.classes }
+        requires position { position < length (class_at plan.now class).body }
+        ensures { result ≡ spec.is_counted plan.now self.now class position }
+    {
+        is_counted_in(plan, self, class, &plan.classes()[class], position)
+    }
+}
+
+/// A plan and ranks that fit it. They say which gets are counted.
+#[derive(Clone, Copy)]
+pub struct RanksOf<'a> {
+    /// The plan.
+    pub plan: &'a Plan,
+    /// The ranks.
+    pub ranks: &'a Ranks,
+    ghost fit: { IsTrue (spec.ranks_fit plan.now ranks.now) },
+}
+
+impl<'a> RanksOf<'a> {
+    /// The pair of them.
+    pub fn new(plan: &'a Plan, ranks: &'a Ranks) -> RanksOf<'a>
+        requires { IsTrue (spec.ranks_fit plan.now ranks.now) }
+        ensures plan { result.plan.now ≡ plan.now }
+        ensures ranks { result.ranks.now ≡ ranks.now }
+    {
+        RanksOf { plan, ranks }
+    }
+}
+
+impl Counted for RanksOf<'_> {
+    ghost Answers = { λ of k i. (k < length of.plan.now.classes) × (i < length (class_at of.plan.now k).body) };
+
+    ghost is_counted = { λ of. spec.is_counted of.plan.now of.ranks.now };
+
+    fn counted(&self, class: usize, position: usize) -> bool {
+        self.ranks.is_counted(self.plan, class, position)
+    }
+}
