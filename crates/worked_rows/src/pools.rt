@@ -1,6 +1,6 @@
 //! One pool alone, without a plan around it.
 
-ghost use Rattle.std.specs.Prelude.{◌≡◌, []};
+ghost use Rattle.std.specs.Prelude.{◌≡◌, [], false};
 
 use job_bodies::Pool;
 use pool_machine::{Offer, PoolState};
