@@ -1,7 +1,10 @@
 //! A certificate.
 
+ghost use Rattle.std.specs.Prelude.{◌≡◌};
+ghost use Rattle.std.specs.List.{list_all};
 ghost use Rattle.certificates.specs.Cert as spec;
 
+use job_bodies::Plan;
 use pool_ranks::Ranks;
 use std::marker::Model;
 use weights::{Bound, Vector};
@@ -21,6 +24,15 @@ impl Model for PoolCert {
     ghost view = { λ p. record { bound = p.bound; blocked = p.blocked } };
 }
 
+impl PoolCert {
+    /// Whether both vectors fit the plan.
+    fn fits(&self, plan: &Plan) -> bool
+        ensures { result ≡ spec.pool_cert_fits plan.now self.now }
+    {
+        self.bound.vector().fits(plan) && self.blocked.fits(plan)
+    }
+}
+
 /// A certificate: what it says of each pool, in plan order, and the ranks.
 #[derive(Debug, Drop)]
 pub struct Cert {
@@ -32,4 +44,27 @@ impl Model for Cert {
     ghost Value = { spec.Cert };
 
     ghost view = { λ c. record { pools = c.pools.items; ranks = c.ranks } };
+}
+
+impl Cert {
+    /// Whether there is a part for each pool, each list has the plan's shape, and no number is above
+    /// [`MOST_WEIGHT`](weights::MOST_WEIGHT). It takes no memory.
+    pub fn fits(&self, plan: &Plan) -> bool
+        ensures { result ≡ spec.cert_fits plan.now self.now }
+    {
+        self.pools.len() == plan.pools().len()
+            && self.ranks.fits(plan)
+            && all_fit(&self.pools, plan)
+    }
+}
+
+fn all_fit(pools: &[PoolCert], plan: &Plan) -> bool
+    ensures { result ≡ list_all (spec.pool_cert_fits plan.now) pools.now }
+{
+    for pool in pools {
+        if !pool.fits(plan) {
+            return false;
+        }
+    }
+    true
 }

@@ -4,10 +4,11 @@ ghost use Rattle.std.specs.Prelude.{◌≡◌, ◌<◌, IsTrue, length};
 ghost use Rattle.job_bodies.specs.Plan.{pool_at};
 ghost use Rattle.weights.specs.Vector.{vector_fits};
 ghost use Rattle.weights.specs.Bound.{bound_vector, bound_limit, bound_rows};
+ghost use Rattle.weights.specs.Row.{first_failing};
 ghost use Rattle.weights.specs.Takes.{Takes};
 
 use crate::lifetime::lifetime_limit;
-use crate::{RowVisitor, Vector};
+use crate::{RowVisitor, StandingFault, Vector};
 use job_bodies::Plan;
 
 /// The vector that bounds a pool's queue: with it the pool refuses no job.
@@ -50,6 +51,18 @@ impl Bound {
         match self {
             Bound::Standing(vector) => vector.visit_standing_rows(plan, pool, visitor),
             Bound::Lifetime(vector) => vector.visit_lifetime_rows(plan, pool, visitor),
+        }
+    }
+
+    /// The first of the conditions of the pool's bound that fails. It takes no memory.
+    pub fn fault(&self, plan: &Plan, pool: usize) -> Option<StandingFault>
+        requires fits { IsTrue (vector_fits plan.now (bound_vector self.now)) }
+        requires pool { pool < length plan.now.pools }
+        ensures { result ≡ first_failing (bound_rows plan.now pool self.now) }
+    {
+        match self {
+            Bound::Standing(vector) => vector.standing_fault(plan, pool),
+            Bound::Lifetime(vector) => vector.lifetime_fault(plan, pool),
         }
     }
 }

@@ -1,0 +1,40 @@
+-- What a check answers to the bytes of a plan and of a certificate, and what a yes means.
+use Rattle.std.specs.Prelude.{◌≡◌, ℕ, List, Result, Ok, Err}
+use Rattle.job_bodies.specs.Plan.{Plan}
+use Rattle.job_bodies.specs.declared.fault.PlanFault.{PlanFault}
+use Rattle.plan_text.specs.PlanOf.{plan_of}
+use Rattle.written_machine.specs.Safe.{Safe, GoesOn}
+use Rattle.starvation_laws.specs.Drain.{Drains}
+use Rattle.certificates.specs.Cert.{Cert}
+use Rattle.cert_text.specs.declared.fault.CertFault.{CertFault}
+use Rattle.cert_text.specs.CertOf.{cert_of}
+use Rattle.cert_check.specs.declared.check.CheckFault.{CheckFault}
+use Rattle.cert_check.specs.declared.check.CheckFault.TheVariants as fault
+use Rattle.cert_check.specs.Verdict.{Verdict, verdict}
+
+abbrev pub checked_cert : Plan → Result Cert CertFault → Result Verdict CheckFault
+checked_cert plan (Err f) = Err (fault.Cert f)
+checked_cert plan (Ok cert) = Ok (verdict plan cert)
+
+abbrev pub checked_plan : List ℕ → Result Plan PlanFault → Result Verdict CheckFault
+checked_plan cert_text (Err f) = Err (fault.Plan f)
+checked_plan cert_text (Ok plan) = checked_cert plan (cert_of cert_text plan)
+
+-- the plan's first fault, else the certificate's, else the verdict
+abbrev pub checked : List ℕ → List ℕ → Result Verdict CheckFault
+checked plan_text cert_text = checked_plan cert_text (plan_of plan_text)
+
+-- the text is that of a certificate for the plan; every state that any list of events reaches is safe, and goes on as long
+-- as a job is unfinished; and what was begun comes to an end
+pub record IsSafeWith (plan : Plan) (cert_text : List ℕ) : Type 0 where
+  pub cert : Cert
+  pub is_cert : cert_of cert_text plan ≡ Ok cert
+  pub safe : Safe plan
+  pub goes_on : GoesOn plan
+  pub drains : Drains plan cert.ranks
+
+-- the texts are those of such a plan and its certificate
+pub record IsSafeToRun (plan_text cert_text : List ℕ) : Type 0 where
+  pub plan : Plan
+  pub is_plan : plan_of plan_text ≡ Ok plan
+  pub with_cert : IsSafeWith plan cert_text

@@ -1,0 +1,18 @@
+-- Certificates whose standing vectors alone are asked about.
+use Rattle.std.specs.Prelude.{ℕ, ◌&&◌, not, is_some, Bool, false}
+use Rattle.std.specs.List.{list_all, enumerate_from}
+use Rattle.job_bodies.specs.Plan.{Plan}
+use Rattle.weights.specs.declared.bound.Bound.{Bound}
+use Rattle.weights.specs.declared.bound.Bound.TheVariants.{Standing, Lifetime}
+use Rattle.weights.specs.Row.{first_failing}
+use Rattle.weights.specs.Standing.{standing_rows}
+use Rattle.certificates.specs.Cert.{Cert, cert_fits, pool_cert_at}
+
+-- pool p has a standing vector, of which no row fails
+abbrev pub stands : Plan → ℕ → Bound → Bool
+stands plan p (Standing v) = not (is_some (first_failing (standing_rows plan p v)))
+stands plan p (Lifetime v) = false
+
+-- the certificate fits the plan, and each pool stands
+abbrev pub accepted_standing : Plan → Cert → Bool
+accepted_standing plan cert = cert_fits plan cert && list_all (λ entry. stands plan entry.0 (pool_cert_at cert entry.0).bound) (enumerate_from 0 plan.pools)

@@ -1,0 +1,88 @@
+//! Whether a certificate accepts a plan.
+
+ghost use Rattle.std.specs.Prelude.{◌≡◌, ◌<◌, ◌&&◌, IsTrue, length};
+ghost use Rattle.std.specs.List.{list_all, enumerate_from};
+ghost use Rattle.weights.specs.Vector.{vector_fits};
+ghost use Rattle.weights.specs.Bound.{bound_vector};
+ghost use Rattle.certificates.specs.Cert.{cert_fits, pool_cert_at};
+ghost use Rattle.headline.specs.Conditions.{failing};
+ghost use Rattle.headline.specs.Accepted.{is_nil, accepted};
+ghost use Rattle.cert_check.specs.Holding.{pool_holds};
+ghost use Rattle.cert_check.specs.Standing as spec;
+
+use blocked_bounds::blocked_fault;
+use certificates::Cert;
+use job_bodies::Plan;
+use pool_ranks::RanksOf;
+use weights::Bound;
+
+/// Whether the certificate fits the plan and each of its conditions holds. It takes no memory.
+pub fn accepts(plan: &Plan, cert: &Cert) -> bool
+    ensures { result ≡ accepted plan.now cert.now }
+{
+    cert.fits(plan) && conditions_hold(plan, cert)
+}
+
+/// Whether each condition of a certificate that fits holds.
+pub(crate) fn conditions_hold(plan: &Plan, cert: &Cert) -> bool
+    requires { IsTrue (cert_fits plan.now cert.now) }
+    ensures { result ≡ is_nil (failing plan.now cert.now) }
+{
+    cert.ranks.fault(plan).is_none() && all_pools_hold(plan, cert)
+}
+
+fn all_pools_hold(plan: &Plan, cert: &Cert) -> bool
+    requires { IsTrue (cert_fits plan.now cert.now) }
+    ensures { result ≡ list_all (λ entry. pool_holds plan.now cert.now entry.0) (enumerate_from 0 plan.now.pools) }
+{
+    for (pool, _) in plan.pools().iter().enumerate() {
+        if !pool_holds(plan, cert, pool) {
+            return false;
+        }
+    }
+    true
+}
+
+/// Whether each condition of the pool's bound and of its blocked vector holds.
+fn pool_holds(plan: &Plan, cert: &Cert, pool: usize) -> bool
+    requires fits { IsTrue (cert_fits plan.now cert.now) }
+    requires pool { pool < length plan.now.pools }
+    ensures { result ≡ pool_holds plan.now cert.now pool }
+{
+    let of_pool = &cert.pools[pool];
+    let counted = RanksOf::new(plan, &cert.ranks);
+    of_pool.bound.fault(plan, pool).is_none()
+        && blocked_fault(plan, pool, &counted, &of_pool.blocked).is_none()
+}
+
+/// Whether the certificate fits the plan and each pool has a standing vector of which each condition holds: then no submit
+/// is ever refused, whatever waits for what. It takes no memory.
+pub fn accepts_standing(plan: &Plan, cert: &Cert) -> bool
+    ensures { result ≡ spec.accepted_standing plan.now cert.now }
+{
+    cert.fits(plan) && all_pools_stand(plan, cert)
+}
+
+fn all_pools_stand(plan: &Plan, cert: &Cert) -> bool
+    requires { IsTrue (cert_fits plan.now cert.now) }
+    ensures { result ≡ list_all (λ entry. spec.stands plan.now entry.0 (pool_cert_at cert.now entry.0).bound) (enumerate_from 0 plan.now.pools) }
+{
+    for (pool, _) in plan.pools().iter().enumerate() {
+        if !stands(plan, pool, &cert.pools[pool].bound) {
+            return false;
+        }
+    }
+    true
+}
+
+/// Whether the bound is a standing vector of which each condition holds.
+fn stands(plan: &Plan, pool: usize, bound: &Bound) -> bool
+    requires fits { IsTrue (vector_fits plan.now (bound_vector bound.now)) }
+    requires pool { pool < length plan.now.pools }
+    ensures { result ≡ spec.stands plan.now pool bound.now }
+{
+    match bound {
+        Bound::Standing(vector) => vector.standing_fault(plan, pool).is_none(),
+        Bound::Lifetime(_) => false,
+    }
+}

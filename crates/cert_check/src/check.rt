@@ -1,0 +1,63 @@
+//! The check, from bytes to a verdict.
+
+ghost use Rattle.std.specs.Prelude.{◌≡◌, ◌≢◌, IfOk, IfErr, IsTrue, Ok, Err};
+ghost use Rattle.cert_check.specs.Check as spec;
+
+use crate::{Verdict, verdict};
+use cert_text::{CertFault, read_cert};
+use faults::number::MEMORY;
+use job_bodies::{Plan, PlanFault};
+use plan_text::read_plan;
+use std::alloc::{AllocError, Global};
+
+/// Why there is no verdict.
+#[derive(Clone, Copy, Debug, PartialEq, Eq)]
+pub enum CheckFault {
+    /// The first fault of the plan's text.
+    Plan(PlanFault),
+    /// The first fault of the certificate's text.
+    Cert(CertFault),
+    /// Memory ran out; nothing else is then said of the texts.
+    Memory,
+}
+
+impl From<AllocError> for CheckFault {
+    ghost from_gives = { λ _ fault. fault ≡ CheckFault.Memory };
+
+    fn from(_error: AllocError) -> CheckFault {
+        CheckFault::Memory
+    }
+}
+
+/// Reads a plan and a certificate for it, and answers whether the certificate accepts the plan, with both sides of each
+/// bound. Where it says yes, no list of events reaches a state in which a submit was refused, a pool has more threads or
+/// queued jobs than it may, or unfinished jobs wait only for each other; in each reached state with an unfinished job an
+/// event of a job or a taking is possible; and what was begun comes to an end.
+///
+/// # Errors
+///
+/// The plan's first fault, else the certificate's. [`CheckFault::Memory`] where memory runs out.
+pub fn check(alloc: Global, plan_text: &[u8], cert_text: &[u8]) -> Result<Verdict, CheckFault>
+    ensures verdict { IfOk result (λ verdict. spec.checked plan_text.now cert_text.now ≡ Ok verdict) }
+    ensures fault { IfErr result (λ fault. fault ≢ CheckFault.Memory → spec.checked plan_text.now cert_text.now ≡ Err fault) }
+    // What a yes means.
+    ensures safe { IfOk result (λ verdict. IsTrue verdict.yes → spec.IsSafeToRun plan_text.now cert_text.now) }
+{
+    match read_plan(alloc, plan_text) {
+        Ok(plan) => check_plan(alloc, &plan, cert_text),
+        Err(fault) if fault == PlanFault::at_text(MEMORY) => Err(CheckFault::Memory),
+        Err(fault) => Err(CheckFault::Plan(fault)),
+    }
+}
+
+fn check_plan(alloc: Global, plan: &Plan, cert_text: &[u8]) -> Result<Verdict, CheckFault>
+    ensures verdict { IfOk result (λ verdict. spec.checked_plan cert_text.now (Ok plan.now) ≡ Ok verdict) }
+    ensures fault { IfErr result (λ fault. fault ≢ CheckFault.Memory → spec.checked_plan cert_text.now (Ok plan.now) ≡ Err fault) }
+    ensures safe { IfOk result (λ verdict. IsTrue verdict.yes → spec.IsSafeWith plan.now cert_text.now) }
+{
+    match read_cert(alloc, cert_text, plan) {
+        Ok(cert) => Ok(verdict(alloc, plan, &cert)?),
+        Err(fault) if fault.number == MEMORY => Err(CheckFault::Memory),
+        Err(fault) => Err(CheckFault::Cert(fault)),
+    }
+}

@@ -1,0 +1,8 @@
+-- The parts from this one on decide.
+use Rattle.std.proofs.Common.{◌≡◌, drop}
+use Rattle.std.specs.List.{list_all}
+use Rattle.certificates.specs.Cert.{pool_cert_fits}
+use Rattle.certificates.proofs.cert.all_fit.Given as goal
+
+abbrev pub invariant-loop-pool : goal.invariant-loop-pool
+invariant-loop-pool l = list_all (pool_cert_fits l.plan) (drop l.pool-index l.pools) ≡ list_all (pool_cert_fits l.plan) l.pools
