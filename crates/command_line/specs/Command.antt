@@ -4,11 +4,14 @@ use Rattle.std.specs.Str.{bytes_eq}
 use Rattle.clap.specs.Words.{Row, Text, subcommand_of}
 use Rattle.command_line.specs.Application.{sizing}
 use Rattle.command_line.specs.declared.command.Command.{Command}
-use Rattle.command_line.specs.declared.command.Command.TheVariants.{Replay}
+use Rattle.command_line.specs.declared.command.Command.TheVariants.{Replay, Check, Explain}
 
 -- the command of the subcommand with this name and these rows
 abbrev pub command_named : Text × List Row → Option Command
-command_named (name, rows) = if bytes_eq name (codes "replay") then Some Replay else None
+command_named (name, rows) =
+    if bytes_eq name (codes "replay") then Some Replay
+    else (if bytes_eq name (codes "check") then Some Check
+    else (if bytes_eq name (codes "explain") then Some Explain else None))
 
 -- the command of the subcommand that was entered, if one was
 abbrev pub command_among : Option (Text × List Row) → Option Command

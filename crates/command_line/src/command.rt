@@ -13,6 +13,10 @@ use std::alloc::Global;
 pub enum Command {
     /// Replays events on a plan, and says what came of each.
     Replay,
+    /// Says whether a certificate shows that no submit is refused and no jobs starve.
+    Check,
+    /// Lists the conditions of a certificate that fail.
+    Explain,
 }
 
 /// Reads the words of a command line, of which the first is the program's name.
@@ -37,6 +41,8 @@ fn command_among(matches: &ArgMatches<'_>) -> Option<Command>
 {
     match matches.subcommand()? {
         ("replay", _) => Some(Command::Replay),
+        ("check", _) => Some(Command::Check),
+        ("explain", _) => Some(Command::Explain),
         _ => None,
     }
 }

@@ -2,20 +2,22 @@
 
 /// What the program does.
 pub(crate) const SIZING_ABOUT: &str = "\
-Shows, event by event, what the pools of a plan do: which job starts, which one waits in a queue,
-and which one is refused.";
+Answers, before a service starts, whether a submit to its thread pools can ever be refused, and
+whether jobs that wait for jobs can starve.";
 
 /// How the program is called.
 pub(crate) const SIZING_USAGE: &str = "sizing <COMMAND>";
 
 /// What the program reads, where to begin, and what the exit status says.
 pub(crate) const SIZING_NOTES: &str = "\
-sizing reads standard input: a plan, a line that is exactly `%%`, and one event a line. It answers
-on standard output. To begin, paste the example of `sizing replay --help` into a shell.
+sizing reads standard input: a plan, a line that is exactly `%%`, and behind it
+  for `replay`               one event a line
+  for `check` and `explain`  a certificate
+It answers on standard output. To begin, paste the example of `sizing check --help` into a shell.
 
 Exit status:
   0  yes, or done
-  1  no: something is refused, and the answer says what
+  1  no: a condition fails, a job is refused or stuck, or an event is not possible
   2  bad text in the input, or bad arguments
   3  memory ran out, or reading or writing failed";
 
@@ -85,3 +87,126 @@ It answers, with status 1:
 6: queued job 1
 7: refused by pages
 refusals 1, unfinished 1";
+
+/// What `check` does, in the list of commands and at the top of its own help.
+pub(crate) const CHECK_ABOUT: &str =
+    "Says whether a certificate shows that no submit is ever refused and no jobs starve";
+
+/// How `check` is called.
+pub(crate) const CHECK_USAGE: &str = "sizing check < INPUT";
+
+/// What `check` reads and answers, with an example.
+pub(crate) const CHECK_NOTES: &str = "\
+INPUT is a plan in TOML, a line that is exactly `%%`, and a certificate in JSON:
+  pools  for each pool two vectors: `standing` bounds the jobs in its queue (in version 2 `lifetime`
+         may stand in its place, and bounds the jobs that are ever made for it), and `blocked`
+         bounds its jobs that wait; a wait for a job whose reach is below the pool's rank does not
+         count
+  ranks  `pools` has a rank for each pool, `reach` and `levels` a number for each class
+A vector has the weights of
+  workers  one worker of each pool
+  classes  one job of each class: in a queue, before each of its actions, behind the last, and done
+  clients  one client of each kind: before each of its actions, and behind the last
+
+The answer is `yes` or `no`, and then a line for each pool, as
+  pool NAME: standing T of Q, blocked T of B
+or with `lifetime` in the place of `standing`. T is what the vector comes to. Beside it stands what
+the pool has: Q is the capacity of its queue, or for a lifetime vector queue + max, less the core
+threads of a prestarted pool; B is core - 1.
+
+A yes means: in every state that any order of events reaches, no submit was refused, each pool keeps
+its maximum and its queue's capacity, and no jobs wait only for each other. A no means that this
+certificate does not show it, and `sizing explain` says where.
+
+Exit status:
+  0  yes
+  1  no
+  2  bad text in INPUT, or bad arguments
+  3  memory ran out, or reading or writing failed
+
+Example, to be pasted into a shell: a pool of one thread with a queue of 2, and two clients. Each
+client has at most one job, so the queue has room for all of them.
+
+sizing check <<'END'
+[[pool]]
+name = \"pages\"
+core = 1
+max = 1
+queue = 2
+
+[[class]]
+name = \"render\"
+pool = \"pages\"
+body = [\"work 1\"]
+
+[[client]]
+name = \"browser\"
+count = 2
+repeat = true
+body = [\"submit render as page\", \"get page\"]
+%%
+{\"version\":1,
+ \"pools\":[{\"standing\":{\"workers\":[0],\"classes\":[[1,1,1,1]],\"clients\":[[1,0,1]]},
+           \"blocked\":{\"workers\":[0],\"classes\":[[0,0,0,0]],\"clients\":[[0,0,0]]}}],
+ \"ranks\":{\"pools\":[0],\"reach\":[0],\"levels\":[0]}}
+END
+
+It answers, with status 0:
+
+yes
+pool pages: standing 2 of 2, blocked 0 of 0";
+
+/// What `explain` does, in the list of commands and at the top of its own help.
+pub(crate) const EXPLAIN_ABOUT: &str =
+    "Lists the conditions of a certificate that fail, each with both its sides";
+
+/// How `explain` is called.
+pub(crate) const EXPLAIN_USAGE: &str = "sizing explain < INPUT";
+
+/// What `explain` reads and answers, with an example.
+pub(crate) const EXPLAIN_NOTES: &str = "\
+INPUT is what `sizing check` reads: a plan in TOML, a line that is exactly `%%`, and a certificate
+in JSON.
+
+The answer has a line for each condition of the certificate that fails: its place, its rule, and its
+two sides, of which the first should be at most the second. The last line is `failing N`, where N is
+their number.
+
+Exit status:
+  0  N is 0, so `sizing check` answers yes
+  1  N is not 0
+  2  bad text in INPUT, or bad arguments
+  3  memory ran out, or reading or writing failed
+
+Example, to be pasted into a shell. It is that of `sizing check --help` with a queue of 1: both
+clients can submit while the pool's worker is idle and has taken neither job, and the queue has room
+for one.
+
+sizing explain <<'END'
+[[pool]]
+name = \"pages\"
+core = 1
+max = 1
+queue = 1
+
+[[class]]
+name = \"render\"
+pool = \"pages\"
+body = [\"work 1\"]
+
+[[client]]
+name = \"browser\"
+count = 2
+repeat = true
+body = [\"submit render as page\", \"get page\"]
+%%
+{\"version\":1,
+ \"pools\":[{\"standing\":{\"workers\":[0],\"classes\":[[1,1,1,1]],\"clients\":[[1,0,1]]},
+           \"blocked\":{\"workers\":[0],\"classes\":[[0,0,0,0]],\"clients\":[[0,0,0]]}}],
+ \"ranks\":{\"pools\":[0],\"reach\":[0],\"levels\":[0]}}
+END
+
+It answers, with status 1:
+
+pool pages standing, total: S2 2 above 1
+failing 1";
