@@ -1,5 +1,5 @@
 -- A bundle: a plan text, a line that is exactly `%%`, and a second part. It is split at the last such line.
-use Rattle.std.specs.Prelude.{ℕ, ◌-◌, Bool, true, false, ◌==◌, ◌||◌, nat_eq, slice_index, if◌then◌else◌, List, [], ◌∷◌, drop, Option, Some, None}
+use Rattle.std.specs.Prelude.{ℕ, Bool, true, false, ◌==◌, nat_eq, if◌then◌else◌, List, [], ◌∷◌, drop, Option, Some, None}
 use Rattle.std.specs.List.{starts_with}
 use Rattle.std.specs.Str.{bytes_eq}
 
@@ -34,11 +34,3 @@ split_from at_line (b ∷ bs) = later_or b (split_from (b == 10) bs) (split_here
 -- the bundle that an input is
 abbrev pub bundle_of : List ℕ → Option Bundle
 bundle_of input = split_from true input
-
--- a line begins at this place of the text
-abbrev pub begins_line : List ℕ → ℕ → Bool
-begins_line text start = start == 0 || slice_index text (start - 1) == 10
-
--- what stands behind the line that begins at this place, if one begins there and is `%%`
-abbrev pub second_part : List ℕ → ℕ → Option (List ℕ)
-second_part text start = if begins_line text start then after_separator (drop start text) else None

@@ -1,6 +1,7 @@
 //! The bundle that an input is: a plan text, a line that is exactly `%%`, and a second part.
 
-ghost use Rattle.std.specs.Prelude.{◌≡◌, ◌<◌, length, option_map};
+ghost use Rattle.std.specs.Prelude.{◌≡◌, ◌≤◌, ◌==◌, length, option_map};
+ghost use Rattle.std.specs.List.{IsAfterLastMatch};
 ghost use Rattle.sizing_cli.specs.Bundle as spec;
 
 /// A plan text, and what stands behind the last line `%%`.
@@ -11,40 +12,30 @@ pub struct Bundle<'a> {
 }
 
 /// Splits an input at its last line `%%`, for which the input's end may stand in place of a newline.
+/// It looks at each line once, the last one first.
 pub fn bundle_of(input: &[u8]) -> Option<Bundle<'_>>
     ensures { option_map (λ bundle. record { plan = bundle.plan.now; second = bundle.second.now }) result ≡ spec.bundle_of input.now }
 {
-    for start in (0..input.len()).rev() {
-        if let Some(second) = second_part(input, start) {
-            return Some(Bundle {
-                plan: &input[..start],
-                second,
-            });
+    // The lines behind this front are looked at, and none of them is `%%`.
+    let mut front = input;
+    loop {
+        let (plan, rest) = input.split_at(last_line_start(front));
+        if let Some(second) = after_separator(rest) {
+            return Some(Bundle { plan, second });
         }
-    }
-    None
-}
-
-/// What stands behind the line that begins at this place, if it is `%%`.
-fn second_part(input: &[u8], start: usize) -> Option<&[u8]>
-    requires { start < length input.now }
-    ensures { option_map (λ second. second.now) result ≡ spec.second_part input.now start }
-{
-    if begins_line(input, start) {
-        after_separator(&input[start..])
-    } else {
-        None
+        front = plan.strip_suffix(b"\n")?;
     }
 }
 
-fn begins_line(input: &[u8], start: usize) -> bool
-    requires { start < length input.now }
-    ensures { result ≡ spec.begins_line input.now start }
+/// Where the last line of a text begins: behind its last newline, or at its beginning.
+fn last_line_start(text: &[u8]) -> usize
+    ensures within { result ≤ length text.now }
+    ensures behind_newline { IsAfterLastMatch (λ byte. byte == 10) text.now result }
 {
-    if start == 0 {
-        return true;
+    match text.iter().rposition(|byte| *byte == b'\n') {
+        Some(newline) => newline + 1,
+        None => 0,
     }
-    input[start - 1] == b'\n'
 }
 
 fn after_separator(text: &[u8]) -> Option<&[u8]>

@@ -1,19 +1,20 @@
-use Rattle.std.proofs.Common.{◌≡◌, sym, arith}
-use Rattle.sizing_cli.proofs.Splitting.{split_from-end, found_before, none_before}
+use Rattle.std.proofs.Common.{◌∷◌, [], Some, None}
+use Rattle.std.proofs.lemmas.Bool.Decides.{Decides-eqb}
+use Rattle.std.proofs.lemmas.Slice.Eq.{strip_suffix_is}
+use Rattle.sizing_cli.proofs.Splitting.{cut_at_line, found_at, none_at, seen_further}
 use Rattle.sizing_cli.proofs.bundle.bundle_of.Goals as goal
-
-pub loop-start-init : goal.loop-start-init
-loop-start-init c = split_from-end c.args.input.now
 
 pub returns-in-Some : goal.returns-in-Some
 returns-in-Some c =
-    found_before c.args.input.now c.loop-start.start c.in-Some.second.now (omega arith) (omega arith) c.loop-start.invariant (sym (rw c.in-Some.is at c.second_part.ensures))
+    let cut = cut_at_line _ _ _ _ _ c.last_line_start.ensures.within c.last_line_start.ensures.behind_newline c.loop-second.invariant c.split_at.ensures.front c.split_at.ensures.back in
+    found_at _ _ _ cut c.in-Some.second.now c.in-Some.ensures
 
-pub loop-start-preserved : goal.loop-start-preserved
-loop-start-preserved c =
-    none_before c.args.input.now c.loop-start.start (omega arith) (omega arith) c.loop-start.invariant (sym (rw c.in_default.is at c.second_part.ensures))
+pub returns-in_err-front : goal.returns-in_err-front
+returns-in_err-front c =
+    let cut = cut_at_line _ _ _ _ _ c.last_line_start.ensures.within c.last_line_start.ensures.behind_newline c.loop-second.invariant c.split_at.ensures.front c.split_at.ensures.back in
+    rw c.from_residual.ensures (none_at _ _ _ cut c.in_default.ensures (strip_suffix_is Decides-eqb c.split_at.result.0.now (10 ∷ []) None c.in_err-front.ensures.cases))
 
-pub returns : goal.returns
-returns c =
-    let first : c.loop-start.start ≡ 0 = omega arith in
-    sym (rw first at c.loop-start.invariant)
+pub loop-second-preserved : goal.loop-second-preserved
+loop-second-preserved c =
+    let cut = cut_at_line _ _ _ _ _ c.last_line_start.ensures.within c.last_line_start.ensures.behind_newline c.loop-second.invariant c.split_at.ensures.front c.split_at.ensures.back in
+    seen_further _ _ _ cut c.in_ok-front.front.now c.in_default.ensures (strip_suffix_is Decides-eqb c.split_at.result.0.now (10 ∷ []) (Some c.in_ok-front.front) c.in_ok-front.ensures.cases)
