@@ -83,3 +83,14 @@ conditions_hold plan cert =
     ∙ ap₂ (λ a b. a && b) (none_failing-section section.Ranks of_ranks)
     (none_failing-flat_map conditions_of numbered
     ∙ list_all-same (λ entry. none_failing (conditions_of entry)) (λ entry. pool_holds plan cert entry.0) numbered (λ entry. pool_holds-means plan cert entry.0))
+
+-- no condition fails where no condition of the ranks does, and those of the pools say the rest
+pub held : (plan : Plan) (cert : Cert) (all : Bool) → is_some (first_failing (rank_rows plan cert.ranks)) ≡ false
+    → all ≡ list_all (λ entry. pool_holds plan cert entry.0) (enumerate_from 0 plan.pools) → all ≡ is_nil (failing plan cert)
+held plan cert all ranks pools =
+    pools ∙ sym (conditions_hold plan cert ∙ ap (λ (b : Bool). not b && list_all (λ entry. pool_holds plan cert entry.0) (enumerate_from 0 plan.pools)) ranks)
+
+-- one fails where a condition of the ranks does
+pub ranks_fail : (plan : Plan) (cert : Cert) → is_some (first_failing (rank_rows plan cert.ranks)) ≡ true → false ≡ is_nil (failing plan cert)
+ranks_fail plan cert ranks =
+    sym (conditions_hold plan cert ∙ ap (λ (b : Bool). not b && list_all (λ entry. pool_holds plan cert entry.0) (enumerate_from 0 plan.pools)) ranks)

@@ -1,1 +1,4 @@
+pub mod Pools
+pub mod Telling
 pub mod Conditions
+pub mod Yes

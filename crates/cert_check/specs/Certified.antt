@@ -1,7 +1,15 @@
--- A plan and a certificate.
+-- A plan and a certificate that accepts it.
+use Rattle.std.specs.Prelude.{IsTrue}
 use Rattle.job_bodies.specs.Plan.{Plan}
 use Rattle.certificates.specs.Cert.{Cert}
+use Rattle.headline.specs.Accepted.{accepted}
+use Rattle.headline.specs.Headline.{Promises}
 
 pub record Certified : Type 0 where
   pub plan : Plan
   pub cert : Cert
+
+-- the certificate accepts the plan, and so its promises hold
+pub record IsCertified (plan : Plan) (cert : Cert) : Type 0 where
+  pub accepts : IsTrue (accepted plan cert)
+  pub promises : Promises plan cert

@@ -3,13 +3,12 @@ use Rattle.std.specs.Prelude.{◌≡◌, ℕ, List, Result, Ok, Err}
 use Rattle.job_bodies.specs.Plan.{Plan}
 use Rattle.job_bodies.specs.declared.fault.PlanFault.{PlanFault}
 use Rattle.plan_text.specs.PlanOf.{plan_of}
-use Rattle.written_machine.specs.Safe.{Safe, GoesOn}
-use Rattle.starvation_laws.specs.Drain.{Drains}
 use Rattle.certificates.specs.Cert.{Cert}
+use Rattle.headline.specs.Headline.{Promises}
 use Rattle.cert_text.specs.declared.fault.CertFault.{CertFault}
 use Rattle.cert_text.specs.CertOf.{cert_of}
-use Rattle.cert_check.specs.declared.check.CheckFault.{CheckFault}
-use Rattle.cert_check.specs.declared.check.CheckFault.TheVariants as fault
+use Rattle.cert_check.specs.declared.from_bytes.CheckFault.{CheckFault}
+use Rattle.cert_check.specs.declared.from_bytes.CheckFault.TheVariants as fault
 use Rattle.cert_check.specs.Verdict.{Verdict, verdict}
 
 abbrev pub checked_cert : Plan → Result Cert CertFault → Result Verdict CheckFault
@@ -24,16 +23,13 @@ checked_plan cert_text (Ok plan) = checked_cert plan (cert_of cert_text plan)
 abbrev pub checked : List ℕ → List ℕ → Result Verdict CheckFault
 checked plan_text cert_text = checked_plan cert_text (plan_of plan_text)
 
--- the text is that of a certificate for the plan; every state that any list of events reaches is safe, and goes on as long
--- as a job is unfinished; and what was begun comes to an end
+-- the text is that of a certificate for the plan, and what it promises of the plan holds
 pub record IsSafeWith (plan : Plan) (cert_text : List ℕ) : Type 0 where
   pub cert : Cert
   pub is_cert : cert_of cert_text plan ≡ Ok cert
-  pub safe : Safe plan
-  pub goes_on : GoesOn plan
-  pub drains : Drains plan cert.ranks
+  pub promises : Promises plan cert
 
--- the texts are those of such a plan and its certificate
+-- the texts are those of a plan and of such a certificate for it
 pub record IsSafeToRun (plan_text cert_text : List ℕ) : Type 0 where
   pub plan : Plan
   pub is_plan : plan_of plan_text ≡ Ok plan

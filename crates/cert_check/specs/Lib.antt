@@ -1,6 +1,6 @@
 pub mod Holding
 pub mod Standing
-pub mod PoolLine
 pub mod Verdict
+pub mod Text
 pub mod Certified
 pub mod Check

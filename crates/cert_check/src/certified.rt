@@ -1,9 +1,8 @@
 //! A plan with a certificate that accepts it.
 
 ghost use Rattle.std.specs.Prelude.{◌≡◌, ◌↔◌, IsOk, IfOk, IfErr, IsTrue};
-ghost use Rattle.written_machine.specs.Safe.{Safe, GoesOn};
-ghost use Rattle.starvation_laws.specs.Drain.{Drains};
 ghost use Rattle.headline.specs.Accepted.{accepted};
+ghost use Rattle.headline.specs.Headline.{Promises};
 ghost use Rattle.cert_check.specs.Certified as spec;
 
 use crate::accepts;
@@ -23,7 +22,7 @@ impl Model for Certified {
 
     ghost view = { λ c. record { plan = c.plan; cert = c.cert } };
 
-    ghost invariant = { λ c. IsTrue (accepted c.plan c.cert) };
+    ghost invariant = { λ c. spec.IsCertified c.plan c.cert };
 }
 
 impl Certified {
@@ -33,12 +32,10 @@ impl Certified {
     ///
     /// Hands both back where the certificate does not accept the plan.
     pub fn check(plan: Plan, cert: Cert) -> Result<Certified, (Plan, Cert)>
-        ensures exact { IsOk result ↔ IsTrue (accepted plan.now cert.now) }
-        ensures holds { IfOk result (λ certified. certified ≡ record { plan = plan.now; cert = cert.now }) }
+        ensures exact { IsOk result ↔ IsTrue (accepted plan cert) }
+        ensures holds { IfOk result (λ certified. certified ≡ record { plan = plan; cert = cert }) }
         ensures back { IfErr result (λ back. (back.0 ≡ plan) × (back.1 ≡ cert)) }
-        ensures safe { IfOk result (λ certified. Safe certified.plan) }
-        ensures goes_on { IfOk result (λ certified. GoesOn certified.plan) }
-        ensures drains { IfOk result (λ certified. Drains certified.plan certified.cert.ranks) }
+        ensures promises { IfOk result (λ certified. Promises certified.plan certified.cert) }
     {
         if accepts(&plan, &cert) {
             Ok(Certified { plan, cert })
@@ -47,11 +44,10 @@ impl Certified {
         }
     }
 
-    /// The plan, which is safe.
+    /// The plan.
     pub fn plan(&self) -> &Plan
         ensures plan { result.now ≡ self.now.plan }
-        ensures safe { Safe self.now.plan }
-        ensures goes_on { GoesOn self.now.plan }
+        ensures promises { Promises self.now.plan self.now.cert }
     {
         &self.plan
     }
@@ -60,7 +56,6 @@ impl Certified {
     pub fn cert(&self) -> &Cert
         ensures cert { result.now ≡ self.now.cert }
         ensures accepted { IsTrue (accepted self.now.plan self.now.cert) }
-        ensures drains { Drains self.now.plan self.now.cert.ranks }
     {
         &self.cert
     }

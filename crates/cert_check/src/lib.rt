@@ -5,14 +5,16 @@
 //! events reaches. Nothing is assumed of the certificate or its maker.
 #![tactic(auto)]
 
-mod accepts;
+mod acceptance;
+mod answer;
 mod certified;
-mod check;
-mod pool_line;
-mod verdict;
+mod from_bytes;
+mod judge;
+mod text;
 
-pub use accepts::{accepts, accepts_standing};
+pub use acceptance::{accepts, accepts_standing};
+pub use answer::{PoolLine, Verdict};
 pub use certified::Certified;
-pub use check::{CheckFault, check};
-pub use pool_line::{PoolLine, push_pool_line};
-pub use verdict::{Verdict, verdict};
+pub use from_bytes::{CheckFault, check};
+pub use judge::verdict;
+pub use text::push_verdict;

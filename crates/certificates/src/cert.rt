@@ -1,6 +1,6 @@
 //! A certificate.
 
-ghost use Rattle.std.specs.Prelude.{◌≡◌};
+ghost use Rattle.std.specs.Prelude.{◌≡◌, ◌<◌, length};
 ghost use Rattle.std.specs.List.{list_all};
 ghost use Rattle.certificates.specs.Cert as spec;
 
@@ -47,6 +47,14 @@ impl Model for Cert {
 }
 
 impl Cert {
+    /// What the certificate says of the pool.
+    pub fn pool_at(&self, pool: usize) -> &PoolCert
+        requires { pool < length self.now.pools }
+        ensures { result.now ≡ spec.pool_cert_at self.now pool }
+    {
+        &self.pools[pool]
+    }
+
     /// Whether there is a part for each pool, each list has the plan's shape, and no number is above
     /// [`MOST_WEIGHT`](weights::MOST_WEIGHT). It takes no memory.
     pub fn fits(&self, plan: &Plan) -> bool

@@ -32,7 +32,7 @@ use Rattle.starvation_laws.proofs.BlockedCounts.{blocked-below_core}
 use Rattle.starvation_laws.proofs.Descent.{none_waits}
 use Rattle.starvation_laws.proofs.Draining.{lowers}
 use Rattle.headline.specs.Accepted.{accepted}
-use Rattle.headline.specs.Headline.{AcceptedPlansAreSafe, AcceptedPlansGoOn, AcceptedPlansDrain}
+use Rattle.headline.specs.Headline.{Promises, AcceptedPlansAreSafe, AcceptedPlansGoOn, AcceptedPlansDrain}
 use Rattle.headline.proofs.CertLaws.{CertLaws, cert_laws}
 
 -- ---- what every state that an accepted plan reaches keeps
@@ -167,3 +167,7 @@ accepted_plans_go_on plan cert well_formed is_accepted = goes_on_everywhere plan
 -- the bound
 pub accepted_plans_drain : AcceptedPlansDrain
 accepted_plans_drain plan cert well_formed is_accepted = drains plan cert well_formed is_accepted
+
+-- all three
+pub promises : (plan : Plan) (cert : Cert) → IsWellFormed plan → IsTrue (accepted plan cert) → Promises plan cert
+promises plan cert well_formed is_accepted = record { safe = safe plan cert well_formed is_accepted; goes_on = goes_on_everywhere plan cert well_formed is_accepted; drains = drains plan cert well_formed is_accepted }

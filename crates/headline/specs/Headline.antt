@@ -7,6 +7,13 @@ use Rattle.starvation_laws.specs.Drain.{Drains}
 use Rattle.certificates.specs.Cert.{Cert}
 use Rattle.headline.specs.Accepted.{accepted}
 
+-- what an accepted certificate promises of its plan: every state that any list of events reaches is safe, and goes on as
+-- long as a job is unfinished; and what was begun comes to an end
+pub record Promises (plan : Plan) (cert : Cert) : Type 0 where
+  pub safe : Safe plan
+  pub goes_on : GoesOn plan
+  pub drains : Drains plan cert.ranks
+
 -- accepted plans are safe
 abbrev pub AcceptedPlansAreSafe : Type 0
 AcceptedPlansAreSafe = (plan : Plan) (cert : Cert) → IsWellFormed plan → IsTrue (accepted plan cert) → Safe plan

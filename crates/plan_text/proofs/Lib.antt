@@ -6,6 +6,6 @@ pub mod OnLiterals
 mod Samples
 pub mod Fillings
 mod BodyLaws
-mod Buildable
+pub mod Buildable
 pub mod SpelledOrders
 pub mod ReadOrders

@@ -1,6 +1,7 @@
 //! The check, from bytes to a verdict.
 
 ghost use Rattle.std.specs.Prelude.{◌≡◌, ◌≢◌, IfOk, IfErr, IsTrue, Ok, Err};
+ghost use Rattle.cert_check.specs.declared.from_bytes.CheckFault.TheVariants.{Memory};
 ghost use Rattle.cert_check.specs.Check as spec;
 
 use crate::{Verdict, verdict};
@@ -22,7 +23,7 @@ pub enum CheckFault {
 }
 
 impl From<AllocError> for CheckFault {
-    ghost from_gives = { λ _ fault. fault ≡ CheckFault.Memory };
+    ghost from_gives = { λ _ fault. fault ≡ Memory };
 
     fn from(_error: AllocError) -> CheckFault {
         CheckFault::Memory
@@ -39,7 +40,7 @@ impl From<AllocError> for CheckFault {
 /// The plan's first fault, else the certificate's. [`CheckFault::Memory`] where memory runs out.
 pub fn check(alloc: Global, plan_text: &[u8], cert_text: &[u8]) -> Result<Verdict, CheckFault>
     ensures verdict { IfOk result (λ verdict. spec.checked plan_text.now cert_text.now ≡ Ok verdict) }
-    ensures fault { IfErr result (λ fault. fault ≢ CheckFault.Memory → spec.checked plan_text.now cert_text.now ≡ Err fault) }
+    ensures fault { IfErr result (λ fault. fault ≢ Memory → spec.checked plan_text.now cert_text.now ≡ Err fault) }
     // What a yes means.
     ensures safe { IfOk result (λ verdict. IsTrue verdict.yes → spec.IsSafeToRun plan_text.now cert_text.now) }
 {
@@ -52,7 +53,7 @@ pub fn check(alloc: Global, plan_text: &[u8], cert_text: &[u8]) -> Result<Verdic
 
 fn check_plan(alloc: Global, plan: &Plan, cert_text: &[u8]) -> Result<Verdict, CheckFault>
     ensures verdict { IfOk result (λ verdict. spec.checked_plan cert_text.now (Ok plan.now) ≡ Ok verdict) }
-    ensures fault { IfErr result (λ fault. fault ≢ CheckFault.Memory → spec.checked_plan cert_text.now (Ok plan.now) ≡ Err fault) }
+    ensures fault { IfErr result (λ fault. fault ≢ Memory → spec.checked_plan cert_text.now (Ok plan.now) ≡ Err fault) }
     ensures safe { IfOk result (λ verdict. IsTrue verdict.yes → spec.IsSafeWith plan.now cert_text.now) }
 {
     match read_cert(alloc, cert_text, plan) {

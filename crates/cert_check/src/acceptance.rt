@@ -7,6 +7,7 @@ ghost use Rattle.weights.specs.Bound.{bound_vector};
 ghost use Rattle.certificates.specs.Cert.{cert_fits, pool_cert_at};
 ghost use Rattle.headline.specs.Conditions.{failing};
 ghost use Rattle.headline.specs.Accepted.{is_nil, accepted};
+ghost use Rattle.headline.specs.Headline.{Promises};
 ghost use Rattle.cert_check.specs.Holding.{pool_holds};
 ghost use Rattle.cert_check.specs.Standing as spec;
 
@@ -18,7 +19,8 @@ use weights::Bound;
 
 /// Whether the certificate fits the plan and each of its conditions holds. It takes no memory.
 pub fn accepts(plan: &Plan, cert: &Cert) -> bool
-    ensures { result ≡ accepted plan.now cert.now }
+    ensures exact { result ≡ accepted plan.now cert.now }
+    ensures promises { IsTrue result → Promises plan.now cert.now }
 {
     cert.fits(plan) && conditions_hold(plan, cert)
 }
@@ -26,16 +28,13 @@ pub fn accepts(plan: &Plan, cert: &Cert) -> bool
 /// Whether each condition of a certificate that fits holds.
 pub(crate) fn conditions_hold(plan: &Plan, cert: &Cert) -> bool
     requires { IsTrue (cert_fits plan.now cert.now) }
-    ensures { result ≡ is_nil (failing plan.now cert.now) }
+    ensures exact { result ≡ is_nil (failing plan.now cert.now) }
+    ensures promises { IsTrue result → Promises plan.now cert.now }
 {
-    cert.ranks.fault(plan).is_none() && all_pools_hold(plan, cert)
-}
-
-fn all_pools_hold(plan: &Plan, cert: &Cert) -> bool
-    requires { IsTrue (cert_fits plan.now cert.now) }
-    ensures { result ≡ list_all (λ entry. pool_holds plan.now cert.now entry.0) (enumerate_from 0 plan.now.pools) }
-{
-    for (pool, _) in plan.pools().iter().enumerate() {
+    if cert.ranks.fault(plan).is_some() {
+        return false;
+    }
+    for pool in 0..plan.pools().len() {
         if !pool_holds(plan, cert, pool) {
             return false;
         }
@@ -49,7 +48,7 @@ fn pool_holds(plan: &Plan, cert: &Cert, pool: usize) -> bool
     requires pool { pool < length plan.now.pools }
     ensures { result ≡ pool_holds plan.now cert.now pool }
 {
-    let of_pool = &cert.pools[pool];
+    let of_pool = cert.pool_at(pool);
     let counted = RanksOf::new(plan, &cert.ranks);
     of_pool.bound.fault(plan, pool).is_none()
         && blocked_fault(plan, pool, &counted, &of_pool.blocked).is_none()
@@ -67,8 +66,8 @@ fn all_pools_stand(plan: &Plan, cert: &Cert) -> bool
     requires { IsTrue (cert_fits plan.now cert.now) }
     ensures { result ≡ list_all (λ entry. spec.stands plan.now entry.0 (pool_cert_at cert.now entry.0).bound) (enumerate_from 0 plan.now.pools) }
 {
-    for (pool, _) in plan.pools().iter().enumerate() {
-        if !stands(plan, pool, &cert.pools[pool].bound) {
+    for pool in 0..plan.pools().len() {
+        if !stands(plan, pool, &cert.pool_at(pool).bound) {
             return false;
         }
     }

@@ -1,0 +1,28 @@
+-- What a yes means of the texts of a plan and a certificate.
+use Rattle.std.proofs.Common.{◌≡◌, ℕ, List, Result, Ok, Err, IsTrue, refl, sym, ap, subst, ◌∙◌}
+use Rattle.readings.proofs.Steps.{bind_ok}
+use Rattle.job_bodies.specs.Plan.{Plan}
+use Rattle.job_bodies.specs.WellFormed.{IsWellFormed}
+use Rattle.job_bodies.specs.declared.fault.PlanFault.{PlanFault}
+use Rattle.plan_text.specs.Document.{document_of}
+use Rattle.plan_text.specs.Entries.{entries_of}
+use Rattle.plan_text.specs.PlanOf.{plan_of, plan_of_entries}
+use Rattle.plan_text.proofs.Buildable.{are_within_limits, well_formed_read}
+use Rattle.certificates.specs.Cert.{Cert}
+use Rattle.cert_text.specs.declared.fault.CertFault.{CertFault}
+use Rattle.cert_text.specs.CertOf.{cert_of}
+use Rattle.headline.specs.Accepted.{accepted}
+use Rattle.headline.proofs.Theorem.{promises}
+use Rattle.cert_check.specs.Check.{IsSafeWith}
+
+-- what is read is well-formed
+pub plans_read_are_well_formed : (bytes : List ℕ) (plan : Plan) → plan_of bytes ≡ Ok plan → IsWellFormed plan
+unfolding plan_of
+plans_read_are_well_formed bytes plan is =
+    let document = bind_ok (document_of bytes) _ _ is in
+    let entries = bind_ok (entries_of document.0) _ _ document.2 in
+    well_formed_read entries.0 plan (are_within_limits document.0 entries.0 entries.1) entries.2
+
+-- an accepted certificate's text makes its plan safe
+pub safe_with : (plan : Plan) (cert : Cert) (text : List ℕ) → IsWellFormed plan → cert_of text plan ≡ Ok cert → IsTrue (accepted plan cert) → IsSafeWith plan text
+safe_with plan cert text well_formed is_cert is_accepted = record { cert = cert; is_cert = is_cert; promises = promises plan cert well_formed is_accepted }

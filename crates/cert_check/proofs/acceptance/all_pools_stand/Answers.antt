@@ -1,0 +1,12 @@
+use Rattle.std.proofs.Common.{◌≡◌, ◌<◌, length, ap, ◌∙◌}
+use Rattle.weights.specs.declared.bound.Bound.{Bound}
+use Rattle.certificates.specs.Cert.{PoolCert, pool_cert_at}
+use Rattle.certificates.proofs.Fitting.{parts_fit}
+use Rattle.cert_check.proofs.acceptance.all_pools_stand.Goals as goal
+
+pub stands-requires-clause-fits : goal.stands-requires-clause-fits
+stands-requires-clause-fits c =
+    let plan = c.args.plan.now in
+    let inside : c.loop-pool.pool < length plan.pools = rw (← c.pools-pool-end.ensures.value) c.loop-pool-test.true in
+    let same : c.behind-cert.inside.bound ≡ (pool_cert_at c.args.cert.now c.loop-pool.pool).bound = ap (λ (pool : PoolCert). pool.bound) (c.behind-cert.view_is ∙ c.pool_at.ensures) in
+    rw same ((parts_fit plan c.args.cert.now c.requires).pools c.loop-pool.pool inside).bound

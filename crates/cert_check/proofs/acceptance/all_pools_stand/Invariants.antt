@@ -1,0 +1,11 @@
+-- The pools from this one on decide.
+use Rattle.std.proofs.Common.{◌≡◌, ℕ, Bool}
+use Rattle.certificates.specs.Cert.{pool_cert_at}
+use Rattle.cert_check.specs.Standing.{stands}
+use Rattle.cert_check.proofs.Pools.{rest_passes}
+use Rattle.cert_check.proofs.acceptance.all_pools_stand.Given as goal
+
+abbrev pub invariant-loop-pool : goal.invariant-loop-pool
+invariant-loop-pool l =
+    let test : ℕ → Bool = λ p. stands l.plan p (pool_cert_at l.cert p).bound in
+    rest_passes test l.plan.pools l.pool ≡ rest_passes test l.plan.pools 0

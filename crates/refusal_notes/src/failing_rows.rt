@@ -1,0 +1,78 @@
+//! The failing rows of one part of a certificate.
+
+ghost use Rattle.std.specs.Prelude.{◌≡◌, ◌++◌, List, [], OnOk, IsOk, filter};
+ghost use Rattle.weights.specs.declared.row.Row.{Row as Seen};
+ghost use Rattle.weights.specs.Row.{fails};
+ghost use Rattle.headline.specs.Conditions as spec;
+ghost use Rattle.refusal_notes.specs.FailingRows.{Keeps};
+
+use crate::{Note, Section};
+use std::alloc::{AllocError, Global};
+use weights::{Row, RowVisitor};
+
+/// Keeps the rows that fail. A visitor cannot answer an error, so this one remembers it.
+#[derive(Debug, Drop)]
+pub struct FailingRows {
+    /// The failing rows, in order.
+    rows: Vec<Row>,
+    /// An error where memory ran out: rows are then missing.
+    kept: Result<(), AllocError>,
+}
+
+impl FailingRows {
+    /// Has looked at no row yet.
+    pub fn new(alloc: Global) -> FailingRows
+        ensures kept { IsOk result.kept }
+        ensures none { Keeps result [] }
+    {
+        FailingRows {
+            rows: Vec::new(alloc),
+            kept: Ok(()),
+        }
+    }
+
+    /// Puts the failing ones of all rows that it has looked at behind the notes, as notes of this section.
+    pub fn push_notes(self, notes: &mut Vec<Note>, section: Section) -> Result<(), AllocError>
+        ensures { (seen : List Seen) → Keeps self seen → OnOk result (notes.new.items ≡ notes.old.items ++ spec.in_section section (filter fails seen)) }
+    {
+        self.kept?;
+        push_section_notes(notes, section, &self.rows)
+    }
+}
+
+impl RowVisitor for FailingRows {
+    ghost HasSeen = { Keeps };
+
+    fn visit(&mut self, row: Row) {
+        if row.fails() && self.kept.is_ok() {
+            self.kept = self.rows.push(row).map_err(AllocError::from);
+        }
+    }
+}
+
+/// Puts the rows behind the notes, as notes of this section.
+fn push_section_notes(
+    notes: &mut Vec<Note>,
+    section: Section,
+    rows: &[Row],
+) -> Result<(), AllocError>
+    ensures { OnOk result (notes.new.items ≡ notes.old.items ++ spec.in_section section rows.now) }
+{
+    for row in rows {
+        notes.push(note(section, *row))?;
+    }
+    Ok(())
+}
+
+/// The row, in this section.
+fn note(section: Section, row: Row) -> Note
+    ensures { result ≡ spec.note section row }
+{
+    Note {
+        section,
+        place: row.place,
+        rule: row.rule,
+        left: row.left,
+        right: row.right,
+    }
+}

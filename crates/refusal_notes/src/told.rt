@@ -1,0 +1,123 @@
+//! The failing conditions of a certificate.
+
+ghost use Rattle.std.specs.Prelude.{◌≡◌, ◌<◌, ◌++◌, IsTrue, IfOk, OnOk, filter, length};
+ghost use Rattle.weights.specs.Bound.{bound_vector, bound_rows};
+ghost use Rattle.weights.specs.Row.{fails};
+ghost use Rattle.weights.specs.Vector.{vector_fits};
+ghost use Rattle.blocked_bounds.specs.Blocked.{blocked_rows};
+ghost use Rattle.pool_ranks.specs.Ranks.{is_counted, rank_rows, ranks_fit};
+ghost use Rattle.certificates.specs.Cert.{pool_cert_fits, cert_fits};
+ghost use Rattle.headline.specs.declared.note.Section.TheVariants as section;
+ghost use Rattle.headline.specs.Conditions.{bound_section, failing, in_section};
+
+use crate::failing_rows::FailingRows;
+use crate::{Note, Section};
+use blocked_bounds::visit_blocked_rows;
+use certificates::{Cert, PoolCert};
+use job_bodies::Plan;
+use pool_ranks::{Ranks, RanksOf};
+use std::alloc::{AllocError, Global};
+use weights::{Bound, Vector};
+
+/// Tells the failing conditions of the ranks.
+fn push_rank_notes(
+    alloc: Global,
+    notes: &mut Vec<Note>,
+    plan: &Plan,
+    ranks: &Ranks,
+) -> Result<(), AllocError>
+    requires { IsTrue (ranks_fit plan.now ranks.now) }
+    ensures { let rows = filter fails (rank_rows plan.now ranks.now) in
+        OnOk result (notes.new.items ≡ notes.old.items ++ in_section section.Ranks rows) }
+{
+    let mut found = FailingRows::new(alloc);
+    ranks.visit_rank_rows(plan, &mut found);
+    found.push_notes(notes, Section::Ranks)
+}
+
+/// The section in which the pool's bound stands.
+fn section_of(pool: usize, bound: &Bound) -> Section
+    ensures { result ≡ bound_section pool bound.now }
+{
+    match bound {
+        Bound::Standing(_) => Section::Standing(pool),
+        Bound::Lifetime(_) => Section::Lifetime(pool),
+    }
+}
+
+/// Tells the failing conditions of the pool's bound.
+fn push_bound_notes(
+    alloc: Global,
+    notes: &mut Vec<Note>,
+    plan: &Plan,
+    pool: usize,
+    bound: &Bound,
+) -> Result<(), AllocError>
+    requires fits { IsTrue (vector_fits plan.now (bound_vector bound.now)) }
+    requires pool { pool < length plan.now.pools }
+    ensures { let rows = filter fails (bound_rows plan.now pool bound.now) in
+        OnOk result (notes.new.items ≡ notes.old.items ++ in_section (bound_section pool bound.now) rows) }
+{
+    let mut found = FailingRows::new(alloc);
+    bound.visit_rows(plan, pool, &mut found);
+    found.push_notes(notes, section_of(pool, bound))
+}
+
+/// Tells the failing conditions of the pool's blocked vector.
+fn push_blocked_notes(
+    alloc: Global,
+    notes: &mut Vec<Note>,
+    plan: &Plan,
+    ranks: &Ranks,
+    pool: usize,
+    blocked: &Vector,
+) -> Result<(), AllocError>
+    requires ranks { IsTrue (ranks_fit plan.now ranks.now) }
+    requires fits { IsTrue (vector_fits plan.now blocked.now) }
+    requires pool { pool < length plan.now.pools }
+    ensures { let rows = filter fails (blocked_rows plan.now pool (is_counted plan.now ranks.now) blocked.now) in
+        OnOk result (notes.new.items ≡ notes.old.items ++ in_section (section.Blocked pool) rows) }
+{
+    let counted = RanksOf::new(plan, ranks);
+    let mut found = FailingRows::new(alloc);
+    visit_blocked_rows(plan, pool, &counted, blocked, &mut found);
+    found.push_notes(notes, Section::Blocked(pool))
+}
+
+/// Tells the failing conditions of a pool: those of its bound, and then those of its blocked vector.
+fn push_pool_notes(
+    alloc: Global,
+    notes: &mut Vec<Note>,
+    plan: &Plan,
+    ranks: &Ranks,
+    number: usize,
+    pool: &PoolCert,
+) -> Result<(), AllocError>
+    requires ranks { IsTrue (ranks_fit plan.now ranks.now) }
+    requires fits { IsTrue (pool_cert_fits plan.now pool.now) }
+    requires number { number < length plan.now.pools }
+    ensures { let of_bound = in_section (bound_section number pool.now.bound) (filter fails (bound_rows plan.now number pool.now.bound)) in
+        let of_blocked = in_section (section.Blocked number) (filter fails (blocked_rows plan.now number (is_counted plan.now ranks.now) pool.now.blocked)) in
+        OnOk result (notes.new.items ≡ notes.old.items ++ of_bound ++ of_blocked) }
+{
+    push_bound_notes(alloc, notes, plan, number, &pool.bound)?;
+    push_blocked_notes(alloc, notes, plan, ranks, number, &pool.blocked)
+}
+
+/// The failing conditions of a certificate, each with both its sides: of the ranks, and then, pool by pool, of its bound
+/// and of its blocked vector.
+///
+/// # Errors
+///
+/// [`AllocError`] where memory runs out.
+pub fn notes(alloc: Global, plan: &Plan, cert: &Cert) -> Result<Vec<Note>, AllocError>
+    requires fits { IsTrue (cert_fits plan.now cert.now) }
+    ensures { IfOk result (λ notes. notes.items ≡ failing plan.now cert.now) }
+{
+    let mut notes = Vec::new(alloc);
+    push_rank_notes(alloc, &mut notes, plan, &cert.ranks)?;
+    for (number, pool) in cert.pools.iter().enumerate() {
+        push_pool_notes(alloc, &mut notes, plan, &cert.ranks, number, pool)?;
+    }
+    Ok(notes)
+}

@@ -1,0 +1,131 @@
+//! The line that tells a failing condition.
+
+ghost use Rattle.std.specs.Prelude.{◌≡◌, ◌++◌, ◌∷◌, [], IfOk, OnOk, string_bytes};
+ghost use Rattle.job_bodies.specs.Plan.{pool_at, class_at, client_at};
+ghost use Rattle.refusal_notes.specs.Line as spec;
+
+use crate::{Note, Section};
+use job_bodies::Plan;
+use std::alloc::{AllocError, Global};
+use weights::{Place, Rule};
+
+/// The name of the pool, which is empty where there is no such pool.
+fn pool_name(plan: &Plan, pool: usize) -> &str
+    ensures { result.now ≡ (pool_at plan.now pool).name }
+{
+    match plan.pool_at(pool) {
+        Some(pool) => pool.name.as_str(),
+        None => "",
+    }
+}
+
+/// The name of the class, which is empty where there is no such class.
+fn class_name(plan: &Plan, class: usize) -> &str
+    ensures { result.now ≡ (class_at plan.now class).name }
+{
+    match plan.class_at(class) {
+        Some(class) => class.name.as_str(),
+        None => "",
+    }
+}
+
+/// The name of the kind of clients, which is empty where there is no such kind.
+fn client_name(plan: &Plan, client: usize) -> &str
+    ensures { result.now ≡ (client_at plan.now client).name }
+{
+    match plan.client_at(client) {
+        Some(client) => client.name.as_str(),
+        None => "",
+    }
+}
+
+/// The rule, as certificates are told of it.
+fn rule_name(rule: Rule) -> &'static str
+    ensures { result.now ≡ spec.rule_text rule }
+{
+    match rule {
+        Rule::K1 => "K1",
+        Rule::K2 => "K2",
+        Rule::K3 => "K3",
+        Rule::V2 => "V2",
+        Rule::V3 => "V3",
+        Rule::V4 => "V4",
+        Rule::V5 => "V5",
+        Rule::V6 => "V6",
+        Rule::V7 => "V7",
+        Rule::S1 => "S1",
+        Rule::S2 => "S2",
+        Rule::L1 => "L1",
+        Rule::L2 => "L2",
+        Rule::L3 => "L3",
+        Rule::L5 => "L5",
+        Rule::B1 => "B1",
+        Rule::B2 => "B2",
+    }
+}
+
+fn push_section(text: &mut String, plan: &Plan, section: Section) -> Result<(), AllocError>
+    ensures { OnOk result (string_bytes text.new ≡ string_bytes text.old ++ spec.section_text plan.now section) }
+{
+    match section {
+        Section::Ranks => text.push_str("ranks"),
+        Section::Standing(pool) => write!(text, "pool {} standing", pool_name(plan, pool)),
+        Section::Lifetime(pool) => write!(text, "pool {} lifetime", pool_name(plan, pool)),
+        Section::Blocked(pool) => write!(text, "pool {} blocked", pool_name(plan, pool)),
+    }
+}
+
+fn push_place(text: &mut String, plan: &Plan, place: Place) -> Result<(), AllocError>
+    ensures { OnOk result (string_bytes text.new ≡ string_bytes text.old ++ spec.place_text plan.now place) }
+{
+    match place {
+        Place::Class(class) => write!(text, "class {}", class_name(plan, class)),
+        Place::ClassAction(class, position) => {
+            write!(text, "class {} action {position}", class_name(plan, class))
+        }
+        Place::Client(client) => write!(text, "client {}", client_name(plan, client)),
+        Place::ClientAction(client, position) => {
+            write!(text, "client {} action {position}", client_name(plan, client))
+        }
+        Place::Worker(pool) => write!(text, "workers {}", pool_name(plan, pool)),
+        Place::Total => text.push_str("total"),
+    }
+}
+
+/// The line of the note, without its newline.
+fn push_note(text: &mut String, plan: &Plan, note: &Note) -> Result<(), AllocError>
+    ensures { OnOk result (string_bytes text.new ≡ string_bytes text.old ++ spec.line plan.now note.now) }
+{
+    push_section(text, plan, note.section)?;
+    text.push_str(", ")?;
+    push_place(text, plan, note.place)?;
+    let rule = rule_name(note.rule);
+    let (left, right) = (note.left, note.right);
+    write!(text, ": {rule} {left} above {right}")
+}
+
+/// Puts the line of the note behind the text, as `pool p blocked, total: B2 1 above 0`. A number that the plan does not
+/// have prints as an empty name.
+///
+/// # Errors
+///
+/// [`AllocError`] where memory runs out.
+pub fn push_line(text: &mut String, plan: &Plan, note: &Note) -> Result<(), AllocError>
+    ensures { OnOk result (string_bytes text.new ≡ string_bytes text.old ++ (spec.line plan.now note.now ++ 10 ∷ [])) }
+{
+    push_note(text, plan, note)?;
+    text.push('\n')
+}
+
+/// The line of the note by itself, without its newline.
+///
+/// # Errors
+///
+/// [`AllocError`] where memory runs out.
+pub fn line(alloc: Global, note: &Note, plan: &Plan) -> Result<String, AllocError>
+    ensures { IfOk result (λ text. string_bytes text ≡ spec.line plan.now note.now) }
+{
+    let mut text = String::new(alloc);
+    push_note(&mut text, plan, note)?;
+    Ok(text)
+}

@@ -1,0 +1,63 @@
+//! What the text of a certificate for a plan is answered.
+
+ghost use Rattle.std.specs.Prelude.{◌≡◌, IfOk, IsTrue};
+ghost use Rattle.certificates.specs.Cert.{cert_fits};
+ghost use Rattle.sizing_cli.specs.Report as spec;
+
+use crate::Status;
+use crate::answer::{Answer, cert_fault};
+use cert_check::{push_verdict, verdict};
+use cert_text::read_cert;
+use certificates::Cert;
+use faults::number::MEMORY;
+use job_bodies::Plan;
+use refusal_notes::{notes, push_explanation};
+use std::alloc::{AllocError, Global};
+
+/// Whether the certificate accepts the plan, and both sides of each bound.
+pub fn check(alloc: Global, plan: &Plan, cert: &[u8]) -> Result<Answer, AllocError>
+    ensures { IfOk result (λ answer. answer ≡ spec.check plan.now cert.now) }
+{
+    match read_cert(alloc, cert, plan) {
+        Ok(cert) => verdict_on(alloc, plan, &cert),
+        Err(fault) if fault.number == MEMORY => Err(AllocError),
+        Err(fault) => cert_fault(alloc, fault),
+    }
+}
+
+fn verdict_on(alloc: Global, plan: &Plan, cert: &Cert) -> Result<Answer, AllocError>
+    requires { IsTrue (cert_fits plan.now cert.now) }
+    ensures { IfOk result (λ answer. answer ≡ spec.check_of_cert plan.now (Ok cert.now)) }
+{
+    let verdict = verdict(alloc, plan, cert)?;
+    let mut text = String::new(alloc);
+    push_verdict(&mut text, plan, &verdict)?;
+    Ok(Answer {
+        text,
+        status: Status::of_question(verdict.yes),
+    })
+}
+
+/// Each condition of the certificate that fails, with both its sides.
+pub fn explain(alloc: Global, plan: &Plan, cert: &[u8]) -> Result<Answer, AllocError>
+    ensures { IfOk result (λ answer. answer ≡ spec.explain plan.now cert.now) }
+{
+    match read_cert(alloc, cert, plan) {
+        Ok(cert) => explanation_of(alloc, plan, &cert),
+        Err(fault) if fault.number == MEMORY => Err(AllocError),
+        Err(fault) => cert_fault(alloc, fault),
+    }
+}
+
+fn explanation_of(alloc: Global, plan: &Plan, cert: &Cert) -> Result<Answer, AllocError>
+    requires { IsTrue (cert_fits plan.now cert.now) }
+    ensures { IfOk result (λ answer. answer ≡ spec.explain_of_cert plan.now (Ok cert.now)) }
+{
+    let notes = notes(alloc, plan, cert)?;
+    let mut text = String::new(alloc);
+    push_explanation(&mut text, plan, &notes)?;
+    Ok(Answer {
+        text,
+        status: Status::of_question(notes.is_empty()),
+    })
+}
