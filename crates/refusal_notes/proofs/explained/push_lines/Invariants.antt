@@ -1,0 +1,8 @@
+-- The text has the lines of the notes before this one behind what it had.
+use Rattle.std.proofs.Common.{◌≡◌, ◌++◌, take}
+use Rattle.std.specs.Prelude.{string_bytes}
+use Rattle.refusal_notes.specs.Explanation.{lines}
+use Rattle.refusal_notes.proofs.explained.push_lines.Given as goal
+
+abbrev pub invariant-loop-note : goal.invariant-loop-note
+invariant-loop-note l = string_bytes l.text ≡ string_bytes l.fn.text ++ lines l.plan (take l.note-index l.notes)
