@@ -1,11 +1,11 @@
 -- What is told of a certificate so far.
-use Rattle.std.proofs.Common.{◌≡◌, ℕ, zero, suc, ◌+◌, ◌<◌, ◌≤◌, Bool, true, false, cond, ◌&&◌, eqb, ltb, IsTrue, List, [], ◌∷◌, ◌++◌, length, take, filter, flat_map, get_or, refl, sym, ap, ap₂, ◌∙◌, append_assoc, add-one, zero-add, arith}
+use Rattle.std.proofs.Common.{◌≡◌, ℕ, Bool, zero, suc, ◌+◌, ◌<◌, true, false, cond, ◌&&◌, eqb, ltb, IsTrue, List, [], ◌∷◌, ◌++◌, length, take, filter, flat_map, get_or, refl, sym, ap, ap₂, ◌∙◌, append_assoc, add-one, zero-add, arith}
 use Rattle.std.specs.List.{enumerate_from, list_all}
-use Rattle.std.proofs.lemmas.List.{append-nil, take_all, get_or_default}
+use Rattle.std.proofs.lemmas.List.{append-nil, get_or_default}
 use Rattle.std.proofs.lemmas.List.Elements.{filter-append}
 use Rattle.std.proofs.lemmas.Bool.{and_parts, eqb-true}
 use Rattle.numbered_lists.proofs.Members.{In-get_or, list_all_at_In}
-use Rattle.job_bodies.specs.Plan.{Plan, Pool}
+use Rattle.job_bodies.specs.Plan.{Plan}
 use Rattle.weights.specs.declared.row.Row.{Row}
 use Rattle.weights.specs.Row.{fails}
 use Rattle.weights.specs.Bound.{bound_rows}
@@ -15,22 +15,27 @@ use Rattle.certificates.specs.Cert.{PoolCert, Cert, no_pool_cert, pool_cert_fits
 use Rattle.headline.specs.declared.note.Section.{Section}
 use Rattle.headline.specs.declared.note.Section.TheVariants as section
 use Rattle.headline.specs.declared.note.Note.{Note}
-use Rattle.headline.specs.Conditions.{note, in_section, bound_section, pool_conditions, failing}
+use Rattle.headline.specs.Conditions.{note, in_section, bound_section, pool_conditions}
+
+-- left is above right
+abbrev pub note_fails : Note → Bool
+note_fails x = ltb x.right x.left
 
 -- the failing ones of a section are the failing rows, told in it
-pub failing_of_section : (part : Section) (rows : List Row) → filter (λ (x : Note). ltb x.right x.left) (in_section part rows) ≡ in_section part (filter fails rows)
+failing_of_section : (part : Section) (rows : List Row) → filter note_fails (in_section part rows) ≡ in_section part (filter fails rows)
 failing_of_section part [] = refl
 failing_of_section part (x ∷ rows) =
-    elim (fails x) as (λ b. cond b (note part x ∷ filter (λ (y : Note). ltb y.right y.left) (in_section part rows)) (filter (λ (y : Note). ltb y.right y.left) (in_section part rows)) ≡ in_section part (cond b (x ∷ filter fails rows) (filter fails rows))) [
+    let others = filter note_fails (in_section part rows) in
+    elim (fails x) as (λ b. cond b (note part x ∷ others) others ≡ in_section part (cond b (x ∷ filter fails rows) (filter fails rows))) [
       | true ↦ ap (λ (notes : List Note). note part x ∷ notes) (failing_of_section part rows)
       | false ↦ failing_of_section part rows
     ]
 
 -- the same of two sections
 failing_of_two : (one other : Section) (xs ys : List Row)
-    → filter (λ (x : Note). ltb x.right x.left) (in_section one xs ++ in_section other ys) ≡ in_section one (filter fails xs) ++ in_section other (filter fails ys)
+    → filter note_fails (in_section one xs ++ in_section other ys) ≡ in_section one (filter fails xs) ++ in_section other (filter fails ys)
 failing_of_two one other xs ys =
-    filter-append (λ (x : Note). ltb x.right x.left) (in_section one xs) (in_section other ys)
+    filter-append note_fails (in_section one xs) (in_section other ys)
     ∙ ap₂ (λ (ns ms : List Note). ns ++ ms) (failing_of_section one xs) (failing_of_section other ys)
 
 -- the conditions of the ranks and of the first i pools
@@ -41,12 +46,12 @@ conditions_to plan cert i =
 
 -- the failing ones of these have been told
 pub record ToldTo (plan : Plan) (cert : Cert) (notes : List Note) (i : ℕ) : Type 0 where
-  pub told : notes ≡ filter (λ x. ltb x.right x.left) (conditions_to plan cert i)
+  pub told : notes ≡ filter note_fails (conditions_to plan cert i)
 
 pub told_begins : (plan : Plan) (cert : Cert) (notes : List Note) → notes ≡ in_section section.Ranks (filter fails (rank_rows plan cert.ranks)) → ToldTo plan cert notes 0
 told_begins plan cert notes ranks =
     let rows = rank_rows plan cert.ranks in
-    record { told = ranks ∙ sym (ap (λ (ns : List Note). filter (λ x. ltb x.right x.left) ns) (append-nil (in_section section.Ranks rows)) ∙ failing_of_section section.Ranks rows) }
+    record { told = ranks ∙ sym (ap (filter note_fails) (append-nil (in_section section.Ranks rows)) ∙ failing_of_section section.Ranks rows) }
 
 -- one more element's notes, where they depend on its place alone
 one_more : {X : Type 0} (notes_at : ℕ → List Note) (n : ℕ) (xs : List X) (i : ℕ) → i < length xs
@@ -80,7 +85,6 @@ pub told_goes_on : (plan : Plan) (cert : Cert) (notes more : List Note) (i : ℕ
     ++ in_section (section.Blocked i) (filter fails (blocked_rows plan i (is_counted plan cert.ranks) pool.blocked))
     → ToldTo plan cert notes i → ToldTo plan cert more (i + 1)
 told_goes_on plan cert notes more i pool fits inside here added so_far =
-    let test = λ (x : Note). ltb x.right x.left in
     let of_bound = bound_rows plan i pool.bound in
     let of_blocked = blocked_rows plan i (is_counted plan cert.ranks) pool.blocked in
     let conditions = in_section (bound_section i pool.bound) of_bound ++ in_section (section.Blocked i) of_blocked in
@@ -88,10 +92,6 @@ told_goes_on plan cert notes more i pool fits inside here added so_far =
     ap (λ (p : PoolCert). in_section (bound_section i p.bound) (bound_rows plan i p.bound) ++ in_section (section.Blocked i) (blocked_rows plan i (is_counted plan cert.ranks) p.blocked))
     (get_or_default cert.pools i no_pool_cert pool inside ∙ sym here) in
     let grown = one_more_behind (in_section section.Ranks (rank_rows plan cert.ranks)) (pool_conditions plan cert) plan.pools i (pool_fits plan cert i pool fits inside here).1 in
-    let told : filter test (conditions_to plan cert (i + 1)) ≡ filter test (conditions_to plan cert i) ++ filter test conditions =
-    ap (filter test) (grown ∙ ap (λ (ns : List Note). conditions_to plan cert i ++ ns) same) ∙ filter-append test (conditions_to plan cert i) conditions in
+    let told : filter note_fails (conditions_to plan cert (i + 1)) ≡ filter note_fails (conditions_to plan cert i) ++ filter note_fails conditions =
+    ap (filter note_fails) (grown ∙ ap (λ (ns : List Note). conditions_to plan cert i ++ ns) same) ∙ filter-append note_fails (conditions_to plan cert i) conditions in
     record { told = added ∙ append_assoc notes _ _ ∙ ap₂ (λ (ns ms : List Note). ns ++ ms) so_far.told (sym (failing_of_two (bound_section i pool.bound) (section.Blocked i) of_bound of_blocked)) ∙ sym told }
-
-pub told_ends : (plan : Plan) (cert : Cert) (notes : List Note) (i : ℕ) → length plan.pools ≤ i → ToldTo plan cert notes i → notes ≡ failing plan cert
-told_ends plan cert notes i past so_far =
-    so_far.told ∙ ap (λ (pools : List Pool). filter (λ (x : Note). ltb x.right x.left) (in_section section.Ranks (rank_rows plan cert.ranks) ++ flat_map (λ (entry : ℕ × Pool). pool_conditions plan cert entry.0) (enumerate_from 0 pools))) (take_all i plan.pools past)

@@ -1,6 +1,6 @@
 //! The line that tells a failing condition.
 
-ghost use Rattle.std.specs.Prelude.{◌≡◌, ◌++◌, ◌∷◌, [], IfOk, OnOk, string_bytes};
+ghost use Rattle.std.specs.Prelude.{◌≡◌, ◌++◌, ◌∷◌, [], IfOk, OnOk, string_bytes, codes, decimal};
 ghost use Rattle.job_bodies.specs.Plan.{pool_at, class_at, client_at};
 ghost use Rattle.refusal_notes.specs.Line as spec;
 
@@ -39,7 +39,7 @@ fn client_name(plan: &Plan, client: usize) -> &str
     }
 }
 
-/// The rule, as certificates are told of it.
+/// The name of the rule.
 fn rule_name(rule: Rule) -> &'static str
     ensures { result.now ≡ spec.rule_text rule }
 {
@@ -64,32 +64,65 @@ fn rule_name(rule: Rule) -> &'static str
     }
 }
 
+/// A name, after the word that says what it names.
+fn push_named(text: &mut String, word: &str, name: &str) -> Result<(), AllocError>
+    ensures { OnOk result (string_bytes text.new ≡ string_bytes text.old ++ word.now ++ name.now) }
+{
+    text.push_str(word)?;
+    text.push_str(name)
+}
+
 fn push_section(text: &mut String, plan: &Plan, section: Section) -> Result<(), AllocError>
     ensures { OnOk result (string_bytes text.new ≡ string_bytes text.old ++ spec.section_text plan.now section) }
 {
     match section {
         Section::Ranks => text.push_str("ranks"),
-        Section::Standing(pool) => write!(text, "pool {} standing", pool_name(plan, pool)),
-        Section::Lifetime(pool) => write!(text, "pool {} lifetime", pool_name(plan, pool)),
-        Section::Blocked(pool) => write!(text, "pool {} blocked", pool_name(plan, pool)),
+        Section::Standing(pool) => push_vector(text, plan, pool, " standing"),
+        Section::Lifetime(pool) => push_vector(text, plan, pool, " lifetime"),
+        Section::Blocked(pool) => push_vector(text, plan, pool, " blocked"),
     }
+}
+
+/// One vector of the pool's certificate.
+fn push_vector(text: &mut String, plan: &Plan, pool: usize, vector: &str) -> Result<(), AllocError>
+    ensures { OnOk result (string_bytes text.new ≡ string_bytes text.old ++ (codes "pool " ++ (pool_at plan.now pool).name ++ vector.now)) }
+{
+    push_named(text, "pool ", pool_name(plan, pool))?;
+    text.push_str(vector)
+}
+
+fn push_action(text: &mut String, position: usize) -> Result<(), AllocError>
+    ensures { OnOk result (string_bytes text.new ≡ string_bytes text.old ++ (codes " action " ++ decimal position)) }
+{
+    write!(text, " action {position}")
 }
 
 fn push_place(text: &mut String, plan: &Plan, place: Place) -> Result<(), AllocError>
     ensures { OnOk result (string_bytes text.new ≡ string_bytes text.old ++ spec.place_text plan.now place) }
 {
     match place {
-        Place::Class(class) => write!(text, "class {}", class_name(plan, class)),
+        Place::Class(class) => push_named(text, "class ", class_name(plan, class)),
         Place::ClassAction(class, position) => {
-            write!(text, "class {} action {position}", class_name(plan, class))
+            push_named(text, "class ", class_name(plan, class))?;
+            push_action(text, position)
         }
-        Place::Client(client) => write!(text, "client {}", client_name(plan, client)),
+        Place::Client(client) => push_named(text, "client ", client_name(plan, client)),
         Place::ClientAction(client, position) => {
-            write!(text, "client {} action {position}", client_name(plan, client))
+            push_named(text, "client ", client_name(plan, client))?;
+            push_action(text, position)
         }
-        Place::Worker(pool) => write!(text, "workers {}", pool_name(plan, pool)),
+        Place::Worker(pool) => push_named(text, "workers ", pool_name(plan, pool)),
         Place::Total => text.push_str("total"),
     }
+}
+
+/// What the note's rule compares.
+fn push_sides(text: &mut String, note: &Note) -> Result<(), AllocError>
+    ensures { OnOk result (string_bytes text.new ≡ string_bytes text.old ++ spec.rule_text note.now.rule ++ codes " " ++ decimal note.now.left ++ codes " above " ++ decimal note.now.right) }
+{
+    text.push_str(rule_name(note.rule))?;
+    let (left, right) = (note.left, note.right);
+    write!(text, " {left} above {right}")
 }
 
 /// The line of the note, without its newline.
@@ -99,9 +132,8 @@ fn push_note(text: &mut String, plan: &Plan, note: &Note) -> Result<(), AllocErr
     push_section(text, plan, note.section)?;
     text.push_str(", ")?;
     push_place(text, plan, note.place)?;
-    let rule = rule_name(note.rule);
-    let (left, right) = (note.left, note.right);
-    write!(text, ": {rule} {left} above {right}")
+    text.push_str(": ")?;
+    push_sides(text, note)
 }
 
 /// Puts the line of the note behind the text, as `pool p blocked, total: B2 1 above 0`. A number that the plan does not

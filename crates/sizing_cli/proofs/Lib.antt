@@ -2,3 +2,4 @@ pub mod Splitting
 pub mod Answering
 pub mod PastTheLimit
 pub mod LastSeparator
+pub mod SafeInputs

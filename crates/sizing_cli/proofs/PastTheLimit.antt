@@ -5,22 +5,21 @@ use Rattle.byte_streams.specs.Writing.{AppendsFront}
 use Rattle.std.proofs.lemmas.Bool.{cases_lt, lt-ltb}
 use Rattle.std.proofs.lemmas.List.{take_all, length-take-le}
 use Rattle.command_line.specs.declared.command.Command.{Command}
-use Rattle.command_line.specs.declared.command.Command.TheVariants.{Replay}
 use Rattle.sizing_cli.specs.declared.limits.TheConstants.{MOST_INPUT_BYTES}
 use Rattle.sizing_cli.specs.Answer.{Answer, input_too_long}
 use Rattle.sizing_cli.specs.Bundle.{bundle_of}
-use Rattle.sizing_cli.specs.Report.{report, replay_of_bundle}
+use Rattle.sizing_cli.specs.Report.{report, answer_of_bundle}
 
-too_long : (input : List ℕ) → MOST_INPUT_BYTES < length input → report Replay input ≡ input_too_long
-too_long input long = ap (λ (b : Bool). cond b input_too_long (replay_of_bundle (bundle_of input))) (lt-ltb MOST_INPUT_BYTES (length input) long)
+too_long : (command : Command) (input : List ℕ) → MOST_INPUT_BYTES < length input → report command input ≡ input_too_long
+too_long command input long = ap (λ (b : Bool). cond b input_too_long (answer_of_bundle command (bundle_of input))) (lt-ltb MOST_INPUT_BYTES (length input) long)
 
 pub report-take : (command : Command) (input : List ℕ) → report command (take (MOST_INPUT_BYTES + 1) input) ≡ report command input
-report-take Replay input =
+report-take command input =
     elim (cases_lt (MOST_INPUT_BYTES + 1) (length input)) [
       | inl long ↦
           let cut : length (take (MOST_INPUT_BYTES + 1) input) ≡ MOST_INPUT_BYTES + 1 = length-take-le (MOST_INPUT_BYTES + 1) input (omega arith) in
-          too_long (take (MOST_INPUT_BYTES + 1) input) (omega arith) ∙ sym (too_long input (omega arith))
-      | inr short ↦ ap (λ (bytes : List ℕ). report Replay bytes) (take_all (MOST_INPUT_BYTES + 1) input short)
+          too_long command (take (MOST_INPUT_BYTES + 1) input) (omega arith) ∙ sym (too_long command input (omega arith))
+      | inr short ↦ ap (λ (bytes : List ℕ). report command bytes) (take_all (MOST_INPUT_BYTES + 1) input short)
     ]
 
 -- the answer to what was read is the answer to the whole input

@@ -1,5 +1,5 @@
 -- An answer: its bytes, and the status that goes with them.
-use Rattle.std.specs.Prelude.{ℕ, List, [], ◌∷◌, ◌++◌, codes}
+use Rattle.std.specs.Prelude.{ℕ, Bool, if◌then◌else◌, List, [], ◌∷◌, ◌++◌, codes}
 use Rattle.std.specs.Fmt.{decimal}
 use Rattle.faults.specs.Name.{head}
 use Rattle.faults.specs.declared.number.TheConstants.{NO_SEPARATOR, BAD_EVENT, INPUT_TOO_LONG}
@@ -21,6 +21,10 @@ abbrev pub then_status : Status → Status → Status
 then_status status Done = status
 then_status status Refused = Refused
 then_status status BadText = BadText
+
+-- of a question
+abbrev pub yes_or_no : Bool → Status
+yes_or_no answer = if answer then Done else Refused
 
 -- an answer, and the rest behind it
 abbrev pub followed_by : Answer → Answer → Answer

@@ -1,32 +1,74 @@
 -- What the program writes for an input: a function of the bytes that it reads.
-use Rattle.std.specs.Prelude.{ℕ, nat_lt, if◌then◌else◌, List, length, Option, Some, None, Result, Ok, Err}
+use Rattle.std.specs.Prelude.{ℕ, nat_lt, ◌++◌, ◌∷◌, [], if◌then◌else◌, List, length, Option, Some, None, Result, Ok, Err}
 use Rattle.job_bodies.specs.Plan.{Plan}
 use Rattle.job_bodies.specs.FaultText.{fault_line}
 use Rattle.job_bodies.specs.declared.fault.PlanFault.{PlanFault}
+use Rattle.faults.specs.Name.{head}
 use Rattle.plan_text.specs.PlanOf.{plan_of}
+use Rattle.certificates.specs.Cert.{Cert}
+use Rattle.cert_text.specs.declared.fault.CertFault.{CertFault}
+use Rattle.cert_text.specs.CertOf.{cert_of}
+use Rattle.headline.specs.Conditions.{failing}
+use Rattle.headline.specs.Accepted.{is_nil}
+use Rattle.cert_check.specs.Verdict.{Verdict, verdict}
+use Rattle.cert_check.specs.Text.{verdict_text}
+use Rattle.refusal_notes.specs.Explanation.{explanation}
 use Rattle.written_machine.specs.Reach.{start}
 use Rattle.event_lines.specs.EventLine.{Line, event_lines}
 use Rattle.command_line.specs.declared.command.Command.{Command}
-use Rattle.command_line.specs.declared.command.Command.TheVariants.{Replay}
+use Rattle.command_line.specs.declared.command.Command.TheVariants.{Replay, Check, Explain}
 use Rattle.sizing_cli.specs.declared.limits.TheConstants.{MOST_INPUT_BYTES, MOST_EVENT_BYTES}
-use Rattle.sizing_cli.specs.Answer.{Answer, fault, no_separator, input_too_long, bad_event}
+use Rattle.sizing_cli.specs.Answer.{Answer, fault, no_separator, input_too_long, bad_event, yes_or_no}
 use Rattle.sizing_cli.specs.Bundle.{Bundle, bundle_of}
 use Rattle.sizing_cli.specs.Transcript.{transcript}
+
+-- ---- replay
 
 abbrev pub replay_of_lines : Plan → Result (List Line) ℕ → Answer
 replay_of_lines plan (Err line) = bad_event line
 replay_of_lines plan (Ok lines) = transcript plan (start plan) 1 lines
 
 -- the replay of the event lines on the plan, none of which happens before all are read
-abbrev pub replay_of_plan : List ℕ → Result Plan PlanFault → Answer
-replay_of_plan second (Err f) = fault (fault_line f)
-replay_of_plan second (Ok plan) =
-    if nat_lt MOST_EVENT_BYTES (length second) then input_too_long else replay_of_lines plan (event_lines plan second)
+abbrev pub replay : Plan → List ℕ → Answer
+replay plan second = if nat_lt MOST_EVENT_BYTES (length second) then input_too_long else replay_of_lines plan (event_lines plan second)
 
-abbrev pub replay_of_bundle : Option Bundle → Answer
-replay_of_bundle None = no_separator
-replay_of_bundle (Some bundle) = replay_of_plan bundle.second (plan_of bundle.plan)
+-- ---- check
+
+-- the verdict, which is a no where it says no
+abbrev pub verdict_answer : Plan → Verdict → Answer
+verdict_answer plan verdict = record { text = verdict_text plan verdict; status = yes_or_no verdict.yes }
+
+abbrev pub check_of_cert : Plan → Result Cert CertFault → Answer
+check_of_cert plan (Err f) = fault (head f.number)
+check_of_cert plan (Ok cert) = verdict_answer plan (verdict plan cert)
+
+-- the verdict on the plan and the certificate that the second part is
+abbrev pub check : Plan → List ℕ → Answer
+check plan second = check_of_cert plan (cert_of second plan)
+
+-- ---- explain
+
+abbrev pub explain_of_cert : Plan → Result Cert CertFault → Answer
+explain_of_cert plan (Err f) = fault (head f.number)
+explain_of_cert plan (Ok cert) = record { text = explanation plan (failing plan cert); status = yes_or_no (is_nil (failing plan cert)) }
+
+-- the failing conditions of the certificate that the second part is
+abbrev pub explain : Plan → List ℕ → Answer
+explain plan second = explain_of_cert plan (cert_of second plan)
+
+-- ---- the whole
+
+abbrev pub answer_of_plan : Command → List ℕ → Result Plan PlanFault → Answer
+answer_of_plan command second (Err f) = fault (fault_line f)
+answer_of_plan Replay second (Ok plan) = replay plan second
+answer_of_plan Check second (Ok plan) = check plan second
+answer_of_plan Explain second (Ok plan) = explain plan second
+
+-- the plan's fault comes before what the second part has to say
+abbrev pub answer_of_bundle : Command → Option Bundle → Answer
+answer_of_bundle command None = no_separator
+answer_of_bundle command (Some bundle) = answer_of_plan command bundle.second (plan_of bundle.plan)
 
 -- the answer to an input
 abbrev pub report : Command → List ℕ → Answer
-report Replay input = if nat_lt MOST_INPUT_BYTES (length input) then input_too_long else replay_of_bundle (bundle_of input)
+report command input = if nat_lt MOST_INPUT_BYTES (length input) then input_too_long else answer_of_bundle command (bundle_of input)

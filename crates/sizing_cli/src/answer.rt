@@ -1,11 +1,13 @@
 //! An answer: its text, and the status that goes with it.
 
 ghost use Rattle.std.specs.Prelude.{◌≡◌, ◌++◌, [], IfOk, string_bytes};
+ghost use Rattle.faults.specs.Name.{head};
 ghost use Rattle.job_bodies.specs.FaultText.{fault_line};
 ghost use Rattle.sizing_cli.specs.Answer as spec;
 ghost use Rattle.sizing_cli.specs.Transcript.{is_no, replied};
 
 use crate::Status;
+use cert_text::CertFault;
 use event_lines::{Reply, push_reply};
 use faults::{Head, number};
 use interleaving::Outcome;
@@ -84,6 +86,13 @@ pub fn plan_fault(alloc: Global, plan_fault: PlanFault) -> Result<Answer, AllocE
     ensures { IfOk result (λ answer. answer ≡ spec.fault (fault_line plan_fault)) }
 {
     fault(format!(in alloc; "{plan_fault}")?)
+}
+
+/// The answer to the text of a certificate with this fault.
+pub fn cert_fault(alloc: Global, cert_fault: CertFault) -> Result<Answer, AllocError>
+    ensures { IfOk result (λ answer. answer ≡ spec.fault (head cert_fault.number)) }
+{
+    fault(format!(in alloc; "{cert_fault}")?)
 }
 
 fn fault(mut line: String) -> Result<Answer, AllocError>

@@ -5,6 +5,7 @@ ghost use Rattle.std.specs.Io.KnownBytes.{Appends, Keeps};
 ghost use Rattle.byte_streams.specs.Reading.{ConsumesAtMost};
 ghost use Rattle.byte_streams.specs.Writing.{AppendsFront};
 ghost use Rattle.sizing_cli.specs.Report as spec;
+ghost use Rattle.sizing_cli.specs.SafeInput.{IsSafeInput};
 ghost use Rattle.sizing_cli.specs.ServeFault.{count_of, is_known};
 
 use crate::limits::MOST_INPUT_BYTES;
@@ -36,6 +37,9 @@ pub fn serve_alone<S: Source, K: Sink>(
     ensures front { IfErr result (λ fault. fault.number ≡ WRITE_FAILED → IfSome (S.remaining source.old) (λ input.
         AppendsFront (K.written sink.old) (K.written sink.new) (spec.report command input).text)) }
     ensures nothing { IfErr result (λ fault. fault.number ≢ WRITE_FAILED → Keeps (K.written sink.old) (K.written sink.new)) }
+
+    // A yes of `check` is true: the plan is safe in every state that any list of events reaches.
+    ensures safe { IfOk result (λ status. command ≡ Command.Check → status ≡ Status.Done → IfSome (S.remaining source.old) IsSafeInput) }
 
     // No other fault than 20, 60 and 61 comes, and 60 and 61 just where the source and the sink failed.
     ensures known { IfErr result (λ fault. IsTrue (is_known fault.number)) }

@@ -3,7 +3,7 @@
 ghost use Rattle.std.specs.Prelude.{◌≡◌, Some};
 ghost use Rattle.faults.specs.Name.{head};
 ghost use Rattle.faults.specs.declared.number.TheConstants.{MEMORY, WRITE_FAILED};
-ghost use Rattle.sizing_cli.specs.Answer.{code};
+ghost use Rattle.sizing_cli.specs.Answer.{code, yes_or_no};
 ghost use Rattle.sizing_cli.specs.ServeFault.{fault_of_input};
 
 use byte_streams::{InputError, IoFault};
@@ -25,6 +25,13 @@ pub enum Status {
 }
 
 impl Status {
+    /// The status of an answer that is yes or no.
+    pub(crate) fn of_question(yes: bool) -> Status
+        ensures { result ≡ yes_or_no yes }
+    {
+        if yes { Status::Done } else { Status::Refused }
+    }
+
     /// The program's exit status: 0, 1 for a no, or 2 for a fault of the input.
     pub fn code(self) -> u8
         ensures { result ≡ code self }

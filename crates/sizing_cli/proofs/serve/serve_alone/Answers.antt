@@ -1,6 +1,7 @@
 use Rattle.std.proofs.Common.{sym, ◌∙◌, ap}
 use Rattle.sizing_cli.specs.Answer.{Answer}
 use Rattle.sizing_cli.proofs.PastTheLimit.{answered_whole, wrote_all, wrote_front, if_err}
+use Rattle.sizing_cli.proofs.SafeInputs.{safe_where_known, known_status}
 use Rattle.sizing_cli.proofs.serve.serve_alone.Goals as goal
 
 pub returns-in_err-write_all-clause-front : goal.returns-in_err-write_all-clause-front
@@ -18,3 +19,10 @@ returns-clause-answered g c =
     (answered_whole _ _ c.as_slice.result.now c.args.command c.in_ok-answer.answer c.in_ok-input.ensures.front c.as_slice.ensures.value c.in_ok-answer.ensures)
     (c.as_bytes.ensures.value ∙ ap (λ (a : Answer). a.text) c.answer.view_is)
     c.in_ok-write_all.ensures.ok)
+
+pub returns-clause-safe : goal.returns-clause-safe
+returns-clause-safe g c =
+    safe_where_known (g.S.Source.remaining c.args.source.now) c.args.command c.answer.inside.status
+    (known_status (g.S.Source.remaining c.args.source.now) c.args.command c.in_ok-answer.answer c.answer.inside.status
+    (answered_whole (g.S.Source.remaining c.args.source.now) _ c.as_slice.result.now c.args.command c.in_ok-answer.answer c.in_ok-input.ensures.front c.as_slice.ensures.value c.in_ok-answer.ensures)
+    (ap (λ (a : Answer). a.status) c.answer.view_is))
