@@ -1,8 +1,10 @@
 #!/usr/bin/env python3
-"""Runs `sizing replay` on each example of this folder, and compares what it answers.
+"""Runs the program on each example of this folder, and compares what it answers.
 
-An example is NAME.txt, the program's standard input; NAME.answer, what it must print; and NAME.status, the exit status
-that it must end with. The program is crates/sizing/out/sizing, or the one that the environment variable SIZING names.
+An example is a plan NAME.toml with events NAME.events, a certificate NAME.json, or both. NAME.replay is what `sizing
+replay` must answer to the plan, a line `%%` and the events; NAME.check and NAME.explain are what those commands must
+answer to the plan, a line `%%` and the certificate. The last line of each tells the exit status. The program is
+crates/sizing/out/sizing, or the one that the environment variable SIZING names.
 
 Exit status: 0 where all examples agree, 1 where one differs, 2 where the program isn't there.
 """
@@ -15,6 +17,7 @@ from pathlib import Path
 
 HERE = Path(__file__).resolve().parent
 BUILT = HERE.parent / "crates" / "sizing" / "out" / "sizing"
+SECOND_PARTS = {"replay": "events", "check": "json", "explain": "json"}
 SECONDS = 60
 
 
@@ -23,34 +26,34 @@ def main():
     if not os.access(program, os.X_OK) or not program.is_file():
         print(f"there is no program at {program}: run `make program` at the top of the repository", file=sys.stderr)
         return 2
-    names = sorted(path.stem for path in HERE.glob("*.txt"))
+    examples = sorted(path for path in HERE.iterdir() if path.suffix[1:] in SECOND_PARTS)
     wrong = 0
-    for name in names:
-        difference = compare(program, name)
-        print(f"{name}: {difference or 'ok'}")
+    for answer in examples:
+        difference = compare(program, answer)
+        print(f"{answer.name}: {difference or 'ok'}")
         wrong += difference is not None
-    print(f"{len(names) - wrong} ok, {wrong} wrong")
-    return 1 if wrong or not names else 0
+    print(f"{len(examples) - wrong} ok, {wrong} wrong")
+    return 1 if wrong or not examples else 0
 
 
-def compare(program, name):
+def compare(program, answer):
     """What is wrong with the program's answer to an example; None where it agrees."""
+    command = answer.suffix[1:]
     try:
-        given = (HERE / f"{name}.txt").read_bytes()
-        wanted = (HERE / f"{name}.answer").read_bytes()
-        status = int((HERE / f"{name}.status").read_text())
-    except (OSError, ValueError) as error:
+        plan = answer.with_suffix(".toml").read_bytes()
+        second = answer.with_suffix("." + SECOND_PARTS[command]).read_bytes()
+        wanted = answer.read_bytes()
+    except OSError as error:
         return f"the example can't be read: {error}"
     try:
-        ended = subprocess.run([program, "replay"], input=given, capture_output=True, timeout=SECONDS)
+        ended = subprocess.run([program, command], input=plan + b"%%\n" + second, capture_output=True, timeout=SECONDS)
     except subprocess.TimeoutExpired:
         return f"no answer within {SECONDS} seconds"
     except OSError as error:
         return f"the program can't be run: {error}"
-    if ended.stdout != wanted:
-        return first_difference(wanted, ended.stdout)
-    if ended.returncode != status:
-        return f"status {ended.returncode}, wanted {status}"
+    printed = ended.stdout + f"status {ended.returncode}\n".encode()
+    if printed != wanted:
+        return first_difference(wanted, printed)
     if ended.stderr:
         return f"it prints on standard error: {shown(ended.stderr)}"
     return None
