@@ -18,3 +18,10 @@ pub use certified::Certified;
 pub use from_bytes::{CheckFault, check};
 pub use judge::verdict;
 pub use text::push_verdict;
+
+// What certificates are made of, and their texts.
+pub use cert_text::{CertFault, read_cert, write_cert};
+pub use certificates::{Cert, PoolCert};
+pub use headline::{Note, Section};
+pub use pool_ranks::Ranks;
+pub use weights::{Bound, Vector};

@@ -14,7 +14,9 @@ mod transcript;
 
 pub use byte_streams::{IoFault, MemorySink, MemorySource, Sink, Source, StdSink, StdSource};
 pub use command_line::{Command, read_words};
-pub use laws::{a_yes_means_safe, inputs_split_at_the_last_separator, no_bundle_without_a_separator};
+pub use laws::{
+    a_yes_means_safe, inputs_split_at_the_last_separator, no_bundle_without_a_separator,
+};
 pub use limits::{MOST_EVENT_BYTES, MOST_INPUT_BYTES};
 pub use serve::serve_alone;
 pub use status::{ServeFault, Status};
