@@ -18,7 +18,7 @@ use Rattle.job_bodies.proofs.BuildLaws.{well_formed}
 use Rattle.job_bodies.proofs.Passing.{both_pass, test_passes, each_passed, each_passes, EachPlace}
 use Rattle.plan_text.specs.Document.{list_of, list_at, as_list}
 use Rattle.plan_text.specs.Entry.{Entry, value_at, entry_of, text_at, number_at, flag_at, texts_at, action_text}
-use Rattle.plan_text.specs.Entries.{ClassEntry, ClientEntry, Entries, AreWithinLimits, pool_at, class_at, client_at, entries_of}
+use Rattle.plan_text.specs.Entries.{ClassEntry, ClientEntry, Entries, AreWithinLimits, read_pool, read_class, read_client, entries_of}
 use Rattle.plan_text.specs.Checks.{class_names, client_names, class_head, client_head, check_pools, check_classes, check_clients}
 use Rattle.plan_text.specs.Bodies.{body_of, class_of, client_of}
 use Rattle.plan_text.specs.PlanOf.{plan_of_entries}
@@ -42,8 +42,8 @@ few_texts entry key texts e =
     let long = read_length (action_text entry.part entry.index) 0 values.0 texts passed.2 in
     rw long (holds_ok _ _ passed.1)
 
-class_short : (index : ℕ) (value : Data) (class : ClassEntry) → class_at index value ≡ Ok class → nat_le (length class.body) MOST_ACTIONS ≡ true
-unfolding class_at
+class_short : (index : ℕ) (value : Data) (class : ClassEntry) → read_class index value ≡ Ok class → nat_le (length class.body) MOST_ACTIONS ≡ true
+unfolding read_class
 class_short index value class e =
     let entry = bind_ok (entry_of part.Class index _ value) _ _ e in
     let name = bind_ok (text_at entry.0 (codes "name")) _ _ entry.2 in
@@ -52,8 +52,8 @@ class_short index value class e =
     let same : body.0 ≡ class.body = ap (λ (c : ClassEntry). c.body) (given_same {F = PlanFault} _ class body.2) in
     subst (λ (texts : List (List ℕ)). nat_le (length texts) MOST_ACTIONS ≡ true) same (few_texts entry.0 (codes "body") body.0 body.1)
 
-client_short : (index : ℕ) (value : Data) (client : ClientEntry) → client_at index value ≡ Ok client → nat_le (length client.body) MOST_ACTIONS ≡ true
-unfolding client_at
+client_short : (index : ℕ) (value : Data) (client : ClientEntry) → read_client index value ≡ Ok client → nat_le (length client.body) MOST_ACTIONS ≡ true
+unfolding read_client
 client_short index value client e =
     let entry = bind_ok (entry_of part.Client index _ value) _ _ e in
     let name = bind_ok (text_at entry.0 (codes "name")) _ _ entry.2 in
@@ -70,15 +70,15 @@ are_within_limits document entries e =
     let pools = bind_ok (list_at (codes "pool") MOST_POOLS document) _ _ e in
     let classes = bind_ok (list_at (codes "class") MOST_CLASSES document) _ _ pools.2 in
     let clients = bind_ok (list_at (codes "client") MOST_CLIENTS document) _ _ classes.2 in
-    let p = bind_ok (read_each pool_at 0 pools.0) _ _ clients.2 in
-    let k = bind_ok (read_each class_at 0 classes.0) _ _ p.2 in
-    let c = bind_ok (read_each client_at 0 clients.0) _ _ k.2 in
+    let p = bind_ok (read_each read_pool 0 pools.0) _ _ clients.2 in
+    let k = bind_ok (read_each read_class 0 classes.0) _ _ p.2 in
+    let c = bind_ok (read_each read_client 0 clients.0) _ _ k.2 in
     let short : AreWithinLimits (record { pools = p.0; classes = k.0; clients = c.0 }) = record {
-      few_pools = rw (read_length pool_at 0 pools.0 p.0 p.1) (few (codes "pool") MOST_POOLS document pools.0 pools.1);
-      few_classes = rw (read_length class_at 0 classes.0 k.0 k.1) (few (codes "class") MOST_CLASSES document classes.0 classes.1);
-      few_clients = rw (read_length client_at 0 clients.0 c.0 c.1) (few (codes "client") MOST_CLIENTS document clients.0 clients.1);
-      classes = λ i class here. let found = read_at class_at classes.0 k.0 i class k.1 here in class_short i found.0 class found.2;
-      clients = λ i client here. let found = read_at client_at clients.0 c.0 i client c.1 here in client_short i found.0 client found.2;
+      few_pools = rw (read_length read_pool 0 pools.0 p.0 p.1) (few (codes "pool") MOST_POOLS document pools.0 pools.1);
+      few_classes = rw (read_length read_class 0 classes.0 k.0 k.1) (few (codes "class") MOST_CLASSES document classes.0 classes.1);
+      few_clients = rw (read_length read_client 0 clients.0 c.0 c.1) (few (codes "client") MOST_CLIENTS document clients.0 clients.1);
+      classes = λ i class here. let found = read_at read_class classes.0 k.0 i class k.1 here in class_short i found.0 class found.2;
+      clients = λ i client here. let found = read_at read_client clients.0 c.0 i client c.1 here in client_short i found.0 client found.2;
     } in
     subst AreWithinLimits (given_same {F = PlanFault} _ entries c.2) short
 

@@ -37,8 +37,8 @@ pub record AreWithinLimits (entries : Entries) : Type 0 where
   pub clients : (i : ℕ) (client : ClientEntry) → slice_get entries.clients i ≡ Some client → nat_le (length client.body) MOST_ACTIONS ≡ true
 
 -- a pool
-unfoldable pub pool_at : ℕ → Data → Result Pool PlanFault
-pool_at index value =
+unfoldable pub read_pool : ℕ → Data → Result Pool PlanFault
+read_pool index value =
     entry_of part.Pool index (codes "name" ∷ codes "core" ∷ codes "max" ∷ codes "queue" ∷ codes "prestart" ∷ []) value >>= λ entry.
     text_at entry (codes "name") >>= λ name.
     number_at entry (codes "core") >>= λ core.
@@ -48,8 +48,8 @@ pool_at index value =
     Ok (record { name = name; core = core; max = max; queue = queue; prestart = prestart })
 
 -- a class
-unfoldable pub class_at : ℕ → Data → Result ClassEntry PlanFault
-class_at index value =
+unfoldable pub read_class : ℕ → Data → Result ClassEntry PlanFault
+read_class index value =
     entry_of part.Class index (codes "name" ∷ codes "pool" ∷ codes "body" ∷ []) value >>= λ entry.
     text_at entry (codes "name") >>= λ name.
     text_at entry (codes "pool") >>= λ pool.
@@ -57,8 +57,8 @@ class_at index value =
     Ok (record { name = name; pool = pool; body = body })
 
 -- a kind of clients
-unfoldable pub client_at : ℕ → Data → Result ClientEntry PlanFault
-client_at index value =
+unfoldable pub read_client : ℕ → Data → Result ClientEntry PlanFault
+read_client index value =
     entry_of part.Client index (codes "name" ∷ codes "count" ∷ codes "repeat" ∷ codes "body" ∷ []) value >>= λ entry.
     text_at entry (codes "name") >>= λ name.
     number_at entry (codes "count") >>= λ count.
@@ -72,7 +72,7 @@ entries_of document =
     list_at (codes "pool") MOST_POOLS document >>= λ pools.
     list_at (codes "class") MOST_CLASSES document >>= λ classes.
     list_at (codes "client") MOST_CLIENTS document >>= λ clients.
-    read_each pool_at 0 pools >>= λ pools.
-    read_each class_at 0 classes >>= λ classes.
-    read_each client_at 0 clients >>= λ clients.
+    read_each read_pool 0 pools >>= λ pools.
+    read_each read_class 0 classes >>= λ classes.
+    read_each read_client 0 clients >>= λ clients.
     Ok (record { pools = pools; classes = classes; clients = clients })

@@ -58,9 +58,9 @@ impl<'a> Model for Entries<'a> {
     ghost view = { λ e. record { pools = e.pools.items; classes = e.classes.items; clients = e.clients.items } };
 }
 
-#[tactic(auto, unfolding(crate::specs::Entries::pool_at))]
-fn pool_at(alloc: Global, index: usize, value: &Value) -> Result<Pool, TextError>
-    ensures { Gives (λ pool. pool) result (spec.pool_at index (view value.now)) }
+#[tactic(auto, unfolding(crate::specs::Entries::read_pool))]
+fn read_pool(alloc: Global, index: usize, value: &Value) -> Result<Pool, TextError>
+    ensures { Gives (λ pool. pool) result (spec.read_pool index (view value.now)) }
 {
     let keys = ["name", "core", "max", "queue", "prestart"];
     let entry = Entry::of(value, Part::Pool, index, &keys)?;
@@ -78,9 +78,9 @@ fn pool_at(alloc: Global, index: usize, value: &Value) -> Result<Pool, TextError
     })
 }
 
-#[tactic(auto, unfolding(crate::specs::Entries::class_at))]
-fn class_at(alloc: Global, index: usize, value: &Value) -> Result<ClassEntry<'_>, TextError>
-    ensures { Gives (λ class. class) result (spec.class_at index (view value.now)) }
+#[tactic(auto, unfolding(crate::specs::Entries::read_class))]
+fn read_class(alloc: Global, index: usize, value: &Value) -> Result<ClassEntry<'_>, TextError>
+    ensures { Gives (λ class. class) result (spec.read_class index (view value.now)) }
 {
     let keys = ["name", "pool", "body"];
     let entry = Entry::of(value, Part::Class, index, &keys)?;
@@ -90,9 +90,9 @@ fn class_at(alloc: Global, index: usize, value: &Value) -> Result<ClassEntry<'_>
     Ok(ClassEntry { name, pool, body })
 }
 
-#[tactic(auto, unfolding(crate::specs::Entries::client_at))]
-fn client_at(alloc: Global, index: usize, value: &Value) -> Result<ClientEntry<'_>, TextError>
-    ensures { Gives (λ client. client) result (spec.client_at index (view value.now)) }
+#[tactic(auto, unfolding(crate::specs::Entries::read_client))]
+fn read_client(alloc: Global, index: usize, value: &Value) -> Result<ClientEntry<'_>, TextError>
+    ensures { Gives (λ client. client) result (spec.read_client index (view value.now)) }
 {
     let keys = ["name", "count", "repeat", "body"];
     let entry = Entry::of(value, Part::Client, index, &keys)?;
@@ -109,21 +109,21 @@ fn client_at(alloc: Global, index: usize, value: &Value) -> Result<ClientEntry<'
 }
 
 fn pools_of(alloc: Global, values: &[Value]) -> Result<Vec<Pool>, TextError>
-    ensures { Gives (λ pools. pools.items) result (each.read_each spec.pool_at 0 (map view values.now)) }
+    ensures { Gives (λ pools. pools.items) result (each.read_each spec.read_pool 0 (map view values.now)) }
 {
-    read_each(alloc, values, |index, value| pool_at(alloc, index, value))
+    read_each(alloc, values, |index, value| read_pool(alloc, index, value))
 }
 
 fn class_entries_of(alloc: Global, values: &[Value]) -> Result<Vec<ClassEntry<'_>>, TextError>
-    ensures { Gives (λ classes. classes.items) result (each.read_each spec.class_at 0 (map view values.now)) }
+    ensures { Gives (λ classes. classes.items) result (each.read_each spec.read_class 0 (map view values.now)) }
 {
-    read_each(alloc, values, |index, value| class_at(alloc, index, value))
+    read_each(alloc, values, |index, value| read_class(alloc, index, value))
 }
 
 fn client_entries_of(alloc: Global, values: &[Value]) -> Result<Vec<ClientEntry<'_>>, TextError>
-    ensures { Gives (λ clients. clients.items) result (each.read_each spec.client_at 0 (map view values.now)) }
+    ensures { Gives (λ clients. clients.items) result (each.read_each spec.read_client 0 (map view values.now)) }
 {
-    read_each(alloc, values, |index, value| client_at(alloc, index, value))
+    read_each(alloc, values, |index, value| read_client(alloc, index, value))
 }
 
 /// The entries of a document: first the three lists, then each entry's shape.

@@ -12,7 +12,7 @@ use Rattle.job_bodies.specs.Plan.{Pool, Class, Client, Plan, pool_names}
 use Rattle.job_bodies.proofs.Passing.{EachPlace}
 use Rattle.plan_text.specs.Document.{has_only, list_at}
 use Rattle.plan_text.specs.Entry.{Entry, entry_of, text_at, number_at, flag_at, texts_at, action_text}
-use Rattle.plan_text.specs.Entries.{ClassEntry, ClientEntry, Entries, pool_at, class_at, client_at, entries_of}
+use Rattle.plan_text.specs.Entries.{ClassEntry, ClientEntry, Entries, read_pool, read_class, read_client, entries_of}
 use Rattle.plan_writer.specs.Spelling.{name_at, body_texts}
 use Rattle.plan_writer.specs.PlanDocument.{list_data, texts_data, pool_data, class_data, client_data, plan_document}
 use Rattle.plan_text.proofs.Tables.{elements-items_of}
@@ -53,12 +53,12 @@ texts_back entry key texts found short =
     let long : length (map string texts) ≡ length texts = length-map texts string in
     rw (found, elements-items_of (map string texts), long, short) (read_again (action_text entry.part entry.index) string texts (λ i text e. refl))
 
-pool_again : (index : ℕ) (name : List ℕ) (core max queue : ℕ) (prestart : Bool) → let pool : Pool = record { name = name; core = core; max = max; queue = queue; prestart = prestart } in pool_at index (pool_data pool) ≡ Ok pool
-unfolding pool_at pool_data entry_of text_at number_at flag_at
+pool_again : (index : ℕ) (name : List ℕ) (core max queue : ℕ) (prestart : Bool) → let pool : Pool = record { name = name; core = core; max = max; queue = queue; prestart = prestart } in read_pool index (pool_data pool) ≡ Ok pool
+unfolding read_pool pool_data entry_of text_at number_at flag_at
 pool_again index name core max queue true = refl
 pool_again index name core max queue false = refl
 
-pool_back : (index : ℕ) (pool : Pool) → pool_at index (pool_data pool) ≡ Ok pool
+pool_back : (index : ℕ) (pool : Pool) → read_pool index (pool_data pool) ≡ Ok pool
 pool_back index pool = pool_again index pool.name pool.core pool.max pool.queue pool.prestart
 
 -- the entry of the code that a table is
@@ -67,13 +67,13 @@ entry_at part index (table members) = record { table = members; part = part; ind
 entry_at part index _ = record { table = no_members; part = part; index = index }
 
 class_back : (pools classes : List (List ℕ)) (index : ℕ) (class : Class) → nat_le (length (body_texts classes class.body)) MOST_ACTIONS ≡ true
-    → class_at index (class_data pools classes class) ≡ Ok (class_entry pools classes class)
-unfolding class_at class_data entry_of text_at
+    → read_class index (class_data pools classes class) ≡ Ok (class_entry pools classes class)
+unfolding read_class class_data entry_of text_at
 class_back pools classes index class short = rw (texts_back (entry_at part.Class index (class_data pools classes class)) (codes "body") (body_texts classes class.body) refl short) refl
 
 client_back : (classes : List (List ℕ)) (index : ℕ) (client : Client) → nat_le (length (body_texts classes client.body)) MOST_ACTIONS ≡ true
-    → client_at index (client_data classes client) ≡ Ok (client_entry classes client)
-unfolding client_at client_data entry_of text_at number_at flag_at
+    → read_client index (client_data classes client) ≡ Ok (client_entry classes client)
+unfolding read_client client_data entry_of text_at number_at flag_at
 client_back classes index client short = rw (texts_back (entry_at part.Client index (client_data classes client)) (codes "body") (body_texts classes client.body) refl short) refl
 
 -- ---- the whole document
@@ -111,9 +111,9 @@ entries_back plan s =
       list_back (codes "pool") MOST_POOLS (plan_document plan) pool_data plan.pools refl s.few_pools,
       list_back (codes "class") MOST_CLASSES (plan_document plan) (class_data pools classes) plan.classes refl s.few_classes,
       list_back (codes "client") MOST_CLIENTS (plan_document plan) (client_data classes) plan.clients refl s.few_clients,
-      read_again pool_at pool_data plan.pools (λ i pool e. pool_back i pool),
-      read_made class_at (class_data pools classes) (class_entry pools classes) plan.classes (λ i class e. class_back pools classes i class (s.classes i class e)),
-      read_made client_at (client_data classes) (client_entry classes) plan.clients (λ i client e. client_back classes i client (s.clients i client e)),
+      read_again read_pool pool_data plan.pools (λ i pool e. pool_back i pool),
+      read_made read_class (class_data pools classes) (class_entry pools classes) plan.classes (λ i class e. class_back pools classes i class (s.classes i class e)),
+      read_made read_client (client_data classes) (client_entry classes) plan.clients (λ i client e. client_back classes i client (s.clients i client e)),
     ) refl
 
 -- the document has no other keys than a plan's

@@ -5,4 +5,4 @@ use Rattle.plan_text.specs.Entries as spec
 use Rattle.plan_text.proofs.entries.client_entries_of.Goals as goal
 
 pub returns : goal.returns
-returns c = gives_each_seen _ view spec.client_at (λ index value given h. search rules) _ _ c.read_each.ensures
+returns c = gives_each_seen _ view spec.read_client (λ index value given h. search rules) _ _ c.read_each.ensures
