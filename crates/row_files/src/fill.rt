@@ -1,5 +1,6 @@
 //! Texts with gaps.
 
+use crate::certs::sample_cert;
 use crate::plans::sample_plan;
 use crate::repeat::repeated;
 use crate::rows::Row;
@@ -48,11 +49,14 @@ pub fn with_names(alloc: Global, text: &str, row: &Row) -> Result<String, AllocE
     Ok(filled)
 }
 
-// The row's own part of this name, or else the sample plan.
+// The row's own part of this name, or else the sample certificate or plan.
 fn named(alloc: Global, name: &str, row: &Row) -> Result<String, AllocError> {
     let head = format!(in alloc; "let {name}")?;
-    match row.part(&head) {
-        Some(text) => repeated(alloc, text),
+    if let Some(text) = row.part(&head) {
+        return repeated(alloc, text);
+    }
+    match sample_cert(alloc, name)? {
+        Some(text) => Ok(text),
         None => sample_plan(alloc, name),
     }
 }

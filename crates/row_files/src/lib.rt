@@ -9,11 +9,13 @@
 //! behind the input, and their right sides are the lines of the answer. In an answer `*` stands for the place of the input.
 //!
 //! - `$(NAME)` stands for the row's part `let NAME`, and `$(one_pool 1 1 2 2)` for a sample plan of these sizes.
+//!   `$(standing_cert)` is a sample certificate, and `$(standing_cert OLD NEW)` the same with `NEW` in place of its first `OLD`.
 //! - `^<64 TEXT^>` is the text so many times. In it `^#` is how often it stood before, and `^+` is one more. `^<to 64 TEXT^>`
 //!   is the text until so many bytes stand before.
 //! - `^n`, `^r`, `^t` and `^s` are a newline, a carriage return, a tab and a space; `^xff` is the byte `ff`.
 #![tactic(auto)]
 
+mod certs;
 mod fill;
 mod plans;
 mod repeat;

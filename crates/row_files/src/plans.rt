@@ -20,6 +20,21 @@ count = $4
 repeat = true
 body = ["submit a as x", "get x"]"#;
 
+// The same with clients that go through their bodies once.
+const ONE_POOL_ONCE: &str = r#"[[pool]]
+name = "p"
+core = $1
+max = $2
+queue = $3
+[[class]]
+name = "a"
+pool = "p"
+body = ["work 1"]
+[[client]]
+name = "c"
+count = $4
+body = ["submit a as x", "get x"]"#;
+
 // A pool of these sizes, whose outer job submits an inner one to the same pool and waits for it.
 const NESTED: &str = r#"[[pool]]
 name = "p"
@@ -169,6 +184,32 @@ count = 1
 repeat = true
 body = ["submit a as x", "get x"]"#;
 
+// A pool of these sizes with each action in a class and in a client. Whether that client repeats comes behind the sizes;
+// beside it another one works, again and again.
+const EACH_ACTION: &str = r#"[[pool]]
+name = "p"
+core = $1
+max = $2
+queue = $3
+[[class]]
+name = "outer"
+pool = "p"
+body = ["work 1", "submit inner as x", "get x"]
+[[class]]
+name = "inner"
+pool = "p"
+body = ["work 1"]
+[[client]]
+name = "c"
+count = 1
+repeat = $4
+body = ["work 1", "submit outer as x", "get x"]
+[[client]]
+name = "d"
+count = 1
+repeat = true
+body = ["work 1"]"#;
+
 /// The text of the plan with this name and these sizes. The text is that of no plan where the name is of none.
 pub fn sample_plan(alloc: Global, words: &str) -> Result<String, AllocError> {
     let (name, sizes) = words.split_once(' ').unwrap_or((words, ""));
@@ -183,11 +224,13 @@ pub fn sample_plan(alloc: Global, words: &str) -> Result<String, AllocError> {
 fn template(name: &str) -> &'static str {
     match name {
         "one_pool" => ONE_POOL,
+        "one_pool_once" => ONE_POOL_ONCE,
         "nested" => NESTED,
         "fan_out" => FAN_OUT,
         "front_and_back" => FRONT_AND_BACK,
         "two_pools" | "three_pools" => TWO_POOLS,
         "there_and_back" => THERE_AND_BACK,
+        "each_action" => EACH_ACTION,
         _ => "no such plan",
     }
 }
