@@ -12,76 +12,106 @@ const READ_FAILED: ServeFault = ServeFault { number: 60 };
 
 const WRITE_FAILED: ServeFault = ServeFault { number: 61 };
 
-/// Says where a failing call ends otherwise than it must. What ends so is what is answered where no call fails.
-pub fn push_otherwise(
-    answer: &mut String,
-    alloc: Global,
-    input: &[u8],
-    ended: &Ended,
-) -> Result<(), AllocError> {
-    push_failing_reads(answer, alloc, input, ended, 1)?;
-    push_failing_reads(answer, alloc, input, ended, 20)?;
-    push_failing_reads(answer, alloc, input, ended, 1_000)?;
-    push_failing_writes(answer, alloc, input, ended, 1)?;
-    push_failing_writes(answer, alloc, input, ended, 7)?;
-    push_failing_writes(answer, alloc, input, ended, 1_000)?;
-    push_stalling_writes(answer, alloc, input, ended)
+/// An input of a command, and what is answered where no call fails.
+#[derive(Drop)]
+pub struct Case<'a> {
+    pub command: Command,
+    pub input: &'a [u8],
+    pub ended: Ended,
 }
 
-// A source that fails gives 60, and nothing is written. One call more than those that give the bytes is made, which tells
-// their end. A failure of a later call is never met.
-fn push_failing_reads(
-    answer: &mut String,
-    alloc: Global,
-    input: &[u8],
-    ended: &Ended,
-    most: usize,
-) -> Result<(), AllocError>
-    requires { 0 < most }
-{
-    let last = input.len().div_ceil(most) as u64;
-    for calls in 0..=last.saturating_add(1) {
-        let mut source = MemorySource::new(input).at_most(most).failing_after(calls);
-        let failed = serve(alloc, &mut source, MemorySink::new(alloc))?;
-        let is_right = if calls <= last {
-            failed.written.is_empty() && failed.outcome == Err(READ_FAILED)
-        } else {
-            failed == *ended
-        };
-        if !is_right {
-            write!(
-                answer,
-                ", but not with a source of {most} that fails after {calls}"
-            )?;
-        }
+impl Case<'_> {
+    /// Says where a failing call ends otherwise than it must.
+    pub fn push_otherwise(&self, alloc: Global, answer: &mut String) -> Result<(), AllocError> {
+        self.push_failing_reads(alloc, answer, 1)?;
+        self.push_failing_reads(alloc, answer, 20)?;
+        self.push_failing_reads(alloc, answer, 1_000)?;
+        self.push_failing_writes(alloc, answer, 1)?;
+        self.push_failing_writes(alloc, answer, 7)?;
+        self.push_failing_writes(alloc, answer, 1_000)?;
+        self.push_stalling_writes(alloc, answer)
     }
-    Ok(())
-}
 
-// A sink that fails gives 61, and what it has is a front of the answer. A failure of a later call than those that take the
-// answer is never met.
-fn push_failing_writes(
-    answer: &mut String,
-    alloc: Global,
-    input: &[u8],
-    ended: &Ended,
-    most: usize,
-) -> Result<(), AllocError>
-    requires { 0 < most }
-{
-    for calls in 0..=ended.written.len().div_ceil(most) {
-        let sink = MemorySink::new(alloc)
-            .at_most(most)
-            .failing_after(calls as u64);
-        let failed = serve(alloc, &mut MemorySource::new(input), sink)?;
-        if !is_front_of(&failed, ended, most.saturating_mul(calls)) {
-            write!(
-                answer,
-                ", but not with a sink of {most} that fails after {calls}"
-            )?;
+    // A source that fails gives 60, and nothing is written. One call more than those that give the bytes is made, which
+    // tells their end. A failure of a later call is never met.
+    fn push_failing_reads(
+        &self,
+        alloc: Global,
+        answer: &mut String,
+        most: usize,
+    ) -> Result<(), AllocError>
+        requires { 0 < most }
+    {
+        let last = self.input.len().div_ceil(most) as u64;
+        for calls in 0..=last.saturating_add(1) {
+            let mut source = MemorySource::new(self.input)
+                .at_most(most)
+                .failing_after(calls);
+            let failed = serve(alloc, self.command, &mut source, MemorySink::new(alloc))?;
+            let is_right = if calls <= last {
+                failed.written.is_empty() && failed.outcome == Err(READ_FAILED)
+            } else {
+                failed == self.ended
+            };
+            if !is_right {
+                write!(
+                    answer,
+                    ", but not with a source of {most} that fails after {calls}"
+                )?;
+            }
         }
+        Ok(())
     }
-    Ok(())
+
+    // A sink that fails gives 61, and what it has is a front of the answer. A failure of a later call than those that take
+    // the answer is never met.
+    fn push_failing_writes(
+        &self,
+        alloc: Global,
+        answer: &mut String,
+        most: usize,
+    ) -> Result<(), AllocError>
+        requires { 0 < most }
+    {
+        for calls in 0..=self.ended.written.len().div_ceil(most) {
+            let sink = MemorySink::new(alloc)
+                .at_most(most)
+                .failing_after(calls as u64);
+            let mut source = MemorySource::new(self.input);
+            let failed = serve(alloc, self.command, &mut source, sink)?;
+            if !is_front_of(&failed, &self.ended, most.saturating_mul(calls)) {
+                write!(
+                    answer,
+                    ", but not with a sink of {most} that fails after {calls}"
+                )?;
+            }
+        }
+        Ok(())
+    }
+
+    // A writer that takes no byte has failed. A sink may not take none itself: its contract wants a byte or a fault.
+    fn push_stalling_writes(&self, alloc: Global, answer: &mut String) -> Result<(), AllocError> {
+        for calls in 0..=self.ended.written.len().div_ceil(7) {
+            let mut sink = StdSink::new(Stalling {
+                taken: Vec::new(alloc),
+                calls,
+            });
+            let mut source = MemorySource::new(self.input);
+            let outcome = serve_alone(alloc, self.command, &mut source, &mut sink);
+            let Stalling { taken, calls: _ } = sink.into_inner();
+            let failed = Ended {
+                written: taken,
+                outcome,
+            };
+            if !is_front_of(&failed, &self.ended, calls.saturating_mul(7)) {
+                write!(
+                    answer,
+                    ", but not with a writer that takes none after {calls}"
+                )?;
+            }
+        }
+        Ok(())
+    }
 }
 
 // So many bytes were written and the call failed; where there are no more, it ended well.
@@ -118,33 +148,4 @@ impl Write for Stalling {
     fn flush(&mut self) -> io::Result<()> {
         Ok(())
     }
-}
-
-// A writer that takes no byte has failed. A sink may not take none itself: its contract wants a byte or a fault.
-fn push_stalling_writes(
-    answer: &mut String,
-    alloc: Global,
-    input: &[u8],
-    ended: &Ended,
-) -> Result<(), AllocError> {
-    for calls in 0..=ended.written.len().div_ceil(7) {
-        let mut sink = StdSink::new(Stalling {
-            taken: Vec::new(alloc),
-            calls,
-        });
-        let mut source = MemorySource::new(input);
-        let outcome = serve_alone(alloc, Command::Replay, &mut source, &mut sink);
-        let Stalling { taken, calls: _ } = sink.into_inner();
-        let failed = Ended {
-            written: taken,
-            outcome,
-        };
-        if !is_front_of(&failed, ended, calls.saturating_mul(7)) {
-            write!(
-                answer,
-                ", but not with a writer that takes none after {calls}"
-            )?;
-        }
-    }
-    Ok(())
 }

@@ -1,59 +1,85 @@
 //! The kinds of inputs.
 
-use crate::failing::push_otherwise;
+use crate::failing::Case;
 use crate::served::{Ended, serve};
 use crate::words::asked;
 use row_files::Suite;
-use sizing_cli::{MemorySink, MemorySource};
+use sizing_cli::{Command, MemorySink, MemorySource};
 use std::alloc::{AllocError, Global};
 
 /// What the program is given.
 ///
-/// - `replay` is the whole input of a replay. Its answer is what is written, with the status on a last line. An input that is
-///   short is also read and answered where a call of the source or of the sink fails.
-/// - `fronts of a replay` is an input each of whose shorter fronts is answered alike.
+/// - `replay`, `check` and `explain` are the whole input of the command. Its answer is what is written, with the status on a
+///   last line. An input that is short is also read and answered where a call of the source or of the sink fails.
+/// - `check and explain` is an input of both commands. Its answer is that of the first, and behind it that of the second
+///   where that is another.
+/// - `fronts of a replay`, `fronts of a check` and `fronts of an explain` are an input whose shorter fronts are all answered.
+///   The answer is that to the shortest, and behind it each that is not as the one before, with the length of its front.
 /// - `words` are the words of a command line, with a newline behind each.
 pub struct Served;
 
 // An input of at most so many bytes is short.
-const SHORT: usize = 1_000;
+const SHORT: usize = 1_500;
 
 impl Suite for Served {
     fn answer(&self, alloc: Global, kind: &str, input: &[u8]) -> Result<String, AllocError> {
         match kind {
-            "replay" => replayed(alloc, input),
-            "fronts of a replay" => replayed_fronts(alloc, input),
+            "replay" => answered(alloc, Command::Replay, input),
+            "check" => answered(alloc, Command::Check, input),
+            "explain" => answered(alloc, Command::Explain, input),
+            "check and explain" => checked_and_explained(alloc, input),
+            "fronts of a replay" => fronts(alloc, Command::Replay, input),
+            "fronts of a check" => fronts(alloc, Command::Check, input),
+            "fronts of an explain" => fronts(alloc, Command::Explain, input),
             "words" => asked(alloc, input),
             _ => String::from_str(alloc, "no such kind of input"),
         }
     }
 }
 
-fn whole(alloc: Global, input: &[u8]) -> Result<Ended, AllocError> {
-    serve(alloc, &mut MemorySource::new(input), MemorySink::new(alloc))
+fn whole(alloc: Global, command: Command, input: &[u8]) -> Result<Ended, AllocError> {
+    let sink = MemorySink::new(alloc);
+    serve(alloc, command, &mut MemorySource::new(input), sink)
 }
 
-fn replayed(alloc: Global, input: &[u8]) -> Result<String, AllocError> {
-    let ended = whole(alloc, input)?;
+fn answered(alloc: Global, command: Command, input: &[u8]) -> Result<String, AllocError> {
+    let ended = whole(alloc, command, input)?;
     let mut answer = ended.shown(alloc)?;
     let mut source = MemorySource::new(input).at_most(1);
-    if serve(alloc, &mut source, MemorySink::new(alloc).at_most(1))? != ended {
+    let sink = MemorySink::new(alloc).at_most(1);
+    if serve(alloc, command, &mut source, sink)? != ended {
         answer.push_str(", but not a byte at a time")?;
     }
     if input.len() <= SHORT {
-        push_otherwise(&mut answer, alloc, input, &ended)?;
+        let case = Case {
+            command,
+            input,
+            ended,
+        };
+        case.push_otherwise(alloc, &mut answer)?;
     }
     Ok(answer)
 }
 
-fn replayed_fronts(alloc: Global, input: &[u8]) -> Result<String, AllocError> {
-    let first = whole(alloc, &[])?;
+fn checked_and_explained(alloc: Global, input: &[u8]) -> Result<String, AllocError> {
+    let mut answer = answered(alloc, Command::Check, input)?;
+    let explained = answered(alloc, Command::Explain, input)?;
+    if explained != answer {
+        write!(answer, "\n{explained}")?;
+    }
+    Ok(answer)
+}
+
+fn fronts(alloc: Global, command: Command, input: &[u8]) -> Result<String, AllocError> {
+    let mut last = whole(alloc, command, &[])?;
+    let mut answer = last.shown(alloc)?;
     for length in 0..input.len() {
-        let ended = whole(alloc, &input[..length])?;
-        if ended != first {
-            let answer = ended.shown(alloc)?;
-            return format!(in alloc; "{answer} at {length} bytes");
+        let ended = whole(alloc, command, &input[..length])?;
+        if ended != last {
+            let shown = ended.shown(alloc)?;
+            write!(answer, "\nfrom {length} bytes:\n{shown}")?;
+            last = ended;
         }
     }
-    first.shown(alloc)
+    Ok(answer)
 }

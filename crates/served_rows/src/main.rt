@@ -12,7 +12,15 @@ use std::io;
 
 fn main(rt: HostRuntime) -> io::Result<()> {
     let files = [
-        "replays", "examples", "faults", "lines", "numbers", "parts", "limits", "words",
+        "replays",
+        "examples",
+        "faults",
+        "lines",
+        "numbers",
+        "parts",
+        "limits",
+        "checks",
+        "words",
     ];
     run_files(&rt, &Served, &files)
 }

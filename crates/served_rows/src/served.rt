@@ -1,4 +1,4 @@
-//! Serves an input to memory.
+//! Serves inputs to memory.
 
 use sizing_cli::{Command, MemorySink, ServeFault, Source, Status, serve_alone};
 use std::alloc::{AllocError, Global};
@@ -27,11 +27,12 @@ impl Ended {
 /// Serves what the source gives.
 pub fn serve<S: Source>(
     alloc: Global,
+    command: Command,
     source: &mut S,
     sink: MemorySink,
 ) -> Result<Ended, AllocError> {
     let mut sink = sink;
-    let outcome = serve_alone(alloc, Command::Replay, source, &mut sink);
+    let outcome = serve_alone(alloc, command, source, &mut sink);
     let written = sink.written().to_vec(alloc)?;
     Ok(Ended { written, outcome })
 }
