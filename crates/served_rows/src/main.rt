@@ -20,6 +20,8 @@ fn main(rt: HostRuntime) -> io::Result<()> {
         "parts",
         "limits",
         "checks",
+        "explanations",
+        "certificates",
         "words",
     ];
     run_files(&rt, &Served, &files)
