@@ -3,15 +3,17 @@
 use command_line::read_words;
 use std::test::*;
 
-/// What help prints says where to begin, and the help of `replay` has an example with its answer.
+/// What help prints says where to begin, and the help of each command has an example with its answer.
 #[test]
 fn words_that_ask_for_help(rt: HostRuntime) -> Result<(), Fail> {
-    let table: [(&[&str], [&str; 4]); 2] = [
+    let table: [(&[&str], [&str; 6]); 4] = [
         (
             &["sizing", "--help"],
             [
                 "\nUsage: sizing <COMMAND>\n",
-                "\n  replay  Replays events on a plan",
+                "\n  replay   Replays events on a plan",
+                "\n  check    Says whether a certificate shows",
+                "\n  explain  Lists the conditions of a certificate that fail",
                 "a line that is exactly `%%`",
                 "\nExit status:\n  0  ",
             ],
@@ -22,7 +24,31 @@ fn words_that_ask_for_help(rt: HostRuntime) -> Result<(), Fail> {
                 "\nUsage: sizing replay < INPUT\n",
                 "\nsizing replay <<'END'\n[[pool]]\n",
                 "\n%%\nclient 0\n",
+                "\nEND\n\nIt answers, with status 1:\n",
+                "\n1: started job 0\n",
                 "\n7: refused by pages\nrefusals 1, unfinished 1\n",
+            ],
+        ),
+        (
+            &["sizing", "check", "--help"],
+            [
+                "\nUsage: sizing check < INPUT\n",
+                "\nsizing check <<'END'\n[[pool]]\n",
+                "\nqueue = 2\n",
+                "\n%%\n{\"version\":1,\n",
+                "\nEND\n\nIt answers, with status 0:\n",
+                "\nyes\npool pages: standing 2 of 2, blocked 0 of 0\n",
+            ],
+        ),
+        (
+            &["sizing", "explain", "--help"],
+            [
+                "\nUsage: sizing explain < INPUT\n",
+                "\nsizing explain <<'END'\n[[pool]]\n",
+                "\nqueue = 1\n",
+                "\n%%\n{\"version\":1,\n",
+                "\nEND\n\nIt answers, with status 1:\n",
+                "\npool pages standing, total: S2 2 above 1\nfailing 1\n",
             ],
         ),
     ];
