@@ -2,3 +2,5 @@ pub mod Pools
 pub mod Telling
 pub mod Conditions
 pub mod Yes
+pub mod WorkedPlans
+pub mod WorkedVerdicts

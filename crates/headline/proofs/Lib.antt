@@ -1,4 +1,3 @@
 pub mod CertLaws
 pub mod Faults
 pub mod Theorem
-pub mod WorkedCerts

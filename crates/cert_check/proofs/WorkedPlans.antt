@@ -1,0 +1,225 @@
+-- Small plans and certificates for them, of which the verdicts are computed.
+use Rattle.std.proofs.Common.{ℕ, List, [], ◌∷◌, Bool, true, false}
+use Rattle.job_bodies.specs.declared.action.Action.{Action}
+use Rattle.job_bodies.specs.declared.action.Action.TheVariants.{Work, Submit, Get}
+use Rattle.job_bodies.specs.Plan.{Plan, Pool, Class, Client}
+use Rattle.weights.specs.declared.bound.Bound.{Bound}
+use Rattle.weights.specs.declared.bound.Bound.TheVariants.{Standing, Lifetime}
+use Rattle.weights.specs.Vector.{Vector}
+use Rattle.pool_ranks.specs.Ranks.{Ranks}
+use Rattle.certificates.specs.Cert.{Cert, PoolCert}
+
+-- ---- parts of plans, each with a name of one letter
+
+abbrev pub a_pool : ℕ → ℕ → ℕ → ℕ → Bool → Pool
+a_pool letter core max queue prestart = record { name = letter ∷ []; core = core; max = max; queue = queue; prestart = prestart }
+
+abbrev pub a_class : ℕ → ℕ → List Action → Class
+a_class letter pool body = record { name = letter ∷ []; pool = pool; body = body }
+
+abbrev pub clients : ℕ → ℕ → Bool → List Action → Client
+clients letter count repeat body = record { name = letter ∷ []; count = count; repeat = repeat; body = body }
+
+-- submits a job of this class and gets it
+abbrev pub asks : ℕ → List Action
+asks class = Submit class ∷ Get 0 ∷ []
+
+abbrev pub works : List Action
+works = Work 1 ∷ []
+
+-- ---- plans
+
+-- no pool, no class and no client
+abbrev pub no_parts : Plan
+no_parts = record { pools = []; classes = []; clients = [] }
+
+-- a pool of these sizes, one piece of work to submit to it, and the clients
+abbrev pub one_class : Pool → Client → Plan
+one_class pool client = record { pools = pool ∷ []; classes = a_class 97 0 works ∷ []; clients = client ∷ [] }
+
+-- a pool of these sizes (core, maximum, queue) and so many clients that submit one piece of work and wait for it, again and again
+abbrev pub one_pool : ℕ → ℕ → ℕ → ℕ → Plan
+one_pool core max queue count = one_class (a_pool 112 core max queue false) (clients 99 count true (asks 0))
+
+-- the same, where each client asks but once, and the core threads may be started beforehand
+abbrev pub one_pool_once : ℕ → ℕ → ℕ → ℕ → Bool → Plan
+one_pool_once core max queue count prestart = one_class (a_pool 112 core max queue prestart) (clients 99 count false (asks 0))
+
+-- one client that submits a piece of work and never waits for it, once or again and again
+abbrev pub forgetting : Bool → Plan
+forgetting repeat = one_class (a_pool 112 1 1 2 false) (clients 99 1 repeat (Submit 0 ∷ []))
+
+-- a pool of this core and maximum and a queue of 5, in which an outer job submits an inner one and waits for it
+abbrev pub nested : ℕ → ℕ → Bool → Plan
+nested core max prestart = record {
+  pools = a_pool 112 core max 5 prestart ∷ [];
+  classes = a_class 111 0 (asks 1) ∷ a_class 105 0 works ∷ [];
+  clients = clients 99 1 true (asks 0) ∷ [];
+}
+
+-- two threads and this queue, in which an outer job submits three inner ones and then waits for them
+abbrev pub fan_out : ℕ → Plan
+fan_out queue = record {
+  pools = a_pool 112 2 2 queue false ∷ [];
+  classes = a_class 111 0 (Submit 1 ∷ Submit 1 ∷ Submit 1 ∷ Get 0 ∷ Get 1 ∷ Get 2 ∷ []) ∷ a_class 105 0 works ∷ [];
+  clients = clients 99 1 true (asks 0) ∷ [];
+}
+
+-- a pool in front, whose jobs wait for jobs of a pool behind it
+abbrev pub front_and_back : Plan
+front_and_back = record {
+  pools = a_pool 102 4 4 1000 false ∷ a_pool 98 2 2 4 false ∷ [];
+  classes = a_class 102 0 (asks 1) ∷ a_class 98 1 works ∷ [];
+  clients = clients 99 1000 true (asks 0) ∷ [];
+}
+
+-- two pools, of one thread and of so many, whose jobs wait for jobs of the other
+abbrev pub two_pools : ℕ → Plan
+two_pools threads = record {
+  pools = a_pool 112 1 1 2 false ∷ a_pool 113 threads threads 2 false ∷ [];
+  classes = a_class 97 0 (asks 1) ∷ a_class 98 1 works ∷ a_class 99 1 (asks 3) ∷ a_class 100 0 works ∷ [];
+  clients = clients 117 1 true (asks 0) ∷ clients 119 1 true (asks 2) ∷ [];
+}
+
+-- a job waits for another pool, whose job waits for the first pool again
+abbrev pub there_and_back : Plan
+there_and_back = record {
+  pools = a_pool 112 1 1 2 false ∷ a_pool 113 2 2 2 false ∷ [];
+  classes = a_class 97 0 (asks 1) ∷ a_class 98 1 (asks 2) ∷ a_class 100 0 works ∷ [];
+  clients = clients 99 1 true (asks 0) ∷ [];
+}
+
+-- ---- parts of certificates
+
+abbrev pub weighing : List ℕ → List (List ℕ) → List (List ℕ) → Vector
+weighing workers classes clients = record { workers = workers; classes = classes; clients = clients }
+
+abbrev pub pool_cert : Bound → Vector → PoolCert
+pool_cert bound blocked = record { bound = bound; blocked = blocked }
+
+-- the rows of a class and of a client of two actions, and of a class and of a client of one
+abbrev pub pair_of_zeros : List ℕ
+pair_of_zeros = 0 ∷ 0 ∷ 0 ∷ 0 ∷ 0 ∷ []
+
+abbrev pub pair_of_ones : List ℕ
+pair_of_ones = 1 ∷ 1 ∷ 1 ∷ 1 ∷ 1 ∷ []
+
+abbrev pub one_of_zeros : List ℕ
+one_of_zeros = 0 ∷ 0 ∷ 0 ∷ 0 ∷ []
+
+abbrev pub one_of_ones : List ℕ
+one_of_ones = 1 ∷ 1 ∷ 1 ∷ 1 ∷ []
+
+-- what submits a job and gets it, and has 1 while the job has none
+abbrev pub lends : List ℕ
+lends = 1 ∷ 0 ∷ 1 ∷ []
+
+abbrev pub has_nothing : List ℕ
+has_nothing = 0 ∷ 0 ∷ 0 ∷ []
+
+-- a job of two actions that does so
+abbrev pub job_lends : List ℕ
+job_lends = 1 ∷ 1 ∷ 0 ∷ 1 ∷ 1 ∷ []
+
+-- ---- certificates
+
+abbrev pub no_parts_cert : Cert
+no_parts_cert = record { pools = []; ranks = record { pools = []; reach = []; levels = [] } }
+
+-- of one pool and one class, where no job is ever blocked
+abbrev pub one_pool_cert : Bound → ℕ → Cert
+one_pool_cert bound rank = record {
+  pools = pool_cert bound (weighing (0 ∷ []) (one_of_zeros ∷ []) (has_nothing ∷ [])) ∷ [];
+  ranks = record { pools = rank ∷ []; reach = 0 ∷ []; levels = 0 ∷ [] };
+}
+
+-- each client has a weight, or else its job has it
+abbrev pub standing_cert : ℕ → Cert
+standing_cert weight = one_pool_cert (Standing (weighing (0 ∷ []) ((weight ∷ weight ∷ weight ∷ weight ∷ []) ∷ []) ((weight ∷ 0 ∷ weight ∷ []) ∷ []))) 0
+
+-- a done job weighs more than one at its end, and the pool ranks above what its jobs reach
+abbrev pub faulty_cert : Cert
+faulty_cert = one_pool_cert (Standing (weighing (0 ∷ []) ((1 ∷ 1 ∷ 1 ∷ 2 ∷ []) ∷ []) (lends ∷ []))) 1
+
+-- each client makes one job, and a job that was got weighs what it did
+abbrev pub lifetime_cert : Cert
+lifetime_cert = one_pool_cert (Lifetime (weighing (0 ∷ []) (one_of_ones ∷ []) ((1 ∷ 0 ∷ 0 ∷ []) ∷ []))) 0
+
+-- a job weighs nothing once it is done, since nobody waits for it
+abbrev pub forgetting_cert : Cert
+forgetting_cert = record {
+  pools =
+      pool_cert
+      (Standing (weighing (0 ∷ []) ((1 ∷ 1 ∷ 1 ∷ 0 ∷ []) ∷ []) ((1 ∷ 0 ∷ []) ∷ [])))
+      (weighing (0 ∷ []) (one_of_zeros ∷ []) ((0 ∷ 0 ∷ []) ∷ []))
+      ∷ [];
+  ranks = record { pools = 0 ∷ []; reach = 0 ∷ []; levels = 0 ∷ [] };
+}
+
+-- the outer class is of a higher level than the inner one
+abbrev pub nested_ranks : Ranks
+nested_ranks = record { pools = 0 ∷ []; reach = 0 ∷ 0 ∷ []; levels = 1 ∷ 0 ∷ [] }
+
+-- one of the two jobs is queued at most, and the outer one alone is ever blocked
+abbrev pub nested_cert : Cert
+nested_cert = record {
+  pools =
+      pool_cert
+      (Standing (weighing (0 ∷ []) (job_lends ∷ one_of_ones ∷ []) (lends ∷ [])))
+      (weighing (0 ∷ []) (pair_of_ones ∷ one_of_zeros ∷ []) (lends ∷ []))
+      ∷ [];
+  ranks = nested_ranks;
+}
+
+-- the outer job has 3, of which it lends 1 to each inner one
+abbrev pub fan_out_cert : Cert
+fan_out_cert = record {
+  pools =
+      pool_cert
+      (Standing (weighing (0 ∷ []) ((3 ∷ 3 ∷ 2 ∷ 1 ∷ 0 ∷ 1 ∷ 2 ∷ 3 ∷ 3 ∷ []) ∷ one_of_ones ∷ []) ((3 ∷ 0 ∷ 3 ∷ []) ∷ [])))
+      (weighing (0 ∷ []) ((1 ∷ 1 ∷ 1 ∷ 1 ∷ 1 ∷ 1 ∷ 1 ∷ 1 ∷ 1 ∷ []) ∷ one_of_zeros ∷ []) (lends ∷ []))
+      ∷ [];
+  ranks = nested_ranks;
+}
+
+-- the clients lend to the jobs in front, and the workers in front to those at the back, which the jobs in front need not count
+abbrev pub front_and_back_cert : Cert
+front_and_back_cert = record {
+  pools =
+      pool_cert
+      (Standing (weighing (0 ∷ 0 ∷ []) (pair_of_ones ∷ one_of_zeros ∷ []) (lends ∷ [])))
+      (weighing (0 ∷ 0 ∷ []) (pair_of_zeros ∷ one_of_zeros ∷ []) (has_nothing ∷ []))
+      ∷ pool_cert
+        (Standing (weighing (1 ∷ 0 ∷ []) ((0 ∷ 1 ∷ 0 ∷ 1 ∷ 0 ∷ []) ∷ one_of_ones ∷ []) (has_nothing ∷ [])))
+        (weighing (0 ∷ 0 ∷ []) (pair_of_zeros ∷ one_of_zeros ∷ []) (has_nothing ∷ []))
+        ∷ [];
+  ranks = record { pools = 1 ∷ 0 ∷ []; reach = 1 ∷ 0 ∷ []; levels = 1 ∷ 0 ∷ [] };
+}
+
+-- the first pool ranks above what its job waits for, and the second does not
+abbrev pub two_pools_cert : Cert
+two_pools_cert = record {
+  pools =
+      pool_cert
+      (Standing (weighing (0 ∷ 0 ∷ []) (pair_of_ones ∷ one_of_zeros ∷ job_lends ∷ one_of_ones ∷ []) (lends ∷ lends ∷ [])))
+      (weighing (0 ∷ 0 ∷ []) (pair_of_zeros ∷ one_of_zeros ∷ pair_of_zeros ∷ one_of_zeros ∷ []) (has_nothing ∷ has_nothing ∷ []))
+      ∷ pool_cert
+        (Standing (weighing (0 ∷ 0 ∷ []) (job_lends ∷ one_of_ones ∷ pair_of_ones ∷ one_of_zeros ∷ []) (lends ∷ lends ∷ [])))
+        (weighing (0 ∷ 0 ∷ []) (pair_of_zeros ∷ one_of_zeros ∷ pair_of_ones ∷ one_of_zeros ∷ []) (has_nothing ∷ lends ∷ []))
+        ∷ [];
+  ranks = record { pools = 1 ∷ 0 ∷ []; reach = 1 ∷ 0 ∷ 1 ∷ 1 ∷ []; levels = 1 ∷ 0 ∷ 1 ∷ 0 ∷ [] };
+}
+
+-- the first job waits for one that reaches as high as its own pool
+abbrev pub there_and_back_cert : Cert
+there_and_back_cert = record {
+  pools =
+      pool_cert
+      (Standing (weighing (0 ∷ 0 ∷ []) (job_lends ∷ job_lends ∷ one_of_ones ∷ []) (lends ∷ [])))
+      (weighing (0 ∷ 0 ∷ []) (pair_of_zeros ∷ pair_of_zeros ∷ one_of_zeros ∷ []) (has_nothing ∷ []))
+      ∷ pool_cert
+        (Standing (weighing (0 ∷ 0 ∷ []) (job_lends ∷ pair_of_ones ∷ one_of_zeros ∷ []) (lends ∷ [])))
+        (weighing (0 ∷ 0 ∷ []) (job_lends ∷ pair_of_ones ∷ one_of_zeros ∷ []) (lends ∷ []))
+        ∷ [];
+  ranks = record { pools = 1 ∷ 0 ∷ []; reach = 1 ∷ 1 ∷ 1 ∷ []; levels = 2 ∷ 1 ∷ 0 ∷ [] };
+}
