@@ -190,9 +190,9 @@ front_and_back_cert = record {
       (Standing (weighing (0 ∷ 0 ∷ []) (pair_of_ones ∷ one_of_zeros ∷ []) (lends ∷ [])))
       (weighing (0 ∷ 0 ∷ []) (pair_of_zeros ∷ one_of_zeros ∷ []) (has_nothing ∷ []))
       ∷ pool_cert
-        (Standing (weighing (1 ∷ 0 ∷ []) ((0 ∷ 1 ∷ 0 ∷ 1 ∷ 0 ∷ []) ∷ one_of_ones ∷ []) (has_nothing ∷ [])))
-        (weighing (0 ∷ 0 ∷ []) (pair_of_zeros ∷ one_of_zeros ∷ []) (has_nothing ∷ []))
-        ∷ [];
+      (Standing (weighing (1 ∷ 0 ∷ []) ((0 ∷ 1 ∷ 0 ∷ 1 ∷ 0 ∷ []) ∷ one_of_ones ∷ []) (has_nothing ∷ [])))
+      (weighing (0 ∷ 0 ∷ []) (pair_of_zeros ∷ one_of_zeros ∷ []) (has_nothing ∷ []))
+      ∷ [];
   ranks = record { pools = 1 ∷ 0 ∷ []; reach = 1 ∷ 0 ∷ []; levels = 1 ∷ 0 ∷ [] };
 }
 
@@ -204,9 +204,9 @@ two_pools_cert = record {
       (Standing (weighing (0 ∷ 0 ∷ []) (pair_of_ones ∷ one_of_zeros ∷ job_lends ∷ one_of_ones ∷ []) (lends ∷ lends ∷ [])))
       (weighing (0 ∷ 0 ∷ []) (pair_of_zeros ∷ one_of_zeros ∷ pair_of_zeros ∷ one_of_zeros ∷ []) (has_nothing ∷ has_nothing ∷ []))
       ∷ pool_cert
-        (Standing (weighing (0 ∷ 0 ∷ []) (job_lends ∷ one_of_ones ∷ pair_of_ones ∷ one_of_zeros ∷ []) (lends ∷ lends ∷ [])))
-        (weighing (0 ∷ 0 ∷ []) (pair_of_zeros ∷ one_of_zeros ∷ pair_of_ones ∷ one_of_zeros ∷ []) (has_nothing ∷ lends ∷ []))
-        ∷ [];
+      (Standing (weighing (0 ∷ 0 ∷ []) (job_lends ∷ one_of_ones ∷ pair_of_ones ∷ one_of_zeros ∷ []) (lends ∷ lends ∷ [])))
+      (weighing (0 ∷ 0 ∷ []) (pair_of_zeros ∷ one_of_zeros ∷ pair_of_ones ∷ one_of_zeros ∷ []) (has_nothing ∷ lends ∷ []))
+      ∷ [];
   ranks = record { pools = 1 ∷ 0 ∷ []; reach = 1 ∷ 0 ∷ 1 ∷ 1 ∷ []; levels = 1 ∷ 0 ∷ 1 ∷ 0 ∷ [] };
 }
 
@@ -218,8 +218,8 @@ there_and_back_cert = record {
       (Standing (weighing (0 ∷ 0 ∷ []) (job_lends ∷ job_lends ∷ one_of_ones ∷ []) (lends ∷ [])))
       (weighing (0 ∷ 0 ∷ []) (pair_of_zeros ∷ pair_of_zeros ∷ one_of_zeros ∷ []) (has_nothing ∷ []))
       ∷ pool_cert
-        (Standing (weighing (0 ∷ 0 ∷ []) (job_lends ∷ pair_of_ones ∷ one_of_zeros ∷ []) (lends ∷ [])))
-        (weighing (0 ∷ 0 ∷ []) (job_lends ∷ pair_of_ones ∷ one_of_zeros ∷ []) (lends ∷ []))
-        ∷ [];
+      (Standing (weighing (0 ∷ 0 ∷ []) (job_lends ∷ pair_of_ones ∷ one_of_zeros ∷ []) (lends ∷ [])))
+      (weighing (0 ∷ 0 ∷ []) (job_lends ∷ pair_of_ones ∷ one_of_zeros ∷ []) (lends ∷ []))
+      ∷ [];
   ranks = record { pools = 1 ∷ 0 ∷ []; reach = 1 ∷ 1 ∷ 1 ∷ []; levels = 2 ∷ 1 ∷ 0 ∷ [] };
 }

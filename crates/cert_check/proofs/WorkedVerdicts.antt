@@ -1,7 +1,6 @@
 -- Verdicts, failing conditions and drain numbers of small plans, computed from the definitions alone.
 use Rattle.std.proofs.Common.{◌≡◌, ℕ, List, [], ◌∷◌, Option, Some, Bool, true, false, refl}
 use Rattle.std.specs.Option.{option_map}
-use Rattle.job_bodies.specs.Plan.{Plan}
 use Rattle.written_machine.specs.declared.event.Event.{Event}
 use Rattle.written_machine.specs.declared.event.Event.TheVariants as event
 use Rattle.written_machine.specs.Reach.{start, replay}
@@ -48,10 +47,10 @@ over_capacity_fails = refl
 
 -- conditions of the ranks and of the vector fail, in that order
 pub several_notes : failing (one_pool 1 1 1 2) faulty_cert
-  ≡ note section.Ranks (row K1 (place.Class 0) 1 0)
-  ∷ note (section.Standing 0) (row V6 (place.Class 0) 2 1)
-  ∷ note (section.Standing 0) (row S2 place.Total 2 1)
-  ∷ []
+    ≡ note section.Ranks (row K1 (place.Class 0) 1 0)
+    ∷ note (section.Standing 0) (row V6 (place.Class 0) 2 1)
+    ∷ note (section.Standing 0) (row S2 place.Total 2 1)
+    ∷ []
 several_notes = refl
 
 -- no parts, and so nothing to say
@@ -195,5 +194,5 @@ nested_queued = refl
 
 -- and just so many events drain it
 pub nested_drained_exactly :
-  todo_after true (event.Client 0 ∷ event.Take 0 ∷ event.Job 0 ∷ event.Take 0 ∷ event.Job 1 ∷ event.Job 1 ∷ event.Job 0 ∷ event.Job 0 ∷ []) ≡ Some 0
+    todo_after true (event.Client 0 ∷ event.Take 0 ∷ event.Job 0 ∷ event.Take 0 ∷ event.Job 1 ∷ event.Job 1 ∷ event.Job 0 ∷ event.Job 0 ∷ []) ≡ Some 0
 nested_drained_exactly = refl
