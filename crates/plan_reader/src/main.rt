@@ -1,28 +1,33 @@
-//! `plan_reader`: reads the text of a plan, or only its TOML. `bench/read.py` times one beside the other.
+//! `plan_reader`: reads the text of a plan, or only its TOML, or only the TOML and the JSON of a plan and its certificate.
+//! `bench/read.py` times the first beside the second, and `bench/check.py` times `sizing` beside the third.
 #![tactic(auto)]
 
 ghost use Rattle.std.specs.Prelude.{◌≡◌, ◌≢◌, IsOk, OnOk, IfErr, Err};
 ghost use Rattle.job_bodies.specs.Checks.{at_text};
 ghost use Rattle.plan_text.specs.PlanOf.{plan_of};
 ghost use Rattle.plan_text.specs.Document.{table_of};
+ghost use Rattle.readings.specs.Reading.{some_or};
+ghost use Rattle.serde_json.specs.Read.{read};
 
 use anyhow::{Result, bail};
-use faults::number::{MEMORY, NOT_TOML};
+use faults::number::{MEMORY, NO_SEPARATOR, NOT_JSON, NOT_TOML};
 use job_bodies::PlanFault;
 use plan_text::read_plan;
+use serde_json::Value;
 use std::alloc::Global;
 use std::{env, io};
 
 /// Reads standard input to its end, and prints `ok` or the first fault of what the word of the command line names.
 fn main(rt: HostRuntime) -> Result<()> {
     let Some(word) = env::args(&rt)?.nth(1) else {
-        bail!("usage: plan_reader plan|toml");
+        bail!("usage: plan_reader plan|toml|texts");
     };
     let text = io::read_to_string(rt.alloc(), rt.stdin())?;
     let outcome = match word.as_str() {
         "plan" => as_plan(rt.alloc(), &text),
         "toml" => as_toml(rt.alloc(), &text),
-        _ => bail!("usage: plan_reader plan|toml"),
+        "texts" => as_texts(rt.alloc(), &text),
+        _ => bail!("usage: plan_reader plan|toml|texts"),
     };
     match outcome {
         Ok(()) => println!(rt; "ok")?,
@@ -49,6 +54,29 @@ fn as_toml(alloc: Global, text: &str) -> Result<(), PlanFault>
         Ok(_table) => Ok(()),
         Err(error) => {
             let number = if error.is_memory() { MEMORY } else { NOT_TOML };
+            Err(PlanFault::at_text(number))
+        }
+    }
+}
+
+/// Reads what stands before the last line `%%` as TOML alone, and what stands behind it as JSON alone.
+fn as_texts(alloc: Global, text: &str) -> Result<(), PlanFault> {
+    let Some((plan, cert)) = text.rsplit_once("%%\n") else {
+        return Err(PlanFault::at_text(NO_SEPARATOR));
+    };
+    as_toml(alloc, plan)?;
+    as_json(alloc, cert)
+}
+
+/// Reads the text as JSON alone, and lets the value go.
+fn as_json(alloc: Global, text: &str) -> Result<(), PlanFault>
+    ensures ok { OnOk result (IsOk (some_or (read text.now) (at_text NOT_JSON))) }
+    ensures fault { IfErr result (λ fault. fault ≢ at_text MEMORY → some_or (read text.now) (at_text NOT_JSON) ≡ Err fault) }
+{
+    match Value::from_str(alloc, text) {
+        Ok(_value) => Ok(()),
+        Err(error) => {
+            let number = if error.is_memory() { MEMORY } else { NOT_JSON };
             Err(PlanFault::at_text(number))
         }
     }
