@@ -52,7 +52,7 @@ def full_bodies(size):
         clients = [Client(name, 1, True, body) for name in names[:bodies - len(classes)]]
         return Plan([Pool("p", 1, 1, 1)], classes, clients)
 
-    return Text("full bodies", filled(largest(plan, MOST_CLASSES + MOST_CLIENTS, size), size), READ)
+    return Text("full bodies", filled(largest(plan, MOST_CLASSES + MOST_CLIENTS, size).text(), size), READ)
 
 
 def no_entries(size):
@@ -73,19 +73,19 @@ def plan_of_long_names(size, is_lawful):
             body += [f"submit {name} as {slot}", f"get {slot}"]
         return Plan([pool], [Class(name, pool.name, body) for name in names], [client])
 
-    return largest(plan, MOST_ACTIONS // 2, size)
+    return largest(plan, MOST_ACTIONS // 2, size).text()
 
 
-def largest(plan, most, size):
-    """The text of the largest of these plans, from 0 to the most, that is no longer than the size."""
+def largest(make, most, size):
+    """The largest of what is made of 0 to the most whose text is no longer than the size."""
     low, high = 0, most
     while low < high:
         middle = (low + high + 1) // 2
-        if len(plan(middle).text()) <= size:
+        if len(make(middle).text()) <= size:
             low = middle
         else:
             high = middle - 1
-    return plan(low).text()
+    return make(low)
 
 
 def filled(text, size):

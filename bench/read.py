@@ -15,7 +15,7 @@ import sys
 sys.dont_write_bytecode = True
 
 from plan_texts import all_texts
-from timing import Table, Wrong, built, compiled, costs, in_folder
+from timing import Program, Table, Wrong, built, compiled, costs, in_folder
 
 RUNS = 20
 LEAST_KIB = 64
@@ -45,7 +45,7 @@ def bench(folder, sizes):
     for size in sizes:
         for text in all_texts(size * 1024):
             (folder / "input").write_text(text.text)
-            programs = [([program, "plan"], f"{text.printed}\n".encode()), ([program, "toml"], b"ok\n")]
+            programs = [Program([program, "plan"], f"{text.printed}\n".encode()), Program([program, "toml"], b"ok\n")]
             plan, toml = costs(folder, measure, programs, RUNS)
             ratio = plan.milliseconds / toml.milliseconds
             if size == MOST_KIB:

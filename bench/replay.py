@@ -14,7 +14,7 @@ import sys
 sys.dont_write_bytecode = True
 
 from inputs import nested_jobs, one_looping_client
-from timing import Table, built, compiled, costs, in_folder
+from timing import Program, Table, built, compiled, costs, in_folder
 
 RUNS = 3
 MOST_KIB = 1024
@@ -44,7 +44,7 @@ def bench(folder, room):
         given = script.input()
         (folder / "input").write_bytes(given)
         counted = f"lines {given.count(10)}, words {len(given.split())}\n".encode()
-        programs = [([program, "replay"], script.answer()), ([count_lines], counted)]
+        programs = [Program([program, "replay"], script.answer()), Program([count_lines], counted)]
         replayed, count = costs(folder, measure, programs, RUNS)
         table.row(
             script.name,

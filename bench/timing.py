@@ -21,6 +21,20 @@ class Wrong(Exception):
 
 
 @dataclass
+class Program:
+    """A program's words, its right answer and status, and the file of the folder that is its input.
+
+    Its output is written to a file and compared, or it goes to /dev/null.
+    """
+
+    words: list
+    answer: bytes
+    status: int = 0
+    given: str = "input"
+    is_compared: bool = True
+
+
+@dataclass
 class Cost:
     """The least CPU time and the greatest peak memory of some runs."""
 
@@ -61,37 +75,55 @@ def compiled(folder, name):
 
 
 def costs(folder, measure, programs, runs):
-    """What each program costs on the input that lies in the folder; a program is its words and its right answer.
+    """What each program costs on its input, which lies in the folder.
 
     They run in turn, so that what else the machine does meets all of them.
     """
-    measured = [[run(folder, measure, words, answer) for words, answer in programs] for _ in range(runs)]
+    measured = [[run(folder, measure, program) for program in programs] for _ in range(runs)]
     return [
         Cost(min(time for time, _ in of_one) / 1000, max(memory for _, memory in of_one) / 1024)
         for of_one in zip(*measured)
     ]
 
 
-def run(folder, measure, words, answer):
-    """The microseconds and the KiB of a run. It must print the answer and end with status 0."""
-    ended = subprocess.run([measure, folder / "input", folder / "output", *words], stdout=subprocess.PIPE)
+def run(folder, measure, program):
+    """The microseconds and the KiB of a run. It must end with its status and, where it is compared, print its answer."""
+    name = program.words[0]
+    output = folder / "output" if program.is_compared else Path(os.devnull)
+    ended = subprocess.run([measure, folder / program.given, output, *program.words], stdout=subprocess.PIPE)
     if ended.returncode != 0:
-        raise Unable(f"{words[0]} can't be measured")
+        raise Unable(f"{name} can't be measured")
     status, microseconds, kibibytes = map(int, ended.stdout.split())
     if status > 128:
-        raise Wrong(f"{words[0]} is ended by signal {status - 128} after {microseconds / 1e6:.1f} s of CPU time")
-    if status != 0 or (folder / "output").read_bytes() != answer:
-        raise Wrong(f"{words[0]} ends with status {status}: {difference(folder, answer)}")
+        raise Wrong(f"{name} is ended by signal {status - 128} after {microseconds / 1e6:.1f} s of CPU time")
+    if program.is_compared and output.read_bytes() != program.answer:
+        raise Wrong(f"{name} ends with status {status}: {difference(output.read_bytes(), program.answer)}")
+    if status != program.status:
+        raise Wrong(f"{name} ends with status {status}, wanted {program.status}")
     return microseconds, kibibytes
 
 
-def difference(folder, wanted):
-    printed = (folder / "output").read_bytes().split(b"\n")
-    wanted = wanted.split(b"\n")
+def difference(printed, wanted):
+    printed, wanted = printed.split(b"\n"), wanted.split(b"\n")
     for number, (left, right) in enumerate(zip(printed, wanted), 1):
         if left != right:
             return f"line {number} is {left.decode(errors='replace')!r}, wanted {right.decode()!r}"
     return f"it printed {len(printed) - 1} lines, wanted {len(wanted) - 1}"
+
+
+def has_callgrind():
+    return shutil.which("valgrind") is not None
+
+
+def instructions(folder, program):
+    """How many millions of instructions a program runs on its input, as callgrind counts them."""
+    counter = ["valgrind", "--tool=callgrind", f"--callgrind-out-file={os.devnull}", *program.words]
+    with open(folder / program.given, "rb") as given:
+        ended = subprocess.run(counter, stdin=given, stdout=subprocess.DEVNULL, stderr=subprocess.PIPE, text=True)
+    for line in ended.stderr.splitlines():
+        if "Collected :" in line:
+            return int(line.split()[-1]) / 1e6
+    raise Unable(f"callgrind counts nothing of {program.words[0]}: {ended.stderr}")
 
 
 class Table:

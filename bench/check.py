@@ -1,0 +1,125 @@
+#!/usr/bin/env python3
+"""usage: check.py
+
+Times `sizing check` and `sizing explain` beside the reading of the same two texts alone, a plan's TOML and a
+certificate's JSON, and counts the instructions of both where valgrind is there. README.md says what is measured, and
+what the bars are.
+
+The programs are crates/sizing/out/sizing and crates/plan_reader/out/plan_reader, or those that the environment variables
+SIZING and PLAN_READER name.
+
+Exit status: 0 where all answers are right and no bar is passed, 1 where one is wrong or passed, 2 where the benchmark
+can't be run.
+"""
+
+import sys
+from dataclasses import replace
+
+sys.dont_write_bytecode = True
+
+from bundles import FEW_CLIENTS, MOST_SIZE, every_condition_fails, full_bodies, long_names, long_rows, short_rows
+from certificates import checked, explained
+from timing import Program, Table, Wrong, built, compiled, costs, has_callgrind, in_folder, instructions, run
+
+RUNS = 20
+SIZE = 1024 * 1024
+CHECK_BAR = 1.6
+EXPLAIN_BAR = 3
+COUNTS_BAR = 1.1
+
+
+def main(words):
+    if words:
+        print("usage: check.py", file=sys.stderr)
+        return 2
+    return in_folder(lambda folder: Bench(folder).run())
+
+
+class Bench:
+    """The programs, the table, and the bars that are passed so far."""
+
+    def __init__(self, folder):
+        self.folder = folder
+        self.sizing = built("sizing")
+        self.reader = built("plan_reader")
+        self.measure = compiled(folder, "measure")
+        self.is_counted = has_callgrind()
+        self.passed = []
+        self.table = Table(
+            ("sizing", 29), ("beside", 20), ("bytes", 9), ("ms", 7), ("beside", 7), ("ratio", 5), ("bar", 4),
+            ("M instr", 8), ("beside", 7), ("ratio", 5), ("MiB", 5), ("beside", 6),
+        )
+
+    def run(self):
+        for make in (long_names, full_bodies, long_rows, short_rows):
+            self.check(make(SIZE))
+        self.explain(every_condition_fails(SIZE))
+        self.counts(long_rows(SIZE, MOST_SIZE), long_rows(SIZE, FEW_CLIENTS))
+        if not self.is_counted:
+            print("no instructions are counted: valgrind is missing (`apt-get install valgrind`)")
+        if self.passed:
+            raise Wrong("\n".join(self.passed))
+
+    def check(self, bundle):
+        """Measures a check beside the reading of its texts alone; its peak memory in MiB."""
+        check = Program([self.sizing, "check"], *checked(bundle.certificate))
+        return self.beside_texts(bundle, check, CHECK_BAR)
+
+    def explain(self, bundle):
+        """Measures an explain beside the reading of its texts alone, and its memory beside its answer's and a check's."""
+        of_check = self.check(bundle)
+        explain = Program([self.sizing, "explain"], *explained(bundle.certificate))
+        (self.folder / explain.given).write_bytes(bundle.input())
+        run(self.folder, self.measure, explain)
+        peak = self.beside_texts(bundle, replace(explain, is_compared=False), EXPLAIN_BAR)
+        lines, size = explain.answer.count(b"\n"), len(explain.answer) / 2**20
+        most = 2 * size + of_check
+        print(f"  its answer: {lines} lines, {size:.1f} MiB; its peak: {peak:.1f} MiB, and {most:.1f} MiB at most")
+        self.hold(f"explain, {bundle.name}: MiB", peak, most)
+
+    def counts(self, many, few):
+        """Measures a check of many clients beside that of few."""
+        programs = []
+        for name, bundle in (("many", many), ("few", few)):
+            (self.folder / name).write_bytes(bundle.input())
+            programs.append(Program([self.sizing, "check"], *checked(bundle.certificate), given=name))
+        self.compare(f"check, {MOST_SIZE:,} clients", f"{FEW_CLIENTS} clients", programs, COUNTS_BAR)
+
+    def beside_texts(self, bundle, program, bar):
+        (self.folder / program.given).write_bytes(bundle.input())
+        texts = Program([self.reader, "texts"], b"ok\n")
+        return self.compare(f"{program.words[1]}, {bundle.name}", "the texts alone", [program, texts], bar)
+
+    def compare(self, name, other, programs, bar):
+        """Prints a row of two programs, and holds the ratio of their times to its bar; the first one's peak in MiB."""
+        first, second = costs(self.folder, self.measure, programs, RUNS)
+        ratio = first.milliseconds / second.milliseconds
+        self.table.row(
+            name,
+            other,
+            (self.folder / programs[0].given).stat().st_size,
+            f"{first.milliseconds:.2f}",
+            f"{second.milliseconds:.2f}",
+            f"{ratio:.2f}",
+            f"{bar:.1f}",
+            *self.counted(programs),
+            f"{first.mebibytes:.1f}",
+            f"{second.mebibytes:.1f}",
+        )
+        self.hold(f"{name}: ratio", ratio, bar)
+        return first.mebibytes
+
+    def counted(self, programs):
+        """The cells of the instructions of two programs."""
+        if not self.is_counted:
+            return ["-"] * 3
+        first, second = [instructions(self.folder, program) for program in programs]
+        return [f"{first:.1f}", f"{second:.1f}", f"{first / second:.2f}"]
+
+    def hold(self, what, found, bar):
+        if found > bar:
+            self.passed.append(f"{what} is {found:.2f}, and is not to be above {bar:.2f}")
+
+
+if __name__ == "__main__":
+    sys.exit(main(sys.argv[1:]))
