@@ -9,7 +9,7 @@ READER = crates/plan_reader/out/plan_reader
 demo:
 	@examples/demo
 
-# Proves and builds the program: some ten minutes on a fresh machine, and seconds after that.
+# Proves and builds the program: ten to twenty minutes on a fresh machine, and seconds after that.
 program:
 	@tools/build sizing replay $(PROGRAM)
 

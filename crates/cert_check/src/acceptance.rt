@@ -54,8 +54,8 @@ fn pool_holds(plan: &Plan, cert: &Cert, pool: usize) -> bool
         && blocked_fault(plan, pool, &counted, &of_pool.blocked).is_none()
 }
 
-/// Whether the certificate fits the plan and each pool has a standing vector of which each condition holds: then no submit
-/// is ever refused, whatever waits for what. It takes no memory.
+/// Whether the certificate fits the plan and each pool has a standing vector of which each condition holds, whatever its
+/// blocked vectors and its ranks say. It takes no memory.
 pub fn accepts_standing(plan: &Plan, cert: &Cert) -> bool
     ensures { result ≡ spec.accepted_standing plan.now cert.now }
 {

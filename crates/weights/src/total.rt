@@ -36,7 +36,7 @@ fn workers_total(plan: &Plan, vector: &Vector) -> u64
 }
 
 impl Vector {
-    /// What the start weighs: every client at its beginning, and each pool's maximum of workers. It is below 2 to the 59th.
+    /// What the start weighs: every client at its beginning, and each pool's maximum of workers. The sum never wraps.
     pub fn total(&self, plan: &Plan) -> u64
         requires { IsTrue (spec.vector_fits plan.now self.now) }
         ensures { result ≡ spec.total plan.now self.now }
