@@ -12,26 +12,20 @@ Exit status: 0 where all cases end as they should, 1 where one doesn't, 2 where 
 import os
 import subprocess
 import sys
+import tempfile
 from pathlib import Path
 
 HERE = Path(__file__).resolve().parent
 BUILT = HERE.parent / "crates" / "sizing" / "out" / "sizing"
-EXAMPLE = HERE.parent / "examples" / "two-clients.txt"
+EXAMPLE = HERE.parent / "examples" / "two-clients"
+# What stands behind the line `%%`, by its file.
+SECOND_PARTS = {"replay": "events", "check": "json", "explain": "json"}
 SECONDS = 20
 
-
-def ends(program, words=("replay",), stdin=None, stdout=subprocess.PIPE, close=None):
-    """The status, and what was printed on standard output and standard error."""
-    def prepare():
-        if close is not None:
-            os.close(close)
-    given = os.open(stdin or EXAMPLE, os.O_RDONLY)
-    try:
-        done = subprocess.run([program, *words], stdin=given, stdout=stdout, stderr=subprocess.PIPE,
-                              preexec_fn=prepare if close is not None else None, timeout=SECONDS)
-    finally:
-        os.close(given)
-    return done.returncode, done.stdout or b"", done.stderr
+NOT_WRITTEN = (3, b"", b"fault 61 WriteFailed\n")
+NOT_READ = (3, b"", b"fault 60 ReadFailed\n")
+NO_COMMAND = (2, b"", b"no command\n")
+NOT_UTF_8 = (2, b"", b"the words of the command line are to be UTF-8\n")
 
 
 def main():
@@ -39,29 +33,44 @@ def main():
     if not os.access(program, os.X_OK) or not program.is_file():
         print(f"there is no program at {program}: run `make program` at the top of the repository", file=sys.stderr)
         return 2
-    cases = [
-        ("a full device as standard output", full_device, lambda e: e == (3, b"", b"fault 61 WriteFailed\n")),
-        ("a closed standard output", closed_output, lambda e: e == (3, b"", b"fault 61 WriteFailed\n")),
-        ("a pipe that nobody reads", broken_pipe, lambda e: e == (3, b"", b"fault 61 WriteFailed\n")),
-        ("a directory as standard input", directory, lambda e: e == (3, b"", b"fault 60 ReadFailed\n")),
-        ("a closed standard input", closed_input, lambda e: e == (3, b"", b"fault 60 ReadFailed\n")),
-        ("no command", lambda p: ends(p, words=()), lambda e: e == (2, b"", b"no command\n")),
-        ("a bad word", lambda p: ends(p, words=("replai",)), told_usage),
-        ("help", lambda p: ends(p, words=("--help",)), told_usage),
-        ("words that are not UTF-8", lambda p: ends(p, words=(b"replay\xff",)),
-         lambda e: e == (2, b"", b"the words of the command line are to be UTF-8\n")),
-    ]
-    wrong = 0
-    for name, run, is_right in cases:
-        try:
-            ended = run(program)
-        except subprocess.TimeoutExpired:
-            ended = f"no end within {SECONDS} seconds"
-        right = not isinstance(ended, str) and is_right(ended)
-        print(f"{name}: {'ok' if right else ended}")
-        wrong += not right
-    print(f"{len(cases) - wrong} ok, {wrong} wrong")
+    with tempfile.TemporaryDirectory() as folder:
+        results = [shown(*case) for case in cases(program, Path(folder))]
+    wrong = results.count(False)
+    print(f"{len(results) - wrong} ok, {wrong} wrong")
     return 1 if wrong else 0
+
+
+def cases(program, folder):
+    """Each case's name, its run, and how it must end: in this very way, or, without one, as where the words are bad."""
+    for command, second in SECOND_PARTS.items():
+        given = folder / command
+        parts = [EXAMPLE.with_suffix(suffix).read_bytes() for suffix in (".toml", f".{second}")]
+        given.write_bytes(b"%%\n".join(parts))
+        words = [program, command]
+        yield f"{command}, a full device as standard output", lambda: full_device(words, given), NOT_WRITTEN
+        yield f"{command}, a closed standard output", lambda: ends(words, given, close=1), NOT_WRITTEN
+        yield f"{command}, a pipe that nobody reads", lambda: broken_pipe(words, given), NOT_WRITTEN
+        yield f"{command}, a directory as standard input", lambda: ends(words, folder), NOT_READ
+        yield f"{command}, a closed standard input", lambda: ends(words, given, close=0), NOT_READ
+        yield f"{command}, a word too many", lambda: ends([*words, "now"], given), None
+        yield f"help of {command}", lambda: ends([*words, "--help"], given), None
+    given = folder / "check"
+    yield "no command", lambda: ends([program], given), NO_COMMAND
+    yield "a bad word", lambda: ends([program, "chek"], given), None
+    yield "help", lambda: ends([program, "--help"], given), None
+    yield "words that are not UTF-8", lambda: ends([program, b"check\xff"], given), NOT_UTF_8
+
+
+def shown(name, run, wanted):
+    """Runs a case, prints how it ends, and says whether that is right."""
+    try:
+        ended = run()
+    except subprocess.TimeoutExpired:
+        print(f"{name}: no end within {SECONDS} seconds")
+        return False
+    is_right = told_usage(ended) if wanted is None else ended == wanted
+    print(f"{name}: {'ok' if is_right else ended}")
+    return is_right
 
 
 def told_usage(ended):
@@ -70,30 +79,32 @@ def told_usage(ended):
     return status == 2 and printed == b"" and b"sizing" in complained and complained.endswith(b"\n")
 
 
-def full_device(program):
+def ends(words, given, stdout=subprocess.PIPE, close=None):
+    """The status, and what was printed on standard output and standard error."""
+    def prepare():
+        if close is not None:
+            os.close(close)
+    file = os.open(given, os.O_RDONLY)
+    try:
+        done = subprocess.run(words, stdin=file, stdout=stdout, stderr=subprocess.PIPE, preexec_fn=prepare,
+                              timeout=SECONDS)
+    finally:
+        os.close(file)
+    return done.returncode, done.stdout or b"", done.stderr
+
+
+def full_device(words, given):
     with open("/dev/full", "wb") as full:
-        return ends(program, stdout=full)
+        return ends(words, given, stdout=full)
 
 
-def closed_output(program):
-    return ends(program, stdout=subprocess.DEVNULL, close=1)
-
-
-def broken_pipe(program):
+def broken_pipe(words, given):
     reading, writing = os.pipe()
     os.close(reading)
     try:
-        return ends(program, stdout=writing)
+        return ends(words, given, stdout=writing)
     finally:
         os.close(writing)
-
-
-def directory(program):
-    return ends(program, stdin=str(HERE))
-
-
-def closed_input(program):
-    return ends(program, close=0)
 
 
 if __name__ == "__main__":

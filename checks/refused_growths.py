@@ -1,5 +1,5 @@
 #!/usr/bin/env python3
-"""Refuses each growth of the memory of `sizing replay` in turn, on three examples. README.md says what that shows.
+"""Refuses each growth of the memory of `sizing` in turn, on examples of each command. README.md says what that shows.
 
 A run in which the N-th growth is refused must end with fault 20 and no answer, or with the example's own answer and
 status. N goes from 1 to the first that a run doesn't reach.
@@ -23,7 +23,14 @@ from typing import Optional
 HERE = Path(__file__).resolve().parent
 BUILT = HERE.parent / "crates" / "sizing" / "out" / "sizing"
 EXAMPLES = HERE.parent / "examples"
-NAMES = ["two-clients", "cross-pools", "there-and-back"]
+# What stands behind the line `%%`, by its file.
+SECOND_PARTS = {"replay": "events", "check": "json", "explain": "json"}
+JUDGED = ["two-clients-queue-of-two", "nested-two-workers", "web-and-database-sized", "cross-pools-two-threads"]
+CASES = [
+    *[("replay", name) for name in ("two-clients", "cross-pools", "there-and-back")],
+    *[("check", name) for name in JUDGED],
+    *[("explain", name) for name in [*JUDGED, "two-clients", "cross-pools"]],
+]
 SHARED_OBJECT = "refuse_growth.so"
 SECONDS = 10
 
@@ -51,7 +58,7 @@ def main():
             raise Unable(f"there is no program at {program}: run `make program` at the top of the repository")
         with tempfile.TemporaryDirectory() as folder:
             compile_object(Path(folder))
-            wrong = sum(sweep(Path(folder), program, name) for name in NAMES)
+            wrong = sum(sweep(Path(folder), program, command, name) for command, name in CASES)
     except Unable as why:
         print(why, file=sys.stderr)
         return 2
@@ -66,50 +73,71 @@ def compile_object(folder):
         raise Unable("gcc doesn't compile refuse_growth.c")
 
 
-def sweep(folder, program, name):
-    """Refuses each growth of an example's replay in turn, and prints what it finds; how many runs end wrongly."""
-    right = right_end(name)
-    ended, _ = run(folder, program, name, 0)
+def sweep(folder, program, command, name):
+    """Refuses each growth of a command on an example in turn, and prints what it finds; how many runs end wrongly."""
+    given, right = given_to(command, name), right_end(command, name)
+    title = f"{command} {name}"
+    ended, _ = run(folder, program, command, given, 0)
     if ended != right:
-        raise Unable(f"{name}: with no growth refused, {shown(ended)}")
+        raise Unable(f"{title}: with no growth refused, {shown(ended)}")
     calls, ends = Counter(), Counter()
     for number in count(1):
-        ended, call = run(folder, program, name, number)
+        ended, call = run(folder, program, command, given, number)
         if call is None:
             break
         calls[call] += 1
         end = {OUT_OF_MEMORY: "fault 20", right: "the right answer"}.get(ended, "wrong")
         ends[end] += 1
         if end == "wrong":
-            print(f"{name}, growth {number} ({call}): {shown(ended)}", flush=True)
+            print(f"{title}, growth {number} ({call}): {shown(ended)}", flush=True)
     if not calls:
-        raise Unable(f"{name}: the program makes no call that could be refused")
+        raise Unable(f"{title}: the program makes no call that could be refused")
     if ended != right:
-        print(f"{name}, growth {number} (not reached): {shown(ended)}", flush=True)
+        print(f"{title}, growth {number} (not reached): {shown(ended)}", flush=True)
         ends["wrong"] += 1
     each_call = ", ".join(f"{call} {times}" for call, times in sorted(calls.items()))
     each_end = ", ".join(f"{end} {ends[end]}" for end in ("fault 20", "the right answer", "wrong"))
-    print(f"{name}: {sum(calls.values())} growths refused ({each_call}): {each_end}", flush=True)
+    print(f"{title}: {sum(calls.values())} growths refused ({each_call}): {each_end}", flush=True)
     return ends["wrong"]
 
 
-def right_end(name):
+def given_to(command, name):
+    """What a command reads of an example."""
+    return contents(f"{name}.toml") + b"%%\n" + contents(f"{name}.{SECOND_PARTS[command]}")
+
+
+def right_end(command, name):
+    """How a command ends on an example, by the file of its answer, the last line of which tells the status.
+
+    An example to which `check` says yes has no file of an explanation: nothing fails there.
+    """
+    if command == "explain" and not (EXAMPLES / f"{name}.explain").exists():
+        if not contents(f"{name}.check").startswith(b"yes\n"):
+            raise Unable(f"nothing says what `explain` answers to the example {name}")
+        return Ended(0, b"failing 0\n", b"")
+    answer, _, status = contents(f"{name}.{command}").rpartition(b"status ")
     try:
-        return Ended(int((EXAMPLES / f"{name}.status").read_text()), (EXAMPLES / f"{name}.answer").read_bytes(), b"")
-    except (OSError, ValueError) as error:
-        raise Unable(f"the example {name} can't be read: {error}")
+        return Ended(int(status), answer, b"")
+    except ValueError:
+        raise Unable(f"the last line of {name}.{command} tells no status")
 
 
-def run(folder, program, name, number):
-    """How a replay ends in which the growth of this number is refused; and the refused call, None if none was."""
+def contents(name):
+    try:
+        return (EXAMPLES / name).read_bytes()
+    except OSError as error:
+        raise Unable(f"the example can't be read: {error}")
+
+
+def run(folder, program, command, given, number):
+    """How a run ends in which the growth of this number is refused; and the refused call, None if none was."""
     told = folder / "told"
     told.write_bytes(b"")
     settings = {"LD_PRELOAD": f"./{SHARED_OBJECT}", "REFUSE_AT": str(number), "REFUSE_TOLD": str(told)}
     try:
-        with open(EXAMPLES / f"{name}.txt", "rb") as given:
-            done = subprocess.run(
-                [program, "replay"], stdin=given, capture_output=True, cwd=folder, env=settings, timeout=SECONDS
-            )
+        done = subprocess.run(
+            [program, command], input=given, capture_output=True, cwd=folder, env=settings, timeout=SECONDS
+        )
         ended = Ended(done.returncode, done.stdout, done.stderr)
     except subprocess.TimeoutExpired as late:
         ended = Ended(None, late.stdout or b"", late.stderr or b"")
@@ -117,7 +145,7 @@ def run(folder, program, name, number):
         raise Unable(f"the program can't be run: {error}")
     lines = told.read_text().split()
     if not lines:
-        raise Unable(f"{SHARED_OBJECT} isn't in the program: is that statically linked? {name}: {shown(ended)}")
+        raise Unable(f"{SHARED_OBJECT} isn't in the program: is that statically linked? {command}: {shown(ended)}")
     return ended, lines[1] if len(lines) > 1 else None
 
 
