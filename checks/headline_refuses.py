@@ -1,0 +1,140 @@
+#!/usr/bin/env python3
+"""Shows that the laws refuse bugs with which all that stands below them agrees.
+
+Each file headline/*.bug rewrites, for one bug, a definition, the code, and the lemmas that say the same, so that they agree
+on the bug. In a copy of the repository that is so rewritten the crates below must still prove, and a law of a crate above
+must be refused. README.md says how such a file is written.
+
+The words of the command line name the bugs to try; with none, all are tried. The repository's crates are best proved
+before, so that their libraries are at hand.
+
+Exit status: 0 where each bug is refused by its law, 1 where one is accepted, or is refused elsewhere, 2 where a text that is
+to be rewritten isn't there exactly once, or a bug isn't there.
+"""
+
+import shutil
+import subprocess
+import sys
+import tempfile
+import time
+from pathlib import Path
+
+HERE = Path(__file__).resolve().parent
+TOP = HERE.parent
+BUGS = HERE / "headline"
+# What the prover says of a goal that isn't proved, and not of a text that it can't read.
+UNPROVED = ("the goal does not follow", "it is not proved that")
+
+
+class Bug:
+    """What is rewritten, which crates must still prove, and which law of which crate must be refused."""
+
+    def __init__(self, path):
+        self.name = path.stem
+        self.says = {}
+        self.texts = {}
+        file, old, new = None, [], []
+        for line in [*path.read_text().splitlines(), "file:"]:
+            word, _, text = line.partition(":")
+            text = text.removeprefix(" ")
+            if new and word in ("old", "file"):
+                self.rewrite(file, "\n".join(old), "\n".join(new))
+                old, new = [], []
+            if word == "old":
+                old.append(text)
+            elif word == "new":
+                new.append(text)
+            elif word == "file":
+                file = text
+            elif word:
+                self.says[word] = text
+        self.proves = self.says["proves"].split()
+        self.refuses = self.says["refuses"]
+        self.law = self.says["law"]
+
+    def rewrite(self, file, old, new):
+        """Puts the new text in the place of the old one, which stands in the file exactly once."""
+        text = self.texts.get(file) or (TOP / file).read_text()
+        times = text.count(old)
+        if times != 1:
+            raise LookupError(f"{self.name}: {file} has this text {times} times, and not once: {old}")
+        self.texts[file] = text.replace(old, new)
+
+
+def with_those_below(crate):
+    """The crate, and the crates of this repository that it stands on."""
+    below = {}
+    for line in (TOP / "crates.txt").read_text().splitlines():
+        if line and not line.startswith("#"):
+            name, _, others = line.partition(":")
+            below[name.split()[0]] = others.split()
+    return {crate} | {name for name in below[crate] if name in below}
+
+
+def copy(bug, folder):
+    """A copy of the repository, rewritten. What is proved of the crates that are checked goes with it."""
+    checked = set().union(*map(with_those_below, [*bug.proves, bug.refuses]))
+
+    def left_out(inside, names):
+        here = Path(inside)
+        if here == TOP:
+            return {".git"} & set(names)
+        if here.parent == TOP / "crates" and here.name not in checked:
+            return {"out"} & set(names)
+        return set()
+
+    shutil.copytree(TOP, folder, ignore=left_out, symlinks=True)
+    for file, text in bug.texts.items():
+        (folder / file).write_text(text)
+
+
+def check(folder, crate):
+    """Whether the crate is proved, and the lines that the prover says."""
+    done = subprocess.run(["rt", "check"], cwd=folder / "crates" / crate, stdin=subprocess.DEVNULL,
+                          stdout=subprocess.PIPE, stderr=subprocess.STDOUT, text=True)
+    return done.returncode == 0, done.stdout.splitlines()
+
+
+def first_error(said):
+    """The first line that says what is refused."""
+    return next((line.strip() for line in said if "error" in line), said[-1] if said else "nothing is said")
+
+
+def attempt(bug, folder):
+    """Whether the bug's law refuses it, and what is to be told of that."""
+    copy(bug, folder)
+    for crate in bug.proves:
+        proved, said = check(folder, crate)
+        if not proved:
+            return False, f"refused below the laws, by {crate}", first_error(said)
+    proved, said = check(folder, bug.refuses)
+    if proved:
+        return False, f"accepted by {bug.refuses}", "all is proved"
+    why = first_error(said)
+    if not any(words in why for words in UNPROVED):
+        return False, f"{bug.refuses} can't be checked", why
+    if not any("error" in line and f"/laws/{bug.law}/" in line for line in said):
+        return False, f"{bug.refuses} is refused, but not its {bug.law}", why
+    return True, f"refused by {bug.refuses}, where {bug.law} is not proved", why
+
+
+def main():
+    names = sys.argv[1:] or sorted(path.stem for path in BUGS.glob("*.bug"))
+    try:
+        bugs = [Bug(BUGS / f"{name}.bug") for name in names]
+    except (LookupError, FileNotFoundError) as fault:
+        print(fault, file=sys.stderr)
+        return 2
+    refused = 0
+    for bug in bugs:
+        began = time.monotonic()
+        with tempfile.TemporaryDirectory(prefix="headline_refuses.") as folder:
+            right, told, why = attempt(bug, Path(folder) / "copy")
+        refused += right
+        print(f"{bug.name}: {told} ({time.monotonic() - began:.0f} s)\n    {why}", flush=True)
+    print(f"{refused} refused by their laws, {len(bugs) - refused} not")
+    return 0 if refused == len(bugs) else 1
+
+
+if __name__ == "__main__":
+    sys.exit(main())
