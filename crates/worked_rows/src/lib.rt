@@ -8,6 +8,8 @@ mod event_texts;
 #[cfg(test)]
 mod help_texts;
 #[cfg(test)]
+mod judged_plans;
+#[cfg(test)]
 mod limits;
 #[cfg(test)]
 mod pools;

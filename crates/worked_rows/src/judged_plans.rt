@@ -1,0 +1,339 @@
+//! Certificates of small plans, and each call that judges one.
+
+use blocked_bounds::blocked_fault;
+use cert_check::{Certified, CheckFault, PoolLine, accepts, accepts_standing, check};
+use cert_text::{CertFault, read_cert};
+use certificates::Cert;
+use faults::number::{BAD_NUMBER, NOT_JSON, WEIGHT_TOO_LARGE, WRONG_SHAPE};
+use job_bodies::{Part, Plan, PlanFault};
+use plan_text::read_plan;
+use pool_ranks::RanksOf;
+use std::alloc::Global;
+use std::test::*;
+use weights::{Bound, Place, Row, Rule};
+
+// ---- a pool, and two clients that each submit one piece of work and wait for it, again and again
+
+const ONE_POOL: &str = "
+    pool = [{ name = 'p', core = 1, max = 1, queue = 2 }]
+    class = [{ name = 'a', pool = 'p', body = ['work 1'] }]
+    client = [{ name = 'c', count = 2, repeat = true, body = ['submit a as x', 'get x'] }]
+";
+
+const WITH_A_QUEUE_OF_1: &str = "
+    pool = [{ name = 'p', core = 1, max = 1, queue = 1 }]
+    class = [{ name = 'a', pool = 'p', body = ['work 1'] }]
+    client = [{ name = 'c', count = 2, repeat = true, body = ['submit a as x', 'get x'] }]
+";
+
+const WITH_A_MILLION_CLIENTS: &str = "
+    pool = [{ name = 'p', core = 1, max = 1, queue = 2 }]
+    class = [{ name = 'a', pool = 'p', body = ['work 1'] }]
+    client = [{ name = 'c', count = 1000000, repeat = true, body = ['submit a as x', 'get x'] }]
+";
+
+const WITH_CORE_ABOVE_MAX: &str = "
+    pool = [{ name = 'p', core = 2, max = 1, queue = 2 }]
+    class = [{ name = 'a', pool = 'p', body = ['work 1'] }]
+    client = [{ name = 'c', count = 2, repeat = true, body = ['submit a as x', 'get x'] }]
+";
+
+// Clients that ask but once, as many as two threads and a queue of 1 take.
+const ONCE: &str = "
+    pool = [{ name = 'p', core = 2, max = 2, queue = 1 }]
+    class = [{ name = 'a', pool = 'p', body = ['work 1'] }]
+    client = [{ name = 'c', count = 3, body = ['submit a as x', 'get x'] }]
+";
+
+const ONCE_AND_ONE_MORE: &str = "
+    pool = [{ name = 'p', core = 2, max = 2, queue = 1 }]
+    class = [{ name = 'a', pool = 'p', body = ['work 1'] }]
+    client = [{ name = 'c', count = 4, body = ['submit a as x', 'get x'] }]
+";
+
+const FORGETTING: &str = "
+    pool = [{ name = 'p', core = 1, max = 1, queue = 2 }]
+    class = [{ name = 'a', pool = 'p', body = ['work 1'] }]
+    client = [{ name = 'c', count = 1, repeat = true, body = ['submit a'] }]
+";
+
+const ONE_POOL_CERT: &str = r#"{"version": 1, "pools": [{
+    "standing": {"workers": [0], "classes": [[1, 1, 1, 1]], "clients": [[1, 0, 1]]},
+    "blocked": {"workers": [0], "classes": [[0, 0, 0, 0]], "clients": [[0, 0, 0]]}}],
+    "ranks": {"pools": [0], "reach": [0], "levels": [0]}}"#;
+
+const WITH_THE_MOST_WEIGHT: &str = r#"{"version": 1, "pools": [{
+    "standing": {"workers": [0], "classes": [[1000000000, 1000000000, 1000000000, 1000000000]],
+        "clients": [[1000000000, 0, 1000000000]]},
+    "blocked": {"workers": [0], "classes": [[0, 0, 0, 0]], "clients": [[0, 0, 0]]}}],
+    "ranks": {"pools": [0], "reach": [0], "levels": [0]}}"#;
+
+const WITH_A_LARGER_WEIGHT: &str = r#"{"version": 1, "pools": [{
+    "standing": {"workers": [0], "classes": [[1000000001, 1, 1, 1]], "clients": [[1, 0, 1]]},
+    "blocked": {"workers": [0], "classes": [[0, 0, 0, 0]], "clients": [[0, 0, 0]]}}],
+    "ranks": {"pools": [0], "reach": [0], "levels": [0]}}"#;
+
+const WITH_A_SHORT_ROW: &str = r#"{"version": 1, "pools": [{
+    "standing": {"workers": [0], "classes": [[1, 1, 1, 1]], "clients": [[1, 0]]},
+    "blocked": {"workers": [0], "classes": [[0, 0, 0, 0]], "clients": [[0, 0, 0]]}}],
+    "ranks": {"pools": [0], "reach": [0], "levels": [0]}}"#;
+
+const WITH_A_HIGH_RANK: &str = r#"{"version": 1, "pools": [{
+    "standing": {"workers": [0], "classes": [[1, 1, 1, 2]], "clients": [[1, 0, 1]]},
+    "blocked": {"workers": [0], "classes": [[0, 0, 0, 0]], "clients": [[0, 0, 0]]}}],
+    "ranks": {"pools": [1], "reach": [0], "levels": [0]}}"#;
+
+const LIFETIME_CERT: &str = r#"{"version": 2, "pools": [{
+    "lifetime": {"workers": [0], "classes": [[1, 1, 1, 1]], "clients": [[1, 0, 0]]},
+    "blocked": {"workers": [0], "classes": [[0, 0, 0, 0]], "clients": [[0, 0, 0]]}}],
+    "ranks": {"pools": [0], "reach": [0], "levels": [0]}}"#;
+
+const FORGETTING_CERT: &str = r#"{"version": 1, "pools": [{
+    "standing": {"workers": [0], "classes": [[1, 1, 1, 0]], "clients": [[1, 0]]},
+    "blocked": {"workers": [0], "classes": [[0, 0, 0, 0]], "clients": [[0, 0]]}}],
+    "ranks": {"pools": [0], "reach": [0], "levels": [0]}}"#;
+
+// ---- jobs that wait for jobs
+
+// An outer job submits three inner ones to its own pool, of a queue of 2, and then waits for them.
+const FAN_OUT: &str = "
+    pool = [{ name = 'p', core = 2, max = 2, queue = 2 }]
+    client = [{ name = 'c', count = 1, repeat = true, body = ['submit outer as x', 'get x'] }]
+    [[class]]
+    name = 'outer'
+    pool = 'p'
+    body = ['submit inner as x', 'submit inner as y', 'submit inner as z', 'get x', 'get y', 'get z']
+    [[class]]
+    name = 'inner'
+    pool = 'p'
+    body = ['work 1']
+";
+
+const FAN_OUT_CERT: &str = r#"{"version": 1, "pools": [{
+    "standing": {"workers": [0], "classes": [[3, 3, 2, 1, 0, 1, 2, 3, 3], [1, 1, 1, 1]], "clients": [[3, 0, 3]]},
+    "blocked": {"workers": [0], "classes": [[1, 1, 1, 1, 1, 1, 1, 1, 1], [0, 0, 0, 0]], "clients": [[1, 0, 1]]}}],
+    "ranks": {"pools": [0], "reach": [0, 0], "levels": [1, 0]}}"#;
+
+// A job waits for another pool, whose job waits for the first pool again.
+const THERE_AND_BACK: &str = "
+    pool = [{ name = 'p', core = 1, max = 1, queue = 2 }, { name = 'q', core = 2, max = 2, queue = 2 }]
+    class = [
+        { name = 'a', pool = 'p', body = ['submit b as x', 'get x'] },
+        { name = 'b', pool = 'q', body = ['submit d as x', 'get x'] },
+        { name = 'd', pool = 'p', body = ['work 1'] },
+    ]
+    client = [{ name = 'c', count = 1, repeat = true, body = ['submit a as x', 'get x'] }]
+";
+
+const THERE_AND_BACK_CERT: &str = r#"{"version": 1, "pools": [{
+    "standing": {"workers": [0, 0], "classes": [[1, 1, 0, 1, 1], [1, 1, 0, 1, 1], [1, 1, 1, 1]], "clients": [[1, 0, 1]]},
+    "blocked": {"workers": [0, 0], "classes": [[0, 0, 0, 0, 0], [0, 0, 0, 0, 0], [0, 0, 0, 0]], "clients": [[0, 0, 0]]}}, {
+    "standing": {"workers": [0, 0], "classes": [[1, 1, 0, 1, 1], [1, 1, 1, 1, 1], [0, 0, 0, 0]], "clients": [[1, 0, 1]]},
+    "blocked": {"workers": [0, 0], "classes": [[1, 1, 0, 1, 1], [1, 1, 1, 1, 1], [0, 0, 0, 0]], "clients": [[1, 0, 1]]}}],
+    "ranks": {"pools": [1, 0], "reach": [1, 1, 1], "levels": [2, 1, 0]}}"#;
+
+fn read(alloc: Global, plan: &str, cert: &str) -> Result<(Plan, Cert), Fail> {
+    let plan = read_plan(alloc, plan.as_bytes())?;
+    let cert = read_cert(alloc, cert.as_bytes(), &plan)?;
+    Ok((plan, cert))
+}
+
+/// What each part of a certificate says of the first pool: a total, and the conditions that fail first.
+#[derive(Clone, Copy, Debug, PartialEq, Eq)]
+struct Findings {
+    total: u64,
+    ranks: Option<Row>,
+    weights: Option<Row>,
+    bound: Option<Row>,
+    blocked: Option<Row>,
+}
+
+const NONE_FAILS: Findings = Findings {
+    total: 2,
+    ranks: None,
+    weights: None,
+    bound: None,
+    blocked: None,
+};
+
+fn first_findings(plan: &Plan, cert: &Cert) -> Option<Findings> {
+    let pool = cert.pools.first()?;
+    let vector = pool.bound.vector();
+    let fits = cert.ranks.fits(plan) && vector.fits(plan) && pool.blocked.fits(plan);
+    if plan.pools().is_empty() || !fits {
+        return None;
+    }
+    let counted = RanksOf::new(plan, &cert.ranks);
+    let bound = match pool.bound {
+        Bound::Standing(_) => vector.standing_fault(plan, 0),
+        Bound::Lifetime(_) => vector.lifetime_fault(plan, 0),
+    };
+    Some(Findings {
+        total: vector.total(plan),
+        ranks: cert.ranks.fault(plan),
+        weights: vector.first_fault(plan),
+        bound,
+        blocked: blocked_fault(plan, 0, &counted, &pool.blocked),
+    })
+}
+
+fn failing(rule: Rule, place: Place, left: u64, right: u64) -> Option<Row> {
+    Some(Row {
+        rule,
+        place,
+        left,
+        right,
+    })
+}
+
+#[test]
+fn the_first_condition_that_fails(rt: HostRuntime) -> Result<(), Fail> {
+    let at_the_end = failing(Rule::V7, Place::Client(0), 1, 0);
+    let too_heavy = failing(Rule::V6, Place::Class(0), 2, 1);
+    let table = [
+        (ONE_POOL, ONE_POOL_CERT, NONE_FAILS),
+        (
+            WITH_A_MILLION_CLIENTS,
+            WITH_THE_MOST_WEIGHT,
+            Findings {
+                total: 1_000_000_000_000_000,
+                bound: failing(Rule::S2, Place::Total, 1_000_000_000_000_000, 2),
+                ..NONE_FAILS
+            },
+        ),
+        (
+            FORGETTING,
+            FORGETTING_CERT,
+            Findings {
+                total: 1,
+                weights: at_the_end,
+                bound: at_the_end,
+                ..NONE_FAILS
+            },
+        ),
+        (
+            ONE_POOL,
+            WITH_A_HIGH_RANK,
+            Findings {
+                ranks: failing(Rule::K1, Place::Class(0), 1, 0),
+                weights: too_heavy,
+                bound: too_heavy,
+                ..NONE_FAILS
+            },
+        ),
+        (
+            ONCE_AND_ONE_MORE,
+            LIFETIME_CERT,
+            Findings {
+                total: 4,
+                bound: failing(Rule::L3, Place::Total, 4, 3),
+                ..NONE_FAILS
+            },
+        ),
+        (
+            FAN_OUT,
+            FAN_OUT_CERT,
+            Findings {
+                total: 3,
+                bound: failing(Rule::S2, Place::Total, 3, 2),
+                ..NONE_FAILS
+            },
+        ),
+        (
+            THERE_AND_BACK,
+            THERE_AND_BACK_CERT,
+            Findings {
+                total: 1,
+                blocked: failing(Rule::B1, Place::ClassAction(0, 1), 1, 0),
+                ..NONE_FAILS
+            },
+        ),
+    ];
+    for (plan, cert, wanted) in table {
+        let (plan, cert) = read(rt.alloc(), plan, cert)?;
+        assert_eq!(rt; first_findings(&plan, &cert), Some(wanted));
+    }
+    Ok(())
+}
+
+/// Whether the standing vectors alone are accepted, whether the whole is, and that what is handed back was handed in.
+#[test]
+fn what_is_accepted(rt: HostRuntime) -> Result<(), Fail> {
+    for (plan, cert, stands, is_accepted) in [
+        (ONE_POOL, ONE_POOL_CERT, true, true),
+        (WITH_A_QUEUE_OF_1, ONE_POOL_CERT, false, false),
+        (ONCE, LIFETIME_CERT, false, true),
+        (ONCE_AND_ONE_MORE, LIFETIME_CERT, false, false),
+        (FAN_OUT, FAN_OUT_CERT, false, false),
+        (THERE_AND_BACK, THERE_AND_BACK_CERT, true, false),
+    ] {
+        let (plan, cert) = read(rt.alloc(), plan, cert)?;
+        assert!(rt; cert.fits(&plan));
+        assert_eq!(rt; accepts_standing(&plan, &cert), stands);
+        assert_eq!(rt; accepts(&plan, &cert), is_accepted);
+
+        let handed_in = format!(in rt.alloc(); "{plan:?} {cert:?}")?;
+        let (certified, handed_back) = match Certified::check(plan, cert) {
+            Ok(both) => {
+                let (plan, cert) = (both.plan(), both.cert());
+                (true, format!(in rt.alloc(); "{plan:?} {cert:?}")?)
+            }
+            Err((plan, cert)) => (false, format!(in rt.alloc(); "{plan:?} {cert:?}")?),
+        };
+        assert_eq!(rt; certified, is_accepted);
+        assert_eq!(rt; handed_back, handed_in);
+    }
+    Ok(())
+}
+
+/// From bytes to a verdict, or to the first fault: the plan's before the certificate's.
+#[test]
+fn what_is_checked(rt: HostRuntime) -> Result<(), Fail> {
+    let line = PoolLine {
+        lifetime: false,
+        standing: 2,
+        queue: 2,
+        blocked: 0,
+        limit: 0,
+    };
+    let lifetime_line = PoolLine {
+        lifetime: true,
+        standing: 3,
+        queue: 3,
+        blocked: 0,
+        limit: 1,
+    };
+    let bad_plan = PlanFault::at_entry(Part::Pool, 0, BAD_NUMBER);
+    let (half, _) = ONE_POOL_CERT.split_once("\"blocked\"").ok_or("a half")?;
+    for (plan, cert, wanted) in [
+        (ONE_POOL, ONE_POOL_CERT, Ok((true, line))),
+        (
+            WITH_A_QUEUE_OF_1,
+            ONE_POOL_CERT,
+            Ok((false, PoolLine { queue: 1, ..line })),
+        ),
+        (ONCE, LIFETIME_CERT, Ok((true, lifetime_line))),
+        (WITH_CORE_ABOVE_MAX, half, Err(CheckFault::Plan(bad_plan))),
+        (ONE_POOL, half, Err(cert_fault(NOT_JSON))),
+        (ONE_POOL, WITH_A_SHORT_ROW, Err(cert_fault(WRONG_SHAPE))),
+        (
+            ONE_POOL,
+            WITH_A_LARGER_WEIGHT,
+            Err(cert_fault(WEIGHT_TOO_LARGE)),
+        ),
+    ] {
+        let answer = match check(rt.alloc(), plan.as_bytes(), cert.as_bytes()) {
+            Ok(verdict) => {
+                assert_eq!(rt; verdict.pools.len(), 1);
+                Ok((verdict.yes, *verdict.pools.first().ok_or("a line")?))
+            }
+            Err(fault) => Err(fault),
+        };
+        assert_eq!(rt; answer, wanted);
+    }
+    Ok(())
+}
+
+fn cert_fault(number: u8) -> CheckFault {
+    CheckFault::Cert(CertFault { number })
+}
