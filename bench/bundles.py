@@ -135,12 +135,13 @@ def accepted(plan):
     to each class, or to each class that gets.
     """
     bodies = [actions(plan, of_class.body) for of_class in plan.classes]
+    of_clients = [actions(plan, client.body) for client in plan.clients]
     standing, blocked = [], []
     for pool in plan.pools:
         inside = [int(of_class.pool == pool.name) for of_class in plan.classes]
         gets = [int(of_class.pool == pool.name and has(body, "get")) for of_class, body in zip(plan.classes, bodies)]
-        standing.append(balanced(plan, bodies, inside))
-        blocked.append(balanced(plan, bodies, gets))
+        standing.append(balanced(plan, bodies, of_clients, inside))
+        blocked.append(balanced(plan, bodies, of_clients, gets))
     levels = [int(has(body, "submit")) for body in bodies]
     none = [0] * len(plan.classes)
     return Certificate(plan, standing, blocked, [0] * len(plan.pools), none, levels)
@@ -150,16 +151,14 @@ def has(body, word):
     return any(each == word for each, _ in body)
 
 
-def balanced(plan, bodies, least):
+def balanced(plan, bodies, of_clients, least):
     """The least vector that gives to each class at least so much, and to each actor what its submits take."""
 
     @cache
     def first(number):
-        return max(least[number], need(bodies[number]))
+        return max(least[number], -min(changes(bodies[number])))
 
-    def need(body):
-        return -min(changes(body))
-
+    @cache
     def changes(body):
         given = [0]
         for word, other in body:
@@ -169,8 +168,7 @@ def balanced(plan, bodies, least):
 
     classes = [[first(number), *(first(number) + change for change in changes(body)), first(number)]
                for number, body in enumerate(bodies)]
-    of_clients = [changes(actions(plan, client.body)) for client in plan.clients]
-    clients = [[change - min(of_one) for change in of_one] for of_one in of_clients]
+    clients = [[change - min(changes(body)) for change in changes(body)] for body in of_clients]
     return Vector([0] * len(plan.pools), classes, clients)
 
 

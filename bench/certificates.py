@@ -151,4 +151,4 @@ def actions(plan, body):
         else:
             other = made[what] if word == "get" else None
         found.append((word, other))
-    return found
+    return tuple(found)

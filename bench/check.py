@@ -21,7 +21,7 @@ from bundles import FEW_CLIENTS, MOST_SIZE, every_condition_fails, full_bodies, 
 from certificates import checked, explained
 from timing import Program, Table, Wrong, built, compiled, costs, has_callgrind, in_folder, instructions, run
 
-RUNS = 20
+RUNS = 40
 SIZE = 1024 * 1024
 CHECK_BAR = 1.6
 EXPLAIN_BAR = 3

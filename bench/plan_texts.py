@@ -77,8 +77,14 @@ def plan_of_long_names(size, is_lawful):
 
 
 def largest(make, most, size):
-    """The largest of what is made of 0 to the most whose text is no longer than the size."""
-    low, high = 0, most
+    """The largest of what is made of 0 to the most whose text is no longer than the size.
+
+    None is made of more than twice as much as that.
+    """
+    high = 1
+    while high <= most and len(make(high).text()) <= size:
+        high *= 2
+    low, high = high // 2, min(high - 1, most)
     while low < high:
         middle = (low + high + 1) // 2
         if len(make(middle).text()) <= size:
