@@ -45,7 +45,7 @@ def bundle(name, certificate, size, is_plan_filled=False):
 
 
 def long_names(size):
-    """Names of 32 bytes; each body submits and gets one job after another. The plan is filled, and so is its certificate."""
+    """Names of 32 bytes, and bodies that submit and get one job after another. Plan and certificate are filled."""
     names = [f"class_{number:026}" for number in range(MOST_CLASSES)]
     slots = [f"slot_{number:027}" for number in range(MOST_ACTIONS // 2)]
     outer, inner = names[:-INNER_CLASSES], names[-INNER_CLASSES:]
@@ -64,7 +64,7 @@ def long_names(size):
 
 
 def full_bodies(size):
-    """Short names and 256 actions in each body, all submits before all gets. The plan is filled, and so is its certificate."""
+    """Short names and 256 actions in each body, all submits before all gets. Plan and certificate are filled."""
     slots = [first + second for first in LETTERS for second in LETTERS][:MOST_ACTIONS // 2]
     body = [f"submit a as {slot}" for slot in slots] + [f"get {slot}" for slot in slots]
     names = [*LETTERS, *(first + second for first in LETTERS for second in LETTERS)]

@@ -5,11 +5,11 @@ Times `sizing check` and `sizing explain` beside the reading of the same two tex
 certificate's JSON, and counts the instructions of both where valgrind is there. README.md says what is measured, and
 what the bars are.
 
-The programs are crates/sizing/out/sizing and crates/plan_reader/out/plan_reader, or those that the environment variables
-SIZING and PLAN_READER name.
+The programs are crates/sizing/out/sizing and crates/plan_reader/out/plan_reader, or those that the environment
+variables SIZING and PLAN_READER name.
 
-Exit status: 0 where all answers are right and no bar is passed, 1 where one is wrong or passed, 2 where the benchmark
-can't be run.
+Exit status: 0 where all answers are right and no bar is exceeded, 1 where one is wrong or exceeded, 2 where the
+benchmark can't be run.
 """
 
 import sys
@@ -36,7 +36,7 @@ def main(words):
 
 
 class Bench:
-    """The programs, the table, and the bars that are passed so far."""
+    """The programs, the table, and the bars that are exceeded so far."""
 
     def __init__(self, folder):
         self.folder = folder
@@ -44,7 +44,7 @@ class Bench:
         self.reader = built("plan_reader")
         self.measure = compiled(folder, "measure")
         self.is_counted = has_callgrind()
-        self.passed = []
+        self.exceeded = []
         self.table = Table(
             ("sizing", 29), ("beside", 20), ("bytes", 9), ("ms", 7), ("beside", 7), ("ratio", 5), ("bar", 4),
             ("M instr", 8), ("beside", 7), ("ratio", 5), ("MiB", 5), ("beside", 6),
@@ -57,8 +57,8 @@ class Bench:
         self.counts(long_rows(SIZE, MOST_SIZE), long_rows(SIZE, FEW_CLIENTS))
         if not self.is_counted:
             print("no instructions are counted: valgrind is missing (`apt-get install valgrind`)")
-        if self.passed:
-            raise Wrong("\n".join(self.passed))
+        if self.exceeded:
+            raise Wrong("\n".join(self.exceeded))
 
     def check(self, bundle):
         """Measures a check beside the reading of its texts alone; its peak memory in MiB."""
@@ -66,7 +66,7 @@ class Bench:
         return self.beside_texts(bundle, check, CHECK_BAR)
 
     def explain(self, bundle):
-        """Measures an explain beside the reading of its texts alone, and its memory beside its answer's and a check's."""
+        """Measures an explain beside the reading of its texts alone, and its peak beside its answer and a check."""
         of_check = self.check(bundle)
         explain = Program([self.sizing, "explain"], *explained(bundle.certificate))
         (self.folder / explain.given).write_bytes(bundle.input())
@@ -118,7 +118,7 @@ class Bench:
 
     def hold(self, what, found, bar):
         if found > bar:
-            self.passed.append(f"{what} is {found:.2f}, and is not to be above {bar:.2f}")
+            self.exceeded.append(f"{what} is {found:.2f}, and is not to be above {bar:.2f}")
 
 
 if __name__ == "__main__":

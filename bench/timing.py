@@ -87,7 +87,7 @@ def costs(folder, measure, programs, runs):
 
 
 def run(folder, measure, program):
-    """The microseconds and the KiB of a run. It must end with its status and, where it is compared, print its answer."""
+    """The microseconds and the KiB of a run. It must end with its status and, if that is compared, its answer."""
     name = program.words[0]
     output = folder / "output" if program.is_compared else Path(os.devnull)
     ended = subprocess.run([measure, folder / program.given, output, *program.words], stdout=subprocess.PIPE)

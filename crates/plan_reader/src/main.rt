@@ -1,4 +1,4 @@
-//! `plan_reader`: reads the text of a plan, or only its TOML, or only the TOML and the JSON of a plan and its certificate.
+//! `plan_reader`: reads the text of a plan, or only its TOML, or only the TOML and JSON of a plan and a certificate.
 //! `bench/read.py` times the first beside the second, and `bench/check.py` times `sizing` beside the third.
 #![tactic(auto)]
 
