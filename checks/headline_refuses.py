@@ -16,6 +16,7 @@ import shutil
 import subprocess
 import sys
 import tempfile
+import textwrap
 import time
 from pathlib import Path
 
@@ -96,8 +97,9 @@ def check(folder, crate):
 
 
 def first_error(said):
-    """The first line that says what is refused."""
-    return next((line.strip() for line in said if "error" in line), said[-1] if said else "nothing is said")
+    """The first line that says what is refused, without the hints at its end."""
+    line = next((line for line in said if "error" in line), said[-1] if said else "nothing is said")
+    return textwrap.shorten(line, width=300, placeholder=" ..")
 
 
 def attempt(bug, folder):
