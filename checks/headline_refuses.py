@@ -1,15 +1,15 @@
 #!/usr/bin/env python3
 """Shows that the laws refuse bugs with which all that stands below them agrees.
 
-Each file headline/*.bug rewrites, for one bug, a definition, the code, and the lemmas that say the same, so that they agree
-on the bug. In a copy of the repository that is so rewritten the crates below must still prove, and a law of a crate above
-must be refused. README.md says how such a file is written.
+Each file headline/*.bug rewrites, for one bug, a definition, the code, and the lemmas that say the same, so that they
+agree on the bug. In a copy of the repository that is so rewritten the crates below must still prove, and a law of a
+crate above must be refused. README.md says how such a file is written.
 
 The words of the command line name the bugs to try; with none, all are tried. The repository's crates are best proved
 before, so that their libraries are at hand.
 
-Exit status: 0 where each bug is refused by its law, 1 where one is accepted, or is refused elsewhere, 2 where a text that is
-to be rewritten isn't there exactly once, or a bug isn't there.
+Exit status: 0 where each bug is refused by its law, 1 where one is accepted, or is refused elsewhere, 2 where a text
+that is to be rewritten isn't there exactly once, or a bug isn't there.
 """
 
 import shutil
