@@ -25,6 +25,7 @@ TOP = HERE.parent
 BUGS = HERE / "headline"
 # What the prover says of a goal that isn't proved, and not of a text that it can't read.
 UNPROVED = ("the goal does not follow", "it is not proved that")
+ERROR = ": error: "
 
 
 class Bug:
@@ -96,9 +97,14 @@ def check(folder, crate):
     return done.returncode == 0, done.stdout.splitlines()
 
 
-def first_error(said):
+def tells(line, words):
+    """Whether the line has one of these."""
+    return any(word in line for word in words)
+
+
+def first_refusal(said):
     """The first line that says what is refused, without the hints at its end."""
-    line = next((line for line in said if "error" in line), said[-1] if said else "nothing is said")
+    line = next((line for line in said if tells(line, (ERROR, *UNPROVED))), said[-1] if said else "nothing is said")
     return textwrap.shorten(line, width=300, placeholder=" ..")
 
 
@@ -108,14 +114,14 @@ def attempt(bug, folder):
     for crate in bug.proves:
         proved, said = check(folder, crate)
         if not proved:
-            return False, f"refused below the laws, by {crate}", first_error(said)
+            return False, f"refused below the laws, by {crate}", first_refusal(said)
     proved, said = check(folder, bug.refuses)
     if proved:
         return False, f"accepted by {bug.refuses}", "all is proved"
-    why = first_error(said)
-    if not any(words in why for words in UNPROVED):
+    why = first_refusal(said)
+    if not tells(why, UNPROVED):
         return False, f"{bug.refuses} can't be checked", why
-    if not any("error" in line and f"/laws/{bug.law}/" in line for line in said):
+    if not any(ERROR in line and f"/laws/{bug.law}/" in line for line in said):
         return False, f"{bug.refuses} is refused, but not its {bug.law}", why
     return True, f"refused by {bug.refuses}, where {bug.law} is not proved", why
 
