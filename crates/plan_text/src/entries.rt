@@ -117,13 +117,21 @@ fn pools_of(alloc: Global, values: &[Value]) -> Result<Vec<Pool>, TextError>
 fn class_entries_of(alloc: Global, values: &[Value]) -> Result<Vec<ClassEntry<'_>>, TextError>
     ensures { Gives (λ classes. classes.items) result (each.read_each spec.read_class 0 (map view values.now)) }
 {
-    read_each(alloc, values, |index, value| read_class(alloc, index, value))
+    read_each(
+        alloc,
+        values,
+        |index, value| read_class(alloc, index, value),
+    )
 }
 
 fn client_entries_of(alloc: Global, values: &[Value]) -> Result<Vec<ClientEntry<'_>>, TextError>
     ensures { Gives (λ clients. clients.items) result (each.read_each spec.read_client 0 (map view values.now)) }
 {
-    read_each(alloc, values, |index, value| read_client(alloc, index, value))
+    read_each(
+        alloc,
+        values,
+        |index, value| read_client(alloc, index, value),
+    )
 }
 
 /// The entries of a document: first the three lists, then each entry's shape.
