@@ -1,23 +1,66 @@
 //! The lines that explain a refusal.
 
-ghost use Rattle.std.specs.Prelude.{◌≡◌, ◌++◌, OnOk, string_bytes};
+ghost use Rattle.std.specs.Prelude.{◌≡◌, ◌+◌, ◌++◌, IsTrue, IfOk, OnOk, length, string_bytes};
+ghost use Rattle.certificates.specs.Cert.{cert_fits};
+ghost use Rattle.headline.specs.Conditions.{failing};
 ghost use Rattle.refusal_notes.specs.Explanation as spec;
 
+use crate::told::{push_pool_notes, push_rank_notes};
 use crate::{Note, push_line};
+use certificates::Cert;
 use job_bodies::Plan;
-use std::alloc::AllocError;
+use std::alloc::{AllocError, Global};
 
-/// Puts a line for each note behind the text, and then how many they are, as `failing 1`.
+/// Puts a line for each failing condition behind the text, and then how many they are, as `failing 1`; answers how many.
+/// The notes are made pool by pool, so that they do not all lie beside the text.
 ///
 /// # Errors
 ///
 /// [`AllocError`] where memory runs out.
-pub fn push_explanation(text: &mut String, plan: &Plan, notes: &[Note]) -> Result<(), AllocError>
-    ensures { OnOk result (string_bytes text.new ≡ string_bytes text.old ++ spec.explanation plan.now notes.now) }
+pub fn push_explanation(
+    alloc: Global,
+    text: &mut String,
+    plan: &Plan,
+    cert: &Cert,
+) -> Result<usize, AllocError>
+    requires { IsTrue (cert_fits plan.now cert.now) }
+    ensures text { OnOk result (string_bytes text.new ≡ string_bytes text.old ++ spec.explanation plan.now (failing plan.now cert.now)) }
+    ensures count { IfOk result (λ count. count ≡ length (failing plan.now cert.now)) }
 {
-    push_lines(text, plan, notes)?;
-    let count = notes.len();
-    writeln!(text, "failing {count}")
+    let count = push_all_lines(alloc, text, plan, cert)?;
+    writeln!(text, "failing {count}")?;
+    Ok(count)
+}
+
+/// Tells the failing conditions of the ranks, and then those of each pool.
+fn push_all_lines(
+    alloc: Global,
+    text: &mut String,
+    plan: &Plan,
+    cert: &Cert,
+) -> Result<usize, AllocError>
+    requires { IsTrue (cert_fits plan.now cert.now) }
+    ensures text { OnOk result (string_bytes text.new ≡ string_bytes text.old ++ spec.lines plan.now (failing plan.now cert.now)) }
+    ensures count { IfOk result (λ count. count ≡ length (failing plan.now cert.now)) }
+{
+    let mut notes = Vec::new(alloc);
+    push_rank_notes(alloc, &mut notes, plan, &cert.ranks)?;
+    push_lines(text, plan, notes.as_slice())?;
+    let mut count = notes.as_slice().len();
+    for (number, pool) in cert.pools.iter().enumerate() {
+        notes.clear();
+        push_pool_notes(alloc, &mut notes, plan, &cert.ranks, number, pool)?;
+        push_lines(text, plan, notes.as_slice())?;
+        count = sum(count, notes.as_slice().len())?;
+    }
+    Ok(count)
+}
+
+/// The sum; a number past the last one is answered as out of memory.
+fn sum(count: usize, more: usize) -> Result<usize, AllocError>
+    ensures { IfOk result (λ sum. sum ≡ count + more) }
+{
+    count.checked_add(more).ok_or(AllocError)
 }
 
 fn push_lines(text: &mut String, plan: &Plan, notes: &[Note]) -> Result<(), AllocError>

@@ -20,7 +20,7 @@ use std::alloc::{AllocError, Global};
 use weights::{Bound, Vector};
 
 /// Tells the failing conditions of the ranks.
-fn push_rank_notes(
+pub(crate) fn push_rank_notes(
     alloc: Global,
     notes: &mut Vec<Note>,
     plan: &Plan,
@@ -85,7 +85,7 @@ fn push_blocked_notes(
 }
 
 /// Tells the failing conditions of a pool: those of its bound, and then those of its blocked vector.
-fn push_pool_notes(
+pub(crate) fn push_pool_notes(
     alloc: Global,
     notes: &mut Vec<Note>,
     plan: &Plan,

@@ -11,7 +11,7 @@ use cert_text::read_cert;
 use certificates::Cert;
 use faults::number::MEMORY;
 use job_bodies::Plan;
-use refusal_notes::{notes, push_explanation};
+use refusal_notes::push_explanation;
 use std::alloc::{AllocError, Global};
 
 /// Whether the certificate accepts the plan, and both sides of each bound.
@@ -53,11 +53,10 @@ fn explanation_of(alloc: Global, plan: &Plan, cert: &Cert) -> Result<Answer, All
     requires { IsTrue (cert_fits plan.now cert.now) }
     ensures { IfOk result (λ answer. answer ≡ spec.explain_of_cert plan.now (Ok cert.now)) }
 {
-    let notes = notes(alloc, plan, cert)?;
     let mut text = String::new(alloc);
-    push_explanation(&mut text, plan, &notes)?;
+    let count = push_explanation(alloc, &mut text, plan, cert)?;
     Ok(Answer {
         text,
-        status: Status::of_question(notes.is_empty()),
+        status: Status::of_question(count == 0),
     })
 }
