@@ -1,5 +1,5 @@
 -- A certificate of which no condition fails is one whose parts hold.
-use Rattle.std.proofs.Common.{◌≡◌, ℕ, Bool, true, false, cond, ◌&&◌, not, ltb, List, [], ◌∷◌, ◌++◌, map, filter, flat_map, Option, Some, None, is_some, refl, sym, ap, ap₂, ◌∙◌}
+use Rattle.std.proofs.Common.{◌≡◌, ℕ, Bool, true, false, cond, ◌&&◌, not, ltb, List, [], ◌∷◌, ◌++◌, filter, flat_map, Some, is_some, refl, sym, ap, ap₂, ◌∙◌}
 use Rattle.std.specs.List.{list_all, enumerate_from}
 use Rattle.job_bodies.specs.Plan.{Pool, Plan}
 use Rattle.weights.specs.declared.row.Row.{Row}
@@ -11,7 +11,7 @@ use Rattle.certificates.specs.Cert.{Cert, pool_cert_at}
 use Rattle.headline.specs.declared.note.Section.{Section}
 use Rattle.headline.specs.declared.note.Section.TheVariants as section
 use Rattle.headline.specs.declared.note.Note.{Note}
-use Rattle.headline.specs.Conditions.{note, in_section, bound_section, pool_conditions, conditions, failing}
+use Rattle.headline.specs.Conditions.{note, in_section, bound_section, pool_conditions, failing}
 use Rattle.headline.specs.Accepted.{is_nil}
 use Rattle.cert_check.specs.Holding.{pool_holds}
 

@@ -1,15 +1,13 @@
 -- What a yes means of the texts of a plan and a certificate.
-use Rattle.std.proofs.Common.{◌≡◌, ℕ, List, Result, Ok, Err, IsTrue, refl, sym, ap, subst, ◌∙◌}
+use Rattle.std.proofs.Common.{◌≡◌, ℕ, List, Ok, IsTrue}
 use Rattle.readings.proofs.Steps.{bind_ok}
 use Rattle.job_bodies.specs.Plan.{Plan}
 use Rattle.job_bodies.specs.WellFormed.{IsWellFormed}
-use Rattle.job_bodies.specs.declared.fault.PlanFault.{PlanFault}
 use Rattle.plan_text.specs.Document.{document_of}
 use Rattle.plan_text.specs.Entries.{entries_of}
-use Rattle.plan_text.specs.PlanOf.{plan_of, plan_of_entries}
+use Rattle.plan_text.specs.PlanOf.{plan_of}
 use Rattle.plan_text.proofs.Buildable.{are_within_limits, well_formed_read}
 use Rattle.certificates.specs.Cert.{Cert}
-use Rattle.cert_text.specs.declared.fault.CertFault.{CertFault}
 use Rattle.cert_text.specs.CertOf.{cert_of}
 use Rattle.headline.specs.Accepted.{accepted}
 use Rattle.headline.proofs.Theorem.{promises}

@@ -1,16 +1,16 @@
 -- Certificates whose standing vectors alone are asked about.
-use Rattle.std.specs.Prelude.{ℕ, ◌&&◌, not, is_some, Bool, false}
+use Rattle.std.specs.Prelude.{ℕ, ◌&&◌, not, Bool, false}
 use Rattle.std.specs.List.{list_all, enumerate_from}
 use Rattle.job_bodies.specs.Plan.{Plan}
 use Rattle.weights.specs.declared.bound.Bound.{Bound}
 use Rattle.weights.specs.declared.bound.Bound.TheVariants.{Standing, Lifetime}
-use Rattle.weights.specs.Row.{first_failing}
+use Rattle.weights.specs.Row.{fails}
 use Rattle.weights.specs.Standing.{standing_rows}
 use Rattle.certificates.specs.Cert.{Cert, cert_fits, pool_cert_at}
 
--- pool p has a standing vector, of which no row fails
+-- pool p has a standing vector, and each of its rows holds
 abbrev pub stands : Plan → ℕ → Bound → Bool
-stands plan p (Standing v) = not (is_some (first_failing (standing_rows plan p v)))
+stands plan p (Standing v) = list_all (λ row. not (fails row)) (standing_rows plan p v)
 stands plan p (Lifetime v) = false
 
 -- the certificate fits the plan, and each pool stands

@@ -1,3 +1,4 @@
 pub mod CertLaws
 pub mod Faults
+pub mod Bounded
 pub mod Theorem

@@ -7,26 +7,19 @@ use Rattle.job_bodies.specs.WellFormed.{IsWellFormed}
 use Rattle.job_bodies.proofs.Bodies.{IsOrdered, ordered}
 use Rattle.written_machine.specs.declared.event.Event.{Event}
 use Rattle.written_machine.specs.declared.event.Outcome.{Outcome}
-use Rattle.written_machine.specs.State.{State, job_at, pool_of, is_unfinished}
+use Rattle.written_machine.specs.State.{State, job_at, is_unfinished}
 use Rattle.written_machine.specs.Step.{step}
 use Rattle.written_machine.specs.Reach.{start, state_after, replay, IsReached}
 use Rattle.written_machine.specs.Waiting.{IsWaitingSet}
 use Rattle.written_machine.specs.Safe.{Safe, is_of_job_or_pool, GoesOn}
-use Rattle.written_machine.proofs.Events.{Happens, happens, works, starts, queues, is_refused, gets, finishes, loops, takes, retires}
-use Rattle.written_machine.proofs.Kept.{Kept}
-use Rattle.written_machine.proofs.KeptStart.{kept_start}
-use Rattle.written_machine.proofs.KeptSubmits.{class_exists}
-use Rattle.written_machine.proofs.KeptStep.{kept_step}
-use Rattle.written_machine.proofs.JobsMade.{HaveJobs, have_jobs_start, have_jobs_step}
+use Rattle.written_machine.proofs.Events.{Happens, happens}
 use Rattle.written_machine.proofs.Reached.{replay_none, replay_keeps, reached_keeps}
 use Rattle.written_machine.proofs.Progress.{goes_on}
+use Rattle.weights.specs.declared.bound.Bound.{Bound}
 use Rattle.weights.specs.declared.at_get.AtGet.TheVariants.{GivesBack}
-use Rattle.weights.specs.Bound.{bound_vector, bound_at_get}
 use Rattle.pool_ranks.specs.Ranks.{is_counted}
 use Rattle.certificates.specs.Cert.{Cert, pool_cert_at}
-use Rattle.weight_laws.proofs.BoundLaws.{bound_vector_laws}
 use Rattle.weight_laws.proofs.NeverRises.{IsBalanced, balanced_start, never_rises, balanced_step}
-use Rattle.weight_laws.proofs.NoRefusal.{not_refused}
 use Rattle.starvation_laws.specs.Drain.{todo, Drains}
 use Rattle.starvation_laws.proofs.BlockedCounts.{blocked-below_core}
 use Rattle.starvation_laws.proofs.Descent.{none_waits}
@@ -34,53 +27,33 @@ use Rattle.starvation_laws.proofs.Draining.{lowers}
 use Rattle.headline.specs.Accepted.{accepted}
 use Rattle.headline.specs.Headline.{Promises, AcceptedPlansAreSafe, AcceptedPlansGoOn, AcceptedPlansDrain}
 use Rattle.headline.proofs.CertLaws.{CertLaws, cert_laws}
+use Rattle.headline.proofs.Bounded.{Bounded, bounded_start, bounded_step, keeps_sizes}
 
 -- ---- what every state that an accepted plan reaches keeps
 
--- what every reached state keeps, each bounded pool is balanced, and nothing was refused
+-- the bounds of the certificate's pools
+abbrev bound_of : Cert → ℕ → Bound
+bound_of cert p = (pool_cert_at cert p).bound
+
+-- what the pools' bounds keep, and each blocked vector is balanced
 pub record Sound (plan : Plan) (cert : Cert) (s : State) : Type 0 where
-  pub kept : Kept plan s
-  pub have_jobs : HaveJobs plan s
-  pub bound : (p : ℕ) → p < length plan.pools → IsBalanced (bound_at_get (pool_cert_at cert p).bound) plan (bound_vector (pool_cert_at cert p).bound) s
+  pub bounded : Bounded plan (bound_of cert) s
   pub blocked : (p : ℕ) → p < length plan.pools → IsBalanced GivesBack plan (pool_cert_at cert p).blocked s
-  pub none_refused : s.refusals ≡ 0
 
 -- the start is sound
 sound_start : (plan : Plan) (cert : Cert) → IsOrdered plan → Sound plan cert (start plan)
 sound_start plan cert ordered = record {
-  kept = kept_start plan ordered;
-  have_jobs = have_jobs_start plan;
-  bound = λ p inside. balanced_start (bound_at_get (pool_cert_at cert p).bound) plan (bound_vector (pool_cert_at cert p).bound);
+  bounded = bounded_start plan (bound_of cert) ordered;
   blocked = λ p inside. balanced_start GivesBack plan (pool_cert_at cert p).blocked;
-  none_refused = refl;
 }
-
--- no event is a refusal
-refuses_nothing : (plan : Plan) (cert : Cert) (s s' : State) (o : Outcome) {e : Event} → IsOrdered plan → CertLaws plan cert → Sound plan cert s → Happens plan s e s' o → s'.refusals ≡ 0
-refuses_nothing plan cert s s' o ordered laws sound (works a body i u at) = sound.none_refused
-refuses_nothing plan cert s s' o ordered laws sound (starts a body i k at below) = sound.none_refused
-refuses_nothing plan cert s s' o ordered laws sound (queues a body i k at at_core room) = sound.none_refused
-refuses_nothing plan cert s s' o ordered laws sound (is_refused a body i k at no_room all_started) =
-    let inside = ordered.pools k (class_exists plan s a body i k ordered at) in
-    absurd (not_refused plan (pool_cert_at cert (pool_of plan k)).bound s a body i k ordered (laws.bound (pool_of plan k) inside) sound.kept sound.have_jobs (sound.bound (pool_of plan k) inside) at no_room all_started)
-refuses_nothing plan cert s s' o ordered laws sound (gets a body i t j at is_child done) = sound.none_refused
-refuses_nothing plan cert s s' o ordered laws sound (finishes j body i at) = sound.none_refused
-refuses_nothing plan cert s s' o ordered laws sound (loops c client body i at is_client repeats) = sound.none_refused
-refuses_nothing plan cert s s' o ordered laws sound (takes p j queue idle is_queue is_idle) = sound.none_refused
-refuses_nothing plan cert s s' o ordered laws sound (retires p idle is_idle above_core) = sound.none_refused
 
 -- every event keeps that
 sound_step : (plan : Plan) (cert : Cert) (s s' : State) (o : Outcome) {e : Event} → IsOrdered plan → CertLaws plan cert → Sound plan cert s → Happens plan s e s' o → Sound plan cert s'
 sound_step plan cert s s' o ordered laws sound happened = record {
-  kept = kept_step plan s s' o ordered sound.kept happened;
-  have_jobs = have_jobs_step plan s s' o sound.kept sound.have_jobs happened;
-  bound = λ p inside.
-      let bound = (pool_cert_at cert p).bound in
-      balanced_step (bound_at_get bound) plan (bound_vector bound) s s' (never_rises (bound_at_get bound) plan (bound_vector bound) s s' o ordered (bound_vector_laws plan p bound (laws.bound p inside)) sound.kept happened) (sound.bound p inside);
+  bounded = bounded_step plan (bound_of cert) s s' o ordered laws.bound sound.bounded happened;
   blocked = λ p inside.
       let v = (pool_cert_at cert p).blocked in
-      balanced_step GivesBack plan v s s' (never_rises GivesBack plan v s s' o ordered (laws.blocked p inside).laws sound.kept happened) (sound.blocked p inside);
-  none_refused = refuses_nothing plan cert s s' o ordered laws sound happened;
+      balanced_step GivesBack plan v s s' (never_rises GivesBack plan v s s' o ordered (laws.blocked p inside).laws sound.bounded.kept happened) (sound.blocked p inside);
 }
 
 -- so every reached state is sound
@@ -92,8 +65,8 @@ sound plan cert s ordered laws reached = reached_keeps plan (Sound plan cert) (s
 -- where the state is sound, no set of jobs waits only for its own members
 sound_waits : (plan : Plan) (cert : Cert) (s : State) → IsOrdered plan → CertLaws plan cert → Sound plan cert s → (members : List ℕ) → ¬ IsWaitingSet plan s members
 sound_waits plan cert s ordered laws held members =
-    none_waits plan cert.ranks s members ordered laws.ranks held.kept
-    (λ p inside. blocked-below_core plan (is_counted plan cert.ranks) (pool_cert_at cert p).blocked s p ordered inside (laws.blocked p inside) held.kept (held.blocked p inside))
+    none_waits plan cert.ranks s members ordered laws.ranks held.bounded.kept
+    (λ p inside. blocked-below_core plan (is_counted plan cert.ranks) (pool_cert_at cert p).blocked s p ordered inside (laws.blocked p inside) held.bounded.kept (held.blocked p inside))
 
 -- the headline: every reached state is safe
 pub safe : (plan : Plan) (cert : Cert) → IsWellFormed plan → IsTrue (accepted plan cert) → Safe plan
@@ -101,10 +74,11 @@ safe plan cert well_formed is_accepted events s reached =
     let is_ordered = ordered plan well_formed in
     let laws = cert_laws plan cert is_accepted in
     let held = sound plan cert s is_ordered laws (events, reached) in
+    let sizes = keeps_sizes plan (bound_of cert) s held.bounded in
     record {
-      none_refused = held.none_refused;
-      within_max = λ p inside. (held.kept.pools p inside).within_max;
-      within_queue = λ p inside. (held.kept.pools p inside).within_queue;
+      none_refused = sizes.none_refused;
+      within_max = sizes.within_max;
+      within_queue = sizes.within_queue;
       none_waits = sound_waits plan cert s is_ordered laws held;
     }
 
@@ -114,7 +88,7 @@ goes_on_everywhere plan cert well_formed is_accepted events s reached j still =
     let is_ordered = ordered plan well_formed in
     let laws = cert_laws plan cert is_accepted in
     let held = sound plan cert s is_ordered laws (events, reached) in
-    goes_on plan s j is_ordered held.kept (sound_waits plan cert s is_ordered laws held) still
+    goes_on plan s j is_ordered held.bounded.kept (sound_waits plan cert s is_ordered laws held) still
 
 -- ---- draining
 
@@ -129,7 +103,7 @@ after_first plan cert s e events s' ordered laws held of_job_or_pool onward (Som
     let happened = happens plan s e next o is_step in
     let held' = sound_step plan cert s next o ordered laws held happened in
     let rest = onward next held' replayed in
-    let less = lowers plan cert.ranks s next o e laws.ranks held.kept held.none_refused held'.none_refused of_job_or_pool happened in
+    let less = lowers plan cert.ranks s next o e laws.ranks held.bounded.kept held.bounded.none_refused held'.bounded.none_refused of_job_or_pool happened in
     omega arith
 
 -- job events and takings are no more than what is to do
@@ -150,7 +124,7 @@ drains plan cert well_formed is_accepted =
           let held : Sound plan cert s' = replay_keeps plan (Sound plan cert) (λ s₁ e s₂ o before happened. sound_step plan cert s₁ s₂ o is_ordered laws before happened) events s s' (sound plan cert s is_ordered laws leads.reached) leads.replayed in
           false_from_ne_true (is_unfinished (job_at s' j).stage)
           (λ still.
-          let goes = goes_on plan s' j is_ordered held.kept (sound_waits plan cert s' is_ordered laws held) still in
+          let goes = goes_on plan s' j is_ordered held.bounded.kept (sound_waits plan cert s' is_ordered laws held) still in
           let rest : is_some (step plan s' goes.event) ≡ false = ap (λ (x : Option (State × Outcome)). is_some x) (rests goes.event goes.of_job_or_pool) in
           let possible = goes.possible in
           cc);

@@ -1,6 +1,6 @@
 //! Laws of accepted certificates, each the contract of a function with nothing to do.
 
-ghost use Rattle.headline.specs.Headline.{AcceptedPlansAreSafe, AcceptedPlansGoOn, AcceptedPlansDrain};
+ghost use Rattle.headline.specs.Headline.{AcceptedPlansAreSafe, AcceptedPlansGoOn, AcceptedPlansDrain, BoundedPlansRefuseNothing};
 
 /// Where a certificate accepts a well-formed plan, every state that any list of events reaches is safe: nothing was refused,
 /// each pool keeps its sizes, and no set of unfinished jobs waits only for its own members.
@@ -18,4 +18,11 @@ pub fn accepted_plans_go_on()
 /// have still to do, and where none is possible any more no job is unfinished.
 pub fn accepted_plans_drain()
     ensures { AcceptedPlansDrain }
+{}
+
+/// Where each pool of a well-formed plan has a standing or a lifetime vector whose conditions hold, no list of events
+/// reaches a state in which a submit was refused or a pool has more threads or queued jobs than it may. Nothing need be
+/// known of ranks and of jobs that wait for jobs.
+pub fn bounded_plans_refuse_nothing()
+    ensures { BoundedPlansRefuseNothing }
 {}

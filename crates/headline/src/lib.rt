@@ -6,5 +6,8 @@
 mod laws;
 mod note;
 
-pub use laws::{accepted_plans_are_safe, accepted_plans_drain, accepted_plans_go_on};
+pub use laws::{
+    accepted_plans_are_safe, accepted_plans_drain, accepted_plans_go_on,
+    bounded_plans_refuse_nothing,
+};
 pub use note::{Note, Section};

@@ -1,6 +1,5 @@
 use Rattle.std.proofs.Common.{◌≡◌, ap, ◌∙◌}
 use Rattle.weights.specs.declared.bound.Bound.{Bound}
-use Rattle.weights.specs.Vector.{Vector}
 use Rattle.weights.specs.Bound.{bound_vector}
 use Rattle.certificates.specs.Cert.{PoolCert, pool_cert_at}
 use Rattle.certificates.proofs.Fitting.{parts_fit}

@@ -1,5 +1,5 @@
 -- The text has the lines before this pool behind what it had.
-use Rattle.std.proofs.Common.{◌≡◌, ◌++◌, take, ℕ, List}
+use Rattle.std.proofs.Common.{◌≡◌, ◌++◌, take}
 use Rattle.std.specs.Prelude.{string_bytes}
 use Rattle.cert_check.specs.Text.{pool_lines_text}
 use Rattle.cert_check.proofs.text.push_pool_lines.Given as goal

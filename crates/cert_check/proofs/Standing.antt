@@ -1,0 +1,55 @@
+-- Certificates of which the standing vectors are asked about: what is found is what is said, and their plans refuse nothing.
+use Rattle.std.proofs.Common.{◌≡◌, ℕ, Bool, true, false, ◌&&◌, not, cond, List, [], ◌∷◌, Option, Some, is_some, refl, zero-add}
+use Rattle.std.specs.List.{list_all, enumerate_from}
+use Rattle.std.proofs.lemmas.Bool.{and_parts, ltb-false}
+use Rattle.std.proofs.lemmas.Option.{slice_get-get_or}
+use Rattle.numbered_lists.proofs.Members.{In-enumerate_from, list_all_at_In}
+use Rattle.job_bodies.specs.Plan.{Plan, no_pool, pool_at}
+use Rattle.job_bodies.specs.WellFormed.{IsWellFormed}
+use Rattle.weights.specs.declared.row.Row.{Row}
+use Rattle.weights.specs.declared.bound.Bound.{Bound}
+use Rattle.weights.specs.declared.bound.Bound.TheVariants.{Standing, Lifetime}
+use Rattle.weights.specs.Row.{fails, first_failing, AllHold}
+use Rattle.weights.specs.Bound.{bound_rows}
+use Rattle.certificates.specs.Cert.{Cert, cert_fits, pool_cert_at}
+use Rattle.certificates.proofs.Fitting.{parts_fit}
+use Rattle.headline.specs.Headline.{RefusesNothing}
+use Rattle.headline.proofs.Bounded.{bounded_plans_refuse_nothing}
+use Rattle.cert_check.specs.Standing.{stands, accepted_standing}
+
+-- the row's left is at most its right
+abbrev holds : Row → Bool
+holds row = not (fails row)
+
+-- no row fails first where all hold
+pub none_first : (rows : List Row) → not (is_some (first_failing rows)) ≡ list_all (λ row. not (fails row)) rows
+none_first [] = refl
+none_first (x ∷ rows) =
+    elim (fails x) as (λ b. not (is_some (cond b (Some x) (first_failing rows))) ≡ (not b && list_all holds rows)) [
+      | true ↦ refl
+      | false ↦ none_first rows
+    ]
+
+-- what is_none answers
+pub none_found : (found : Option Row) (answer : Bool) → is_some found ≡ not answer → answer ≡ not (is_some found)
+none_found found true e = rw e refl
+none_found found false e = rw e refl
+
+not_failing : (b : Bool) → not b ≡ true → b ≡ false
+not_failing true e = absurd cc
+not_failing false e = refl
+
+stands_hold : (plan : Plan) (p : ℕ) (bound : Bound) → stands plan p bound ≡ true → AllHold (bound_rows plan p bound)
+stands_hold plan p (Standing v) e = λ x i. ltb-false x.right x.left (not_failing (fails x) (list_all_at_In holds e i))
+stands_hold plan p (Lifetime v) e = absurd cc
+
+-- where each pool stands nothing is refused
+pub standing_refuses_nothing : (plan : Plan) (cert : Cert) → IsWellFormed plan → accepted_standing plan cert ≡ true → RefusesNothing plan
+standing_refuses_nothing plan cert well_formed e =
+    let test = λ (p : ℕ). stands plan p (pool_cert_at cert p).bound in
+    let parts = and_parts (cert_fits plan cert) (list_all (λ entry. test entry.0) (enumerate_from 0 plan.pools)) e in
+    bounded_plans_refuse_nothing plan (λ p. (pool_cert_at cert p).bound) well_formed (λ p inside. (
+      ((parts_fit plan cert parts.0).pools p inside).bound,
+      stands_hold plan p (pool_cert_at cert p).bound
+          (list_all_at_In (λ entry. test entry.0) parts.1 (In-enumerate_from 0 plan.pools p (pool_at plan p) p (slice_get-get_or plan.pools p no_pool inside) (zero-add p))),
+    ))
