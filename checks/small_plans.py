@@ -1,0 +1,355 @@
+#!/usr/bin/env python3
+"""Goes through every state of every small plan that the built program certifies, and looks for one that is not safe.
+
+The machine is written here a second time, from the rules in docs/GUIDE.md alone: nothing of the crates is used. For each
+plan of a family, `sizing certify` is asked for a certificate. Where it finds one, all lists of events are tried, up to
+the names of jobs: no submit may be refused, no set of jobs may wait only for its own members, and some job or pool must
+be able to go on as long as a job is unfinished. The machine itself is compared with `sizing replay` on a walk through
+each plan, whether it was certified or not.
+
+The program is crates/sizing/out/sizing, or the one that the environment variable SIZING names.
+
+Exit status: 0 where all is safe and all walks agree, 1 where not, 2 where there is no program.
+"""
+
+import itertools
+import os
+import random
+import subprocess
+import sys
+from collections import Counter, namedtuple
+from pathlib import Path
+
+BUILT = Path(__file__).resolve().parent.parent / "crates" / "sizing" / "out" / "sizing"
+# A plan with more states than these is left where it is and counted apart.
+MOST_STATES = 20_000
+STEPS_OF_A_WALK = 40
+SECONDS = 20
+
+Pool = namedtuple("Pool", "name core max queue prestart")
+Class = namedtuple("Class", "name pool body")
+Client = namedtuple("Client", "name count repeat body")
+Plan = namedtuple("Plan", "pools classes clients")
+
+# An action is ("work", units), ("submit", class) or ("get", position of its submit); a phase is QUEUED, DONE or a position.
+QUEUED, DONE = "queued", "done"
+# A job that can still be asked for; its maker is ("client", number), ("job", number) or None, whom nobody is any more.
+Job = namedtuple("Job", "kind maker slot phase")
+# Idle workers and queue of each pool, position of each client, and the jobs by number, in the order of their making.
+State = namedtuple("State", "idle queues clients jobs")
+
+
+class Machine:
+    """A plan's machine: its start, and what each event does."""
+
+    def __init__(self, plan):
+        self.plan = plan
+        self.kinds = [kind for kind, client in enumerate(plan.clients) for _ in range(client.count)]
+
+    def start(self):
+        idle = tuple(pool.core if pool.prestart else 0 for pool in self.plan.pools)
+        return State(idle, ((),) * len(idle), (0,) * len(self.kinds), ())
+
+    def events(self, state):
+        """All events that there could be, by their words in a replay."""
+        yield from (("client", number) for number in range(len(self.kinds)))
+        yield from (("job", number) for number, _ in state.jobs)
+        yield from ((word, pool) for word in ("take", "retire") for pool in range(len(self.plan.pools)))
+
+    def threads(self, state, pool):
+        return state.idle[pool] + sum(1 for _, job in state.jobs if at_work(job) and self.pool_of(job) == pool)
+
+    def pool_of(self, job):
+        return self.plan.classes[job.kind].pool
+
+    def step(self, state, event, new_number):
+        """The state after the event and the words that tell it, or None where the event is not possible."""
+        word, number = event
+        if word == "take":
+            if not state.idle[number] or not state.queues[number]:
+                return None
+            taken = state.queues[number][0]
+            jobs = changed(state.jobs, taken, phase=0)
+            return State(less_at(state.idle, number), put(state.queues, number, state.queues[number][1:]), state.clients, jobs), f"took job {taken}"
+        if word == "retire":
+            if not state.idle[number] or self.threads(state, number) <= self.plan.pools[number].core:
+                return None
+            return state._replace(idle=less_at(state.idle, number)), "retired"
+        return self.act(state, event, new_number)
+
+    def act(self, state, actor, new_number):
+        word, number = actor
+        if word == "client":
+            position, client = state.clients[number], self.plan.clients[self.kinds[number]]
+            body = client.body
+        else:
+            job = dict(state.jobs).get(number)
+            if job is None or not at_work(job):
+                return None
+            position, body = job.phase, self.plan.classes[job.kind].body
+        if position < len(body):
+            return self.action(state, actor, position, body[position], new_number)
+        if word == "job":
+            return self.finish(state, number), f"finished job {number}"
+        return (state._replace(clients=put(state.clients, number, 0)), "looped") if client.repeat else None
+
+    def action(self, state, actor, position, action, new_number):
+        what, operand = action
+        if what == "work":
+            return self.moved(state, actor, position + 1), f"worked {operand}"
+        if what == "get":
+            child = latest(state, actor, operand)
+            if child is None or dict(state.jobs)[child].phase != DONE:
+                return None
+            jobs = tuple(entry for entry in state.jobs if entry[0] != child)
+            return self.moved(state._replace(jobs=jobs), actor, position + 1), f"got job {child}"
+        return self.submit(state, actor, position, operand, new_number)
+
+    def submit(self, state, actor, position, kind, number):
+        of = self.plan.classes[kind].pool
+        pool = self.plan.pools[of]
+        threads = self.threads(state, of)
+        room = len(state.queues[of]) < pool.queue
+        if threads < pool.core or (not room and threads < pool.max):
+            phase, queues, told = 0, state.queues, f"started job {number}"
+        elif room:
+            phase, queues, told = QUEUED, put(state.queues, of, state.queues[of] + (number,)), f"queued job {number}"
+        else:
+            return state, f"refused by {pool.name}"
+        old = latest(state, actor, position)
+        kept = tuple(entry for entry in state.jobs if not (entry[0] == old and entry[1].phase == DONE))
+        jobs = kept + ((number, Job(kind, actor, position, phase)),)
+        return self.moved(state._replace(queues=queues, jobs=jobs), actor, position + 1), told
+
+    def moved(self, state, actor, position):
+        word, number = actor
+        if word == "client":
+            return state._replace(clients=put(state.clients, number, position))
+        return state._replace(jobs=changed(state.jobs, number, phase=position))
+
+    def finish(self, state, number):
+        job = dict(state.jobs)[number]
+        asked_for = job.maker is not None and latest(state, job.maker, job.slot) == number
+        of = self.pool_of(job)
+        jobs = []
+        for other, child in state.jobs:
+            if other == number:
+                if asked_for:
+                    jobs.append((number, job._replace(phase=DONE)))
+            elif child.maker != ("job", number):
+                jobs.append((other, child))
+            elif child.phase != DONE:
+                # Nobody asks for it any more, but it goes on.
+                jobs.append((other, child._replace(maker=None)))
+        return state._replace(idle=put(state.idle, of, state.idle[of] + 1), jobs=tuple(jobs))
+
+    def waiting(self, state):
+        """The greatest set of unfinished jobs that wait only for one another."""
+        jobs = dict(state.jobs)
+        members = {number for number, job in state.jobs if job.phase != DONE}
+        while True:
+            left = {number for number in members if self.waits(state, jobs, number, members)}
+            if left == members:
+                return members
+            members = left
+
+    def waits(self, state, jobs, number, members):
+        job = jobs[number]
+        if job.phase == QUEUED:
+            of = self.pool_of(job)
+            busy = {other for other, one in state.jobs if at_work(one) and self.pool_of(one) == of}
+            return not state.idle[of] and busy <= members
+        body = self.plan.classes[job.kind].body
+        if job.phase == len(body) or body[job.phase][0] != "get":
+            return False
+        return latest(state, ("job", number), body[job.phase][1]) in members
+
+
+def at_work(job):
+    return job.phase not in (QUEUED, DONE)
+
+
+def latest(state, actor, slot):
+    return max((number for number, job in state.jobs if job.maker == actor and job.slot == slot), default=None)
+
+
+def put(row, place, value):
+    return row[:place] + (value,) + row[place + 1 :]
+
+
+def less_at(row, place):
+    return put(row, place, row[place] - 1)
+
+
+def changed(jobs, number, phase):
+    return tuple((other, job._replace(phase=phase)) if other == number else (other, job) for other, job in jobs)
+
+
+def renamed(state):
+    """The state with its jobs numbered from 0, in their order: the same for all that comes."""
+    names = {number: name for name, (number, _) in enumerate(state.jobs)}
+
+    def maker(job):
+        return ("job", names[job.maker[1]]) if job.maker and job.maker[0] == "job" else job.maker
+
+    queues = tuple(tuple(names[number] for number in queue) for queue in state.queues)
+    return state._replace(queues=queues, jobs=tuple((names[number], job._replace(maker=maker(job))) for number, job in state.jobs))
+
+
+def explored(plan):
+    """How many states the plan reaches, what is wrong with one of them or None, and whether there were too many."""
+    machine = Machine(plan)
+    first = renamed(machine.start())
+    seen, front = {first}, [first]
+    while front:
+        if len(seen) > MOST_STATES:
+            return len(seen), None, True
+        state = front.pop()
+        goes_on = False
+        for event in machine.events(state):
+            done = machine.step(state, event, len(state.jobs))
+            if done is None:
+                continue
+            after, told = done
+            if told.startswith("refused"):
+                return len(seen), f"{told} in {state}", False
+            goes_on = goes_on or event[0] in ("job", "take")
+            after = renamed(after)
+            if after not in seen:
+                seen.add(after)
+                front.append(after)
+        unfinished = any(job.phase != DONE for _, job in state.jobs)
+        if machine.waiting(state):
+            return len(seen), f"jobs wait only for each other in {state}", False
+        if unfinished and not goes_on:
+            return len(seen), f"nothing goes on in {state}", False
+    return len(seen), None, False
+
+
+# ---- the plans
+
+
+def bodies(text):
+    """A list of actions from words as `a+ -` : submit class a and get it later; `a` alone is never got; `-` gets the oldest."""
+    actions, open_submits = [], []
+    for word in text.split():
+        if word == "-":
+            actions.append(("get", open_submits.pop(0)))
+        elif word.isdigit():
+            actions.append(("work", int(word)))
+        else:
+            if word.endswith("+"):
+                open_submits.append(len(actions))
+            actions.append(("submit", "abcd".index(word[0])))
+    return actions
+
+
+def plans():
+    """The family: one pool with one or two classes, and two pools that call each other."""
+    sizes = [(1, 1), (1, 2), (2, 2)]
+    pools = [Pool("p", core, top, queue, first) for core, top in sizes for queue in (1, 2, 3) for first in (False, True)]
+    asks = ["a+ -", "a", "a+ a+ - -", "a a+ -"]
+    for pool, body, ask, count, repeat in itertools.product(pools, ["1", ""], asks, (1, 2), (False, True)):
+        yield Plan([pool], [Class("a", 0, bodies(body))], [Client("c", count, repeat, bodies(ask))])
+    outers = ["b+ -", "b+ b+ - -", "b", "1 b+ - b+ -", "b+ 1 -"]
+    for pool, outer, ask, count, repeat in itertools.product(pools, outers, ["a+ -", "a"], (1, 2), (False, True)):
+        classes = [Class("a", 0, bodies(outer)), Class("b", 0, bodies("1"))]
+        yield Plan([pool], classes, [Client("c", count, repeat, bodies(ask))])
+    pairs = [(Pool("p", *one, two, False), Pool("q", *other, three, False)) for one in sizes for other in sizes for two in (1, 2) for three in (1, 2)]
+    for pair, repeat in itertools.product(pairs, (False, True)):
+        there_and_back = [Class("a", 0, bodies("b+ -")), Class("b", 1, bodies("1")), Class("c", 1, bodies("d+ -")), Class("d", 0, bodies("1"))]
+        yield Plan(list(pair), there_and_back, [Client("u", 1, repeat, bodies("a+ -")), Client("w", 1, repeat, bodies("c+ -"))])
+        chain = [Class("a", 0, bodies("b+ -")), Class("b", 1, bodies("c+ -")), Class("c", 0, bodies("1"))]
+        yield Plan(list(pair), chain, [Client("u", 1, repeat, bodies("a+ -"))])
+        yield Plan(list(pair), chain[:2] + [Class("c", 1, bodies("1"))], [Client("u", 2, repeat, bodies("a+ -"))])
+
+
+def text_of(plan):
+    lines = []
+    for pool in plan.pools:
+        lines += ["[[pool]]", f'name = "{pool.name}"', f"core = {pool.core}", f"max = {pool.max}", f"queue = {pool.queue}"]
+        lines += ["prestart = true"] if pool.prestart else []
+    for one in plan.classes:
+        lines += ["[[class]]", f'name = "{one.name}"', f'pool = "{plan.pools[one.pool].name}"', f"body = {body_text(plan, one.body)}"]
+    for client in plan.clients:
+        lines += ["[[client]]", f'name = "{client.name}"', f"count = {client.count}", f"repeat = {str(client.repeat).lower()}"]
+        lines += [f"body = {body_text(plan, client.body)}"]
+    return "\n".join(lines) + "\n"
+
+
+def body_text(plan, body):
+    got = {operand for what, operand in body if what == "get"}
+    words = []
+    for position, (what, operand) in enumerate(body):
+        if what == "submit":
+            words.append(f"submit {plan.classes[operand].name}" + (f" as s{position}" if position in got else ""))
+        else:
+            words.append(f"get s{operand}" if what == "get" else f"work {operand}")
+    return "[" + ", ".join(f'"{word}"' for word in words) + "]"
+
+
+# ---- the program
+
+
+def run(program, command, text):
+    done = subprocess.run([program, command], input=text.encode(), capture_output=True, timeout=SECONDS, check=False)
+    return done.returncode, done.stdout.decode()
+
+
+def walk(plan, draw):
+    """Events drawn one by one, each possible but perhaps the last, and what a replay is to tell of them."""
+    machine, made = Machine(plan), 0
+    state, lines, answers = machine.start(), [], []
+    for number in range(1, STEPS_OF_A_WALK + 1):
+        word, operand = event = draw.choice(list(machine.events(state)))
+        done = machine.step(state, event, made)
+        if done is None and draw.random() < 0.9:
+            continue
+        lines.append(f"{word} {plan.pools[operand].name if word in ('take', 'retire') else operand}")
+        if done is None:
+            answers.append("not possible")
+            break
+        state, told = done
+        made += told.startswith(("started", "queued"))
+        answers.append(told)
+    refused = sum(told.startswith("refused") for told in answers)
+    unfinished = sum(job.phase != DONE for _, job in state.jobs)
+    text = "".join(f"{number}: {told}\n" for number, told in enumerate(answers, 1))
+    return "\n".join(lines), f"{text}refusals {refused}, unfinished {unfinished}\n"
+
+
+def main():
+    program = Path(os.environ.get("SIZING") or BUILT).resolve()
+    if not os.access(program, os.X_OK) or not program.is_file():
+        print(f"there is no program at {program}: run `make program` at the top of the repository", file=sys.stderr)
+        return 2
+    draw = random.Random(1)
+    count, wrong = Counter(), []
+    for plan in plans():
+        text = text_of(plan)
+        count["plans"] += 1
+        events, wanted = walk(plan, draw)
+        if run(program, "replay", f"{text}%%\n{events}")[1] != wanted:
+            wrong.append(f"a replay differs:\n{text}%%\n{events}\nwanted:\n{wanted}")
+        status, answer = run(program, "certify", text)
+        if status == 0 and run(program, "check", answer)[0] == 0:
+            states, found, cut = explored(plan)
+            count["certified"] += 1
+            count["states"] += states
+            count["cut"] += cut
+            if found:
+                wrong.append(f"certified, but {found}:\n{text}")
+        elif status == 1:
+            states, found, cut = explored(plan)
+            count["unsafe" if found else "undecided" if cut else "safe, but not certified"] += 1
+        else:
+            wrong.append(f"certify ended with {status}:\n{text}{answer}")
+    for message in wrong[:5]:
+        print(message)
+    print(", ".join(f"{what} {number}" for what, number in count.items()))
+    print(f"{len(wrong)} wrong")
+    return 1 if wrong else 0
+
+
+if __name__ == "__main__":
+    sys.exit(main())
