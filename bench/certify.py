@@ -1,0 +1,138 @@
+#!/usr/bin/env python3
+"""usage: certify.py
+
+Times `sizing certify` beside the reading of its plan alone, and its peak memory beside that of `sizing check` on the
+bundle that it writes. README.md says what is measured, and what the bars are.
+
+The programs are crates/sizing/out/sizing and crates/plan_reader/out/plan_reader, or those that the environment
+variables SIZING and PLAN_READER name.
+
+Exit status: 0 where a certificate is found for each plan and no bar is exceeded, 1 where not, 2 where the benchmark
+can't be run.
+"""
+
+import subprocess
+import sys
+
+sys.dont_write_bytecode = True
+
+from machine import Class, Client, Plan, Pool
+from plan_texts import MOST_ACTIONS, MOST_CLASSES, filled, largest
+from timing import Program, Table, Wrong, built, compiled, costs, has_callgrind, in_folder, instructions
+
+RUNS = 10
+SIZE = 1024 * 1024
+TIME_BAR = 5
+MEMORY_BAR = 1.5
+MOST_POOLS = 64
+CLIENTS = 1000
+
+
+def main(words):
+    if words:
+        print("usage: certify.py", file=sys.stderr)
+        return 2
+    return in_folder(lambda folder: Bench(folder).run())
+
+
+class Bench:
+    """The programs, the table, and the bars that are exceeded so far."""
+
+    def __init__(self, folder):
+        self.folder = folder
+        self.sizing = built("sizing")
+        self.reader = built("plan_reader")
+        self.measure = compiled(folder, "measure")
+        self.is_counted = has_callgrind()
+        self.exceeded = []
+        self.table = Table(
+            ("plan", 22), ("bytes", 9), ("certify ms", 10), ("read_plan", 9), ("ratio", 5), ("bar", 4),
+            ("M instr", 8), ("beside", 7), ("ratio", 5), ("MiB", 5), ("check", 5), ("ratio", 5), ("bar", 4),
+        )
+
+    def run(self):
+        self.measured("2 pools, long bodies", two_pools(SIZE), TIME_BAR)
+        self.measured("64 pools that lend", pools_that_lend(), None)
+        if not self.is_counted:
+            print("no instructions are counted: valgrind is missing (`apt-get install valgrind`)")
+        if self.exceeded:
+            raise Wrong("\n".join(self.exceeded))
+
+    def measured(self, name, text, bar):
+        """Prints a row of the plan of this text, and holds its ratios to their bars."""
+        (self.folder / "plan").write_text(text)
+        bundle = self.certified(name, text)
+        (self.folder / "bundle").write_bytes(bundle)
+        verdict = self.asked("check", bundle)
+        if not verdict.startswith(b"yes\n"):
+            raise Wrong(f"{name}: the bundle is refused")
+        certify = Program([self.sizing, "certify"], bundle, given="plan")
+        reader = Program([self.reader, "plan"], b"ok\n", given="plan")
+        check = Program([self.sizing, "check"], verdict, given="bundle")
+        first, second, third = costs(self.folder, self.measure, [certify, reader, check], RUNS)
+        time, memory = first.milliseconds / second.milliseconds, first.mebibytes / third.mebibytes
+        self.table.row(
+            name,
+            len(text),
+            f"{first.milliseconds:.1f}",
+            f"{second.milliseconds:.1f}",
+            f"{time:.2f}",
+            "-" if bar is None else f"{bar:.1f}",
+            *self.counted([certify, reader]),
+            f"{first.mebibytes:.1f}",
+            f"{third.mebibytes:.1f}",
+            f"{memory:.2f}",
+            f"{MEMORY_BAR:.1f}",
+        )
+        if bar is not None:
+            self.hold(f"{name}: ratio of the times", time, bar)
+            self.hold(f"{name}: ratio of the peaks", memory, MEMORY_BAR)
+
+    def certified(self, name, text):
+        bundle = self.asked("certify", text.encode())
+        if not bundle.startswith(text.encode()):
+            raise Wrong(f"{name}: {bundle[:100].decode(errors='replace')}")
+        return bundle
+
+    def asked(self, command, given):
+        return subprocess.run([self.sizing, command], input=given, stdout=subprocess.PIPE, check=False).stdout
+
+    def counted(self, programs):
+        """The cells of the instructions of two programs."""
+        if not self.is_counted:
+            return ["-"] * 3
+        first, second = [instructions(self.folder, program) for program in programs]
+        return [f"{first:.1f}", f"{second:.1f}", f"{first / second:.2f}"]
+
+    def hold(self, what, found, bar):
+        if found > bar:
+            self.exceeded.append(f"{what} is {found:.2f}, and is not to be above {bar:.2f}")
+
+
+def two_pools(size):
+    """256 classes: those of the front submit and get one job of the back after another. The text is filled."""
+    slots = [f"slot_{number:027}" for number in range(MOST_ACTIONS // 2)]
+    names = [f"class_{number:026}" for number in range(MOST_CLASSES)]
+    inner = names[-1]
+
+    def plan(pairs):
+        body = [action for slot in slots[:pairs] for action in (f"submit {inner} as {slot}", f"get {slot}")]
+        classes = [Class(name, "front", body) for name in names[:-1]] + [Class(inner, "back", ["work 1"])]
+        client = Client("client", CLIENTS, True, [f"submit {names[0]} as {slots[0]}", f"get {slots[0]}"])
+        return Plan([Pool("front", 4, 4, CLIENTS), Pool("back", 2, 2, 4)], classes, [client])
+
+    return filled(largest(plan, len(slots), size).text(), size)
+
+
+def pools_that_lend():
+    """A chain: each pool's job submits one of the next pool and gets it, whose queue has a place for each worker."""
+    pools = [Pool(f"p{number}", 2, 2, 2 if number else CLIENTS) for number in range(MOST_POOLS)]
+    classes = [
+        Class(f"a{number}", pools[number].name, [f"submit a{number + 1} as x", "get x"] if number + 1 < MOST_POOLS else ["work 1"])
+        for number in range(MOST_POOLS)
+    ]
+    return Plan(pools, classes, [Client("client", CLIENTS, True, ["submit a0 as x", "get x"])]).text()
+
+
+if __name__ == "__main__":
+    sys.exit(main(sys.argv[1:]))
