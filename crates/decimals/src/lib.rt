@@ -1,0 +1,21 @@
+//! Numbers in the texts of answers. A formatter serves any value and any padding, at some thirty instructions more for
+//! each number.
+#![tactic(auto)]
+
+ghost use Rattle.std.specs.Prelude.{◌≡◌, ◌++◌, OnOk, OnErr, string_bytes, decimal};
+
+use itoa::Buffer;
+use std::alloc::AllocError;
+
+/// Puts the number behind the text, in decimal digits.
+///
+/// # Errors
+///
+/// [`AllocError`] where memory runs out. The text is then as before.
+pub fn push_number(text: &mut String, number: u64) -> Result<(), AllocError>
+    ensures digits { OnOk result (string_bytes text.new ≡ string_bytes text.old ++ decimal number) }
+    ensures unchanged { OnErr result (string_bytes text.new ≡ string_bytes text.old) }
+{
+    let mut digits = Buffer::new();
+    text.push_str(digits.format(number))
+}
