@@ -44,8 +44,14 @@ rule_text L5 = codes "L5"
 rule_text B1 = codes "B1"
 rule_text B2 = codes "B2"
 
+-- how each line of the part of the certificate begins
+abbrev pub head : Plan → Section → List ℕ
+head plan section = section_text plan section ++ codes ", "
+
+-- what each line tells behind its head: where, which rule, and both its sides
+abbrev pub condition : Plan → Note → List ℕ
+condition plan note = place_text plan note.place ++ codes ": " ++ rule_text note.rule ++ codes " " ++ decimal note.left ++ codes " above " ++ decimal note.right
+
 -- a failing condition, without the newline
 abbrev pub line : Plan → Note → List ℕ
-line plan note =
-    section_text plan note.section ++ codes ", " ++ place_text plan note.place ++ codes ": " ++ rule_text note.rule ++ codes " "
-    ++ decimal note.left ++ codes " above " ++ decimal note.right
+line plan note = head plan note.section ++ condition plan note

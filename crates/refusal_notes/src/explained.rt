@@ -1,12 +1,14 @@
 //! The lines that explain a refusal.
 
-ghost use Rattle.std.specs.Prelude.{◌≡◌, ◌+◌, ◌++◌, IsTrue, IfOk, OnOk, length, string_bytes};
+ghost use Rattle.std.specs.Prelude.{◌≡◌, ◌+◌, ◌++◌, ◌∷◌, [], IsTrue, IfOk, OnOk, length, string_bytes};
 ghost use Rattle.certificates.specs.Cert.{cert_fits};
 ghost use Rattle.headline.specs.Conditions.{failing};
 ghost use Rattle.refusal_notes.specs.Explanation as spec;
+ghost use Rattle.refusal_notes.specs.Line as line;
 
 use crate::told::{push_pool_notes, push_rank_notes};
-use crate::{Note, push_line};
+use crate::written::{head_of, push_condition};
+use crate::{Note, Section};
 use certificates::Cert;
 use job_bodies::Plan;
 use std::alloc::{AllocError, Global};
@@ -45,12 +47,12 @@ fn push_all_lines(
 {
     let mut notes = Vec::new(alloc);
     push_rank_notes(alloc, &mut notes, plan, &cert.ranks)?;
-    push_lines(text, plan, notes.as_slice())?;
+    push_lines(alloc, text, plan, notes.as_slice())?;
     let mut count = notes.as_slice().len();
     for (number, pool) in cert.pools.iter().enumerate() {
         notes.clear();
         push_pool_notes(alloc, &mut notes, plan, &cert.ranks, number, pool)?;
-        push_lines(text, plan, notes.as_slice())?;
+        push_lines(alloc, text, plan, notes.as_slice())?;
         count = sum(count, notes.as_slice().len())?;
     }
     Ok(count)
@@ -63,11 +65,39 @@ fn sum(count: usize, more: usize) -> Result<usize, AllocError>
     count.checked_add(more).ok_or(AllocError)
 }
 
-fn push_lines(text: &mut String, plan: &Plan, notes: &[Note]) -> Result<(), AllocError>
+/// Tells the notes, a line each. What the lines of a section begin with is written once, as long as they follow one
+/// another.
+fn push_lines(
+    alloc: Global,
+    text: &mut String,
+    plan: &Plan,
+    notes: &[Note],
+) -> Result<(), AllocError>
     ensures { OnOk result (string_bytes text.new ≡ string_bytes text.old ++ spec.lines plan.now notes.now) }
 {
+    let mut section = Section::Ranks;
+    let mut head = head_of(alloc, plan, section)?;
     for note in notes {
-        push_line(text, plan, note)?;
+        if note.section != section {
+            section = note.section;
+            head = head_of(alloc, plan, section)?;
+        }
+        push_line_behind(text, &head, plan, note)?;
     }
     Ok(())
+}
+
+/// Tells the note, behind the head of its section.
+fn push_line_behind(
+    text: &mut String,
+    head: &str,
+    plan: &Plan,
+    note: &Note,
+) -> Result<(), AllocError>
+    requires { head.now ≡ line.head plan.now note.now.section }
+    ensures { OnOk result (string_bytes text.new ≡ string_bytes text.old ++ (line.line plan.now note.now ++ 10 ∷ [])) }
+{
+    text.push_str(head)?;
+    push_condition(text, plan, note)?;
+    text.push('\n')
 }

@@ -5,6 +5,7 @@ ghost use Rattle.job_bodies.specs.Plan.{pool_at, class_at, client_at};
 ghost use Rattle.refusal_notes.specs.Line as spec;
 
 use crate::{Note, Section};
+use decimals::push_number;
 use job_bodies::Plan;
 use std::alloc::{AllocError, Global};
 use weights::{Place, Rule};
@@ -94,7 +95,8 @@ fn push_vector(text: &mut String, plan: &Plan, pool: usize, vector: &str) -> Res
 fn push_action(text: &mut String, position: usize) -> Result<(), AllocError>
     ensures { OnOk result (string_bytes text.new ≡ string_bytes text.old ++ (codes " action " ++ decimal position)) }
 {
-    write!(text, " action {position}")
+    text.push_str(" action ")?;
+    push_number(text, position as u64)
 }
 
 fn push_place(text: &mut String, plan: &Plan, place: Place) -> Result<(), AllocError>
@@ -121,19 +123,43 @@ fn push_sides(text: &mut String, note: &Note) -> Result<(), AllocError>
     ensures { OnOk result (string_bytes text.new ≡ string_bytes text.old ++ spec.rule_text note.now.rule ++ codes " " ++ decimal note.now.left ++ codes " above " ++ decimal note.now.right) }
 {
     text.push_str(rule_name(note.rule))?;
-    let (left, right) = (note.left, note.right);
-    write!(text, " {left} above {right}")
+    text.push_str(" ")?;
+    push_number(text, note.left)?;
+    text.push_str(" above ")?;
+    push_number(text, note.right)
+}
+
+fn push_head(text: &mut String, plan: &Plan, section: Section) -> Result<(), AllocError>
+    ensures { OnOk result (string_bytes text.new ≡ string_bytes text.old ++ spec.head plan.now section) }
+{
+    push_section(text, plan, section)?;
+    text.push_str(", ")
+}
+
+/// How each line of the section begins.
+pub(crate) fn head_of(alloc: Global, plan: &Plan, section: Section) -> Result<String, AllocError>
+    ensures { IfOk result (λ head. string_bytes head ≡ spec.head plan.now section) }
+{
+    let mut head = String::new(alloc);
+    push_head(&mut head, plan, section)?;
+    Ok(head)
+}
+
+/// What the line of the note tells behind its head.
+pub(crate) fn push_condition(text: &mut String, plan: &Plan, note: &Note) -> Result<(), AllocError>
+    ensures { OnOk result (string_bytes text.new ≡ string_bytes text.old ++ spec.condition plan.now note.now) }
+{
+    push_place(text, plan, note.place)?;
+    text.push_str(": ")?;
+    push_sides(text, note)
 }
 
 /// The line of the note, without its newline.
 fn push_note(text: &mut String, plan: &Plan, note: &Note) -> Result<(), AllocError>
     ensures { OnOk result (string_bytes text.new ≡ string_bytes text.old ++ spec.line plan.now note.now) }
 {
-    push_section(text, plan, note.section)?;
-    text.push_str(", ")?;
-    push_place(text, plan, note.place)?;
-    text.push_str(": ")?;
-    push_sides(text, note)
+    push_head(text, plan, note.section)?;
+    push_condition(text, plan, note)
 }
 
 /// Puts the line of the note behind the text, as `pool p blocked, total: B2 1 above 0`. A number that the plan does not

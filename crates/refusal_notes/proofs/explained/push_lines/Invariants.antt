@@ -1,8 +1,12 @@
--- The text has the lines of the notes before this one behind what it had.
+-- The text has the lines of the notes before this one behind what it had, and the head is that of its section.
 use Rattle.std.proofs.Common.{◌≡◌, ◌++◌, take}
 use Rattle.std.specs.Prelude.{string_bytes}
+use Rattle.refusal_notes.specs.Line.{head}
 use Rattle.refusal_notes.specs.Explanation.{lines}
 use Rattle.refusal_notes.proofs.explained.push_lines.Given as goal
 
 abbrev pub invariant-loop-note : goal.invariant-loop-note
-invariant-loop-note l = string_bytes l.text ≡ string_bytes l.fn.text ++ lines l.plan (take l.note-index l.notes)
+invariant-loop-note l = record {
+  told : string_bytes l.text ≡ string_bytes l.fn.text ++ lines l.plan (take l.note-index l.notes);
+  begins : string_bytes l.head ≡ head l.plan l.section;
+}
