@@ -10,6 +10,7 @@ mod answer;
 mod certified;
 mod from_bytes;
 mod judge;
+mod pool_gate;
 mod text;
 
 pub use acceptance::{accepts, accepts_standing};
@@ -17,6 +18,7 @@ pub use answer::{PoolLine, Verdict};
 pub use certified::Certified;
 pub use from_bytes::{CheckFault, check};
 pub use judge::verdict;
+pub use pool_gate::PoolGate;
 pub use text::push_verdict;
 
 // What certificates are made of, and their texts.
