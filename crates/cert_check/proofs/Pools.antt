@@ -1,5 +1,5 @@
 -- Loops over the numbers of a plan's pools.
-use Rattle.std.proofs.Common.{◌≡◌, ◌≤◌, ◌<◌, ◌+◌, ℕ, Bool, true, false, ◌&&◌, List, [], ◌∷◌, ◌++◌, length, get_or, drop, map, sym, ap, ◌∙◌, append_assoc}
+use Rattle.std.proofs.Common.{◌≡◌, ◌≤◌, ◌<◌, ◌+◌, ℕ, Bool, true, false, ◌&&◌, List, [], ◌∷◌, ◌++◌, length, get_or, drop, map, refl, sym, ap, ◌∙◌, append_assoc}
 use Rattle.std.specs.List.{list_all, enumerate_from}
 use Rattle.std.proofs.lemmas.List.{at_drop_more, at_drop_all, append-nil}
 use Rattle.job_bodies.specs.Plan.{Pool, no_pool}
@@ -25,6 +25,25 @@ fails_here test pools i all inside fails so_far =
 -- all pools have passed
 pub passes_all : (test : ℕ → Bool) (pools : List Pool) (i : ℕ) (all : Bool) → length pools ≤ i → rest_passes test pools i ≡ all → true ≡ all
 passes_all test pools i all past so_far = sym (at_drop_all (λ (ps : List Pool). list_all (λ entry. test entry.0) (enumerate_from i ps)) pools i past) ∙ so_far
+
+-- one more pool is tested, where those before it decide together with the rest
+pub decides_more : (test : ℕ → Bool) (pools : List Pool) (i : ℕ) (so_far all : Bool) → i < length pools → (so_far && rest_passes test pools i) ≡ all
+    → ((so_far && test i) && rest_passes test pools (i + 1)) ≡ all
+decides_more test pools i so_far all inside before =
+    and-assoc so_far (test i) (rest_passes test pools (i + 1)) ∙ (sym (ap (λ (b : Bool). so_far && b) (turn (list_all (λ entry. test entry.0)) pools i inside)) ∙ before)
+  where
+    and-assoc : (a b c : Bool) → ((a && b) && c) ≡ (a && (b && c))
+    and-assoc true b c = refl
+    and-assoc false b c = refl
+
+-- all pools have been tested
+pub decides_all : (test : ℕ → Bool) (pools : List Pool) (i : ℕ) (so_far all : Bool) → length pools ≤ i → (so_far && rest_passes test pools i) ≡ all → so_far ≡ all
+decides_all test pools i so_far all past before =
+    sym (and-true so_far) ∙ (sym (ap (λ (b : Bool). so_far && b) (at_drop_all (λ (ps : List Pool). list_all (λ entry. test entry.0) (enumerate_from i ps)) pools i past)) ∙ before)
+  where
+    and-true : (a : Bool) → (a && true) ≡ a
+    and-true true = refl
+    and-true false = refl
 
 -- what the pools from this one on give
 abbrev pub rest_given : {Y : Type 0} → (ℕ → Y) → List Pool → ℕ → List Y

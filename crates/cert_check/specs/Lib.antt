@@ -4,3 +4,4 @@ pub mod Verdict
 pub mod Text
 pub mod Certified
 pub mod Check
+pub mod OnThreads

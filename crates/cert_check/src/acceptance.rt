@@ -43,7 +43,7 @@ pub(crate) fn conditions_hold(plan: &Plan, cert: &Cert) -> bool
 }
 
 /// Whether each condition of the pool's bound and of its blocked vector holds.
-fn pool_holds(plan: &Plan, cert: &Cert, pool: usize) -> bool
+pub(crate) fn pool_holds(plan: &Plan, cert: &Cert, pool: usize) -> bool
     requires fits { IsTrue (cert_fits plan.now cert.now) }
     requires pool { pool < length plan.now.pools }
     ensures { result ≡ pool_holds plan.now cert.now pool }

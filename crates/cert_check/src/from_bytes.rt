@@ -20,6 +20,8 @@ pub enum CheckFault {
     Cert(CertFault),
     /// Memory ran out; nothing else is then said of the texts.
     Memory,
+    /// The gate of a check on threads said no of a pool.
+    Gate,
 }
 
 impl From<AllocError> for CheckFault {

@@ -41,7 +41,8 @@ fn pool_lines(alloc: Global, plan: &Plan, cert: &Cert) -> Result<Vec<PoolLine>, 
     Ok(lines)
 }
 
-fn pool_line(plan: &Plan, cert: &Cert, pool: usize) -> PoolLine
+/// Both sides of both bounds of the pool.
+pub(crate) fn pool_line(plan: &Plan, cert: &Cert, pool: usize) -> PoolLine
     requires fits { IsTrue (cert_fits plan.now cert.now) }
     requires pool { pool < length plan.now.pools }
     ensures { result ≡ spec.pool_line plan.now cert.now pool }

@@ -10,6 +10,7 @@ mod answer;
 mod certified;
 mod from_bytes;
 mod judge;
+mod on_threads;
 mod pool_gate;
 mod text;
 
@@ -18,6 +19,7 @@ pub use answer::{PoolLine, Verdict};
 pub use certified::Certified;
 pub use from_bytes::{CheckFault, check};
 pub use judge::verdict;
+pub use on_threads::check_on;
 pub use pool_gate::PoolGate;
 pub use text::push_verdict;
 

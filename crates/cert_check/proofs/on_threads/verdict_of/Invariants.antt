@@ -1,0 +1,14 @@
+-- The lines so far and those of the other pools are all, and what was found so far decides together with the other pools.
+use Rattle.std.proofs.Common.{◌≡◌, ◌++◌, ◌&&◌}
+use Rattle.headline.specs.Conditions.{failing}
+use Rattle.headline.specs.Accepted.{is_nil}
+use Rattle.cert_check.specs.Verdict.{pool_line}
+use Rattle.cert_check.specs.Holding.{pool_holds}
+use Rattle.cert_check.proofs.Pools.{rest_given, rest_passes}
+use Rattle.cert_check.proofs.on_threads.verdict_of.Given as goal
+
+abbrev pub invariant-loop-pool : goal.invariant-loop-pool
+invariant-loop-pool l = record {
+  lines : l.pools.items ++ rest_given (pool_line l.plan l.cert) l.plan.pools l.pool ≡ rest_given (pool_line l.plan l.cert) l.plan.pools 0;
+  decides : (l.yes && rest_passes (pool_holds l.plan l.cert) l.plan.pools l.pool) ≡ is_nil (failing l.plan l.cert);
+}

@@ -1,0 +1,193 @@
+//! The check on several threads, each pool by itself.
+
+ghost use Rattle.std.specs.Prelude.{◌≡◌, ◌≢◌, ◌≤◌, ◌<◌, ℕ, slice_index_or, IfOk, IfErr, IfSome, IsTrue, Ok, Err, length, vec_len};
+ghost use Rattle.certificates.specs.Cert.{cert_fits};
+ghost use Rattle.headline.specs.Headline.{Promises};
+ghost use Rattle.cert_check.specs.declared.from_bytes.CheckFault.TheVariants.{Memory, Gate};
+ghost use Rattle.cert_check.specs.Check as check_spec;
+ghost use Rattle.cert_check.specs.Verdict.{verdict};
+ghost use Rattle.cert_check.specs.OnThreads.{AreChecked, pool_check};
+
+use crate::acceptance::pool_holds;
+use crate::judge::pool_line;
+use crate::{CheckFault, PoolGate, PoolLine, Verdict};
+use cert_text::read_cert;
+use certificates::Cert;
+use faults::number::MEMORY;
+use job_bodies::{Plan, PlanFault};
+use plan_text::read_plan;
+use std::alloc::{AllocError, Global};
+use std::thread;
+use std::thread::Threads;
+
+/// What is found of one pool.
+#[derive(Clone, Copy, Debug)]
+pub(crate) struct PoolCheck {
+    pub(crate) pool: usize,
+    pub(crate) line: PoolLine,
+    /// Whether each condition of its bound and of its blocked vector holds.
+    pub(crate) holds: bool,
+}
+
+/// Answers as [`check`](crate::check) does, and looks at the pools in at most `workers` threads, 1 to 64. Each of them asks
+/// the gate before it looks at a pool, and holds no lock then. Where no thread can be started, the calling one looks at
+/// the pools.
+///
+/// # Errors
+///
+/// Those of [`check`](crate::check), and [`CheckFault::Gate`] where the gate said no of a pool.
+pub fn check_on<R: Threads + Sync, G: PoolGate>(
+    rt: &R,
+    alloc: Global,
+    workers: usize,
+    plan_text: &[u8],
+    cert_text: &[u8],
+    gate: &G,
+) -> Result<Verdict, CheckFault>
+    requires some { 1 ≤ workers }
+    requires most { workers ≤ 64 }
+    ensures verdict { IfOk result (λ verdict. check_spec.checked plan_text.now cert_text.now ≡ Ok verdict) }
+    ensures fault { IfErr result (λ fault. fault ≢ Memory → fault ≢ Gate → check_spec.checked plan_text.now cert_text.now ≡ Err fault) }
+    // What a yes means.
+    ensures safe { IfOk result (λ verdict. IsTrue verdict.yes → check_spec.IsSafeToRun plan_text.now cert_text.now) }
+{
+    match read_plan(alloc, plan_text) {
+        Ok(plan) => check_plan_on(rt, alloc, workers, &plan, cert_text, gate),
+        Err(fault) if fault == PlanFault::at_text(MEMORY) => Err(CheckFault::Memory),
+        Err(fault) => Err(CheckFault::Plan(fault)),
+    }
+}
+
+fn check_plan_on<R: Threads + Sync, G: PoolGate>(
+    rt: &R,
+    alloc: Global,
+    workers: usize,
+    plan: &Plan,
+    cert_text: &[u8],
+    gate: &G,
+) -> Result<Verdict, CheckFault>
+    requires { 1 ≤ workers }
+    ensures verdict { IfOk result (λ verdict. check_spec.checked_plan cert_text.now (Ok plan.now) ≡ Ok verdict) }
+    ensures fault { IfErr result (λ fault. fault ≢ Memory → fault ≢ Gate → check_spec.checked_plan cert_text.now (Ok plan.now) ≡ Err fault) }
+    ensures safe { IfOk result (λ verdict. IsTrue verdict.yes → check_spec.IsSafeWith plan.now cert_text.now) }
+{
+    match read_cert(alloc, cert_text, plan) {
+        Ok(cert) => verdict_on(rt, alloc, workers, plan, &cert, gate),
+        Err(fault) if fault.number == MEMORY => Err(CheckFault::Memory),
+        Err(fault) => Err(CheckFault::Cert(fault)),
+    }
+}
+
+fn verdict_on<R: Threads + Sync, G: PoolGate>(
+    rt: &R,
+    alloc: Global,
+    workers: usize,
+    plan: &Plan,
+    cert: &Cert,
+    gate: &G,
+) -> Result<Verdict, CheckFault>
+    requires workers { 1 ≤ workers }
+    requires fits { IsTrue (cert_fits plan.now cert.now) }
+    ensures verdict { IfOk result (λ made. made ≡ verdict plan.now cert.now) }
+    ensures fault { IfErr result (λ fault. fault ≢ Memory → fault ≡ Gate) }
+    ensures promises { IfOk result (λ made. IsTrue made.yes → Promises plan.now cert.now) }
+{
+    let found = check_pools(rt, alloc, workers, plan, cert, gate)?;
+    match verdict_of(alloc, plan, cert, &found)? {
+        Some(verdict) => Ok(verdict),
+        None => Err(CheckFault::Gate),
+    }
+}
+
+/// Looks at each pool on one of the threads. There is nothing at a pool of which the gate said no.
+fn check_pools<R: Threads + Sync, G: PoolGate>(
+    rt: &R,
+    alloc: Global,
+    workers: usize,
+    plan: &Plan,
+    cert: &Cert,
+    gate: &G,
+) -> Result<Vec<Option<PoolCheck>>, AllocError>
+    requires workers { 1 ≤ workers }
+    requires fits { IsTrue (cert_fits plan.now cert.now) }
+    ensures { IfOk result (λ found. AreChecked plan.now cert.now found.items) }
+{
+    let mut found = nothing_found(alloc, plan.pools().len())?;
+    fill_places(rt, workers, plan, cert, gate, &mut found);
+    Ok(found)
+}
+
+/// Puts what is found of each pool at its place.
+fn fill_places<R: Threads + Sync, G: PoolGate>(
+    rt: &R,
+    workers: usize,
+    plan: &Plan,
+    cert: &Cert,
+    gate: &G,
+    places: &mut [Option<PoolCheck>],
+)
+    requires workers { 1 ≤ workers }
+    requires fits { IsTrue (cert_fits plan.now cert.now) }
+    requires as_many { length places.old ≡ length plan.now.pools }
+    ensures { (p : ℕ) → p < length places.old → IfSome (slice_index_or places.new p None) (λ check. check ≡ pool_check plan.now cert.now p) }
+{
+    thread::for_each_mut(
+        rt,
+        places,
+        workers,
+        &|pool: usize, place: &mut Option<PoolCheck>|
+            requires { IsTrue (cert_fits plan.now cert.now) × (pool < length plan.now.pools) }
+            ensures { IfSome place.new (λ check. check ≡ pool_check plan.entry.now cert.entry.now pool) }
+        { *place = check_pool(plan, cert, gate, pool) },
+    );
+}
+
+/// As many places as there are pools, with nothing in them.
+fn nothing_found(alloc: Global, pools: usize) -> Result<Vec<Option<PoolCheck>>, AllocError>
+    ensures { IfOk result (λ found. vec_len found ≡ pools) }
+{
+    let mut found = Vec::new(alloc);
+    found.resize(pools, None)?;
+    Ok(found)
+}
+
+/// Looks at one pool, if the gate lets it.
+fn check_pool<G: PoolGate>(plan: &Plan, cert: &Cert, gate: &G, pool: usize) -> Option<PoolCheck>
+    requires fits { IsTrue (cert_fits plan.now cert.now) }
+    requires pool { pool < length plan.now.pools }
+    ensures { IfSome result (λ check. check ≡ pool_check plan.now cert.now pool) }
+{
+    if !gate.begin(pool) {
+        return None;
+    }
+    Some(PoolCheck {
+        pool,
+        line: pool_line(plan, cert, pool),
+        holds: pool_holds(plan, cert, pool),
+    })
+}
+
+/// The verdict, of what was found of the pools, in plan order, and of the ranks. None where nothing was found of a pool.
+fn verdict_of(
+    alloc: Global,
+    plan: &Plan,
+    cert: &Cert,
+    found: &[Option<PoolCheck>],
+) -> Result<Option<Verdict>, AllocError>
+    requires fits { IsTrue (cert_fits plan.now cert.now) }
+    requires checked { AreChecked plan.now cert.now found.now }
+    ensures verdict { IfOk result (λ made. IfSome made (λ made. made ≡ verdict plan.now cert.now)) }
+    ensures promises { IfOk result (λ made. IfSome made (λ made. IsTrue made.yes → Promises plan.now cert.now)) }
+{
+    let mut yes = cert.ranks.fault(plan).is_none();
+    let mut pools = Vec::with_capacity(alloc, plan.pools().len())?;
+    for (pool, place) in found.iter().enumerate() {
+        let Some(check) = place else {
+            return Ok(None);
+        };
+        prove_eq!(check.pool, pool);
+        yes &= check.holds;
+        pools.push(check.line)?;
+    }
+    Ok(Some(Verdict { yes, pools }))
+}
