@@ -12,10 +12,15 @@ use std::alloc::AllocError;
 /// # Errors
 ///
 /// [`AllocError`] where memory runs out. The text is then as before.
+#[tactic(auto, using(std::proofs::lemmas::Fmt::decimal_digit))]
 pub fn push_number(text: &mut String, number: u64) -> Result<(), AllocError>
     ensures digits { OnOk result (string_bytes text.new ≡ string_bytes text.old ++ decimal number) }
     ensures unchanged { OnErr result (string_bytes text.new ≡ string_bytes text.old) }
 {
+    // Most numbers have one digit.
+    if number < 10 {
+        return text.push((b'0' + number as u8) as char);
+    }
     let mut digits = Buffer::new();
     text.push_str(digits.format(number))
 }
