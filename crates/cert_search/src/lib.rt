@@ -1,0 +1,8 @@
+//! Looks for a certificate of a plan, on workers.
+//!
+//! Nothing that was looked for is trusted: what [`search`] answers went through [`cert_check::accepts`].
+#![tactic(auto)]
+
+mod finding;
+
+pub use finding::{SearchFault, search};

@@ -1,0 +1,78 @@
+//! How high classes stand above those that they submit.
+
+use crate::numbers::number_at;
+use job_bodies::{Action, Class, Plan};
+use std::alloc::{AllocError, Global};
+
+/// What stands in place of the level of a class that has none yet.
+const NO_LEVEL: u64 = u64::MAX;
+
+/// The levels of a plan's classes.
+#[derive(Debug, Drop)]
+pub struct Levels {
+    /// The level of each class: 1 plus the greatest level of the classes that it submits, and 0 where it submits none.
+    pub of_classes: Vec<u64>,
+    /// The classes from the lowest level up, so that each stands behind all that it submits.
+    pub order: Vec<usize>,
+}
+
+impl Levels {
+    /// The levels of the plan's classes; None where a class submits itself, at whatever remove.
+    ///
+    /// # Errors
+    ///
+    /// [`AllocError`] where memory runs out.
+    pub fn of(alloc: Global, plan: &Plan) -> Result<Option<Levels>, AllocError> {
+        let count = plan.classes().len();
+        let mut levels = Levels {
+            of_classes: vec![in alloc; NO_LEVEL; count]?,
+            order: Vec::with_capacity(alloc, count)?,
+        };
+        let mut known = vec![in alloc; 0usize; count]?;
+        for level in 0..count as u64 {
+            levels.add_level(plan, level, &mut known)?;
+        }
+        let complete = levels.order.len() == count;
+        Ok(if complete { Some(levels) } else { None })
+    }
+
+    /// Gives this level to the classes that submit only classes of lower levels and have no level yet. `known` has, for
+    /// each class, how many actions at the front of its body are known to do so, so that none is looked at twice.
+    fn add_level(
+        &mut self,
+        plan: &Plan,
+        level: u64,
+        known: &mut [usize],
+    ) -> Result<(), AllocError> {
+        for (number, (class, known)) in plan.classes().iter().zip(known.iter_mut()).enumerate() {
+            if number_at(&self.of_classes, number) == NO_LEVEL {
+                *known = self.known_actions(class, level, *known);
+                if *known == class.body.len() {
+                    self.order.push(number)?;
+                    crate::numbers::put_at(&mut self.of_classes, number, level);
+                }
+            }
+        }
+        Ok(())
+    }
+
+    /// How many actions at the front of the class's body submit only classes below this level; so many are known to.
+    fn known_actions(&self, class: &Class, level: u64, known: usize) -> usize {
+        let mut known = known;
+        for action in class.body.iter().skip(known) {
+            if !self.is_below(*action, level) {
+                return known;
+            }
+            known = known.saturating_add(1);
+        }
+        known
+    }
+
+    /// Whether the action submits nothing, or a class of a level below this one.
+    fn is_below(&self, action: Action, level: u64) -> bool {
+        match action {
+            Action::Submit(class) => number_at(&self.of_classes, class) < level,
+            Action::Work(_) | Action::Get(_) => true,
+        }
+    }
+}

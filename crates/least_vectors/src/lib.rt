@@ -1,0 +1,20 @@
+//! Least vectors of weights: what each part of a plan has to weigh so that a pool's jobs weigh something where they
+//! must, and no event makes a state heavier.
+//!
+//! A search for certificates is made of them. Nothing is promised of what is found but its shape: whoever wants to rest
+//! on a vector tests it, as by `cert_check::accepts`. That they are the vectors that one hopes for is shown by tests.
+#![tactic(auto)]
+
+mod lending;
+mod levels;
+mod numbers;
+mod reached;
+mod rows;
+mod sketch;
+mod vectors;
+mod wanted;
+mod weight;
+
+pub use levels::Levels;
+pub use reached::reach;
+pub use vectors::{blocked_vector, pool_bound};

@@ -1,0 +1,40 @@
+//! How high classes reach.
+
+use crate::Levels;
+use crate::numbers::{number_at, put_at};
+use job_bodies::{Action, Class, Plan};
+use std::alloc::{AllocError, Global};
+use weights::class_got;
+
+/// How high each class reaches, where the pools have these ranks: the greatest of the rank of its own pool and of what
+/// the classes of the jobs that it gets reach.
+///
+/// # Errors
+///
+/// [`AllocError`] where memory runs out.
+pub fn reach(
+    alloc: Global,
+    plan: &Plan,
+    levels: &Levels,
+    ranks: &[u64],
+) -> Result<Vec<u64>, AllocError> {
+    let mut reach = vec![in alloc; 0; plan.classes().len()]?;
+    for number in &levels.order {
+        if let Some(class) = plan.class_at(*number) {
+            let reached = reach_of(&reach, ranks, class);
+            put_at(&mut reach, *number, reached);
+        }
+    }
+    Ok(reach)
+}
+
+/// How high the class reaches, where all classes of lower levels reach so high.
+fn reach_of(reach: &[u64], ranks: &[u64], class: &Class) -> u64 {
+    let mut reached = number_at(ranks, class.pool);
+    for action in &class.body {
+        if let Action::Get(submit) = action {
+            reached = reached.max(number_at(reach, class_got(&class.body, *submit)));
+        }
+    }
+    reached
+}

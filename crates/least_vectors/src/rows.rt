@@ -1,0 +1,91 @@
+//! The vector of a sketch, with the numbers at each position of each body.
+
+ghost use Rattle.std.specs.Prelude.{IfOk, IfSome, IsTrue};
+ghost use Rattle.weights.specs.Vector.{vector_fits};
+
+use crate::numbers::number_at;
+use crate::sketch::Sketch;
+use crate::wanted::Wanted;
+use crate::weight::Weight;
+use job_bodies::{Class, Client, Plan};
+use std::alloc::{AllocError, Global};
+use weights::Vector;
+
+/// The vector of a sketch with these workers' weights; None where a number of it is above the limit.
+pub(crate) fn vector_of(
+    alloc: Global,
+    plan: &Plan,
+    wanted: &Wanted,
+    workers: Vec<u64>,
+    sketch: &Sketch,
+) -> Result<Option<Vector>, AllocError>
+    ensures { IfOk result (λ found. IfSome found (λ vector. IsTrue (vector_fits plan.now vector))) }
+{
+    let mut classes = Vec::with_capacity(alloc, plan.classes().len())?;
+    for (number, class) in plan.classes().iter().enumerate() {
+        let worker = number_at(&workers, class.pool);
+        classes.push(class_row(alloc, wanted, sketch, number, class, worker)?)?;
+    }
+    let mut clients = Vec::with_capacity(alloc, plan.clients().len())?;
+    for (number, client) in plan.clients().iter().enumerate() {
+        let start = number_at(&sketch.starts, number);
+        clients.push(client_row(alloc, wanted, sketch, client, start)?)?;
+    }
+    let vector = Vector {
+        workers,
+        classes,
+        clients,
+    };
+    Ok(if vector.fits(plan) {
+        Some(vector)
+    } else {
+        None
+    })
+}
+
+/// What a job of the class weighs queued, at each position and done. It is found from its end on.
+fn class_row(
+    alloc: Global,
+    wanted: &Wanted,
+    sketch: &Sketch,
+    number: usize,
+    class: &Class,
+    worker: u64,
+) -> Result<Vec<u64>, AllocError> {
+    let done = number_at(&sketch.done, number);
+    let end = done.saturating_add(worker);
+    let mut weight = Weight::at_end(end).at_least(wanted.need_at_end(class));
+    let mut row = Vec::new(alloc);
+    row.push(done)?;
+    row.push(weight.number)?;
+    for action in class.body.iter().rev() {
+        let need = wanted.need_at(class, *action);
+        weight = sketch
+            .before(wanted, &class.body, *action, weight)
+            .at_least(need);
+        row.push(weight.number)?;
+    }
+    let queued = weight.less(worker).at_least(wanted.need_queued(class));
+    row.push(queued.number)?;
+    row.reverse();
+    Ok(row)
+}
+
+/// What a client of the kind weighs at each position, found from its end on.
+fn client_row(
+    alloc: Global,
+    wanted: &Wanted,
+    sketch: &Sketch,
+    client: &Client,
+    start: u64,
+) -> Result<Vec<u64>, AllocError> {
+    let mut weight = Weight::at_end(if client.repeat { start } else { 0 });
+    let mut row = Vec::new(alloc);
+    row.push(weight.number)?;
+    for action in client.body.iter().rev() {
+        weight = sketch.before(wanted, &client.body, *action, weight);
+        row.push(weight.number)?;
+    }
+    row.reverse();
+    Ok(row)
+}

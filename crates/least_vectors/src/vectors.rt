@@ -1,0 +1,59 @@
+//! The two vectors that a certificate has of each pool.
+
+ghost use Rattle.std.specs.Prelude.{◌<◌, IfOk, IfSome, IsTrue, length};
+ghost use Rattle.weights.specs.Vector.{vector_fits};
+ghost use Rattle.weights.specs.Bound.{bound_vector};
+
+use crate::Levels;
+use crate::lending::least_vector;
+use crate::wanted::Wanted;
+use job_bodies::Plan;
+use std::alloc::{AllocError, Global};
+use weights::{Bound, Vector};
+
+/// The bound of the pool's queue: a standing vector, or where none is found a lifetime vector. None where neither is.
+///
+/// # Errors
+///
+/// [`AllocError`] where memory runs out.
+pub fn pool_bound(
+    alloc: Global,
+    plan: &Plan,
+    levels: &Levels,
+    pool: usize,
+) -> Result<Option<Bound>, AllocError>
+    requires { pool < length plan.now.pools }
+    ensures { IfOk result (λ found. IfSome found (λ bound. IsTrue (vector_fits plan.now (bound_vector bound)))) }
+{
+    let sizes = &plan.pools()[pool];
+    let standing = Wanted::standing(pool, sizes);
+    if let Some(vector) = least_vector(alloc, plan, levels, &standing)? {
+        return Ok(Some(Bound::Standing(vector)));
+    }
+    let lifetime = Wanted::lifetime(pool, sizes);
+    match least_vector(alloc, plan, levels, &lifetime)? {
+        Some(vector) => Ok(Some(Bound::Lifetime(vector))),
+        None => Ok(None),
+    }
+}
+
+/// The pool's blocked vector, where the pool has this rank and the classes reach as high as told; None where none is
+/// found.
+///
+/// # Errors
+///
+/// [`AllocError`] where memory runs out.
+pub fn blocked_vector(
+    alloc: Global,
+    plan: &Plan,
+    levels: &Levels,
+    pool: usize,
+    rank: u64,
+    reach: &[u64],
+) -> Result<Option<Vector>, AllocError>
+    requires { pool < length plan.now.pools }
+    ensures { IfOk result (λ found. IfSome found (λ vector. IsTrue (vector_fits plan.now vector))) }
+{
+    let wanted = Wanted::blocked(pool, &plan.pools()[pool], reach, rank);
+    least_vector(alloc, plan, levels, &wanted)
+}
