@@ -1,12 +1,17 @@
 //! The search for a certificate.
 
-ghost use Rattle.std.specs.Prelude.{◌≤◌, IfOk, IfSome, IsTrue};
+ghost use Rattle.std.specs.Prelude.{◌≡◌, ◌≤◌, IfOk, IfSome, IsTrue};
 ghost use Rattle.headline.specs.Accepted.{accepted};
+ghost use Rattle.cert_search.specs.declared.finding.SearchFault.TheVariants.{Memory};
 
-use cert_check::PoolGate;
+use crate::draft::Draft;
+use crate::round::Round;
+use crate::workers::look_at_all;
+use cert_check::{PoolGate, accepts};
 use certificates::Cert;
 use job_bodies::Plan;
-use std::alloc::Global;
+use least_vectors::{Levels, reach};
+use std::alloc::{AllocError, Global};
 use std::sync::Wait;
 use std::thread::Threads;
 
@@ -21,8 +26,19 @@ pub enum SearchFault {
     Gate,
 }
 
+impl From<AllocError> for SearchFault {
+    ghost from_gives = { λ _ fault. fault ≡ Memory };
+
+    fn from(_error: AllocError) -> SearchFault {
+        SearchFault::Memory
+    }
+}
+
 /// Looks for a certificate of the plan with so many workers, from 1 to 64. None says nothing of the plan: a plan that is
-/// safe may get none.
+/// safe may get none. Which certificate is found does not depend on the number of workers.
+///
+/// In each round the workers look at the pools that have no rank yet. A pool whose blocked vector is found gets the round's
+/// number as its rank; in the next round gets are not counted that wait for pools with a rank.
 ///
 /// # Errors
 ///
@@ -39,5 +55,49 @@ pub fn search<R: Threads + Wait + Sync, G: PoolGate>(
     requires few { workers ≤ 64 }
     ensures { IfOk result (λ found. IfSome found (λ cert. IsTrue (accepted plan.now cert))) }
 {
-    Ok(None)
+    match looked_for(rt, alloc, plan, workers, gate)? {
+        Some(cert) => Ok(if accepts(plan, &cert) {
+            Some(cert)
+        } else {
+            None
+        }),
+        None => Ok(None),
+    }
+}
+
+/// What the rounds find, which nobody has tested.
+fn looked_for<R: Threads + Wait + Sync, G: PoolGate>(
+    rt: &R,
+    alloc: Global,
+    plan: &Plan,
+    workers: usize,
+    gate: &G,
+) -> Result<Option<Cert>, SearchFault> {
+    let Some(levels) = Levels::of(alloc, plan)? else {
+        return Ok(None);
+    };
+    let mut draft = Draft::of(alloc, plan)?;
+    for rank in 0..plan.pools().len() as u64 {
+        let unranked = draft.unranked();
+        if unranked == 0 {
+            break;
+        }
+        let ranks = draft.ranks_or(alloc, rank)?;
+        let reach = reach(alloc, plan, &levels, &ranks)?;
+        let round = Round {
+            plan,
+            levels: &levels,
+            reach: &reach,
+            rank,
+        };
+        let board = draft.board(alloc)?;
+        let found = look_at_all(rt, alloc, &round, board, workers.min(unranked), gate)?;
+        if !draft.is_named_by(&found) {
+            return Err(SearchFault::Mixed);
+        }
+        if !draft.note(found, rank) {
+            return Ok(None);
+        }
+    }
+    Ok(draft.into_cert(alloc, plan, levels)?)
 }

@@ -3,6 +3,10 @@
 //! Nothing that was looked for is trusted: what [`search`] answers went through [`cert_check::accepts`].
 #![tactic(auto)]
 
+mod board;
+mod draft;
 mod finding;
+mod round;
+mod workers;
 
 pub use finding::{SearchFault, search};

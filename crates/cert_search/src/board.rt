@@ -1,0 +1,186 @@
+//! The board of one round, on which workers take the pools that they look at.
+
+ghost use Rattle.std.specs.Prelude.{◌≡◌, ◌++◌, ◌∷◌, [], true, false, Some, None, IfOk, IfSome, IsTrue, slice_get};
+ghost use Rattle.std.specs.List.{list_all};
+ghost use Rattle.std.specs.Option.{IfNone};
+ghost use Rattle.cert_search.specs.declared.board.Spot.TheVariants as spot;
+ghost use Rattle.cert_search.specs.declared.board.BoardEvent.TheVariants as event;
+ghost use Rattle.cert_search.specs.Board as spec;
+
+use held_machines::{Held, Machine};
+use std::alloc::{AllocError, Global};
+use std::marker::Model;
+
+/// Where a pool stands on the board.
+#[derive(Clone, Copy, Debug, PartialEq, Eq)]
+pub(crate) enum Spot {
+    /// Nobody has looked at it.
+    Free,
+    /// A worker looks at it.
+    Taken,
+    /// It was looked at, in this round or in an earlier one.
+    Done,
+}
+
+/// What a worker does at the board.
+#[derive(Clone, Copy, Debug, PartialEq, Eq)]
+pub(crate) enum BoardEvent {
+    /// Takes a free pool.
+    Claim(usize),
+    /// Gives back a pool that was taken.
+    Return(usize),
+}
+
+/// Where a pool stands at the start of a round.
+fn first_spot(has_rank: bool) -> Spot
+    ensures { result ≡ spec.first_spot has_rank }
+{
+    if has_rank { Spot::Done } else { Spot::Free }
+}
+
+/// Whether a pool that stands there was looked at.
+fn is_done(spot: Spot) -> bool
+    ensures { result ≡ spec.is_done spot }
+{
+    match spot {
+        Spot::Done => true,
+        Spot::Free | Spot::Taken => false,
+    }
+}
+
+/// Where each pool stands.
+#[derive(Debug, Drop)]
+pub(crate) struct Spots {
+    spots: Vec<Spot>,
+}
+
+impl Model for Spots {
+    ghost use Rattle.std.specs.Prelude.{List};
+    ghost use Rattle.cert_search.specs.declared.board.Spot.{Spot};
+
+    ghost Value = { List Spot };
+
+    ghost view = { λ s. s.spots.items };
+}
+
+impl Spots {
+    /// The first pool that is free.
+    pub(crate) fn first_free(&self) -> Option<usize>
+        ensures { IfSome result (λ pool. slice_get self.now pool ≡ Some spot.Free) }
+    {
+        for (pool, spot) in self.spots.iter().enumerate() {
+            if matches!(spot, Spot::Free) {
+                return Some(pool);
+            }
+        }
+        None
+    }
+
+    /// Whether each pool was looked at.
+    pub(crate) fn are_done(&self) -> bool
+        ensures { result ≡ list_all spec.is_done self.now }
+    {
+        self.spots.iter().all(|spot| is_done(*spot))
+    }
+
+    /// Takes the pool, if it is free.
+    fn claim(&mut self, pool: usize) -> bool
+        ensures taken { IsTrue result → spec.claimed self.old pool (slice_get self.old pool) ≡ Some self.new }
+        ensures refused { result ≡ false → (spec.claimed self.old pool (slice_get self.old pool) ≡ None) × (self.new ≡ self.old) }
+    {
+        match self.spots.get(pool) {
+            Some(Spot::Free) => {
+                self.spots[pool] = Spot::Taken;
+                true
+            }
+            _ => false,
+        }
+    }
+
+    /// Gives the pool back, if it was taken.
+    fn give_back(&mut self, pool: usize) -> bool
+        ensures given { IsTrue result → spec.returned self.old pool (slice_get self.old pool) ≡ Some self.new }
+        ensures refused { result ≡ false → (spec.returned self.old pool (slice_get self.old pool) ≡ None) × (self.new ≡ self.old) }
+    {
+        match self.spots.get(pool) {
+            Some(Spot::Taken) => {
+                self.spots[pool] = Spot::Done;
+                true
+            }
+            _ => false,
+        }
+    }
+}
+
+/// The board of a round, in which each pool that has no rank yet is to be looked at once.
+#[derive(Debug, Drop)]
+pub(crate) struct Board {
+    /// Whether each pool has a rank from an earlier round.
+    pub(crate) has_rank: Vec<bool>,
+}
+
+impl Machine for Board {
+    ghost use Rattle.std.specs.Prelude.{List};
+    ghost use Rattle.cert_search.specs.declared.board.Spot.{Spot};
+
+    type State = Spots;
+
+    type Event = BoardEvent;
+
+    ghost Ideal = { List Spot };
+
+    ghost first = { λ board. spec.first_spots board.has_rank.items };
+
+    ghost next = { λ _ spots event. spec.next_spots spots event };
+
+    ghost content = { λ _ spots. spots };
+
+    fn start(&self, alloc: Global) -> Result<Spots, AllocError> {
+        let spots = self
+            .has_rank
+            .iter()
+            .map(|has_rank| first_spot(*has_rank))
+            .collect(alloc)?;
+        Ok(Spots { spots })
+    }
+
+    fn step(&self, state: &mut Spots, event: BoardEvent) -> Result<bool, AllocError> {
+        Ok(match event {
+            BoardEvent::Claim(pool) => state.claim(pool),
+            BoardEvent::Return(pool) => state.give_back(pool),
+        })
+    }
+}
+
+/// Takes a pool that is free; None where none is.
+///
+/// # Errors
+///
+/// [`AllocError`] where memory runs out. Nothing is taken then.
+pub(crate) fn claim(board: &mut Held<Board>) -> Result<Option<usize>, AllocError>
+    ensures taken { IfOk result (λ taken. IfSome taken (λ pool. board.new.history ≡ board.old.history ++ event.Claim pool ∷ [])) }
+    ensures none { IfOk result (λ taken. IfNone taken (board.new ≡ board.old)) }
+{
+    let Some(pool) = board.state().first_free() else {
+        return Ok(None);
+    };
+    match board.act(BoardEvent::Claim(pool))? {
+        Some(_) => Ok(Some(pool)),
+        None => Ok(None),
+    }
+}
+
+/// Gives back a pool that was taken.
+///
+/// # Errors
+///
+/// [`AllocError`] where memory runs out. Nothing is given back then.
+pub(crate) fn give_back(board: &mut Held<Board>, pool: usize) -> Result<bool, AllocError>
+    ensures given { IfOk result (λ given. given ≡ true → board.new.history ≡ board.old.history ++ event.Return pool ∷ []) }
+    ensures refused { IfOk result (λ given. given ≡ false → board.new ≡ board.old) }
+{
+    match board.act(BoardEvent::Return(pool))? {
+        Some(_) => Ok(true),
+        None => Ok(false),
+    }
+}

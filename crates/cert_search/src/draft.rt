@@ -1,0 +1,135 @@
+//! A certificate of which more is known after each round.
+
+use crate::SearchFault;
+use crate::board::Board;
+use crate::round::Found;
+use certificates::{Cert, PoolCert};
+use job_bodies::Plan;
+use least_vectors::{Levels, reach};
+use pool_ranks::Ranks;
+use std::alloc::{AllocError, Global};
+use weights::{Bound, Vector};
+
+/// What is known of one pool.
+#[derive(Debug, Drop)]
+struct PoolDraft {
+    rank: Option<u64>,
+    bound: Option<Bound>,
+    blocked: Option<Vector>,
+}
+
+/// What is known of each pool, in plan order.
+#[derive(Debug, Drop)]
+pub(crate) struct Draft {
+    pools: Vec<PoolDraft>,
+}
+
+impl Draft {
+    /// Nothing is known of any pool of the plan.
+    pub(crate) fn of(alloc: Global, plan: &Plan) -> Result<Draft, AllocError> {
+        let mut pools = Vec::with_capacity(alloc, plan.pools().len())?;
+        for _ in plan.pools() {
+            pools.push(PoolDraft {
+                rank: None,
+                bound: None,
+                blocked: None,
+            })?;
+        }
+        Ok(Draft { pools })
+    }
+
+    /// How many pools have no rank yet.
+    pub(crate) fn unranked(&self) -> usize {
+        self.pools.iter().filter(|pool| pool.rank.is_none()).count()
+    }
+
+    /// The board of the next round.
+    pub(crate) fn board(&self, alloc: Global) -> Result<Board, AllocError> {
+        let has_rank = self
+            .pools
+            .iter()
+            .map(|pool| pool.rank.is_some())
+            .collect(alloc)?;
+        Ok(Board { has_rank })
+    }
+
+    /// The rank of each pool, and this one for a pool that has none yet.
+    pub(crate) fn ranks_or(&self, alloc: Global, rank: u64) -> Result<Vec<u64>, AllocError> {
+        self.pools
+            .iter()
+            .map(|pool| pool.rank.unwrap_or(rank))
+            .collect(alloc)
+    }
+
+    /// Whether each pool without a rank stands in the list once, and nothing else does.
+    pub(crate) fn is_named_by(&self, found: &[Found]) -> bool {
+        for (number, pool) in self.pools.iter().enumerate() {
+            let wanted = if pool.rank.is_none() { 1 } else { 0 };
+            if found.iter().filter(|found| found.pool == number).count() != wanted {
+                return false;
+            }
+        }
+        found.len() == self.unranked()
+    }
+
+    /// Notes what was found in a round, and gives its rank to each pool whose blocked vector was found. False where no pool
+    /// gets it, or the first round found no bound for a pool.
+    pub(crate) fn note(&mut self, found: Vec<Found>, rank: u64) -> bool {
+        let mut moved = false;
+        let mut bounded = true;
+        for found in found {
+            let Found {
+                pool,
+                bound,
+                blocked,
+            } = found;
+            if let Some(draft) = self.pools.get_mut(pool) {
+                bounded = bounded && (bound.is_some() || draft.bound.is_some());
+                if bound.is_some() {
+                    draft.bound = bound;
+                }
+                if blocked.is_some() {
+                    draft.blocked = blocked;
+                    draft.rank = Some(rank);
+                    moved = true;
+                }
+            }
+        }
+        moved && bounded
+    }
+
+    /// The certificate, if both vectors of each pool are known.
+    pub(crate) fn into_cert(
+        self,
+        alloc: Global,
+        plan: &Plan,
+        levels: Levels,
+    ) -> Result<Option<Cert>, AllocError> {
+        let ranks = self.ranks_or(alloc, 0)?;
+        let reach = reach(alloc, plan, &levels, &ranks)?;
+        let Levels {
+            of_classes,
+            order: _,
+        } = levels;
+        let mut pools = Vec::with_capacity(alloc, self.pools.len())?;
+        for draft in self.pools {
+            let PoolDraft {
+                rank: _,
+                bound,
+                blocked,
+            } = draft;
+            match (bound, blocked) {
+                (Some(bound), Some(blocked)) => pools.push(PoolCert { bound, blocked })?,
+                _ => return Ok(None),
+            }
+        }
+        Ok(Some(Cert {
+            pools,
+            ranks: Ranks {
+                pools: ranks,
+                reach,
+                levels: of_classes,
+            },
+        }))
+    }
+}

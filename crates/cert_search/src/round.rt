@@ -1,0 +1,104 @@
+//! One round of the search, in which a worker looks at one pool after another.
+
+ghost use Rattle.std.specs.Prelude.{◌≡◌, IfOk};
+
+use crate::SearchFault;
+use crate::board::{Board, claim, give_back};
+use cert_check::PoolGate;
+use held_machines::Locked;
+use job_bodies::{MOST_POOLS, Plan};
+use least_vectors::{Levels, blocked_vector, pool_bound};
+use std::alloc::{AllocError, Global};
+use std::sync::Wait;
+use std::sync::atomic::{AtomicBool, Ordering};
+use weights::{Bound, Vector};
+
+/// What all workers of a round know.
+#[derive(Clone, Copy)]
+pub(crate) struct Round<'a> {
+    pub(crate) plan: &'a Plan,
+    pub(crate) levels: &'a Levels,
+    /// How high each class reaches, where a pool without a rank gets the rank of this round.
+    pub(crate) reach: &'a [u64],
+    /// The rank that pools get in this round, which is its number.
+    pub(crate) rank: u64,
+}
+
+/// What was found for a pool in a round.
+#[derive(Debug, Drop)]
+pub(crate) struct Found {
+    pub(crate) pool: usize,
+    /// The bound of its queue, which only the first round looks for.
+    pub(crate) bound: Option<Bound>,
+    pub(crate) blocked: Option<Vector>,
+}
+
+impl Round<'_> {
+    /// Looks at a pool. A pool that the plan does not have is [`SearchFault::Mixed`].
+    fn look_at(&self, alloc: Global, pool: usize) -> Result<Found, SearchFault>
+        ensures { IfOk result (λ found. found.pool ≡ pool) }
+    {
+        if pool >= self.plan.pools().len() {
+            return Err(SearchFault::Mixed);
+        }
+        let bound = if self.rank == 0 {
+            pool_bound(alloc, self.plan, self.levels, pool)?
+        } else {
+            None
+        };
+        let blocked = blocked_vector(alloc, self.plan, self.levels, pool, self.rank, self.reach)?;
+        Ok(Found {
+            pool,
+            bound,
+            blocked,
+        })
+    }
+
+    /// Takes a pool from the board, asks the gate, looks at the pool and gives it back, until no pool is free or the round
+    /// is to stop. The board is let go while the gate is asked and the pool is looked at.
+    fn look_at_free<R: Wait, G: PoolGate>(
+        &self,
+        rt: &R,
+        alloc: Global,
+        board: &Locked<Board>,
+        stop: &AtomicBool,
+        gate: &G,
+    ) -> Result<Vec<Found>, SearchFault> {
+        let mut found = Vec::new(alloc);
+        for _ in 0..MOST_POOLS {
+            if stop.load(Ordering::SeqCst) {
+                break;
+            }
+            let claimed = claim(&mut board.lock(rt))?;
+            let Some(pool) = claimed else {
+                break;
+            };
+            if !gate.begin(pool) {
+                return Err(SearchFault::Gate);
+            }
+            let looked_at = self.look_at(alloc, pool)?;
+            found.push(looked_at).map_err(AllocError::from)?;
+            let given = give_back(&mut board.lock(rt), pool)?;
+            if !given {
+                return Err(SearchFault::Mixed);
+            }
+        }
+        Ok(found)
+    }
+
+    /// What one worker does in the round. Where it meets a fault, the others stop.
+    pub(crate) fn work<R: Wait, G: PoolGate>(
+        &self,
+        rt: &R,
+        alloc: Global,
+        board: &Locked<Board>,
+        stop: &AtomicBool,
+        gate: &G,
+    ) -> Result<Vec<Found>, SearchFault> {
+        let found = self.look_at_free(rt, alloc, board, stop, gate);
+        if found.is_err() {
+            stop.store(true, Ordering::SeqCst);
+        }
+        found
+    }
+}

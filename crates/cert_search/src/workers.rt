@@ -1,0 +1,83 @@
+//! The workers of a round, each on a thread of its own.
+
+use crate::SearchFault;
+use crate::board::Board;
+use crate::round::{Found, Round};
+use cert_check::PoolGate;
+use held_machines::{Held, Locked};
+use std::alloc::Global;
+use std::sync::Wait;
+use std::sync::atomic::{AtomicBool, Ordering};
+use std::thread;
+use std::thread::{JoinHandle, Threads};
+
+/// Looks at each free pool of the board with so many workers, and gives what they found, in no order.
+///
+/// # Errors
+///
+/// [`SearchFault::Memory`] where memory runs out or a thread cannot be started, [`SearchFault::Gate`] where the gate says no
+/// to a pool, and [`SearchFault::Mixed`] where a pool of the board was not looked at. All threads have ended then.
+pub(crate) fn look_at_all<R: Threads + Wait + Sync, G: PoolGate>(
+    rt: &R,
+    alloc: Global,
+    round: &Round,
+    board: Board,
+    workers: usize,
+    gate: &G,
+) -> Result<Vec<Found>, SearchFault> {
+    let board = Locked::new(Held::new(alloc, board)?);
+    let stop = AtomicBool::new(false);
+    let (shared, stops) = (&board, &stop);
+    let found = thread::scope(thread::scope_env(), rt, move |scope| {
+        let mut threads = match Vec::with_capacity(alloc, workers) {
+            Ok(threads) => threads,
+            Err(_) => return Err(SearchFault::Memory),
+        };
+        let mut started = true;
+        for _ in 0..workers {
+            let worker = scope.spawn(move || round.work(rt, alloc, shared, stops, gate));
+            started = match worker {
+                Ok(thread) => started && threads.push(thread).is_ok(),
+                Err(_) => false,
+            };
+        }
+        if !started {
+            stops.store(true, Ordering::SeqCst);
+        }
+        let found = join_all(rt, alloc, threads);
+        if started {
+            found
+        } else {
+            Err(SearchFault::Memory)
+        }
+    })?;
+    if board.into_inner().state().are_done() {
+        Ok(found)
+    } else {
+        Err(SearchFault::Mixed)
+    }
+}
+
+/// Waits for each worker, and puts together what they found. The first worker that met a fault tells it.
+fn join_all<R: Threads>(
+    rt: &R,
+    alloc: Global,
+    threads: Vec<JoinHandle<Result<Vec<Found>, SearchFault>>>,
+) -> Result<Vec<Found>, SearchFault> {
+    let mut all = Ok(Vec::new(alloc));
+    for thread in threads {
+        all = both(all, thread.join(rt));
+    }
+    all
+}
+
+/// What two workers found, or the fault that one of them met.
+fn both(
+    first: Result<Vec<Found>, SearchFault>,
+    second: Result<Vec<Found>, SearchFault>,
+) -> Result<Vec<Found>, SearchFault> {
+    let mut all = first?;
+    let mut more = second?;
+    all.append(&mut more)?;
+    Ok(all)
+}
