@@ -1,6 +1,5 @@
 //! A certificate of which more is known after each round.
 
-use crate::SearchFault;
 use crate::board::Board;
 use crate::round::Found;
 use certificates::{Cert, PoolCert};

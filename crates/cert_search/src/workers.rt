@@ -28,29 +28,31 @@ pub(crate) fn look_at_all<R: Threads + Wait + Sync, G: PoolGate>(
     let board = Locked::new(Held::new(alloc, board)?);
     let stop = AtomicBool::new(false);
     let (shared, stops) = (&board, &stop);
-    let found = thread::scope(thread::scope_env(), rt, move |scope| {
-        let mut threads = match Vec::with_capacity(alloc, workers) {
-            Ok(threads) => threads,
-            Err(_) => return Err(SearchFault::Memory),
-        };
-        let mut started = true;
-        for _ in 0..workers {
-            let worker = scope.spawn(move || round.work(rt, alloc, shared, stops, gate));
-            started = match worker {
-                Ok(thread) => started && threads.push(thread).is_ok(),
-                Err(_) => false,
-            };
-        }
-        if !started {
-            stops.store(true, Ordering::SeqCst);
-        }
-        let found = join_all(rt, alloc, threads);
-        if started {
-            found
-        } else {
-            Err(SearchFault::Memory)
-        }
-    })?;
+    let found = thread::scope(
+        thread::scope_env(),
+        rt,
+        move |scope| -> Result<Vec<Found>, SearchFault> {
+            let mut threads = Vec::with_capacity(alloc, workers)?;
+            let mut refused = false;
+            for _ in 0..workers {
+                let worker = scope.spawn(move || round.work(rt, alloc, shared, stops, gate));
+                refused = match worker {
+                    Ok(thread) => threads.push(thread).is_err(),
+                    Err(_) => true,
+                };
+                if refused {
+                    stops.store(true, Ordering::SeqCst);
+                    break;
+                }
+            }
+            let found = join_all(rt, alloc, threads);
+            if refused {
+                Err(SearchFault::Memory)
+            } else {
+                found
+            }
+        },
+    )?;
     if board.into_inner().state().are_done() {
         Ok(found)
     } else {

@@ -1,6 +1,8 @@
 //! How high classes stand above those that they submit.
 
-use crate::numbers::number_at;
+ghost use Rattle.std.specs.Prelude.{◌≡◌, IfOk, IfSome, length, vec_len};
+
+use crate::numbers::{number_at, put_at};
 use job_bodies::{Action, Class, Plan};
 use std::alloc::{AllocError, Global};
 
@@ -22,7 +24,9 @@ impl Levels {
     /// # Errors
     ///
     /// [`AllocError`] where memory runs out.
-    pub fn of(alloc: Global, plan: &Plan) -> Result<Option<Levels>, AllocError> {
+    pub fn of(alloc: Global, plan: &Plan) -> Result<Option<Levels>, AllocError>
+        ensures { IfOk result (λ found. IfSome found (λ levels. vec_len levels.of_classes ≡ length plan.now.classes)) }
+    {
         let count = plan.classes().len();
         let mut levels = Levels {
             of_classes: vec![in alloc; NO_LEVEL; count]?,
@@ -38,18 +42,15 @@ impl Levels {
 
     /// Gives this level to the classes that submit only classes of lower levels and have no level yet. `known` has, for
     /// each class, how many actions at the front of its body are known to do so, so that none is looked at twice.
-    fn add_level(
-        &mut self,
-        plan: &Plan,
-        level: u64,
-        known: &mut [usize],
-    ) -> Result<(), AllocError> {
+    fn add_level(&mut self, plan: &Plan, level: u64, known: &mut [usize]) -> Result<(), AllocError>
+        ensures { vec_len self.new.of_classes ≡ vec_len self.old.of_classes }
+    {
         for (number, (class, known)) in plan.classes().iter().zip(known.iter_mut()).enumerate() {
             if number_at(&self.of_classes, number) == NO_LEVEL {
                 *known = self.known_actions(class, level, *known);
                 if *known == class.body.len() {
                     self.order.push(number)?;
-                    crate::numbers::put_at(&mut self.of_classes, number, level);
+                    put_at(&mut self.of_classes, number, level);
                 }
             }
         }

@@ -1,5 +1,7 @@
 //! How high classes reach.
 
+ghost use Rattle.std.specs.Prelude.{◌≡◌, IfOk, length, vec_len};
+
 use crate::Levels;
 use crate::numbers::{number_at, put_at};
 use job_bodies::{Action, Class, Plan};
@@ -17,7 +19,9 @@ pub fn reach(
     plan: &Plan,
     levels: &Levels,
     ranks: &[u64],
-) -> Result<Vec<u64>, AllocError> {
+) -> Result<Vec<u64>, AllocError>
+    ensures { IfOk result (λ reach. vec_len reach ≡ length plan.now.classes) }
+{
     let mut reach = vec![in alloc; 0; plan.classes().len()]?;
     for number in &levels.order {
         if let Some(class) = plan.class_at(*number) {
