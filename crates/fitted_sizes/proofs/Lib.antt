@@ -1,0 +1,10 @@
+pub mod Shapes
+pub mod Numbered
+pub mod TotalRows
+pub mod Changes
+pub mod LeastSizes
+pub mod LeastMaxes
+pub mod Unfits
+pub mod TotalBounds
+pub mod Loops
+pub mod WorkedFits

@@ -1,0 +1,50 @@
+-- Loops over pools with their numbers.
+use Rattle.std.proofs.Common.{◌≡◌, ◌≤◌, ◌<◌, ◌+◌, ℕ, List, [], ◌∷◌, ◌++◌, length, get_or, drop, map, Option, Some, None, sym, ap, ◌∙◌, append_assoc}
+use Rattle.std.specs.List.{enumerate_from}
+use Rattle.std.specs.Option.{option_or}
+use Rattle.std.proofs.lemmas.List.{at_drop_more, at_drop_all, append-nil}
+use Rattle.job_bodies.specs.Plan.{Pool, no_pool}
+use Rattle.fitted_sizes.specs.declared.unfit.Unfit.{Unfit}
+use Rattle.fitted_sizes.specs.Unfit.{first_unfit}
+
+-- the pools from this one on are it and those behind it
+turn : {Y : Type 0} (F : List (ℕ × Pool) → Y) (pools : List Pool) (i : ℕ) → i < length pools → F (enumerate_from i (drop i pools)) ≡ F ((i, get_or pools i no_pool) ∷ enumerate_from (i + 1) (drop (i + 1) pools))
+turn F pools i inside = at_drop_more (λ (ps : List Pool). F (enumerate_from i ps)) pools i no_pool inside
+
+-- ---- pools that are made of them
+
+-- what is made of the pools from this one on
+abbrev pub rest_made : (ℕ × Pool → Pool) → List Pool → ℕ → List Pool
+rest_made made pools i = map made (enumerate_from i (drop i pools))
+
+-- one more is made
+pub made_more : (made : ℕ × Pool → Pool) (pools : List Pool) (i : ℕ) (front all : List Pool) → i < length pools → front ++ rest_made made pools i ≡ all
+    → (front ++ made (i, get_or pools i no_pool) ∷ []) ++ rest_made made pools (i + 1) ≡ all
+made_more made pools i front all inside so_far =
+    append_assoc front (made (i, get_or pools i no_pool) ∷ []) (rest_made made pools (i + 1))
+    ∙ (sym (ap (λ (ps : List Pool). front ++ ps) (turn (map made) pools i inside)) ∙ so_far)
+
+-- all are made
+pub made_all : (made : ℕ × Pool → Pool) (pools : List Pool) (i : ℕ) (front all : List Pool) → length pools ≤ i → front ++ rest_made made pools i ≡ all → front ≡ all
+made_all made pools i front all past so_far =
+    sym (append-nil front) ∙ (sym (ap (λ (ps : List Pool). front ++ ps) (at_drop_all (λ (ps : List Pool). map made (enumerate_from i ps)) pools i past)) ∙ so_far)
+
+-- ---- the first of them that is unfit
+
+-- the answer of the pools from this one on
+abbrev pub rest_unfit : (ℕ → Pool → Option Unfit) → List Pool → ℕ → Option Unfit
+rest_unfit unfit_of pools i = first_unfit unfit_of (enumerate_from i (drop i pools))
+
+-- this one is not
+pub unfit_later : (unfit_of : ℕ → Pool → Option Unfit) (pools : List Pool) (i : ℕ) (all : Option Unfit) → i < length pools → unfit_of i (get_or pools i no_pool) ≡ None → rest_unfit unfit_of pools i ≡ all → rest_unfit unfit_of pools (i + 1) ≡ all
+unfit_later unfit_of pools i all inside fits so_far =
+    sym (turn (first_unfit unfit_of) pools i inside ∙ ap (λ (here : Option Unfit). option_or here (rest_unfit unfit_of pools (i + 1))) fits) ∙ so_far
+
+-- this one is
+pub unfit_here : (unfit_of : ℕ → Pool → Option Unfit) (pools : List Pool) (i : ℕ) (unfit : Unfit) (all : Option Unfit) → i < length pools → unfit_of i (get_or pools i no_pool) ≡ Some unfit → rest_unfit unfit_of pools i ≡ all → Some unfit ≡ all
+unfit_here unfit_of pools i unfit all inside found so_far =
+    sym (turn (first_unfit unfit_of) pools i inside ∙ ap (λ (here : Option Unfit). option_or here (rest_unfit unfit_of pools (i + 1))) found) ∙ so_far
+
+-- none is
+pub none_unfit : (unfit_of : ℕ → Pool → Option Unfit) (pools : List Pool) (i : ℕ) (all : Option Unfit) → length pools ≤ i → rest_unfit unfit_of pools i ≡ all → None ≡ all
+none_unfit unfit_of pools i all past so_far = sym (at_drop_all (λ (ps : List Pool). first_unfit unfit_of (enumerate_from i ps)) pools i past) ∙ so_far

@@ -1,0 +1,19 @@
+use Rattle.std.proofs.Common.{◌≡◌, List, None, Some, sym, subst, ◌∙◌}
+use Rattle.job_bodies.specs.Plan.{Pool}
+use Rattle.job_bodies.specs.WellFormed.{IsWellFormed}
+use Rattle.job_bodies.specs.Build.{given}
+use Rattle.fitted_sizes.specs.Unfit.{why_not_widened}
+use Rattle.fitted_sizes.proofs.Unfits.{why_not_widened_is, widened_is_well_formed, none_fits_where_not_widened}
+use Rattle.fitted_sizes.proofs.wide.widened.Goals as goal
+
+pub with_pools-requires : goal.with_pools-requires
+with_pools-requires c =
+    let plan = c.args.plan.now in
+    let none : why_not_widened plan c.args.cert.now ≡ None = why_not_widened_is plan c.args.cert.now c.deref.result.now None (sym c.if-not-fits.ensures) (c.deref.ensures.value ∙ c.in_ok-pools.ensures.pools) c.in-None.ensures in
+    subst (λ (pools : List Pool). IsWellFormed (given pools plan.classes plan.clients)) (sym c.in_ok-pools.ensures.pools) (widened_is_well_formed plan c.args.cert.now c.in_ok-pools.ensures.well_formed none)
+
+pub returns-in-Some-clause-none : goal.returns-in-Some-clause-none
+returns-in-Some-clause-none c =
+    let plan = c.args.plan.now in
+    let some : why_not_widened plan c.args.cert.now ≡ Some c.in-Some.unfit = why_not_widened_is plan c.args.cert.now c.deref.result.now (Some c.in-Some.unfit) (sym c.if-not-fits.ensures) (c.deref.ensures.value ∙ c.in_ok-pools.ensures.pools) c.in-Some.ensures in
+    none_fits_where_not_widened plan c.args.cert.now c.in-Some.unfit some

@@ -1,0 +1,36 @@
+-- Where a core would pass its max: maxes that leave room for the cores that a certificate needs.
+use Rattle.std.specs.Prelude.{◌≡◌, ◌≤◌, ◌<◌, ℕ, max, map, length, IsTrue}
+use Rattle.std.specs.List.{enumerate_from}
+use Rattle.job_bodies.specs.Plan.{Pool, Plan, pool_at}
+use Rattle.job_bodies.specs.WellFormed.{IsWellFormed}
+use Rattle.weights.specs.Vector.{Vector}
+use Rattle.certificates.specs.Cert.{Cert, pool_cert_at}
+use Rattle.headline.specs.Accepted.{accepted}
+use Rattle.fitted_sizes.specs.Fitted.{core_needed}
+
+abbrev pub with_max : Plan → Vector → Pool → Pool
+with_max plan v pool = record pool { max = max pool.max (core_needed plan v) }
+
+-- each max that is below the core that the certificate needs is raised to it; where totals grow by that, more may be needed
+abbrev pub widened : Plan → Cert → Plan
+widened plan cert = record plan { pools = map (λ entry. with_max plan (pool_cert_at cert entry.0).blocked entry.1) (enumerate_from 0 plan.pools) }
+
+-- the plan without its sizes
+abbrev pub outline : Plan → Plan
+outline plan = record plan { pools = map (λ (pool : Pool). record pool { core = 0; max = 0; queue = 0 }) plan.pools }
+
+-- the certificate accepts the other plan, which differs from this one in its sizes alone, and has no smaller max
+pub record IsWideFit (plan : Plan) (cert : Cert) (other : Plan) : Type 0 where
+  pub well_formed : IsWellFormed other
+  pub same_outline : outline other ≡ outline plan
+  pub no_smaller_max : (p : ℕ) → (pool_at plan p).max ≤ (pool_at other p).max
+  pub accepts : IsTrue (accepted other cert)
+
+-- there is no such plan
+abbrev pub NoneFitsWide : Plan → Cert → Type 0
+NoneFitsWide plan cert = (other : Plan) → ¬ IsWideFit plan cert other
+
+-- each of these plans has at least the cores that are needed, and the widened maxes: a larger max saves no core
+pub record WidenedMaxesAreLeast : Type 0 where
+  pub cores : (plan other : Plan) (cert : Cert) (p : ℕ) → p < length plan.pools → IsWideFit plan cert other → core_needed plan (pool_cert_at cert p).blocked ≤ (pool_at other p).core
+  pub maxes : (plan other : Plan) (cert : Cert) → IsWideFit plan cert other → IsWideFit (widened plan cert) cert other

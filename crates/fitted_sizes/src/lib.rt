@@ -1,0 +1,19 @@
+//! Which numbers of a plan to change: the least cores and queues with which a certificate accepts it.
+//!
+//! [`fitted`] answers the plan with those sizes, or why no cores and queues will do. What is least is so for this one
+//! certificate: another one may need less.
+#![tactic(auto)]
+
+mod fit;
+mod laws;
+mod resized;
+mod unfit;
+mod wide;
+
+pub use fit::{fitted, smallest};
+pub use laws::{
+    accepted_plans_fit, fitted_sizes_are_least, larger_sizes_are_accepted, smallest_fit_is_least,
+    widened_maxes_are_least,
+};
+pub use unfit::Unfit;
+pub use wide::widened;

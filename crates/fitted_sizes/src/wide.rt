@@ -1,0 +1,84 @@
+//! The plan with maximums that leave room for the cores that a certificate needs.
+
+ghost use Rattle.std.specs.Prelude.{◌≡◌, ◌<◌, IfOk, IfErr, IsTrue, Some, length};
+ghost use Rattle.std.specs.List.{enumerate_from};
+ghost use Rattle.job_bodies.specs.Plan.{pool_at};
+ghost use Rattle.job_bodies.specs.WellFormed.{IsWellFormed};
+ghost use Rattle.certificates.specs.Cert.{cert_fits, pool_cert_at};
+ghost use Rattle.fitted_sizes.specs.Widened as spec;
+ghost use Rattle.fitted_sizes.specs.Unfit.{first_unfit, too_wide, why_not_widened};
+
+use crate::Unfit;
+use crate::fit::core_needed;
+use crate::resized::{copied_pool, with_pools};
+use certificates::Cert;
+use job_bodies::{MOST_UNITS, Plan, Pool};
+use std::alloc::{AllocError, Global};
+
+/// The pool of this number with its maximum raised to the core that the certificate needs.
+fn widened_pool(alloc: Global, plan: &Plan, cert: &Cert, number: usize) -> Result<Pool, AllocError>
+    requires fits { IsTrue (cert_fits plan.now cert.now) }
+    requires number { number < length plan.now.pools }
+    ensures { IfOk result (λ wide. wide ≡ spec.with_max plan.now (pool_cert_at cert.now number).blocked (pool_at plan.now number)) }
+{
+    let needs = cert.pool_at(number);
+    let mut wide = copied_pool(alloc, &plan.pools()[number])?;
+    wide.max = wide.max.max(core_needed(plan, &needs.blocked));
+    Ok(wide)
+}
+
+fn widened_pools(alloc: Global, plan: &Plan, cert: &Cert) -> Result<Vec<Pool>, AllocError>
+    requires { IsTrue (cert_fits plan.now cert.now) }
+    ensures pools { IfOk result (λ pools. pools.items ≡ (spec.widened plan.now cert.now).pools) }
+    ensures well_formed { IsWellFormed plan.now }
+{
+    let mut pools = Vec::with_capacity(alloc, plan.pools().len())?;
+    for number in 0..plan.pools().len() {
+        pools.push(widened_pool(alloc, plan, cert, number)?)?;
+    }
+    Ok(pools)
+}
+
+/// Why a widened pool is too wide, if it is.
+fn too_wide_pool(number: usize, pool: &Pool) -> Option<Unfit>
+    ensures { result ≡ too_wide number pool.now }
+{
+    (pool.max > MOST_UNITS).then_some(Unfit::Core(number))
+}
+
+/// Why the first of the widened pools that is too wide is.
+fn too_wide_pools(pools: &[Pool]) -> Option<Unfit>
+    ensures { result ≡ first_unfit too_wide (enumerate_from 0 pools.now) }
+{
+    for number in 0..pools.len() {
+        if let Some(unfit) = too_wide_pool(number, &pools[number]) {
+            return Some(unfit);
+        }
+    }
+    None
+}
+
+/// The plan with each maximum that is below the core that the certificate needs raised to it. All sizes with which the
+/// certificate accepts the plan, and whose maximums are no smaller than the plan's, have at least these maximums. Where the
+/// totals grow by that, the certificate may need more.
+///
+/// Where the certificate has another shape than the plan, or a core above 1,000,000 is needed, there are no such sizes, and
+/// it says why.
+///
+/// # Errors
+///
+/// [`AllocError`] where memory runs out.
+pub fn widened(alloc: Global, plan: &Plan, cert: &Cert) -> Result<Result<Plan, Unfit>, AllocError>
+    ensures widened { IfOk result (λ answer. IfOk answer (λ wide. wide ≡ spec.widened plan.now cert.now)) }
+    ensures none { IfOk result (λ answer. IfErr answer (λ _. spec.NoneFitsWide plan.now cert.now)) }
+    ensures why { IfOk result (λ answer. IfErr answer (λ unfit. why_not_widened plan.now cert.now ≡ Some unfit)) }
+{
+    if !cert.fits(plan) {
+        return Ok(Err(Unfit::Shape));
+    }
+    let pools = widened_pools(alloc, plan, cert)?;
+    match too_wide_pools(&pools) {
+        Some(unfit) => Ok(Err(unfit)),
+        None => Ok(Ok(with_pools(alloc, plan, pools)?)),
+    }
+}
