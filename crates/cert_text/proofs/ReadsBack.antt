@@ -13,7 +13,7 @@ use Rattle.job_bodies.proofs.Passing.{EachPlace, list_all_from, list_any_get}
 use Rattle.weights.specs.declared.bound.Bound.{Bound}
 use Rattle.weights.specs.declared.bound.Bound.TheVariants.{Standing, Lifetime}
 use Rattle.weights.specs.Vector.{Vector, has_shape, vector_fits, is_small}
-use Rattle.weights.specs.Bound.{bound_vector}
+use Rattle.weights.specs.Bound.{bound_vector, is_lifetime}
 use Rattle.pool_ranks.specs.Ranks.{Ranks, ranks_fit}
 use Rattle.certificates.specs.Cert.{PoolCert, Cert, pool_cert_fits, cert_fits}
 use Rattle.cert_text.specs.declared.document.TheConstants.{MOST_TEXT_BYTES}
@@ -25,7 +25,7 @@ use Rattle.cert_text.specs.Vectors.{numbers_of, class_points, client_points, cla
 use Rattle.cert_text.specs.Shape.{standing_of, lifetime_of, pool_of, pools_of, ranks_of, shape_of}
 use Rattle.cert_text.specs.Sizes.{pool_has_small_numbers, ranks_have_small_numbers, cert_has_small_numbers}
 use Rattle.cert_text.specs.CertOf.{document_of, cert_of_value, cert_of}
-use Rattle.cert_text.specs.CertText.{number_data, list_data, numbers_data, rows_data, vector_data, bounded_data, pool_data, ranks_data, is_lifetime, cert_data}
+use Rattle.cert_text.specs.CertText.{number_data, list_data, numbers_data, rows_data, vector_data, bounded_data, pool_data, ranks_data, cert_data}
 use Rattle.cert_text.proofs.Lists.{elements-items_of, list_all_place, list_all_enumerated_place}
 
 elements_back : (count : ℕ) (values : List Data) → length values ≡ count → elements_of count (list_data values) ≡ Ok values

@@ -1,5 +1,5 @@
 -- The text of a certificate: compact JSON, the keys of each object ascending by their bytes.
-use Rattle.std.specs.Prelude.{ℕ, Bool, true, false, nat_eq, if◌then◌else◌, List, map, codes}
+use Rattle.std.specs.Prelude.{ℕ, Bool, nat_eq, if◌then◌else◌, List, map, codes}
 use Rattle.std.specs.List.{list_any}
 use Rattle.serde_json.specs.Data.{Data, number, unsigned, array, object, member, no_members}
 use Rattle.serde_json.specs.View.{items_of}
@@ -7,6 +7,7 @@ use Rattle.serde_json.specs.Written.{compact_text}
 use Rattle.weights.specs.declared.bound.Bound.{Bound}
 use Rattle.weights.specs.declared.bound.Bound.TheVariants.{Standing, Lifetime}
 use Rattle.weights.specs.Vector.{Vector}
+use Rattle.weights.specs.Bound.{is_lifetime}
 use Rattle.pool_ranks.specs.Ranks.{Ranks}
 use Rattle.certificates.specs.Cert.{PoolCert, Cert}
 
@@ -41,10 +42,6 @@ ranks_data ranks =
     object (member (codes "levels") (numbers_data ranks.levels)
     (member (codes "pools") (numbers_data ranks.pools)
     (member (codes "reach") (numbers_data ranks.reach) no_members)))
-
-abbrev pub is_lifetime : Bound → Bool
-is_lifetime (Standing v) = false
-is_lifetime (Lifetime v) = true
 
 -- 2 where some pool has a lifetime vector, and else 1
 abbrev pub version_number : Cert → ℕ

@@ -3,6 +3,7 @@
 ghost use Rattle.std.specs.Prelude.{◌≡◌, map, IfOk};
 ghost use Rattle.std.specs.List.{list_any};
 ghost use Rattle.serde_json.specs.View.{view};
+ghost use Rattle.weights.specs.Bound.{is_lifetime};
 ghost use Rattle.cert_text.specs.CertText as spec;
 
 use certificates::{Cert, PoolCert};
@@ -84,16 +85,10 @@ fn ranks_value(alloc: Global, ranks: &Ranks) -> Result<Value, AllocError>
     json!(in alloc; {"levels": levels, "pools": pools, "reach": reach})
 }
 
-fn is_lifetime(bound: &Bound) -> bool
-    ensures { result ≡ spec.is_lifetime bound.now }
-{
-    matches!(bound, Bound::Lifetime(_))
-}
-
 fn has_lifetime(pools: &[PoolCert]) -> bool
-    ensures { result ≡ list_any (λ pool. spec.is_lifetime pool.bound) pools.now }
+    ensures { result ≡ list_any (λ pool. is_lifetime pool.bound) pools.now }
 {
-    pools.iter().any(|pool| is_lifetime(&pool.bound))
+    pools.iter().any(|pool| pool.bound.is_lifetime())
 }
 
 /// The version that a certificate needs.

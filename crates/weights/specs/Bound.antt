@@ -1,5 +1,5 @@
 -- The vector that bounds a pool's queue: a standing one or a lifetime one.
-use Rattle.std.specs.Prelude.{ℕ, List}
+use Rattle.std.specs.Prelude.{ℕ, Bool, true, false, List}
 use Rattle.job_bodies.specs.Plan.{Plan, pool_at}
 use Rattle.weights.specs.declared.row.Row.{Row}
 use Rattle.weights.specs.declared.bound.Bound.{Bound}
@@ -12,6 +12,10 @@ use Rattle.weights.specs.Lifetime.{lifetime_limit, lifetime_rows}
 abbrev pub bound_vector : Bound → Vector
 bound_vector (Standing v) = v
 bound_vector (Lifetime v) = v
+
+abbrev pub is_lifetime : Bound → Bool
+is_lifetime (Standing v) = false
+is_lifetime (Lifetime v) = true
 
 abbrev pub bound_at_get : Bound → AtGet
 bound_at_get (Standing v) = GivesBack

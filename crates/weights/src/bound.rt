@@ -3,7 +3,7 @@
 ghost use Rattle.std.specs.Prelude.{◌≡◌, ◌<◌, IsTrue, length};
 ghost use Rattle.job_bodies.specs.Plan.{pool_at};
 ghost use Rattle.weights.specs.Vector.{vector_fits};
-ghost use Rattle.weights.specs.Bound.{bound_vector, bound_limit, bound_rows};
+ghost use Rattle.weights.specs.Bound as spec;
 ghost use Rattle.weights.specs.Row.{first_failing};
 ghost use Rattle.weights.specs.Takes.{Takes};
 
@@ -23,17 +23,24 @@ pub enum Bound {
 impl Bound {
     /// The vector.
     pub fn vector(&self) -> &Vector
-        ensures { result.now ≡ bound_vector self.now }
+        ensures { result.now ≡ spec.bound_vector self.now }
     {
         match self {
             Bound::Standing(vector) | Bound::Lifetime(vector) => vector,
         }
     }
 
+    /// Whether it is a lifetime vector.
+    pub fn is_lifetime(&self) -> bool
+        ensures { result ≡ spec.is_lifetime self.now }
+    {
+        matches!(self, Bound::Lifetime(_))
+    }
+
     /// What the vector's total is compared with: the queue, or all jobs that the pool takes before it can refuse one.
     pub fn limit(&self, plan: &Plan, pool: usize) -> u64
         requires { pool < length plan.now.pools }
-        ensures { result ≡ bound_limit plan.now pool self.now }
+        ensures { result ≡ spec.bound_limit plan.now pool self.now }
     {
         let pool = &plan.pools()[pool];
         match self {
@@ -44,9 +51,9 @@ impl Bound {
 
     /// Looks at the conditions of the pool's bound.
     pub fn visit_rows<V: RowVisitor>(&self, plan: &Plan, pool: usize, visitor: &mut V)
-        requires fits { IsTrue (vector_fits plan.now (bound_vector self.now)) }
+        requires fits { IsTrue (vector_fits plan.now (spec.bound_vector self.now)) }
         requires pool { pool < length plan.now.pools }
-        ensures { Takes V.HasSeen visitor.old visitor.new (bound_rows plan.now pool self.now) }
+        ensures { Takes V.HasSeen visitor.old visitor.new (spec.bound_rows plan.now pool self.now) }
     {
         match self {
             Bound::Standing(vector) => vector.visit_standing_rows(plan, pool, visitor),
@@ -56,9 +63,9 @@ impl Bound {
 
     /// The first of the conditions of the pool's bound that fails. It takes no memory.
     pub fn fault(&self, plan: &Plan, pool: usize) -> Option<StandingFault>
-        requires fits { IsTrue (vector_fits plan.now (bound_vector self.now)) }
+        requires fits { IsTrue (vector_fits plan.now (spec.bound_vector self.now)) }
         requires pool { pool < length plan.now.pools }
-        ensures { result ≡ first_failing (bound_rows plan.now pool self.now) }
+        ensures { result ≡ first_failing (spec.bound_rows plan.now pool self.now) }
     {
         match self {
             Bound::Standing(vector) => vector.standing_fault(plan, pool),

@@ -73,8 +73,8 @@ impl Vector {
         true
     }
 
-    /// Whether no number is above the limit.
-    fn has_small_numbers(&self) -> bool
+    /// Whether no number is above [`MOST_WEIGHT`].
+    pub fn has_small_numbers(&self) -> bool
         ensures { result ≡ spec.has_small_numbers self.now }
     {
         are_small(&self.workers) && are_small_rows(&self.classes) && are_small_rows(&self.clients)

@@ -8,7 +8,7 @@ use Rattle.serde_json.specs.Written.{has_float, compact_text}
 use Rattle.cert_text.specs.CertText.{has_percent}
 use Rattle.cert_text.proofs.Plain.{cert_plain}
 use Rattle.cert_text.proofs.Percent.{cert_bare}
-use Rattle.cert_text.proofs.ReadsBack.{fits_small, cert_back}
+use Rattle.cert_text.proofs.ReadsBack.{cert_back}
 use Rattle.cert_text.proofs.write.write_cert.Goals as goal
 
 -- two facts of a value give a third
@@ -26,7 +26,7 @@ pub returns-clause-no_separator : goal.returns-clause-no_separator
 returns-clause-no_separator c =
     let seen = c.in_ok-value.ensures in
     let whole : has_float (view c.in_ok-value.value) ≡ false = rw seen (cert_plain c.args.cert.now).whole in
-    IfOk-weaker c.to_vec.result _ _ (λ text given plan fits. ap has_percent (given whole ∙ ap compact_text seen) ∙ cert_bare c.args.cert.now (fits_small plan c.args.cert.now fits)) c.to_vec.ensures.text
+    IfOk-weaker c.to_vec.result _ _ (λ text given. ap has_percent (given whole ∙ ap compact_text seen) ∙ cert_bare c.args.cert.now) c.to_vec.ensures.text
 
 pub returns-clause-reads_back : goal.returns-clause-reads_back
 returns-clause-reads_back c =
