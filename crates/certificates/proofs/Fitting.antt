@@ -10,6 +10,20 @@ use Rattle.weights.specs.Bound.{bound_vector}
 use Rattle.pool_ranks.specs.Ranks.{ranks_fit}
 use Rattle.certificates.specs.Cert.{PoolCert, Cert, no_pool_cert, pool_cert_at, pool_cert_fits, cert_fits}
 
+-- there are as many parts as pools
+pub as_many_parts : (plan : Plan) (cert : Cert) → IsTrue (cert_fits plan cert) → length cert.pools ≡ length plan.pools
+as_many_parts plan cert fits =
+    let count = eqb (length cert.pools) (length plan.pools) in
+    let parts = and_parts (count && ranks_fit plan cert.ranks) (list_all (pool_cert_fits plan) cert.pools) fits in
+    eqb-true (length cert.pools) (length plan.pools) (and_parts count (ranks_fit plan cert.ranks) parts.0).0
+
+-- the part of each pool fits
+pub pool_fits : (plan : Plan) (cert : Cert) (p : ℕ) → IsTrue (cert_fits plan cert) → p < length plan.pools → IsTrue (pool_cert_fits plan (pool_cert_at cert p))
+pool_fits plan cert p fits inside =
+    let count = eqb (length cert.pools) (length plan.pools) in
+    let parts = and_parts (count && ranks_fit plan cert.ranks) (list_all (pool_cert_fits plan) cert.pools) fits in
+    list_all_at_In (pool_cert_fits plan) parts.1 (In-get_or cert.pools p no_pool_cert (omega (arith, as_many_parts plan cert fits)))
+
 -- both vectors of a pool fit
 pub record VectorsFit (plan : Plan) (pool : PoolCert) : Type 0 where
   pub bound : IsTrue (vector_fits plan (bound_vector pool.bound))
@@ -25,13 +39,11 @@ pub parts_fit : (plan : Plan) (cert : Cert) → IsTrue (cert_fits plan cert) →
 parts_fit plan cert fits =
     let count = eqb (length cert.pools) (length plan.pools) in
     let parts = and_parts (count && ranks_fit plan cert.ranks) (list_all (pool_cert_fits plan) cert.pools) fits in
-    let front = and_parts count (ranks_fit plan cert.ranks) parts.0 in
-    let same : length cert.pools ≡ length plan.pools = eqb-true (length cert.pools) (length plan.pools) front.0 in
     record {
-      as_many = same;
-      ranks = front.1;
+      as_many = as_many_parts plan cert fits;
+      ranks = (and_parts count (ranks_fit plan cert.ranks) parts.0).1;
       pools = λ p inside.
           let pool = pool_cert_at cert p in
-          let both = and_parts (vector_fits plan (bound_vector pool.bound)) (vector_fits plan pool.blocked) (list_all_at_In (pool_cert_fits plan) parts.1 (In-get_or cert.pools p no_pool_cert (omega arith))) in
+          let both = and_parts (vector_fits plan (bound_vector pool.bound)) (vector_fits plan pool.blocked) (pool_fits plan cert p fits inside) in
           record { bound = both.0; blocked = both.1 };
     }

@@ -1,18 +1,18 @@
 -- What an accepted certificate says, rule by rule.
-use Rattle.std.proofs.Common.{◌≡◌, ℕ, ◌<◌, true, ◌&&◌, eqb, ltb, List, [], ◌∷◌, length, flat_map, IsTrue, refl, zero-add, arith}
-use Rattle.std.specs.List.{enumerate_from, list_all}
-use Rattle.std.proofs.lemmas.Bool.{and_parts, eqb-true, ltb-false}
+use Rattle.std.proofs.Common.{◌≡◌, ℕ, ◌<◌, true, ltb, List, [], ◌∷◌, length, flat_map, IsTrue, refl, zero-add}
+use Rattle.std.specs.List.{enumerate_from}
+use Rattle.std.proofs.lemmas.Bool.{and_parts, ltb-false}
 use Rattle.std.proofs.lemmas.Option.{slice_get-get_or}
 use Rattle.numbered_lists.specs.In.{In}
-use Rattle.numbered_lists.proofs.Members.{In-append_left, In-append_right, In-map, In-flat_map, In-get_or, In-enumerate_from, test_of_none, list_all_at_In}
+use Rattle.numbered_lists.proofs.Members.{In-append_left, In-append_right, In-map, In-flat_map, In-enumerate_from, test_of_none}
 use Rattle.job_bodies.specs.Plan.{Pool, Plan, no_pool, pool_at}
 use Rattle.weights.specs.declared.row.Row.{Row}
 use Rattle.weights.specs.Row.{AllHold}
-use Rattle.weights.specs.Vector.{vector_fits}
-use Rattle.weights.specs.Bound.{bound_vector, bound_rows}
+use Rattle.weights.specs.Bound.{bound_rows}
 use Rattle.blocked_bounds.specs.Blocked.{blocked_rows}
-use Rattle.pool_ranks.specs.Ranks.{ranks_fit, is_counted, rank_rows}
-use Rattle.certificates.specs.Cert.{Cert, no_pool_cert, pool_cert_at, pool_cert_fits, cert_fits}
+use Rattle.pool_ranks.specs.Ranks.{is_counted, rank_rows}
+use Rattle.certificates.specs.Cert.{Cert, pool_cert_at, cert_fits}
+use Rattle.certificates.proofs.Fitting.{parts_fit}
 use Rattle.weight_laws.proofs.BoundLaws.{BoundLaws, bound_laws}
 use Rattle.starvation_laws.proofs.BlockedLaws.{BlockedLaws, blocked_laws}
 use Rattle.starvation_laws.proofs.RankLaws.{RankLaws, rank_laws}
@@ -44,15 +44,6 @@ pool_inside plan cert p x inside i =
     In-append_right (in_section section.Ranks (rank_rows plan cert.ranks))
     (In-flat_map (λ (entry : ℕ × Pool). pool_conditions plan cert entry.0) (In-enumerate_from 0 plan.pools p (pool_at plan p) p (slice_get-get_or plan.pools p no_pool inside) (zero-add p)) i)
 
--- both vectors of a pool fit
-pool_fits : (plan : Plan) (cert : Cert) (p : ℕ) → cert_fits plan cert ≡ true → p < length plan.pools → pool_cert_fits plan (pool_cert_at cert p) ≡ true
-pool_fits plan cert p fits inside =
-    let as_many = eqb (length cert.pools) (length plan.pools) in
-    let each = list_all (pool_cert_fits plan) cert.pools in
-    let parts = and_parts (as_many && ranks_fit plan cert.ranks) each fits in
-    let same : length cert.pools ≡ length plan.pools = eqb-true (length cert.pools) (length plan.pools) (and_parts as_many (ranks_fit plan cert.ranks) parts.0).0 in
-    list_all_at_In (pool_cert_fits plan) parts.1 (In-get_or cert.pools p no_pool_cert (omega arith))
-
 -- where the certificate is accepted, all of them hold
 pub cert_laws : (plan : Plan) (cert : Cert) → IsTrue (accepted plan cert) → CertLaws plan cert
 cert_laws plan cert is_accepted =
@@ -62,7 +53,7 @@ cert_laws plan cert is_accepted =
       bound = λ p inside.
           let pool = pool_cert_at cert p in
           let of_blocked = in_section (section.Blocked p) (blocked_rows plan p (is_counted plan cert.ranks) pool.blocked) in
-          bound_laws plan p pool.bound (and_parts (vector_fits plan (bound_vector pool.bound)) (vector_fits plan pool.blocked) (pool_fits plan cert p parts.0 inside)).0
+          bound_laws plan p pool.bound ((parts_fit plan cert parts.0).pools p inside).bound
           (section_holds plan cert (bound_section p pool.bound) (bound_rows plan p pool.bound) none (λ x i. pool_inside plan cert p x inside (In-append_left of_blocked i)));
       blocked = λ p inside.
           let pool = pool_cert_at cert p in

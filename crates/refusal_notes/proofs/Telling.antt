@@ -1,17 +1,16 @@
 -- What is told of a certificate so far.
-use Rattle.std.proofs.Common.{◌≡◌, ℕ, Bool, zero, suc, ◌+◌, ◌<◌, true, false, cond, ◌&&◌, eqb, ltb, IsTrue, List, [], ◌∷◌, ◌++◌, length, take, filter, flat_map, get_or, refl, sym, ap, ap₂, ◌∙◌, append_assoc, add-one, zero-add, arith}
-use Rattle.std.specs.List.{enumerate_from, list_all}
+use Rattle.std.proofs.Common.{◌≡◌, ℕ, Bool, zero, suc, ◌+◌, ◌<◌, true, false, cond, ltb, IsTrue, List, [], ◌∷◌, ◌++◌, length, take, filter, flat_map, get_or, refl, sym, ap, ap₂, ◌∙◌, append_assoc, add-one, zero-add, arith}
+use Rattle.std.specs.List.{enumerate_from}
 use Rattle.std.proofs.lemmas.List.{append-nil, get_or_default}
 use Rattle.std.proofs.lemmas.List.Elements.{filter-append}
-use Rattle.std.proofs.lemmas.Bool.{and_parts, eqb-true}
-use Rattle.numbered_lists.proofs.Members.{In-get_or, list_all_at_In}
 use Rattle.job_bodies.specs.Plan.{Plan}
 use Rattle.weights.specs.declared.row.Row.{Row}
 use Rattle.weights.specs.Row.{fails}
 use Rattle.weights.specs.Bound.{bound_rows}
 use Rattle.blocked_bounds.specs.Blocked.{blocked_rows}
-use Rattle.pool_ranks.specs.Ranks.{ranks_fit, is_counted, rank_rows}
-use Rattle.certificates.specs.Cert.{PoolCert, Cert, no_pool_cert, pool_cert_fits, cert_fits}
+use Rattle.pool_ranks.specs.Ranks.{is_counted, rank_rows}
+use Rattle.certificates.specs.Cert.{PoolCert, Cert, no_pool_cert, pool_cert_at, pool_cert_fits, cert_fits}
+use Rattle.certificates.proofs.Fitting.{as_many_parts, pool_fits}
 use Rattle.headline.specs.declared.note.Section.{Section}
 use Rattle.headline.specs.declared.note.Section.TheVariants as section
 use Rattle.headline.specs.declared.note.Note.{Note}
@@ -71,13 +70,12 @@ one_more_behind front notes_at xs i inside =
     rw add-one (ap (λ (ns : List Note). front ++ ns) (one_more notes_at 0 xs i inside) ∙ rw zero-add (sym (append_assoc front _ _)))
 
 -- what a certificate that fits says of a pool fits, and it speaks of as many pools as there are
-pub pool_fits : (plan : Plan) (cert : Cert) (i : ℕ) (pool : PoolCert) → IsTrue (cert_fits plan cert) → i < length cert.pools → pool ≡ get_or cert.pools i pool
+pub part_fits : (plan : Plan) (cert : Cert) (i : ℕ) (pool : PoolCert) → IsTrue (cert_fits plan cert) → i < length cert.pools → pool ≡ get_or cert.pools i pool
     → IsTrue (pool_cert_fits plan pool) × (i < length plan.pools)
-pool_fits plan cert i pool fits inside here =
-    let as_many = eqb (length cert.pools) (length plan.pools) in
-    let parts = and_parts (as_many && ranks_fit plan cert.ranks) (list_all (pool_cert_fits plan) cert.pools) fits in
-    let same : length cert.pools ≡ length plan.pools = eqb-true _ _ (and_parts as_many (ranks_fit plan cert.ranks) parts.0).0 in
-    (rw here (list_all_at_In (pool_cert_fits plan) parts.1 (In-get_or cert.pools i pool inside)), omega arith)
+part_fits plan cert i pool fits inside here =
+    let within : i < length plan.pools = omega (arith, as_many_parts plan cert fits) in
+    let same : pool_cert_at cert i ≡ pool = get_or_default cert.pools i no_pool_cert pool inside ∙ sym here in
+    (rw same at (pool_fits plan cert i fits within), within)
 
 pub told_goes_on : (plan : Plan) (cert : Cert) (notes more : List Note) (i : ℕ) (pool : PoolCert) → IsTrue (cert_fits plan cert) → i < length cert.pools → pool ≡ get_or cert.pools i pool
     → more
@@ -91,7 +89,7 @@ told_goes_on plan cert notes more i pool fits inside here added so_far =
     let same : pool_conditions plan cert i ≡ conditions =
     ap (λ (p : PoolCert). in_section (bound_section i p.bound) (bound_rows plan i p.bound) ++ in_section (section.Blocked i) (blocked_rows plan i (is_counted plan cert.ranks) p.blocked))
     (get_or_default cert.pools i no_pool_cert pool inside ∙ sym here) in
-    let grown = one_more_behind (in_section section.Ranks (rank_rows plan cert.ranks)) (pool_conditions plan cert) plan.pools i (pool_fits plan cert i pool fits inside here).1 in
+    let grown = one_more_behind (in_section section.Ranks (rank_rows plan cert.ranks)) (pool_conditions plan cert) plan.pools i (part_fits plan cert i pool fits inside here).1 in
     let told : filter note_fails (conditions_to plan cert (i + 1)) ≡ filter note_fails (conditions_to plan cert i) ++ filter note_fails conditions =
     ap (filter note_fails) (grown ∙ ap (λ (ns : List Note). conditions_to plan cert i ++ ns) same) ∙ filter-append note_fails (conditions_to plan cert i) conditions in
     record { told = added ∙ append_assoc notes _ _ ∙ ap₂ (λ (ns ms : List Note). ns ++ ms) so_far.told (sym (failing_of_two (bound_section i pool.bound) (section.Blocked i) of_bound of_blocked)) ∙ sym told }

@@ -1,6 +1,6 @@
 use Rattle.std.proofs.Common.{List, length, ap}
 use Rattle.headline.specs.declared.note.Note.{Note}
-use Rattle.refusal_notes.proofs.Telling.{pool_fits}
+use Rattle.refusal_notes.proofs.Telling.{part_fits}
 use Rattle.refusal_notes.proofs.Explaining.{lines_begin, lines_go_on}
 use Rattle.refusal_notes.proofs.explained.push_all_lines.Goals as goal
 
@@ -15,7 +15,7 @@ pub push_pool_notes-requires-clause-fits : goal.push_pool_notes-requires-clause-
 push_pool_notes-requires-clause-fits c =
     let items = c.deref-pool-items.ensures.value in
     let fits = rw (← c.cert.view_is) at c.requires in
-    (pool_fits c.args.plan.now _ c.loop-number.number c.pool-item.result fits (rw items at c.loop-number-test.true) (rw items at c.pool-item.is)).0
+    (part_fits c.args.plan.now _ c.loop-number.number c.pool-item.result fits (rw items at c.loop-number-test.true) (rw items at c.pool-item.is)).0
 
 pub loop-number-preserved : goal.loop-number-preserved
 loop-number-preserved c =

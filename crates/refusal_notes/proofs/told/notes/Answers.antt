@@ -1,4 +1,4 @@
-use Rattle.refusal_notes.proofs.Telling.{pool_fits, told_begins, told_goes_on}
+use Rattle.refusal_notes.proofs.Telling.{part_fits, told_begins, told_goes_on}
 use Rattle.refusal_notes.proofs.told.notes.Goals as goal
 
 pub loop-number-init : goal.loop-number-init
@@ -10,7 +10,7 @@ pub push_pool_notes-requires-clause-fits : goal.push_pool_notes-requires-clause-
 push_pool_notes-requires-clause-fits c =
     let items = c.deref-pool-items.ensures.value in
     let fits = rw (← c.cert.view_is) at c.requires.fits in
-    (pool_fits c.args.plan.now _ c.loop-number.number c.pool-item.result fits (rw items at c.loop-number-test.true) (rw items at c.pool-item.is)).0
+    (part_fits c.args.plan.now _ c.loop-number.number c.pool-item.result fits (rw items at c.loop-number-test.true) (rw items at c.pool-item.is)).0
 
 pub loop-number-preserved : goal.loop-number-preserved
 loop-number-preserved c =
