@@ -10,8 +10,6 @@ mod fault;
 mod read;
 mod shape;
 mod sizes;
-#[cfg(test)]
-mod tests;
 mod values;
 mod vectors;
 mod version;

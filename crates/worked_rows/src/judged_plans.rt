@@ -1,13 +1,13 @@
 //! Certificates of small plans, and each call that judges one.
 
-use blocked_bounds::blocked_fault;
-use cert_check::{Certified, CheckFault, PoolLine, accepts, accepts_standing, check};
+use blocked_bounds::{Counted, blocked_fault};
+use cert_check::{Certified, CheckFault, PoolLine, accepts, accepts_standing, check, verdict};
 use cert_text::{CertFault, read_cert};
 use certificates::Cert;
 use faults::number::{BAD_NUMBER, NOT_JSON, WEIGHT_TOO_LARGE, WRONG_SHAPE};
 use job_bodies::{Part, Plan, PlanFault};
 use plan_text::read_plan;
-use pool_ranks::RanksOf;
+use pool_ranks::{Ranks, RanksOf};
 use std::alloc::Global;
 use std::test::*;
 use weights::{Bound, Place, Row, Rule};
@@ -256,6 +256,32 @@ fn the_first_condition_that_fails(rt: HostRuntime) -> Result<(), Fail> {
     Ok(())
 }
 
+/// Whether the get at this position of the class is counted; None where the ranks do not fit or there is no such get.
+fn is_counted(plan: &Plan, ranks: &Ranks, class: usize, position: usize) -> Option<bool> {
+    let found = plan.class_at(class)?;
+    if position >= found.body.len() || !ranks.fits(plan) {
+        return None;
+    }
+    Some(RanksOf::new(plan, ranks).counted(class, position))
+}
+
+/// The jobs of class a wait at their get for jobs of class b, those of b for jobs of d, and those for none.
+#[test]
+fn gets_that_are_counted(rt: HostRuntime) -> Result<(), Fail> {
+    let (plan, cert) = read(rt.alloc(), THERE_AND_BACK, THERE_AND_BACK_CERT)?;
+    assert_eq!(rt; is_counted(&plan, &cert.ranks, 0, 1), Some(true));
+    assert_eq!(rt; is_counted(&plan, &cert.ranks, 1, 1), Some(true));
+
+    let above = Ranks {
+        pools: vec![in rt.alloc(); 2, 1]?,
+        reach: vec![in rt.alloc(); 2, 1, 2]?,
+        levels: vec![in rt.alloc(); 2, 1, 0]?,
+    };
+    assert_eq!(rt; is_counted(&plan, &above, 0, 1), Some(false));
+    assert_eq!(rt; is_counted(&plan, &above, 1, 1), Some(true));
+    Ok(())
+}
+
 /// Whether the standing vectors alone are accepted, whether the whole is, and that what is handed back was handed in.
 #[test]
 fn what_is_accepted(rt: HostRuntime) -> Result<(), Fail> {
@@ -283,6 +309,30 @@ fn what_is_accepted(rt: HostRuntime) -> Result<(), Fail> {
         assert_eq!(rt; certified, is_accepted);
         assert_eq!(rt; handed_back, handed_in);
     }
+    Ok(())
+}
+
+/// Both sides of the bounds of each pool, in plan order.
+#[test]
+fn verdicts(rt: HostRuntime) -> Result<(), Fail> {
+    let (plan, cert) = read(rt.alloc(), THERE_AND_BACK, THERE_AND_BACK_CERT)?;
+    assert!(rt; cert.fits(&plan));
+    let verdict = verdict(rt.alloc(), &plan, &cert)?;
+    assert!(rt; !verdict.yes);
+    let front = PoolLine {
+        lifetime: false,
+        standing: 1,
+        queue: 2,
+        blocked: 0,
+        limit: 0,
+    };
+    let back = PoolLine {
+        blocked: 1,
+        limit: 1,
+        ..front
+    };
+    let lines = [front, back];
+    assert!(rt; verdict.pools.as_slice() == lines.as_slice());
     Ok(())
 }
 

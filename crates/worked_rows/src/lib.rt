@@ -4,6 +4,8 @@
 #[cfg(test)]
 mod bytes;
 #[cfg(test)]
+mod cert_texts;
+#[cfg(test)]
 mod event_texts;
 #[cfg(test)]
 mod help_texts;
@@ -13,3 +15,5 @@ mod judged_plans;
 mod limits;
 #[cfg(test)]
 mod pools;
+#[cfg(test)]
+mod told_notes;

@@ -1,6 +1,6 @@
-//! Texts that are read and written back, and one that is refused.
+//! Texts of certificates that are read and written back, and one that is refused.
 
-use crate::{CertFault, read_cert, write_cert};
+use cert_text::{CertFault, read_cert, write_cert};
 use job_bodies::{Action, Class, Client, Plan, Pool};
 use std::alloc::Global;
 use std::test::*;
