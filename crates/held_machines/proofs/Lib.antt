@@ -1,1 +1,1 @@
-mod Replays
+pub mod Replays

@@ -1,0 +1,8 @@
+//! The world of a certified plan as a machine, which refuses nothing.
+#![tactic(auto)]
+
+mod certified_world;
+mod laws;
+
+pub use certified_world::CertifiedWorld;
+pub use laws::held_worlds_refuse_nothing;
