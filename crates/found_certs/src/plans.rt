@@ -1,0 +1,110 @@
+//! What is found for a plan, told in a few lines.
+
+use cert_check::{PoolGate, check, push_verdict, write_cert};
+use cert_search::search;
+use certificates::Cert;
+use job_bodies::Plan;
+use plan_text::read_plan;
+use std::alloc::{AllocError, Global};
+use std::sync::Wait;
+use std::thread::Threads;
+
+// How many workers each plan is searched with.
+const WORKERS: [usize; 3] = [1, 2, 64];
+
+// The numbers that stand in place of COUNT are those from 1 to this one.
+const COUNTS: usize = 100;
+
+/// A gate that lets each pool begin.
+#[derive(Clone, Copy)]
+struct Open;
+
+impl PoolGate for Open {
+    fn begin(&self, _pool: usize) -> bool {
+        true
+    }
+}
+
+/// What the check says of the certificate that is found for the plan, or `no certificate found`; and more where another
+/// number of workers finds something else. A plan with COUNT in its text stands for 100 plans, with each number from 1 to
+/// 100 in place of it: then the answer is how many of them get a certificate that the check accepts.
+pub fn answer<R: Threads + Wait + Sync>(
+    rt: &R,
+    alloc: Global,
+    plan: &str,
+) -> Result<String, AllocError> {
+    if !plan.contains("COUNT") {
+        return found_by_each(rt, alloc, plan);
+    }
+    let mut found = 0usize;
+    for count in 0..COUNTS {
+        let plan = counted(alloc, plan, count.saturating_add(1))?;
+        let answer = found_by_each(rt, alloc, &plan)?;
+        if answer.as_str().starts_with("yes\n") {
+            found = found.saturating_add(1);
+        }
+    }
+    format!(in alloc; "yes to {found} of {COUNTS}")
+}
+
+// The text with this number in place of each COUNT.
+fn counted(alloc: Global, plan: &str, number: usize) -> Result<String, AllocError> {
+    let mut text = String::new(alloc);
+    for (place, piece) in plan.split("COUNT").enumerate() {
+        if place > 0 {
+            write!(text, "{number}")?;
+        }
+        text.push_str(piece)?;
+    }
+    Ok(text)
+}
+
+// What workers of each number find.
+fn found_by_each<R: Threads + Wait + Sync>(
+    rt: &R,
+    alloc: Global,
+    plan: &str,
+) -> Result<String, AllocError> {
+    let mut all = String::new(alloc);
+    for workers in WORKERS {
+        let found = found(rt, alloc, plan, workers)?;
+        if all.is_empty() {
+            all = found;
+        } else if all != found {
+            write!(all, "\nwith {workers} workers {found}")?;
+        }
+    }
+    Ok(all)
+}
+
+// What so many workers find.
+fn found<R: Threads + Wait + Sync>(
+    rt: &R,
+    alloc: Global,
+    text: &str,
+    workers: usize,
+) -> Result<String, AllocError> {
+    let plan = match read_plan(alloc, text.as_bytes()) {
+        Ok(plan) => plan,
+        Err(fault) => return fault.to_string(alloc),
+    };
+    if workers < 1 || workers > 64 {
+        return String::from_str(alloc, "no such number of workers");
+    }
+    match search(rt, alloc, &plan, workers, &Open) {
+        Ok(Some(cert)) => verdict_on(alloc, text, &plan, &cert),
+        Ok(None) => String::from_str(alloc, "no certificate found"),
+        Err(fault) => format!(in alloc; "{fault:?}"),
+    }
+}
+
+// What the check says of the texts of the plan and the certificate.
+fn verdict_on(alloc: Global, text: &str, plan: &Plan, cert: &Cert) -> Result<String, AllocError> {
+    let cert = write_cert(alloc, cert)?;
+    let mut answer = String::new(alloc);
+    match check(alloc, text.as_bytes(), &cert) {
+        Ok(verdict) => push_verdict(&mut answer, plan, &verdict)?,
+        Err(fault) => write!(answer, "{fault:?}")?,
+    }
+    String::from_str(alloc, answer.as_str().trim_end())
+}
