@@ -1,0 +1,331 @@
+#!/usr/bin/env python3
+"""Compares the search for certificates with a second one, written apart from it in Python, on small plans made by chance.
+
+For each plan the second one says which bounds the check must tell of the certificate, or that none is found, and the test
+program found_certs must answer the same. Both go by this method, but the second one takes no short way: it tries numbers
+where the program computes them.
+
+1. A class is a level above the highest of the classes that it submits. A circle of submits gets no certificate.
+2. A least vector is found class by class, from the lowest level up, and in a body from its end back: the end weighs what
+   the job weighs when it is done and what a worker weighs; a submit adds what its job weighs queued; a get takes off what
+   its job weighs done; nothing goes below what it has to weigh. Queued, a job weighs what it weighs at its beginning less
+   what a worker weighs. Done, it weighs as much as it may without weighing more while it is queued, and no more than
+   that. A client that repeats weighs at its end what it weighs at its beginning, or there is no vector.
+3. Workers weigh nothing at first. While the total is above its bound, one pool lends: its workers weigh as much as its
+   jobs do at most, where neither they nor done jobs of the pool weigh anything. It is the pool that makes the total the
+   least; where none makes it less, no vector is found.
+4. In rounds from 0, each pool without a rank whose blocked vector is found gets the round's number. Of the gets only those
+   do not count whose jobs reach none but pools with ranks. In round 0 each pool needs a standing vector or else a lifetime
+   vector: all jobs of the pool weigh at least 1 everywhere, gets give nothing back, and nobody lends.
+
+    python3 checks/found_certs.py [PLANS [SEED]]     # 2,000 plans and seed 1 where nothing is said
+
+The program is crates/found_certs/out/found_certs, or the one that the environment variable FOUND_CERTS names.
+
+Exit status: 0 where both agree on each plan, 1 where they do not, 2 where there is no program.
+"""
+
+import os
+import random
+import re
+import subprocess
+import sys
+from pathlib import Path
+
+HERE = Path(__file__).resolve().parent
+BUILT = HERE.parent / "crates" / "found_certs" / "out" / "found_certs"
+MOST_WEIGHT = 1_000_000_000
+MOST_LOANS = 256
+SECONDS = 600
+
+
+def main():
+    program = Path(os.environ.get("FOUND_CERTS") or BUILT).resolve()
+    if not os.access(program, os.X_OK) or not program.is_file():
+        print(f"there is no program at {program}: run `rt run` in crates/found_certs", file=sys.stderr)
+        return 2
+    words = [int(word) for word in sys.argv[1:]]
+    count, seed = (words + [2000, 1][len(words):])[:2]
+    chance = random.Random(seed)
+    plans = [plan_by_chance(chance) for _ in range(count)]
+    answers = [answer(plan) for plan in plans]
+    given = "%%\n".join(f"# plan {number}\n{text(plan)}" for number, plan in enumerate(plans))
+    ended = subprocess.run([program], input=given, capture_output=True, text=True, timeout=SECONDS)
+    told = re.split(r"^# plan \d+$", ended.stdout, flags=re.M)[1:]
+    differing = [number for number in range(count) if told[number:number + 1] != [f"\n{answers[number]}\n\n"]]
+    for number in differing[:3]:
+        print(f"plan {number}:\n{text(plans[number])}is answered\n{''.join(told[number:number + 1])}and not\n{answers[number]}")
+    found = sum(told != NONE for told in answers)
+    lifetimes = sum("lifetime" in told for told in answers)
+    print(f"{count} plans, {len(differing)} differ; {found} get a certificate, {lifetimes} of them with a lifetime vector")
+    return 1 if differing or ended.returncode else 0
+
+
+# ---- plans by chance
+
+NONE = "no certificate found"
+
+
+class Pool:
+    def __init__(self, core, most, queue, prestart):
+        self.core, self.most, self.queue, self.prestart = core, most, queue, prestart
+
+
+class Class:
+    def __init__(self, pool, body):
+        self.pool, self.body = pool, body
+
+
+class Client:
+    def __init__(self, count, repeat, body):
+        self.count, self.repeat, self.body = count, repeat, body
+
+
+class Plan:
+    def __init__(self, pools, classes, clients):
+        self.pools, self.classes, self.clients = pools, classes, clients
+
+
+def plan_by_chance(chance):
+    pools = [pool_by_chance(chance) for _ in range(chance.randint(1, 4))]
+    count = chance.randint(1, 5)
+    # Mostly a class submits only those before it; now and then there are circles.
+    free = chance.random() < 0.05
+    classes = [
+        Class(chance.randrange(len(pools)), body_by_chance(chance, count if free else number))
+        for number in range(count)
+    ]
+    clients = [
+        Client(chance.choice([1, 1, 2, 3, 10]), chance.random() < 0.6, body_by_chance(chance, count))
+        for _ in range(chance.randint(1, 3))
+    ]
+    order = list(range(count))
+    chance.shuffle(order)
+    return Plan(pools, *renumbered(classes, clients, order))
+
+
+def pool_by_chance(chance):
+    core = chance.randint(1, 4)
+    return Pool(core, core + chance.choice([0, 0, 1, 3]), chance.choice([1, 2, 3, 5, 10, 30]), chance.random() < 0.2)
+
+
+def body_by_chance(chance, classes):
+    body, open_submits = [], []
+    for _ in range(chance.randint(0, 6)):
+        kind = chance.random()
+        if open_submits and kind < 0.4:
+            body.append(("get", open_submits.pop(chance.randrange(len(open_submits)))))
+        elif classes and kind < 0.85:
+            open_submits.append(len(body))
+            body.append(("submit", chance.randrange(classes)))
+        else:
+            body.append(("work", 1))
+    if chance.random() < 0.7:
+        body += [("get", submit) for submit in open_submits]
+    return body
+
+
+def renumbered(classes, clients, order):
+    def body(actions):
+        return [(word, order[what]) if word == "submit" else (word, what) for word, what in actions]
+
+    placed = [None] * len(classes)
+    for old, new in enumerate(order):
+        placed[new] = Class(classes[old].pool, body(classes[old].body))
+    return placed, [Client(client.count, client.repeat, body(client.body)) for client in clients]
+
+
+# ---- texts
+
+def text(plan):
+    lines = []
+    for number, pool in enumerate(plan.pools):
+        lines += ["[[pool]]", f'name = "p{number}"', f"core = {pool.core}", f"max = {pool.most}", f"queue = {pool.queue}"]
+        lines += ["prestart = true"] if pool.prestart else []
+    for number, entry in enumerate(plan.classes):
+        lines += ["[[class]]", f'name = "a{number}"', f'pool = "p{entry.pool}"', f"body = {spelled(entry.body)}"]
+    for number, client in enumerate(plan.clients):
+        lines += ["[[client]]", f'name = "c{number}"', f"count = {client.count}"]
+        lines += ["repeat = true"] if client.repeat else []
+        lines += [f"body = {spelled(client.body)}"]
+    return "\n".join(lines) + "\n"
+
+
+def spelled(body):
+    words = []
+    for place, (word, what) in enumerate(body):
+        if word == "work":
+            words.append('"work 1"')
+        elif word == "get":
+            words.append(f'"get s{what}"')
+        elif ("get", place) in body:
+            words.append(f'"submit a{what} as s{place}"')
+        else:
+            words.append(f'"submit a{what}"')
+    return "[" + ", ".join(words) + "]"
+
+
+# ---- the method
+
+def answer(plan):
+    levels = levels_of(plan)
+    if levels is None:
+        return NONE
+    ranks = [None] * len(plan.pools)
+    bounds, blocked = {}, {}
+    rank = 0
+    while None in ranks:
+        reached = reach(plan, levels, [rank if known is None else known for known in ranks])
+        unranked = [pool for pool, known in enumerate(ranks) if known is None]
+        for pool in unranked:
+            if rank == 0:
+                bounds[pool] = bound(plan, levels, pool)
+                if bounds[pool] is None:
+                    return NONE
+            blocked[pool] = blocked_total(plan, levels, pool, reached, rank)
+        placed = [pool for pool in unranked if blocked[pool] is not None]
+        if not placed:
+            return NONE
+        for pool in placed:
+            ranks[pool] = rank
+        rank += 1
+    lines = ["yes"]
+    for pool, sizes in enumerate(plan.pools):
+        word, total, limit = bounds[pool]
+        lines.append(f"pool p{pool}: {word} {total} of {limit}, blocked {blocked[pool]} of {sizes.core - 1}")
+    return "\n".join(lines)
+
+
+def levels_of(plan):
+    levels = {}
+
+    def level(number, path):
+        if number in path:
+            return None
+        if number not in levels:
+            below = [level(what, path | {number}) for word, what in plan.classes[number].body if word == "submit"]
+            if None in below:
+                return None
+            levels[number] = 1 + max(below) if below else 0
+        return levels[number]
+
+    found = [level(number, frozenset()) for number in range(len(plan.classes))]
+    return None if None in found else found
+
+
+def reach(plan, levels, ranks):
+    reached = {}
+    for number in sorted(range(len(levels)), key=lambda number: levels[number]):
+        entry = plan.classes[number]
+        got = [reached[entry.body[what][1]] for word, what in entry.body if word == "get"]
+        reached[number] = max([ranks[entry.pool]] + got)
+    return reached
+
+
+def bound(plan, levels, pool):
+    sizes = plan.pools[pool]
+    queued = [1 if entry.pool == pool else 0 for entry in plan.classes]
+    nothing = [[0] * (len(entry.body) + 1) for entry in plan.classes]
+    total = least_total(plan, levels, queued, nothing, sizes.queue)
+    if total is not None:
+        return "standing", total, sizes.queue
+    limit = sizes.queue + sizes.most - (sizes.core if sizes.prestart else 0)
+    everywhere = [[need] * (len(entry.body) + 1) for need, entry in zip(queued, plan.classes)]
+    total = Weights(plan, levels, queued, everywhere, [0] * len(plan.pools), gives_back=False).total()
+    return ("lifetime", total, limit) if total is not None and total <= limit else None
+
+
+def blocked_total(plan, levels, pool, reached, rank):
+    needs = []
+    for entry in plan.classes:
+        counted = [
+            word == "get" and entry.pool == pool and reached[entry.body[what][1]] >= rank for word, what in entry.body
+        ]
+        needs.append([int(one) for one in counted] + [0])
+    return least_total(plan, levels, [0] * len(plan.classes), needs, plan.pools[pool].core - 1)
+
+
+def least_total(plan, levels, queued, needs, limit):
+    """The least total within the limit, with workers that lend; None where none is found."""
+    workers = [0] * len(plan.pools)
+
+    def weights(workers):
+        return Weights(plan, levels, queued, needs, workers)
+
+    def total_of(workers):
+        total = weights(workers).total()
+        return float("inf") if total is None else total
+
+    total = total_of(workers)
+    for _ in range(MOST_LOANS):
+        if total <= limit:
+            return total
+        loans = []
+        for pool in range(len(plan.pools)):
+            without = workers[:pool] + [0] + workers[pool + 1:]
+            peak = weights(without).peak(pool)
+            lent = workers[:pool] + [peak] + workers[pool + 1:]
+            loans.append((total_of(lent), pool, lent))
+        least = min(loans)
+        if not least[0] < total:
+            return None
+        total, _, workers = least
+    return None
+
+
+class Weights:
+    """What jobs and clients weigh at least, each class from the lowest level up."""
+
+    def __init__(self, plan, levels, queued, needs, workers, gives_back=True):
+        self.plan, self.workers, self.gives_back = plan, workers, gives_back
+        self.queued, self.done, self.rows = {}, {}, {}
+        self.peaks = [0] * len(plan.pools)
+        for number in sorted(range(len(levels)), key=lambda number: levels[number]):
+            self.weigh(number, plan.classes[number], queued[number], needs[number])
+
+    def weigh(self, number, entry, need_queued, needs):
+        worker = self.workers[entry.pool]
+
+        def with_done(done):
+            row = self.back(entry.body, max(done + worker, needs[-1]), needs)
+            return row, max(row[0] - worker, need_queued)
+
+        row, least = with_done(0)
+        self.peaks[entry.pool] = max(self.peaks[entry.pool], max(row))
+        tries = range(least, -1, -1)
+        done = next(done for done in tries if with_done(done)[1] == least)
+        self.queued[number], self.done[number] = least, done
+        self.rows[number] = with_done(done)[0]
+
+    def back(self, body, end, needs):
+        """What an actor weighs at each position of the body, from its end back."""
+        row = [end]
+        for (word, what), need in zip(reversed(body), reversed(needs[:-1])):
+            weight = row[0]
+            if word == "submit":
+                weight += self.queued[what]
+            elif word == "get" and self.gives_back:
+                weight = max(weight - self.done[body[what][1]], 0)
+            row.insert(0, max(weight, need))
+        return row
+
+    def peak(self, pool):
+        return self.peaks[pool]
+
+    def total(self):
+        """What the start weighs; None where there is no vector."""
+        numbers = [number for row in self.rows.values() for number in row]
+        total = sum(weight * pool.most for weight, pool in zip(self.workers, self.plan.pools))
+        for client in self.plan.clients:
+            nothing = [0] * (len(client.body) + 1)
+            start = self.back(client.body, 0, nothing)[0]
+            row = self.back(client.body, start if client.repeat else 0, nothing)
+            if row[0] > start:
+                return None
+            total += client.count * start
+            numbers += row
+        return None if max(numbers, default=0) > MOST_WEIGHT else total
+
+
+if __name__ == "__main__":
+    sys.exit(main())
