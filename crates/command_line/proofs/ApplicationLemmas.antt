@@ -1,13 +1,22 @@
 -- What `clap` gives of an application that is the written one.
-use Rattle.std.proofs.Common.{◌≡◌, true, refl, subst, List, []}
-use Rattle.clap.specs.Words.{App, Text, fault_of, is_simple_and_free}
+use Rattle.std.proofs.Common.{◌≡◌, true, false, refl, subst, inl, inr, List, [], ◌∷◌, Option, Result, Ok, Err}
+use Rattle.std.specs.Prelude.{IsErrAnd}
+use Rattle.clap.specs.Words.{App, FailsBy, HasKind, IsAmong, Kinds, Row, Text, fault_of, is_simple, is_simple_and_free, kind_of, subcommand_of}
+use Rattle.clap.specs.Kinds.{or_else}
+use Rattle.clap.specs.declared.error.Error.{Error}
+use Rattle.clap.specs.declared.error.kind.ErrorKind.{ErrorKind}
 use Rattle.clap.proofs.OnLiterals.{clap_on_literals}
 use Rattle.command_line.specs.Application.{sizing}
+use Rattle.command_line.specs.Command.{is_out_of_range, faults_of}
 
 -- the application uses nothing that goes past `clap`'s meaning of a simple command
 pub sizing_is_simple : is_simple_and_free sizing ≡ true
 unfolding clap_on_literals
 sizing_is_simple = refl
+
+sizing_is_plain : is_simple sizing ≡ true
+unfolding clap_on_literals
+sizing_is_plain = refl
 
 -- words at which an application of this shape has no fault are no fault of the written one
 pub no_fault : (made : App) (words : List Text) → made ≡ sizing
@@ -15,3 +24,29 @@ pub no_fault : (made : App) (words : List Text) → made ≡ sizing
 no_fault made words e taken =
     let P : App → Type 0 = λ a. is_simple_and_free a ≡ true → fault_of a words ≡ [] in
     subst P e taken sizing_is_simple
+
+-- a kind of the first faults is among all of them
+among_first : (kind : ErrorKind) (first rest : Kinds) → IsAmong kind first → IsAmong kind (or_else first rest)
+among_first kind [] rest among = absurd among
+among_first kind (k ∷ first) rest among = among
+
+has_kind_first : (first rest : Kinds) (error : Error) → HasKind first error → HasKind (or_else first rest) error
+has_kind_first first rest error (inl memory) = inl memory
+has_kind_first first rest error (inr among) = inr (among_first (kind_of error) first rest among)
+
+-- an error of the parse has one of the kinds
+pub fails_by_clap : {T : Type 0} (made : App) (words : List Text) (error : Error) (result : Result T Error) → made ≡ sizing
+    → (is_simple_and_free made ≡ true → HasKind (fault_of made words) error) → IsErrAnd result (λ e. e ≡ error) → FailsBy (faults_of words) result
+fails_by_clap made words error (Ok x) is fails same = absurd same
+fails_by_clap made words error (Err e) is fails same =
+    let P : App → Type 0 = λ a. is_simple_and_free a ≡ true → HasKind (fault_of a words) error in
+    rw same (has_kind_first (fault_of sizing words) _ error (subst P is fails sizing_is_simple))
+
+-- where `clap` gives no fault, and no number is out of its range, there is none
+pub no_faults : {A : Type 0} (made : App) (words : List Text) (rows : Option (Text × List Row)) → made ≡ sizing → fault_of sizing words ≡ []
+    → (is_simple made ≡ true → A × (rows ≡ subcommand_of made words)) → is_out_of_range rows ≡ false → faults_of words ≡ []
+no_faults {A} made words rows is none same within =
+    let P : App → Type 0 = λ a. is_simple a ≡ true → A × (rows ≡ subcommand_of a words) in
+    let rows_are : rows ≡ subcommand_of sizing words = (subst P is same sizing_is_plain).1 in
+    let inside : is_out_of_range (subcommand_of sizing words) ≡ false = rw (← rows_are) within in
+    rw (none, inside) refl

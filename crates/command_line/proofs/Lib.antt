@@ -1,1 +1,2 @@
 mod ApplicationLemmas
+mod Numbers

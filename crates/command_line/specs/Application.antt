@@ -1,8 +1,11 @@
 -- The application that `clap` reads the words by, as its definitions write one.
-use Rattle.std.specs.Prelude.{codes}
-use Rattle.clap.specs.Words.{App, Shape, new_app, with_subcommand}
+use Rattle.std.specs.Prelude.{ℕ, [], ◌∷◌, Some, codes}
+use Rattle.clap.specs.Words.{App, Rule, Shape, Text, new_app, new_rule, with_rule, with_subcommand}
+use Rattle.clap.specs.declared.builder.action.ArgAction.TheVariants.{Set}
+use Rattle.clap.specs.declared.builder.value_parser.ValueParser.TheVariants as parser
+use Rattle.command_line.specs.declared.command.TheConstants.{MOST_WORKERS}
 
--- the subcommands, which have no options
+-- the subcommands that have no option
 abbrev pub replay_shape : Shape
 replay_shape = (new_app (codes "replay")).top
 
@@ -12,6 +15,20 @@ check_shape = (new_app (codes "check")).top
 abbrev pub explain_shape : Shape
 explain_shape = (new_app (codes "explain")).top
 
+-- the option `--ID N`, for one whole number of this range
+abbrev pub number_option : Text → ℕ → ℕ → Rule
+number_option id low high = record (new_rule id) { long = Some id; action = Some Set; parser = Some (parser.Unsigned low high); value_names = 1 }
+
+-- how many threads may search, 4 where it is not said
+abbrev pub workers_option : Rule
+workers_option = record (number_option (codes "workers") 1 MOST_WORKERS) { defaults = codes "4" ∷ [] }
+
+abbrev pub certify_shape : Shape
+certify_shape = (with_rule (new_app (codes "certify")) workers_option).top
+
 -- the program, with a subcommand for each command
 abbrev pub sizing : App
-sizing = with_subcommand (with_subcommand (with_subcommand (new_app (codes "sizing")) replay_shape) check_shape) explain_shape
+sizing =
+    with_subcommand
+    (with_subcommand (with_subcommand (with_subcommand (new_app (codes "sizing")) replay_shape) check_shape) explain_shape)
+    certify_shape

@@ -1,17 +1,35 @@
 -- The command that the words of a command line name.
-use Rattle.std.specs.Prelude.{List, Option, Some, None, codes, if◌then◌else◌, option_and_then}
+use Rattle.std.specs.Prelude.{ℕ, ◌≤◌, List, [], ◌∷◌, Bool, false, not, ◌&&◌, Option, Some, None, is_some, codes, if◌then◌else◌, option_and_then, option_map}
 use Rattle.std.specs.Str.{bytes_eq}
-use Rattle.clap.specs.Words.{Row, Text, subcommand_of}
+use Rattle.std.specs.Str.Parse.{digits_value, without_leading_plus}
+use Rattle.clap.specs.Words.{Row, Text, fault_of, first_of, subcommand_of}
+use Rattle.clap.specs.Kinds.{Kinds, or_else}
+use Rattle.clap.specs.ValueTests.{accepts}
+use Rattle.clap.specs.declared.builder.value_parser.ValueParser.TheVariants as parser
+use Rattle.clap.specs.declared.error.kind.ErrorKind.TheVariants.{ValueValidation}
 use Rattle.command_line.specs.Application.{sizing}
+use Rattle.command_line.specs.declared.command.TheConstants.{MOST_WORKERS}
 use Rattle.command_line.specs.declared.command.Command.{Command}
-use Rattle.command_line.specs.declared.command.Command.TheVariants.{Replay, Check, Explain}
+use Rattle.command_line.specs.declared.command.Command.TheVariants.{Replay, Check, Explain, Certify}
+
+-- the whole number that a text is, where it lies in the range
+abbrev pub number_in : ℕ → ℕ → Text → Option ℕ
+number_in low high text = if accepts false (parser.Unsigned low high) text then Some (digits_value 10 (without_leading_plus text)) else None
+
+-- the number of this option, where it lies in the range
+abbrev pub number_of : Text → ℕ → ℕ → List Row → Option ℕ
+number_of id low high rows = option_and_then (number_in low high) (first_of id rows)
+
+abbrev pub certify_with : Option ℕ → Option Command
+certify_with = option_map (λ workers. Certify workers)
 
 -- the command of the subcommand with this name and these rows
 abbrev pub command_named : Text × List Row → Option Command
 command_named (name, rows) =
     if bytes_eq name (codes "replay") then Some Replay
     else (if bytes_eq name (codes "check") then Some Check
-    else (if bytes_eq name (codes "explain") then Some Explain else None))
+    else (if bytes_eq name (codes "explain") then Some Explain
+    else (if bytes_eq name (codes "certify") then certify_with (number_of (codes "workers") 1 MOST_WORKERS rows) else None)))
 
 -- the command of the subcommand that was entered, if one was
 abbrev pub command_among : Option (Text × List Row) → Option Command
@@ -20,3 +38,16 @@ command_among = option_and_then command_named
 -- the command that `clap` makes of the words
 abbrev pub command_of : List Text → Option Command
 command_of words = command_among (subcommand_of sizing words)
+
+-- a subcommand was entered that names no command with the numbers that it has
+abbrev pub is_out_of_range : Option (Text × List Row) → Bool
+is_out_of_range entered = is_some entered && not (is_some (command_among entered))
+
+-- the kinds of error that the words may have: those that `clap` gives, and then that of a number out of its range
+abbrev pub faults_of : List Text → Kinds
+faults_of words = or_else (fault_of sizing words) (if is_out_of_range (subcommand_of sizing words) then ValueValidation ∷ [] else [])
+
+-- the numbers of a command lie in their ranges
+abbrev pub IsInRange : Command → Type 0
+IsInRange (Certify workers) = (1 ≤ workers) × (workers ≤ MOST_WORKERS)
+IsInRange _ = Unit {0}

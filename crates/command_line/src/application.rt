@@ -1,11 +1,13 @@
 //! The application that `clap` reads the words by: a subcommand for each command.
 ghost use Rattle.std.specs.Prelude.{◌≡◌, IfOk, false};
-ghost use Rattle.clap.specs.Words.{app_of, new_app, shape_of};
+ghost use Rattle.clap.specs.Words.{app_of, new_app, rule_of, shape_of};
 ghost use Rattle.clap.specs.declared.builder.command.Command.TheViews.{out-Command as fields_of};
-ghost use Rattle.command_line.specs.Application.{check_shape, explain_shape, replay_shape, sizing};
+ghost use Rattle.command_line.specs.Application.{certify_shape, check_shape, explain_shape, number_option, replay_shape, sizing, workers_option};
 
+use crate::command::MOST_WORKERS;
 use crate::help;
-use clap::Command;
+use clap::builder::ValueParser;
+use clap::{Arg, ArgAction, Command};
 use std::alloc::{AllocError, Global};
 
 /// The program `sizing`, with its subcommands.
@@ -18,7 +20,8 @@ pub(crate) fn application<'a>(alloc: Global) -> Result<Command<'a>, AllocError>
         .after_help(help::SIZING_NOTES)
         .subcommand(replay(alloc))?
         .subcommand(check(alloc))?
-        .subcommand(explain(alloc))
+        .subcommand(explain(alloc))?
+        .subcommand(certify(alloc)?)
 }
 
 fn replay<'a>(alloc: Global) -> Command<'a>
@@ -60,7 +63,42 @@ fn explain<'a>(alloc: Global) -> Command<'a>
     )
 }
 
-// A subcommand with its help, which takes no option.
+fn certify<'a>(alloc: Global) -> Result<Command<'a>, AllocError>
+    ensures shape { IfOk result (λ made. shape_of made ≡ certify_shape) }
+    ensures local { IfOk result (λ made. (fields_of made).has_globals ≡ false) }
+{
+    subcommand(
+        alloc,
+        "certify",
+        help::CERTIFY_ABOUT,
+        help::CERTIFY_USAGE,
+        help::CERTIFY_NOTES,
+    )
+    .arg(workers(alloc))
+}
+
+fn workers<'a>(alloc: Global) -> Arg<'a>
+    ensures rule { rule_of result ≡ workers_option }
+    ensures local { result.global ≡ false }
+{
+    number(alloc, "workers", 1, MOST_WORKERS)
+        .default_value("4")
+        .help("In how many threads to search and to check, 1 to 64")
+}
+
+// The option `--ID N`, for one whole number of this range.
+fn number<'a>(alloc: Global, id: &'a str, low: u64, high: u64) -> Arg<'a>
+    ensures rule { rule_of result ≡ number_option id.entry.now low high }
+    ensures local { result.global ≡ false }
+{
+    Arg::new(alloc, id)
+        .long(id)
+        .value_name("N")
+        .action(ArgAction::Set)
+        .value_parser(ValueParser::unsigned(low, high))
+}
+
+// A subcommand with its help, and with no option yet.
 fn subcommand<'a>(
     alloc: Global,
     name: &'a str,

@@ -1,12 +1,16 @@
 //! The commands, and the words that name them.
-ghost use Rattle.std.specs.Prelude.{◌≡◌, IfOk, map};
-ghost use Rattle.clap.specs.Words.{FailsBy, fault_of, subcommand_rows_of};
-ghost use Rattle.command_line.specs.Application.{sizing};
-ghost use Rattle.command_line.specs.Command.{command_among, command_of};
+ghost use Rattle.std.specs.Prelude.{◌≡◌, IfOk, IfSome, codes, map};
+ghost use Rattle.clap.specs.Words.{FailsBy, found_of, rows_of, subcommand_rows_of};
+ghost use Rattle.command_line.specs.Command as spec;
 
 use crate::application::application;
+use crate::number::number_of;
+use clap::error::ErrorKind;
 use clap::{ArgMatches, Error};
 use std::alloc::Global;
+
+/// The most threads that a search may have.
+pub const MOST_WORKERS: u64 = 64;
 
 /// What the program is asked to do.
 #[derive(Clone, Copy, Debug, PartialEq, Eq)]
@@ -17,32 +21,61 @@ pub enum Command {
     Check,
     /// Lists the conditions of a certificate that fail.
     Explain,
+    /// Looks for a certificate.
+    Certify {
+        /// In how many threads, 1 to 64.
+        workers: usize,
+    },
 }
 
 /// Reads the words of a command line, of which the first is the program's name.
 ///
-/// `None` comes where the words name no command.
+/// `None` comes where the words name no command. The numbers of a command lie in their ranges.
 ///
 /// # Errors
 ///
 /// Words that `clap` refuses, and a request for help: the `Display` of the error is `clap`'s own
 /// text for the user. Out of memory, where the error's `kind` is `ErrorKind::OutOfMemory`.
 pub fn read_words(alloc: Global, words: &[&str]) -> Result<Option<Command>, Error>
-    ensures command { IfOk result (λ found. found ≡ command_of (map (λ word. word.now) words.now)) }
-    ensures fails { FailsBy (fault_of sizing (map (λ word. word.now) words.now)) result }
+    ensures command { IfOk result (λ found. found ≡ spec.command_of (map (λ word. word.now) words.now)) }
+    ensures in_range { IfOk result (λ found. IfSome found spec.IsInRange) }
+    ensures fails { FailsBy (spec.faults_of (map (λ word. word.now) words.now)) result }
 {
-    let matches = application(alloc)?.try_get_matches_from(words)?;
+    let mut sizing = application(alloc)?;
+    let matches = sizing.try_get_matches_from_mut(words)?;
+    if is_out_of_range(&matches) {
+        return Err(sizing.error(ErrorKind::ValueValidation, "a number is out of its range")?);
+    }
     Ok(command_among(&matches))
+}
+
+// Whether the parse entered a subcommand, and a number of it is out of its range.
+fn is_out_of_range(matches: &ArgMatches<'_>) -> bool
+    ensures { result ≡ spec.is_out_of_range (subcommand_rows_of matches.now) }
+{
+    matches.subcommand().is_some() && command_among(matches).is_none()
 }
 
 // The command of the subcommand that the parse entered.
 fn command_among(matches: &ArgMatches<'_>) -> Option<Command>
-    ensures { result ≡ command_among (subcommand_rows_of matches.now) }
+    ensures command { result ≡ spec.command_among (subcommand_rows_of matches.now) }
+    ensures in_range { IfSome result spec.IsInRange }
 {
     match matches.subcommand()? {
         ("replay", _) => Some(Command::Replay),
         ("check", _) => Some(Command::Check),
         ("explain", _) => Some(Command::Explain),
+        ("certify", options) => certify(options),
         _ => None,
     }
+}
+
+fn certify(options: &ArgMatches<'_>) -> Option<Command>
+    ensures command { result ≡ spec.certify_with (spec.number_of (codes "workers") 1 MOST_WORKERS (rows_of (found_of options.now))) }
+    ensures in_range { IfSome result spec.IsInRange }
+{
+    let workers = number_of(options, "workers", 1, MOST_WORKERS)?;
+    Some(Command::Certify {
+        workers: workers as usize,
+    })
 }

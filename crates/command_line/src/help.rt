@@ -10,14 +10,16 @@ pub(crate) const SIZING_USAGE: &str = "sizing <COMMAND>";
 
 /// What the program reads, where to begin, and what the exit status says.
 pub(crate) const SIZING_NOTES: &str = "\
-sizing reads standard input: a plan, a line that is exactly `%%`, and behind it
+sizing reads standard input. For `certify` it is a plan. For the others it is a plan, and
+behind it a line that is exactly `%%`, and then
   for `replay`               one event a line
   for `check` and `explain`  a certificate
-It answers on standard output. To begin, paste the example of `sizing check --help` into a shell.
+It answers on standard output. To begin, paste the example of `sizing certify --help` into a shell.
 
 Exit status:
   0  yes, or done
-  1  no: a condition fails, a job is refused or stuck, or an event is not possible
+  1  no: a condition fails, a job is refused or stuck, an event is not possible, or no certificate
+     was found
   2  bad text in the input, or bad arguments
   3  memory ran out, or reading or writing failed";
 
@@ -210,3 +212,51 @@ It answers, with status 1:
 
 pool pages standing, total: S2 2 above 1
 failing 1";
+
+/// What `certify` does, in the list of commands and at the top of its own help.
+pub(crate) const CERTIFY_ABOUT: &str =
+    "Looks for a certificate that shows that no submit is ever refused and no jobs starve";
+
+/// How `certify` is called.
+pub(crate) const CERTIFY_USAGE: &str = "sizing certify [--workers N] < PLAN";
+
+/// What `certify` reads and answers, with an example.
+pub(crate) const CERTIFY_NOTES: &str = "\
+PLAN is a plan in TOML, and nothing behind it.
+
+The answer is the plan, a line that is exactly `%%`, and a certificate in JSON, to which
+`sizing check` answers yes. Or it is one line:
+  no certificate found           none was found, which does not say that the plan is unsafe
+  no certificate: text too long  one was found, and its text has more bytes than a certificate may
+
+Exit status:
+  0  a certificate was found
+  1  none was, or its text is too long
+  2  bad text in PLAN, or bad arguments
+  3  memory ran out, or reading or writing failed
+
+Example, to be pasted into a shell:
+
+sizing certify <<'END' | sizing check
+[[pool]]
+name = \"pages\"
+core = 1
+max = 1
+queue = 2
+
+[[class]]
+name = \"render\"
+pool = \"pages\"
+body = [\"work 1\"]
+
+[[client]]
+name = \"browser\"
+count = 2
+repeat = true
+body = [\"submit render as page\", \"get page\"]
+END
+
+It answers, with status 0:
+
+yes
+pool pages: standing 2 of 2, blocked 0 of 0";

@@ -8,5 +8,6 @@
 mod application;
 mod command;
 mod help;
+mod number;
 
-pub use command::{Command, read_words};
+pub use command::{Command, MOST_WORKERS, read_words};

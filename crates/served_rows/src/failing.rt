@@ -1,6 +1,7 @@
 //! Sources and sinks that fail at one of their calls.
 
-ghost use Rattle.std.specs.Prelude.{◌<◌};
+ghost use Rattle.std.specs.Prelude.{◌<◌, IsTrue};
+ghost use Rattle.sizing_cli.specs.Report.{is_alone};
 
 use crate::served::{Ended, serve};
 use sizing_cli::{Command, MemorySink, MemorySource, ServeFault, StdSink, serve_alone};
@@ -12,24 +13,30 @@ const READ_FAILED: ServeFault = ServeFault { number: 60 };
 
 const WRITE_FAILED: ServeFault = ServeFault { number: 61 };
 
-/// An input of a command, and what is answered where no call fails.
+/// An input, and what a command answers to it where no call fails.
 #[derive(Drop)]
 pub struct Case<'a> {
-    pub command: Command,
     pub input: &'a [u8],
     pub ended: Ended,
 }
 
 impl Case<'_> {
     /// Says where a failing call ends otherwise than it must.
-    pub fn push_otherwise(&self, alloc: Global, answer: &mut String) -> Result<(), AllocError> {
-        self.push_failing_reads(alloc, answer, 1)?;
-        self.push_failing_reads(alloc, answer, 20)?;
-        self.push_failing_reads(alloc, answer, 1_000)?;
-        self.push_failing_writes(alloc, answer, 1)?;
-        self.push_failing_writes(alloc, answer, 7)?;
-        self.push_failing_writes(alloc, answer, 1_000)?;
-        self.push_stalling_writes(alloc, answer)
+    pub fn push_otherwise(
+        &self,
+        alloc: Global,
+        command: Command,
+        answer: &mut String,
+    ) -> Result<(), AllocError>
+        requires { IsTrue (is_alone command) }
+    {
+        self.push_failing_reads(alloc, command, answer, 1)?;
+        self.push_failing_reads(alloc, command, answer, 20)?;
+        self.push_failing_reads(alloc, command, answer, 1_000)?;
+        self.push_failing_writes(alloc, command, answer, 1)?;
+        self.push_failing_writes(alloc, command, answer, 7)?;
+        self.push_failing_writes(alloc, command, answer, 1_000)?;
+        self.push_stalling_writes(alloc, command, answer)
     }
 
     // A source that fails gives 60, and nothing is written. One call more than those that give the bytes is made, which
@@ -37,17 +44,19 @@ impl Case<'_> {
     fn push_failing_reads(
         &self,
         alloc: Global,
+        command: Command,
         answer: &mut String,
         most: usize,
     ) -> Result<(), AllocError>
-        requires { 0 < most }
+        requires command { IsTrue (is_alone command) }
+        requires most { 0 < most }
     {
         let last = self.input.len().div_ceil(most) as u64;
         for calls in 0..=last.saturating_add(1) {
             let mut source = MemorySource::new(self.input)
                 .at_most(most)
                 .failing_after(calls);
-            let failed = serve(alloc, self.command, &mut source, MemorySink::new(alloc))?;
+            let failed = serve(alloc, command, &mut source, MemorySink::new(alloc))?;
             let is_right = if calls <= last {
                 failed.written.is_empty() && failed.outcome == Err(READ_FAILED)
             } else {
@@ -68,17 +77,19 @@ impl Case<'_> {
     fn push_failing_writes(
         &self,
         alloc: Global,
+        command: Command,
         answer: &mut String,
         most: usize,
     ) -> Result<(), AllocError>
-        requires { 0 < most }
+        requires command { IsTrue (is_alone command) }
+        requires most { 0 < most }
     {
         for calls in 0..=self.ended.written.len().div_ceil(most) {
             let sink = MemorySink::new(alloc)
                 .at_most(most)
                 .failing_after(calls as u64);
             let mut source = MemorySource::new(self.input);
-            let failed = serve(alloc, self.command, &mut source, sink)?;
+            let failed = serve(alloc, command, &mut source, sink)?;
             if !is_front_of(&failed, &self.ended, most.saturating_mul(calls)) {
                 write!(
                     answer,
@@ -90,14 +101,21 @@ impl Case<'_> {
     }
 
     // A writer that takes no byte has failed. A sink may not take none itself: its contract wants a byte or a fault.
-    fn push_stalling_writes(&self, alloc: Global, answer: &mut String) -> Result<(), AllocError> {
+    fn push_stalling_writes(
+        &self,
+        alloc: Global,
+        command: Command,
+        answer: &mut String,
+    ) -> Result<(), AllocError>
+        requires { IsTrue (is_alone command) }
+    {
         for calls in 0..=self.ended.written.len().div_ceil(7) {
             let mut sink = StdSink::new(Stalling {
                 taken: Vec::new(alloc),
                 calls,
             });
             let mut source = MemorySource::new(self.input);
-            let outcome = serve_alone(alloc, self.command, &mut source, &mut sink);
+            let outcome = serve_alone(alloc, command, &mut source, &mut sink);
             let Stalling { taken, calls: _ } = sink.into_inner();
             let failed = Ended {
                 written: taken,

@@ -1,5 +1,8 @@
 //! The kinds of inputs.
 
+ghost use Rattle.std.specs.Prelude.{IsTrue};
+ghost use Rattle.sizing_cli.specs.Report.{is_alone};
+
 use crate::failing::Case;
 use crate::served::{Ended, serve};
 use crate::words::asked;
@@ -37,12 +40,16 @@ impl Suite for Served {
     }
 }
 
-fn whole(alloc: Global, command: Command, input: &[u8]) -> Result<Ended, AllocError> {
+fn whole(alloc: Global, command: Command, input: &[u8]) -> Result<Ended, AllocError>
+    requires { IsTrue (is_alone command) }
+{
     let sink = MemorySink::new(alloc);
     serve(alloc, command, &mut MemorySource::new(input), sink)
 }
 
-fn answered(alloc: Global, command: Command, input: &[u8]) -> Result<String, AllocError> {
+fn answered(alloc: Global, command: Command, input: &[u8]) -> Result<String, AllocError>
+    requires { IsTrue (is_alone command) }
+{
     let ended = whole(alloc, command, input)?;
     let mut answer = ended.shown(alloc)?;
     let mut source = MemorySource::new(input).at_most(1);
@@ -51,12 +58,8 @@ fn answered(alloc: Global, command: Command, input: &[u8]) -> Result<String, All
         answer.push_str(", but not a byte at a time")?;
     }
     if input.len() <= SHORT {
-        let case = Case {
-            command,
-            input,
-            ended,
-        };
-        case.push_otherwise(alloc, &mut answer)?;
+        let case = Case { input, ended };
+        case.push_otherwise(alloc, command, &mut answer)?;
     }
     Ok(answer)
 }
@@ -70,7 +73,9 @@ fn checked_and_explained(alloc: Global, input: &[u8]) -> Result<String, AllocErr
     Ok(answer)
 }
 
-fn fronts(alloc: Global, command: Command, input: &[u8]) -> Result<String, AllocError> {
+fn fronts(alloc: Global, command: Command, input: &[u8]) -> Result<String, AllocError>
+    requires { IsTrue (is_alone command) }
+{
     let mut last = whole(alloc, command, &[])?;
     let mut answer = last.shown(alloc)?;
     for length in 0..input.len() {

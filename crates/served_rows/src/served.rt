@@ -1,5 +1,8 @@
 //! Serves inputs to memory.
 
+ghost use Rattle.std.specs.Prelude.{IsTrue};
+ghost use Rattle.sizing_cli.specs.Report.{is_alone};
+
 use sizing_cli::{Command, MemorySink, ServeFault, Source, Status, serve_alone};
 use std::alloc::{AllocError, Global};
 
@@ -30,7 +33,9 @@ pub fn serve<S: Source>(
     command: Command,
     source: &mut S,
     sink: MemorySink,
-) -> Result<Ended, AllocError> {
+) -> Result<Ended, AllocError>
+    requires { IsTrue (is_alone command) }
+{
     let mut sink = sink;
     let outcome = serve_alone(alloc, command, source, &mut sink);
     let written = sink.written().to_vec(alloc)?;

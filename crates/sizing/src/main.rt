@@ -1,8 +1,11 @@
 //! `sizing`: what the bounded thread pools of a plan do.
 #![tactic(auto)]
 
+ghost use Rattle.std.specs.Prelude.{IfOk};
+ghost use Rattle.command_line.specs.Command.{IsInRange};
+
 use clap::error::ErrorKind;
-use sizing_cli::{ServeFault, Status, StdSink, StdSource, read_words, serve_alone};
+use sizing_cli::{Command, ServeFault, Status, StdSink, StdSource, read_words, serve};
 use std::alloc::AllocError;
 use std::process::ExitCode;
 use std::{env, io};
@@ -13,14 +16,21 @@ const USAGE: u8 = 2;
 const NO_ANSWER: u8 = 3;
 
 fn main(rt: HostRuntime) -> ExitCode {
-    match answer_words(&rt) {
-        Ok(status) => status,
+    match asked(&rt) {
+        Ok(Ok(command)) => {
+            let mut source = StdSource::new(rt.stdin());
+            let mut sink = StdSink::new(rt.stdout());
+            ended(&rt, serve(&rt, rt.alloc(), command, &mut source, &mut sink))
+        }
+        Ok(Err(status)) => status,
         Err(error) => unread_words(&rt, error.kind()),
     }
 }
 
-/// Reads the words of the command line, and serves the command.
-fn answer_words(rt: &HostRuntime) -> io::Result<ExitCode> {
+/// Reads the words of the command line: the command, or the exit status where they name none.
+fn asked(rt: &HostRuntime) -> io::Result<Result<Command, ExitCode>>
+    ensures { IfOk result (λ asked. IfOk asked IsInRange) }
+{
     let mut words: Vec<String> = Vec::new(rt.alloc());
     for word in env::args(rt)? {
         words.push(word)?;
@@ -30,19 +40,15 @@ fn answer_words(rt: &HostRuntime) -> io::Result<ExitCode> {
         parts.push(word.as_str())?;
     }
     match read_words(rt.alloc(), &parts) {
-        Ok(Some(command)) => {
-            let mut source = StdSource::new(rt.stdin());
-            let mut sink = StdSink::new(rt.stdout());
-            Ok(ended(rt, serve_alone(rt.alloc(), command, &mut source, &mut sink)))
-        }
+        Ok(Some(command)) => Ok(Ok(command)),
         Ok(None) => {
             let _ = eprintln!(rt; "no command");
-            Ok(ExitCode::from(USAGE))
+            Ok(Err(ExitCode::from(USAGE)))
         }
-        Err(error) if error.kind() == ErrorKind::OutOfMemory => Ok(out_of_memory(rt)),
+        Err(error) if error.kind() == ErrorKind::OutOfMemory => Ok(Err(out_of_memory(rt))),
         Err(error) => {
             let _ = eprint!(rt; "{error}");
-            Ok(ExitCode::from(USAGE))
+            Ok(Err(ExitCode::from(USAGE)))
         }
     }
 }

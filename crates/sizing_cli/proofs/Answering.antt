@@ -1,5 +1,5 @@
 -- An answer so far, line by line.
-use Rattle.std.proofs.Common.{◌≡◌, ℕ, ◌+◌, ◌<◌, ◌≤◌, Bool, true, false, cond, List, [], ◌∷◌, ◌++◌, length, map, drop, get_or, Option, Some, None, Result, Ok, Err, IfOk, refl, sym, ap, ap₂, ◌∙◌, arith, add-one, append_assoc}
+use Rattle.std.proofs.Common.{◌≡◌, ℕ, ◌+◌, ◌<◌, ◌≤◌, Bool, true, false, cond, List, [], ◌∷◌, ◌++◌, length, map, drop, get_or, Option, Some, None, Result, Ok, Err, IfOk, refl, sym, ap, ap₂, ◌∙◌, add-one, append_assoc}
 use Rattle.std.proofs.Math.Seq.{drop-cons}
 use Rattle.std.proofs.lemmas.List.{drop_all}
 use Rattle.job_bodies.specs.Plan.{Plan}
@@ -14,11 +14,11 @@ use Rattle.interleaving.specs.OfPlan.{IsOf}
 use Rattle.event_lines.specs.declared.event_line.EventLine.{EventLine}
 use Rattle.event_lines.specs.declared.reply.Reply.{Reply}
 use Rattle.event_lines.specs.declared.reply.Reply.TheVariants as reply
-use Rattle.event_lines.specs.EventLine.{Line, Happens, line_seen}
+use Rattle.event_lines.specs.EventLine.{Line, line_seen}
 use Rattle.sizing_cli.specs.declared.status.Status.{Status}
 use Rattle.sizing_cli.specs.declared.status.Status.TheVariants.{Done, Refused, BadText}
 use Rattle.sizing_cli.specs.Answer.{Answer, then_status, followed_by}
-use Rattle.sizing_cli.specs.Transcript.{is_last, replied, happened, ending, reply_to, reply_then, transcript}
+use Rattle.sizing_cli.specs.Transcript.{is_last, replied, happened, ending, reply_to, transcript}
 use Rattle.sizing_cli.specs.SoFar.{IsEnded, RepliesIn, RepliesSo}
 
 -- ---- the states that are reached

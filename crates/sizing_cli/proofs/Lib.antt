@@ -3,3 +3,5 @@ pub mod Answering
 pub mod PastTheLimit
 pub mod LastSeparator
 pub mod SafeInputs
+pub mod Certified
+pub mod ServedAnswers

@@ -13,10 +13,10 @@ use Rattle.command_line.specs.declared.command.Command.{Command}
 use Rattle.command_line.specs.declared.command.Command.TheVariants.{Check}
 use Rattle.sizing_cli.specs.declared.limits.TheConstants.{MOST_INPUT_BYTES}
 use Rattle.sizing_cli.specs.declared.status.Status.{Status}
-use Rattle.sizing_cli.specs.declared.status.Status.TheVariants.{Done, Refused, BadText}
+use Rattle.sizing_cli.specs.declared.status.Status.TheVariants.{Done}
 use Rattle.sizing_cli.specs.Answer.{Answer, yes_or_no, input_too_long}
 use Rattle.sizing_cli.specs.Bundle.{Bundle, bundle_of}
-use Rattle.sizing_cli.specs.Report.{check_of_cert, check, answer_of_plan, answer_of_bundle, report}
+use Rattle.sizing_cli.specs.Report.{check_of_cert, answer_of_plan, answer_of_bundle, report}
 use Rattle.sizing_cli.specs.SafeInput.{IsSafeInput, YesMeansSafe}
 
 -- a question that ends as done is answered yes

@@ -3,6 +3,9 @@ pub mod Answer
 pub mod Transcript
 pub mod Report
 pub mod SafeInput
+pub mod Certify
+pub mod SplitAt
+pub mod Served
 pub mod ServeFault
 pub mod SoFar
 pub mod Laws

@@ -1,5 +1,5 @@
 -- What the program writes for an input: a function of the bytes that it reads.
-use Rattle.std.specs.Prelude.{ℕ, nat_lt, ◌++◌, ◌∷◌, [], if◌then◌else◌, List, length, Option, Some, None, Result, Ok, Err}
+use Rattle.std.specs.Prelude.{ℕ, Bool, true, false, nat_lt, [], if◌then◌else◌, List, length, Option, Some, None, Result, Ok, Err}
 use Rattle.job_bodies.specs.Plan.{Plan}
 use Rattle.job_bodies.specs.FaultText.{fault_line}
 use Rattle.job_bodies.specs.declared.fault.PlanFault.{PlanFault}
@@ -16,8 +16,9 @@ use Rattle.refusal_notes.specs.Explanation.{explanation}
 use Rattle.written_machine.specs.Reach.{start}
 use Rattle.event_lines.specs.EventLine.{Line, event_lines}
 use Rattle.command_line.specs.declared.command.Command.{Command}
-use Rattle.command_line.specs.declared.command.Command.TheVariants.{Replay, Check, Explain}
+use Rattle.command_line.specs.declared.command.Command.TheVariants.{Replay, Check, Explain, Certify}
 use Rattle.sizing_cli.specs.declared.limits.TheConstants.{MOST_INPUT_BYTES, MOST_EVENT_BYTES}
+use Rattle.sizing_cli.specs.declared.status.Status.TheVariants.{Done}
 use Rattle.sizing_cli.specs.Answer.{Answer, fault, no_separator, input_too_long, bad_event, yes_or_no}
 use Rattle.sizing_cli.specs.Bundle.{Bundle, bundle_of}
 use Rattle.sizing_cli.specs.Transcript.{transcript}
@@ -58,11 +59,23 @@ explain plan second = explain_of_cert plan (cert_of second plan)
 
 -- ---- the whole
 
+-- the command waits for nobody, and has a report
+abbrev pub is_alone : Command → Bool
+is_alone Replay = true
+is_alone Check = true
+is_alone Explain = true
+is_alone (Certify workers) = false
+
+-- what stands where there is no report
+abbrev nothing : Answer
+nothing = record { text = []; status = Done }
+
 abbrev pub answer_of_plan : Command → List ℕ → Result Plan PlanFault → Answer
 answer_of_plan command second (Err f) = fault (fault_line f)
 answer_of_plan Replay second (Ok plan) = replay plan second
 answer_of_plan Check second (Ok plan) = check plan second
 answer_of_plan Explain second (Ok plan) = explain plan second
+answer_of_plan (Certify workers) second (Ok plan) = nothing
 
 -- the plan's fault comes before what the second part has to say
 abbrev pub answer_of_bundle : Command → Option Bundle → Answer

@@ -39,6 +39,16 @@ impl Answer {
         }
     }
 
+    /// A line that says no.
+    pub fn no(alloc: Global, line: &str) -> Result<Answer, AllocError>
+        ensures { IfOk result (λ answer. answer ≡ record { text = line.now; status = Status.Refused }) }
+    {
+        Ok(Answer {
+            text: String::from_str(alloc, line)?,
+            status: Status::Refused,
+        })
+    }
+
     /// Replies to the line of this number, counted from 1.
     pub fn push_reply(&mut self, plan: &Plan, number: usize, reply: Reply) -> Result<(), AllocError>
         ensures { IfOk result (λ _. self.new ≡ spec.followed_by self.old (replied plan.now number reply)) }

@@ -1,22 +1,26 @@
 //! The program from bytes to bytes: it reads its whole input, makes its whole answer, and only then writes it.
 #![tactic(auto)]
 
+mod alone;
 mod answer;
 mod bundle;
+mod certify;
 mod judging;
 mod laws;
 mod limits;
+mod output;
 mod replaying;
 mod report;
-mod serve;
+mod serving;
 mod status;
 mod transcript;
 
+pub use alone::serve_alone;
 pub use byte_streams::{IoFault, MemorySink, MemorySource, Sink, Source, StdSink, StdSource};
 pub use command_line::{Command, read_words};
 pub use laws::{
     a_yes_means_safe, inputs_split_at_the_last_separator, no_bundle_without_a_separator,
 };
 pub use limits::{MOST_EVENT_BYTES, MOST_INPUT_BYTES};
-pub use serve::serve_alone;
+pub use serving::serve;
 pub use status::{ServeFault, Status};

@@ -1,6 +1,6 @@
 //! The answer to an input.
 
-ghost use Rattle.std.specs.Prelude.{◌≡◌, IfOk};
+ghost use Rattle.std.specs.Prelude.{◌≡◌, IfOk, IsTrue};
 ghost use Rattle.plan_text.specs.PlanOf.{plan_of};
 ghost use Rattle.sizing_cli.specs.Report as spec;
 
@@ -15,8 +15,9 @@ use job_bodies::{Plan, PlanFault};
 use plan_text::read_plan;
 use std::alloc::{AllocError, Global};
 
-/// The whole answer of a command to an input.
+/// The whole answer of a command that waits for nobody to an input.
 pub fn report(alloc: Global, command: Command, input: &[u8]) -> Result<Answer, AllocError>
+    requires { IsTrue (spec.is_alone command) }
     ensures { IfOk result (λ answer. answer ≡ spec.report command input.now) }
 {
     if input.len() > MOST_INPUT_BYTES {
@@ -34,6 +35,7 @@ fn answer_to_bundle(
     plan: &[u8],
     second: &[u8],
 ) -> Result<Answer, AllocError>
+    requires { IsTrue (spec.is_alone command) }
     ensures { IfOk result (λ answer. answer ≡ spec.answer_of_plan command second.now (plan_of plan.now)) }
 {
     match read_plan(alloc, plan) {
@@ -49,11 +51,13 @@ fn answer_of_plan(
     plan: &Plan,
     second: &[u8],
 ) -> Result<Answer, AllocError>
+    requires { IsTrue (spec.is_alone command) }
     ensures { IfOk result (λ answer. answer ≡ spec.answer_of_plan command second.now (Ok plan.now)) }
 {
     match command {
         Command::Replay => replay(alloc, plan, second),
         Command::Check => check(alloc, plan, second),
         Command::Explain => explain(alloc, plan, second),
+        Command::Certify { .. } => unreachable!(),
     }
 }

@@ -1,14 +1,15 @@
 //! How a call that serves ends.
 
-ghost use Rattle.std.specs.Prelude.{◌≡◌, Some};
+ghost use Rattle.std.specs.Prelude.{◌≡◌, IsTrue, Some};
 ghost use Rattle.faults.specs.Name.{head};
 ghost use Rattle.faults.specs.declared.number.TheConstants.{MEMORY, WRITE_FAILED};
 ghost use Rattle.sizing_cli.specs.Answer.{code, yes_or_no};
-ghost use Rattle.sizing_cli.specs.ServeFault.{fault_of_input};
+ghost use Rattle.sizing_cli.specs.ServeFault.{fault_of_input, is_of_threads};
 
 use byte_streams::{InputError, IoFault};
+use cert_search::SearchFault;
 use faults::Head;
-use faults::number::{MEMORY, READ_FAILED, WRITE_FAILED};
+use faults::number::{GATE, MEMORY, MIXED, READ_FAILED, WRITE_FAILED};
 use std::alloc::AllocError;
 use std::error::Error;
 use std::fmt;
@@ -44,9 +45,9 @@ impl Status {
     }
 }
 
-/// Why there is no answer: fault 20 Memory, 60 ReadFailed or 61 WriteFailed.
+/// Why there is no answer: fault 20 Memory, 42 Mixed or 43 Gate of threads, 60 ReadFailed or 61 WriteFailed.
 ///
-/// After 20 and 60 nothing was written; after 61 a front of the answer was.
+/// After 61 a front of the answer was written, and after any other nothing.
 #[derive(Clone, Copy, Debug, PartialEq, Eq)]
 pub struct ServeFault {
     pub number: u8,
@@ -57,6 +58,19 @@ impl From<AllocError> for ServeFault {
 
     fn from(_error: AllocError) -> ServeFault {
         ServeFault { number: MEMORY }
+    }
+}
+
+impl From<SearchFault> for ServeFault {
+    ghost from_gives = { λ _ fault. IsTrue (is_of_threads fault.number) };
+
+    fn from(fault: SearchFault) -> ServeFault {
+        let number = match fault {
+            SearchFault::Memory => MEMORY,
+            SearchFault::Mixed => MIXED,
+            SearchFault::Gate => GATE,
+        };
+        ServeFault { number }
     }
 }
 

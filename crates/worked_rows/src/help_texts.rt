@@ -6,7 +6,7 @@ use std::test::*;
 /// What help prints says where to begin, and the help of each command has an example with its answer.
 #[test]
 fn words_that_ask_for_help(rt: HostRuntime) -> Result<(), Fail> {
-    let table: [(&[&str], [&str; 6]); 4] = [
+    let table: [(&[&str], [&str; 6]); 5] = [
         (
             &["sizing", "--help"],
             [
@@ -49,6 +49,17 @@ fn words_that_ask_for_help(rt: HostRuntime) -> Result<(), Fail> {
                 "\n%%\n{\"version\":1,\n",
                 "\nEND\n\nIt answers, with status 1:\n",
                 "\npool pages standing, total: S2 2 above 1\nfailing 1\n",
+            ],
+        ),
+        (
+            &["sizing", "certify", "--help"],
+            [
+                "\nUsage: sizing certify [--workers N] < PLAN\n",
+                "--workers <N>",
+                "1 to 64 [default: 4]",
+                "\nsizing certify <<'END' | sizing check\n[[pool]]\n",
+                "\nEND\n\nIt answers, with status 0:\n",
+                "\nyes\npool pages: standing 2 of 2, blocked 0 of 0\n",
             ],
         ),
     ];

@@ -8,6 +8,8 @@ mod cert_texts;
 #[cfg(test)]
 mod event_texts;
 #[cfg(test)]
+mod gates;
+#[cfg(test)]
 mod help_texts;
 #[cfg(test)]
 mod judged_plans;

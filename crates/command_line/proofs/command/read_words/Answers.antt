@@ -1,5 +1,12 @@
-use Rattle.command_line.proofs.ApplicationLemmas.{no_fault}
+use Rattle.std.proofs.Common.{sym, ◌∙◌}
+use Rattle.command_line.proofs.ApplicationLemmas.{fails_by_clap, no_fault, no_faults}
 use Rattle.command_line.proofs.command.read_words.Goals as goal
 
+pub returns-in_err-matches-clause-fails : goal.returns-in_err-matches-clause-fails
+returns-in_err-matches-clause-fails c =
+    fails_by_clap _ _ _ c.from_residual-in_err-matches.result c.in_ok-sizing.ensures c.in_err-matches.ensures.kinds c.from_residual-in_err-matches.ensures.1
+
 pub returns-clause-fails : goal.returns-clause-fails
-returns-clause-fails c = no_fault _ _ c.in_ok-application.ensures c.in_ok-matches.ensures.kinds
+returns-clause-fails c =
+    no_faults _ _ _ c.in_ok-sizing.ensures (no_fault _ _ c.in_ok-sizing.ensures c.in_ok-matches.ensures.kinds) c.in_ok-matches.ensures.ok.2
+    (sym c.is_out_of_range.ensures ∙ c.if-is_out_of_range.false)

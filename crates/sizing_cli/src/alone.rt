@@ -1,4 +1,4 @@
-//! Serves one input: reads it, answers it, and writes the answer.
+//! Serves one input to a command that waits for nobody: reads it, answers it, and writes the answer.
 
 ghost use Rattle.std.specs.Prelude.{◌≡◌, ◌≢◌, ◌+◌, IfOk, IfErr, IfSome, IsTrue};
 ghost use Rattle.std.specs.Io.KnownBytes.{Appends, Keeps};
@@ -16,7 +16,8 @@ use command_line::Command;
 use faults::number::{READ_FAILED, WRITE_FAILED};
 use std::alloc::Global;
 
-/// Reads an input, and writes the command's answer to it. The whole answer is made before its first byte is written.
+/// Reads an input, and writes the answer to it of a command that waits for nobody, which is any but
+/// [`Command::Certify`]. The whole answer is made before its first byte is written.
 ///
 /// It reads at most 2,097,156 bytes, one at least in each turn but the last, so it returns whatever the source and the
 /// sink do.
@@ -31,6 +32,7 @@ pub fn serve_alone<S: Source, K: Sink>(
     source: &mut S,
     sink: &mut K,
 ) -> Result<Status, ServeFault>
+    requires { IsTrue (spec.is_alone command) }
     // What was written, and the status, are the report of what was read.
     ensures answered { IfOk result (λ status. IfSome (S.remaining source.old) (λ input.
         Appends (K.written sink.old) (K.written sink.new) (spec.report command input).text × (status ≡ (spec.report command input).status))) }

@@ -1,8 +1,8 @@
-use Rattle.std.proofs.Common.{sym, ◌∙◌, ap}
+use Rattle.std.proofs.Common.{◌∙◌, ap}
 use Rattle.sizing_cli.specs.Answer.{Answer}
 use Rattle.sizing_cli.proofs.PastTheLimit.{answered_whole, wrote_all, wrote_front, if_err}
 use Rattle.sizing_cli.proofs.SafeInputs.{safe_where_known, known_status}
-use Rattle.sizing_cli.proofs.serve.serve_alone.Goals as goal
+use Rattle.sizing_cli.proofs.alone.serve_alone.Goals as goal
 
 pub returns-in_err-write_all-clause-front : goal.returns-in_err-write_all-clause-front
 returns-in_err-write_all-clause-front g c =

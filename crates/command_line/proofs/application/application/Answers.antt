@@ -1,0 +1,16 @@
+use Rattle.std.proofs.Common.{◌≡◌, ◌∙◌, ap₂, codes, rules}
+use Rattle.std.proofs.lemmas.Result.{IfOk-weaker}
+use Rattle.clap.specs.Words.{app_of, new_app, with_subcommand}
+use Rattle.command_line.specs.Application.{replay_shape, check_shape, explain_shape}
+use Rattle.command_line.proofs.application.application.Goals as goal
+
+pub returns : goal.returns
+returns c =
+    let alone : app_of c.after_help.result ≡ new_app (codes "sizing") = search rules in
+    let one : app_of c.in_ok-subcommand.field-0 ≡ with_subcommand (new_app (codes "sizing")) replay_shape =
+    c.in_ok-subcommand.ensures.shape c.replay.ensures.local ∙ ap₂ with_subcommand alone c.replay.ensures.shape in
+    let two : app_of c.in_ok-subcommand-2.field-0 ≡ with_subcommand (with_subcommand (new_app (codes "sizing")) replay_shape) check_shape =
+    c.in_ok-subcommand-2.ensures.shape c.check.ensures.local ∙ ap₂ with_subcommand one c.check.ensures.shape in
+    let three : app_of c.in_ok-subcommand-3.field-0 ≡ with_subcommand (with_subcommand (with_subcommand (new_app (codes "sizing")) replay_shape) check_shape) explain_shape =
+    c.in_ok-subcommand-3.ensures.shape c.explain.ensures.local ∙ ap₂ with_subcommand two c.explain.ensures.shape in
+    IfOk-weaker c.subcommand-4.result _ _ (λ made adds. adds.shape c.in_ok-certify.ensures.local ∙ ap₂ with_subcommand three c.in_ok-certify.ensures.shape) c.subcommand-4.ensures

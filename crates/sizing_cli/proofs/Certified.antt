@@ -1,0 +1,38 @@
+-- A text that splits at the end of the plan is the bundle of the plan and of the certificate's text.
+use Rattle.std.proofs.Common.{◌≡◌, inl, inr, ℕ, List, [], ◌∷◌, ◌++◌, length, codes, Some, refl, sym, ap₂, subst, ◌∙◌, arith}
+use Rattle.sizing_cli.specs.Laws.{IsJoined}
+use Rattle.sizing_cli.specs.Certify.{IsYes, IsCertifiedBundle}
+use Rattle.sizing_cli.specs.SplitAt.{IsSplitAt}
+use Rattle.sizing_cli.proofs.LastSeparator.{split_is}
+
+-- fronts of one length are the same, and so is what stands behind them
+same_parts : (a b x y : List ℕ) → length a ≡ length b → a ++ x ≡ b ++ y → (a ≡ b) × (x ≡ y)
+same_parts [] [] x y len whole = (refl, whole)
+same_parts [] (b ∷ bs) x y len whole = absurd (omega arith)
+same_parts (a ∷ rest) [] x y len whole = absurd (omega arith)
+same_parts (a ∷ front) (b ∷ bs) x y len whole =
+    let tails : front ++ x ≡ bs ++ y = cc in
+    let heads : a ≡ b = cc in
+    let rest = same_parts front bs x y (omega arith) tails in
+    (ap₂ (λ (h : ℕ) (t : List ℕ). h ∷ t) heads rest.0, rest.1)
+
+pub certified : (plan cert text : List ℕ) → text ≡ plan ++ (codes "%%" ++ 10 ∷ cert) → IsSplitAt (length plan) text → IsCertifiedBundle plan text
+certified plan cert text whole split = by_join ((split_is text split.bundle).0 split.is_bundle).whole
+  where
+    by_join : IsJoined text split.bundle → IsCertifiedBundle plan text
+    by_join (inl joined) =
+        let parts = same_parts split.bundle.plan plan _ _ split.at (sym joined ∙ whole) in
+        let behind : 37 ∷ 37 ∷ 10 ∷ split.bundle.second ≡ 37 ∷ 37 ∷ 10 ∷ cert = parts.1 in
+        let second : split.bundle.second ≡ cert = cc in
+        let OfPlan : List ℕ → Type 0 = λ p. IsYes p split.bundle.second in
+        let OfCert : List ℕ → Type 0 = λ s. IsYes plan s in
+        record {
+          cert = cert;
+          whole = whole;
+          splits = split.is_bundle ∙ ap₂ (λ (p s : List ℕ). Some (record { plan = p; second = s })) parts.0 second;
+          says_yes = subst OfCert second (subst OfPlan parts.0 split.says_yes);
+        }
+    by_join (inr joined) =
+        let parts = same_parts split.bundle.plan plan _ _ split.at (sym joined.0 ∙ whole) in
+        let behind : 37 ∷ 37 ∷ [] ≡ 37 ∷ 37 ∷ 10 ∷ cert = parts.1 in
+        absurd cc

@@ -1,0 +1,122 @@
+-- What a command writes is an answer that it may give to what was read, and what status 0 means then.
+use Rattle.std.proofs.Common.{◌≡◌, ℕ, ◌+◌, inl, inr, Bool, true, false, List, length, take, Option, Some, None, Result, Ok, Err, IfOk, IfErr, IfSome, refl, sym, ap, subst, ◌∙◌, arith}
+use Rattle.std.specs.Prelude.{MatchBool, nat_lt}
+use Rattle.std.specs.Io.KnownBytes.{Appends}
+use Rattle.std.proofs.lemmas.Bool.{cases_lt, lt-ltb}
+use Rattle.std.proofs.lemmas.List.{take_all, length-take-le}
+use Rattle.byte_streams.specs.Writing.{AppendsFront}
+use Rattle.faults.specs.declared.number.TheConstants.{WRITE_FAILED}
+use Rattle.job_bodies.specs.Plan.{Plan}
+use Rattle.job_bodies.specs.declared.fault.PlanFault.{PlanFault}
+use Rattle.plan_text.specs.PlanOf.{plan_of}
+use Rattle.command_line.specs.declared.command.Command.{Command}
+use Rattle.command_line.specs.declared.command.Command.TheVariants.{Replay, Check, Explain, Certify}
+use Rattle.sizing_cli.specs.declared.limits.TheConstants.{MOST_INPUT_BYTES}
+use Rattle.sizing_cli.specs.declared.status.Status.{Status}
+use Rattle.sizing_cli.specs.declared.status.Status.TheVariants.{Done, Refused, BadText}
+use Rattle.sizing_cli.specs.declared.status.ServeFault.{ServeFault}
+use Rattle.sizing_cli.specs.Answer.{Answer, input_too_long}
+use Rattle.sizing_cli.specs.Report.{report, is_alone}
+use Rattle.sizing_cli.specs.Certify.{IsCertifyAnswer, IsCertifiedBundle, AnswersReading, AnswersPlan, whole_lines}
+use Rattle.sizing_cli.specs.Served.{IsAnswer, WritesAnswer, WritesFront, MeansSafe}
+use Rattle.sizing_cli.proofs.SafeInputs.{yes_means_safe}
+
+-- ---- an answer to what was read is one to the whole input
+
+abbrev ByLength : List ℕ → Answer → Bool → Type 0
+ByLength input answer long = MatchBool long (answer ≡ input_too_long) (AnswersReading (whole_lines input) (plan_of (whole_lines input)) answer)
+
+pub certify_whole : (remaining : Option (List ℕ)) (items : List ℕ) (answer : Answer) → IfSome remaining (λ input. items ≡ take (MOST_INPUT_BYTES + 1) input) → IsCertifyAnswer items answer
+    → IfSome remaining (λ input. IsCertifyAnswer input answer)
+certify_whole None items answer front is = tt
+certify_whole (Some input) items answer front is =
+    elim (cases_lt (MOST_INPUT_BYTES + 1) (length input)) [
+      | inl long ↦
+          let cut : length items ≡ MOST_INPUT_BYTES + 1 = ap (λ (l : List ℕ). length l) front ∙ length-take-le (MOST_INPUT_BYTES + 1) input (omega arith) in
+          let too_long : answer ≡ input_too_long = subst (ByLength items answer) (lt-ltb MOST_INPUT_BYTES (length items) (omega arith)) is in
+          subst (ByLength input answer) (sym (lt-ltb MOST_INPUT_BYTES (length input) (omega arith))) too_long
+      | inr short ↦
+          let OfInput : List ℕ → Type 0 = λ l. IsCertifyAnswer l answer in
+          subst OfInput (front ∙ take_all (MOST_INPUT_BYTES + 1) input short) is
+    ]
+
+-- ---- what is written of it
+
+pub certify_wrote_all : (remaining old new : Option (List ℕ)) (workers : ℕ) (answer : Answer) (bytes : List ℕ) (status : Status)
+    → IfSome remaining (λ input. IsCertifyAnswer input answer) → bytes ≡ answer.text → status ≡ answer.status → Appends old new bytes
+    → IfSome remaining (λ input. WritesAnswer (Certify workers) input status old new)
+certify_wrote_all None old new workers answer bytes status is text same written = tt
+certify_wrote_all (Some input) old new workers answer bytes status is text same written =
+    let Written : List ℕ → Type 0 = λ t. Appends old new t in
+    record { answer = answer; is_answer = is; written = subst Written text written; status_is = same }
+
+pub certify_wrote_front : (remaining old new : Option (List ℕ)) (workers : ℕ) (answer : Answer) (bytes : List ℕ)
+    → IfSome remaining (λ input. IsCertifyAnswer input answer) → bytes ≡ answer.text → AppendsFront old new bytes
+    → IfSome remaining (λ input. WritesFront (Certify workers) input old new)
+certify_wrote_front None old new workers answer bytes is text written = tt
+certify_wrote_front (Some input) old new workers answer bytes is text written =
+    let Written : List ℕ → Type 0 = λ t. AppendsFront old new t in
+    record { answer = answer; is_answer = is; written = subst Written text written }
+
+-- the report of a command that waits for nobody is its answer
+report_is_answer : (command : Command) → is_alone command ≡ true → (input : List ℕ) → IsAnswer command input (report command input)
+report_is_answer Replay alone input = refl
+report_is_answer Check alone input = refl
+report_is_answer Explain alone input = refl
+report_is_answer (Certify workers) alone input = absurd cc
+
+pub alone_answered : (result : Result Status ServeFault) (remaining old new : Option (List ℕ)) (command : Command) → is_alone command ≡ true
+    → IfOk result (λ status. IfSome remaining (λ input. Appends old new (report command input).text × (status ≡ (report command input).status)))
+    → IfOk result (λ status. IfSome remaining (λ input. WritesAnswer command input status old new))
+alone_answered (Err fault) remaining old new command alone answered = tt
+alone_answered (Ok status) None old new command alone answered = tt
+alone_answered (Ok status) (Some input) old new command alone answered =
+    record { answer = report command input; is_answer = report_is_answer command alone input; written = answered.0; status_is = answered.1 }
+
+pub alone_front : (result : Result Status ServeFault) (remaining old new : Option (List ℕ)) (command : Command) → is_alone command ≡ true
+    → IfErr result (λ fault. fault.number ≡ WRITE_FAILED → IfSome remaining (λ input. AppendsFront old new (report command input).text))
+    → IfErr result (λ fault. fault.number ≡ WRITE_FAILED → IfSome remaining (λ input. WritesFront command input old new))
+alone_front (Ok status) remaining old new command alone front = tt
+alone_front (Err fault) None old new command alone front = λ failed. tt
+alone_front (Err fault) (Some input) old new command alone front = λ failed.
+    record { answer = report command input; is_answer = report_is_answer command alone input; written = front failed }
+
+-- ---- what status 0 means
+
+certified_answer : (input : List ℕ) (answer : Answer) → IsCertifyAnswer input answer → answer.status ≡ Done → IsCertifiedBundle (whole_lines input) answer.text
+certified_answer input answer is done = by_length (nat_lt MOST_INPUT_BYTES (length input)) is
+  where
+    by_answer : AnswersPlan (whole_lines input) answer → IsCertifiedBundle (whole_lines input) answer.text
+    by_answer (inl none) =
+        let no : Refused ≡ Done = sym (ap (λ (a : Answer). a.status) none) ∙ done in
+        absurd cc
+    by_answer (inr (inl long)) =
+        let no : Refused ≡ Done = sym (ap (λ (a : Answer). a.status) long) ∙ done in
+        absurd cc
+    by_answer (inr (inr certified)) = certified.bundle
+
+    by_plan : (read : Result Plan PlanFault) → AnswersReading (whole_lines input) read answer → IsCertifiedBundle (whole_lines input) answer.text
+    by_plan (Err fault) bad =
+        let no : BadText ≡ Done = sym (ap (λ (a : Answer). a.status) bad) ∙ done in
+        absurd cc
+    by_plan (Ok plan) answers = by_answer answers
+
+    by_length : (long : Bool) → ByLength input answer long → IsCertifiedBundle (whole_lines input) answer.text
+    by_length true too_long =
+        let no : BadText ≡ Done = sym (ap (λ (a : Answer). a.status) too_long) ∙ done in
+        absurd cc
+    by_length false answers = by_plan (plan_of (whole_lines input)) answers
+
+means_safe : (command : Command) (input : List ℕ) (status : Status) (old new : Option (List ℕ)) → WritesAnswer command input status old new → status ≡ Done → MeansSafe command input old new
+means_safe Replay input status old new writes done = tt
+means_safe Check input status old new writes done = yes_means_safe input (sym (ap (λ (a : Answer). a.status) writes.is_answer) ∙ (sym writes.status_is ∙ done))
+means_safe Explain input status old new writes done = tt
+means_safe (Certify workers) input status old new writes done =
+    record { text = writes.answer.text; certified = certified_answer input writes.answer writes.is_answer (sym writes.status_is ∙ done); written = writes.written }
+
+pub served_safely : (result : Result Status ServeFault) (remaining old new : Option (List ℕ)) (command : Command)
+    → IfOk result (λ status. IfSome remaining (λ input. WritesAnswer command input status old new))
+    → IfOk result (λ status. status ≡ Done → IfSome remaining (λ input. MeansSafe command input old new))
+served_safely (Err fault) remaining old new command answered = tt
+served_safely (Ok status) None old new command answered = λ done. tt
+served_safely (Ok status) (Some input) old new command answered = λ done. means_safe command input status old new answered done

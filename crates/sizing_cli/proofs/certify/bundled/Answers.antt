@@ -1,0 +1,17 @@
+use Rattle.std.proofs.Common.{◌≡◌, inr, List, ℕ, ◌∷◌, ◌++◌, [], codes, length, refl, subst, ap, ◌∙◌, append_assoc}
+use Rattle.sizing_cli.specs.SplitAt.{IsSplitAt}
+use Rattle.sizing_cli.proofs.Certified.{certified}
+use Rattle.sizing_cli.proofs.certify.bundled.Goals as goal
+
+pub returns-then-branch-clause-answer : goal.returns-then-branch-clause-answer
+returns-then-branch-clause-answer g c =
+    let plan = c.args.plan.items in
+    let cert = c.args.cert.now in
+    let text : List ℕ = c.extend_from_slice-2.new.self.items in
+    let whole : text ≡ plan ++ (codes "%%" ++ 10 ∷ cert) =
+    c.in_ok-extend_from_slice-2.ensures.items ∙ (ap (λ (l : List ℕ). l ++ cert) c.in_ok-extend_from_slice.ensures.items ∙ append_assoc plan (37 ∷ 37 ∷ 10 ∷ []) cert) in
+    let len : c.len-plan_len.result ≡ length plan = c.len-plan_len.ensures ∙ c.args.plan.ok.0 in
+    let split : IsSplitAt c.len-plan_len.result c.deref.result.now = c.in_ok-is_certified.ensures.yes c.if-branch.true in
+    let OfText : List ℕ → Type 0 = λ l. IsSplitAt c.len-plan_len.result l in
+    let OfLength : ℕ → Type 0 = λ n. IsSplitAt n text in
+    inr (inr (record { bundle = certified plan cert text whole (subst OfLength len (subst OfText c.deref.ensures.value split)); status = refl }))

@@ -1,0 +1,54 @@
+-- What `certify` may answer to an input: a relation, since nothing is said of which certificate is found, or that one is.
+use Rattle.std.specs.Prelude.{◌≡◌, ◌⊎◌, ℕ, nat_eq, nat_lt, ◌==◌, ◌||◌, List, [], ◌∷◌, ◌++◌, length, codes, if◌then◌else◌, Some, Result, Ok, Err, IsTrue, MatchBool}
+use Rattle.std.specs.List.{ends_with}
+use Rattle.job_bodies.specs.Plan.{Plan}
+use Rattle.job_bodies.specs.FaultText.{fault_line}
+use Rattle.job_bodies.specs.declared.fault.PlanFault.{PlanFault}
+use Rattle.plan_text.specs.PlanOf.{plan_of}
+use Rattle.cert_check.specs.Verdict.{Verdict}
+use Rattle.cert_check.specs.Check.{checked, IsSafeToRun}
+use Rattle.sizing_cli.specs.declared.limits.TheConstants.{MOST_INPUT_BYTES}
+use Rattle.sizing_cli.specs.declared.status.Status.TheVariants.{Done, Refused}
+use Rattle.sizing_cli.specs.Answer.{Answer, fault, input_too_long}
+use Rattle.sizing_cli.specs.Bundle.{bundle_of}
+
+-- the text with a newline at its end, unless it is empty or has one there
+abbrev pub whole_lines : List ℕ → List ℕ
+whole_lines text = if length text == 0 || ends_with nat_eq text (10 ∷ []) then text else text ++ 10 ∷ []
+
+abbrev pub none_found : Answer
+none_found = record { text = codes "no certificate found" ++ 10 ∷ []; status = Refused }
+
+abbrev pub text_too_long : Answer
+text_too_long = record { text = codes "no certificate: text too long" ++ 10 ∷ []; status = Refused }
+
+-- `check` says yes to the texts of a plan and of a certificate for it, and the plan is safe to run
+pub record IsYes (plan cert : List ℕ) : Type 0 where
+  pub verdict : Verdict
+  pub is_checked : checked plan cert ≡ Ok verdict
+  pub yes : IsTrue verdict.yes
+  pub safe : IsSafeToRun plan cert
+
+-- the text is the plan's, a line `%%` and a certificate's, it splits into just these two, and `check` says yes to them
+pub record IsCertifiedBundle (plan text : List ℕ) : Type 0 where
+  pub cert : List ℕ
+  pub whole : text ≡ plan ++ (codes "%%" ++ 10 ∷ cert)
+  pub splits : bundle_of text ≡ Some (record { plan = plan; second = cert })
+  pub says_yes : IsYes plan cert
+
+pub record IsCertified (plan : List ℕ) (answer : Answer) : Type 0 where
+  pub bundle : IsCertifiedBundle plan answer.text
+  pub status : answer.status ≡ Done
+
+-- to the text of a plan: one of the two lines that say that there is no certificate, or a bundle with one
+abbrev pub AnswersPlan : List ℕ → Answer → Type 0
+AnswersPlan plan answer = (answer ≡ none_found) ⊎ ((answer ≡ text_too_long) ⊎ IsCertified plan answer)
+
+abbrev pub AnswersReading : List ℕ → Result Plan PlanFault → Answer → Type 0
+AnswersReading plan (Err f) answer = answer ≡ fault (fault_line f)
+AnswersReading plan (Ok read) answer = AnswersPlan plan answer
+
+-- to an input
+abbrev pub IsCertifyAnswer : List ℕ → Answer → Type 0
+IsCertifyAnswer input answer =
+    MatchBool (nat_lt MOST_INPUT_BYTES (length input)) (answer ≡ input_too_long) (AnswersReading (whole_lines input) (plan_of (whole_lines input)) answer)

@@ -1,0 +1,44 @@
+-- What is written for a command, and what it means.
+use Rattle.std.specs.Prelude.{◌≡◌, ℕ, List, Option}
+use Rattle.std.specs.Io.KnownBytes.{Appends}
+use Rattle.byte_streams.specs.Writing.{AppendsFront}
+use Rattle.command_line.specs.declared.command.Command.{Command}
+use Rattle.command_line.specs.declared.command.Command.TheVariants.{Replay, Check, Explain, Certify}
+use Rattle.sizing_cli.specs.declared.status.Status.{Status}
+use Rattle.sizing_cli.specs.Answer.{Answer}
+use Rattle.sizing_cli.specs.Report.{report}
+use Rattle.sizing_cli.specs.SafeInput.{IsSafeInput}
+use Rattle.sizing_cli.specs.Certify.{IsCertifyAnswer, IsCertifiedBundle, whole_lines}
+
+-- the answer is one that the command may give to the input
+abbrev pub IsAnswer : Command → List ℕ → Answer → Type 0
+IsAnswer Replay input answer = answer ≡ report Replay input
+IsAnswer Check input answer = answer ≡ report Check input
+IsAnswer Explain input answer = answer ≡ report Explain input
+IsAnswer (Certify workers) input answer = IsCertifyAnswer input answer
+
+-- such an answer was written, and the status is its
+pub record WritesAnswer (command : Command) (input : List ℕ) (status : Status) (old new : Option (List ℕ)) : Type 0 where
+  pub answer : Answer
+  pub is_answer : IsAnswer command input answer
+  pub written : Appends old new answer.text
+  pub status_is : status ≡ answer.status
+
+-- a front of such an answer was written
+pub record WritesFront (command : Command) (input : List ℕ) (old new : Option (List ℕ)) : Type 0 where
+  pub answer : Answer
+  pub is_answer : IsAnswer command input answer
+  pub written : AppendsFront old new answer.text
+
+-- a bundle was written that is the input's plan with a certificate to which `check` says yes
+pub record WritesCertified (input : List ℕ) (old new : Option (List ℕ)) : Type 0 where
+  pub text : List ℕ
+  pub certified : IsCertifiedBundle (whole_lines input) text
+  pub written : Appends old new text
+
+-- what status 0 means: of `check`, that the input's plan is safe; of `certify`, that what was written is a plan that is
+abbrev pub MeansSafe : Command → List ℕ → Option (List ℕ) → Option (List ℕ) → Type 0
+MeansSafe Replay input old new = Unit {0}
+MeansSafe Check input old new = IsSafeInput input
+MeansSafe Explain input old new = Unit {0}
+MeansSafe (Certify workers) input old new = WritesCertified input old new

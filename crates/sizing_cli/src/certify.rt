@@ -1,0 +1,197 @@
+//! The search for a certificate, from the bytes of a plan to those of a bundle.
+
+ghost use Rattle.std.specs.Prelude.{◌≡◌, ◌≤◌, IfOk, IfErr, IsTrue, length};
+ghost use Rattle.sizing_cli.specs.Certify as spec;
+ghost use Rattle.sizing_cli.specs.SplitAt.{IsSplitAt};
+ghost use Rattle.sizing_cli.specs.ServeFault.{is_of_threads};
+
+use crate::answer::{Answer, input_too_long, plan_fault};
+use crate::bundle::{Bundle, bundle_of};
+use crate::limits::MOST_INPUT_BYTES;
+use crate::output::Output;
+use crate::{ServeFault, Status};
+use cert_check::{CheckFault, PoolGate, check_on};
+use cert_search::search;
+use cert_text::{MOST_TEXT_BYTES, write_cert};
+use faults::number::{GATE, MEMORY};
+use job_bodies::{Plan, PlanFault};
+use plan_text::read_plan;
+use std::alloc::{AllocError, Global};
+use std::sync::Wait;
+use std::thread::Threads;
+
+/// A gate that answers at once: each pool may be looked at.
+struct AtOnce;
+
+impl PoolGate for AtOnce {
+    fn begin(&self, _pool: usize) -> bool {
+        true
+    }
+}
+
+/// What a search comes to.
+enum Found {
+    /// The text of a certificate, with its newline.
+    Text(Vec<u8>),
+    Nothing,
+    /// A certificate whose text would be too long to be read.
+    TooLong,
+}
+
+/// The answer to an input, which is a plan's text: the plan with a certificate to which `check` says yes, or why there is
+/// none. It searches and checks in so many threads, 1 to 64.
+///
+/// # Errors
+///
+/// Fault 20 where memory ran out or a thread could not be started, and 42 and 43 of the search and the check.
+pub fn certify<R: Threads + Wait + Sync>(
+    rt: &R,
+    alloc: Global,
+    workers: usize,
+    input: Vec<u8>,
+) -> Result<Output, ServeFault>
+    requires some { 1 ≤ workers }
+    requires most { workers ≤ 64 }
+    ensures answer { IfOk result (spec.IsCertifyAnswer input.items) }
+    ensures fault { IfErr result (λ fault. IsTrue (is_of_threads fault.number)) }
+{
+    if input.len() > MOST_INPUT_BYTES {
+        return Ok(Output::of(input_too_long(alloc)?));
+    }
+    let text = whole_lines(input)?;
+    match read_plan(alloc, &text) {
+        Ok(plan) => certify_plan(rt, alloc, workers, &plan, text),
+        Err(fault) if fault == PlanFault::at_text(MEMORY) => Err(ServeFault::from(AllocError)),
+        Err(fault) => Ok(Output::of(plan_fault(alloc, fault)?)),
+    }
+}
+
+/// The text with a newline at its end, unless it is empty or has one there.
+fn whole_lines(mut text: Vec<u8>) -> Result<Vec<u8>, AllocError>
+    ensures { IfOk result (λ lines. lines.items ≡ spec.whole_lines text.items) }
+{
+    if text.is_empty() || text.ends_with(b"\n") {
+        return Ok(text);
+    }
+    text.push(b'\n')?;
+    Ok(text)
+}
+
+/// The answer to the text of this plan.
+fn certify_plan<R: Threads + Wait + Sync>(
+    rt: &R,
+    alloc: Global,
+    workers: usize,
+    plan: &Plan,
+    text: Vec<u8>,
+) -> Result<Output, ServeFault>
+    requires some { 1 ≤ workers }
+    requires most { workers ≤ 64 }
+    ensures answer { IfOk result (spec.AnswersPlan text.items) }
+    ensures fault { IfErr result (λ fault. IsTrue (is_of_threads fault.number)) }
+{
+    match found_text(rt, alloc, workers, plan)? {
+        Found::Text(cert) => bundled(rt, alloc, workers, text, &cert),
+        Found::Nothing => Ok(Output::of(none_found(alloc)?)),
+        Found::TooLong => Ok(Output::of(text_too_long(alloc)?)),
+    }
+}
+
+fn found_text<R: Threads + Wait + Sync>(
+    rt: &R,
+    alloc: Global,
+    workers: usize,
+    plan: &Plan,
+) -> Result<Found, ServeFault>
+    requires some { 1 ≤ workers }
+    requires most { workers ≤ 64 }
+    ensures { IfErr result (λ fault. IsTrue (is_of_threads fault.number)) }
+{
+    let Some(cert) = search(rt, alloc, plan, workers, &AtOnce)? else {
+        return Ok(Found::Nothing);
+    };
+    let mut text = write_cert(alloc, &cert)?;
+    if text.len() >= MOST_TEXT_BYTES {
+        return Ok(Found::TooLong);
+    }
+    text.extend_from_slice(b"\n")?;
+    Ok(Found::Text(text))
+}
+
+/// The bundle of the two texts, where it splits into them again and `check` says yes to them.
+fn bundled<R: Threads + Wait + Sync>(
+    rt: &R,
+    alloc: Global,
+    workers: usize,
+    plan: Vec<u8>,
+    cert: &[u8],
+) -> Result<Output, ServeFault>
+    requires some { 1 ≤ workers }
+    requires most { workers ≤ 64 }
+    ensures answer { IfOk result (spec.AnswersPlan plan.items) }
+    ensures fault { IfErr result (λ fault. IsTrue (is_of_threads fault.number)) }
+{
+    let plan_len = plan.len();
+    let mut text = plan;
+    text.extend_from_slice(b"%%\n")?;
+    text.extend_from_slice(cert)?;
+    if is_certified(rt, alloc, workers, &text, plan_len)? {
+        Ok(Output {
+            bytes: text,
+            status: Status::Done,
+        })
+    } else {
+        Ok(Output::of(none_found(alloc)?))
+    }
+}
+
+/// Whether the text is a bundle whose plan has so many bytes, and `check` says yes to its parts.
+fn is_certified<R: Threads + Wait + Sync>(
+    rt: &R,
+    alloc: Global,
+    workers: usize,
+    text: &[u8],
+    plan_len: usize,
+) -> Result<bool, ServeFault>
+    requires some { 1 ≤ workers }
+    requires most { workers ≤ 64 }
+    ensures yes { IfOk result (λ yes. IsTrue yes → IsSplitAt plan_len text.now) }
+    ensures fault { IfErr result (λ fault. IsTrue (is_of_threads fault.number)) }
+{
+    match bundle_of(text) {
+        Some(bundle) if bundle.plan.len() == plan_len => says_yes(rt, alloc, workers, bundle),
+        _ => Ok(false),
+    }
+}
+
+/// Whether `check` says yes to the two parts. A fault of either is no yes.
+fn says_yes<R: Threads + Wait + Sync>(
+    rt: &R,
+    alloc: Global,
+    workers: usize,
+    bundle: Bundle<'_>,
+) -> Result<bool, ServeFault>
+    requires some { 1 ≤ workers }
+    requires most { workers ≤ 64 }
+    ensures yes { IfOk result (λ yes. IsTrue yes → spec.IsYes bundle.entry.plan.now bundle.entry.second.now) }
+    ensures fault { IfErr result (λ fault. IsTrue (is_of_threads fault.number)) }
+{
+    match check_on(rt, alloc, workers, bundle.plan, bundle.second, &AtOnce) {
+        Ok(verdict) => Ok(verdict.yes),
+        Err(CheckFault::Plan(_) | CheckFault::Cert(_)) => Ok(false),
+        Err(CheckFault::Memory) => Err(ServeFault { number: MEMORY }),
+        Err(CheckFault::Gate) => Err(ServeFault { number: GATE }),
+    }
+}
+
+fn none_found(alloc: Global) -> Result<Answer, AllocError>
+    ensures { IfOk result (λ answer. answer ≡ spec.none_found) }
+{
+    Answer::no(alloc, "no certificate found\n")
+}
+
+fn text_too_long(alloc: Global) -> Result<Answer, AllocError>
+    ensures { IfOk result (λ answer. answer ≡ spec.text_too_long) }
+{
+    Answer::no(alloc, "no certificate: text too long\n")
+}

@@ -1,0 +1,103 @@
+//! Gates of a check on threads.
+
+use cert_check::{CheckFault, PoolGate, check_on};
+use std::sync::atomic::{AtomicU64, Ordering};
+use std::test::*;
+use std::thread;
+use std::time::{Clock, Duration};
+
+// Two pools whose jobs wait for jobs of the other.
+const TWO_POOLS: &str = "
+    pool = [
+        { name = 'p', core = 1, max = 1, queue = 2 },
+        { name = 'q', core = 2, max = 2, queue = 2 },
+    ]
+    class = [
+        { name = 'a', pool = 'p', body = ['submit b as x', 'get x'] },
+        { name = 'b', pool = 'q', body = ['work 1'] },
+        { name = 'c', pool = 'q', body = ['submit d as x', 'get x'] },
+        { name = 'd', pool = 'p', body = ['work 1'] },
+    ]
+    client = [
+        { name = 'u', count = 1, repeat = true, body = ['submit a as x', 'get x'] },
+        { name = 'w', count = 1, repeat = true, body = ['submit c as x', 'get x'] },
+    ]
+";
+
+const TWO_POOLS_CERT: &str = r#"{"version": 1, "pools": [
+    {"standing": {"workers": [0, 0],
+        "classes": [[1, 1, 1, 1, 1], [0, 0, 0, 0], [1, 1, 0, 1, 1], [1, 1, 1, 1]],
+        "clients": [[1, 0, 1], [1, 0, 1]]},
+     "blocked": {"workers": [0, 0],
+        "classes": [[0, 0, 0, 0, 0], [0, 0, 0, 0], [0, 0, 0, 0, 0], [0, 0, 0, 0]],
+        "clients": [[0, 0, 0], [0, 0, 0]]}},
+    {"standing": {"workers": [0, 0],
+        "classes": [[1, 1, 0, 1, 1], [1, 1, 1, 1], [1, 1, 1, 1, 1], [0, 0, 0, 0]],
+        "clients": [[1, 0, 1], [1, 0, 1]]},
+     "blocked": {"workers": [0, 0],
+        "classes": [[0, 0, 0, 0, 0], [0, 0, 0, 0], [1, 1, 1, 1, 1], [0, 0, 0, 0]],
+        "clients": [[0, 0, 0], [1, 0, 1]]}}],
+    "ranks": {"pools": [1, 0], "reach": [1, 0, 1, 1], "levels": [1, 0, 1, 0]}}"#;
+
+/// Holds the pool that begins first until another has begun, for at most 10,000 turns of a millisecond.
+#[derive(Drop)]
+struct Meeting<'a, C> {
+    clock: &'a C,
+    begun: AtomicU64,
+}
+
+impl<C: Clock + Sync> PoolGate for Meeting<'_, C> {
+    fn begin(&self, _pool: usize) -> bool {
+        if self.begun.fetch_add(1, Ordering::SeqCst) > 0 {
+            return true;
+        }
+        for _ in 0..10_000 {
+            if self.begun.load(Ordering::SeqCst) > 1 {
+                return true;
+            }
+            thread::sleep(self.clock, Duration::from_millis(1));
+        }
+        false
+    }
+}
+
+/// Lets one pool alone be looked at.
+#[derive(Drop)]
+struct Only(usize);
+
+impl PoolGate for Only {
+    fn begin(&self, pool: usize) -> bool {
+        pool == self.0
+    }
+}
+
+/// Two workers look at two pools at once: one alone would never let the gate go.
+#[test]
+fn two_pools_are_looked_at_at_once(rt: HostRuntime) -> Result<(), Fail> {
+    let gate = Meeting {
+        clock: &rt,
+        begun: AtomicU64::new(0),
+    };
+    let (plan, cert) = (TWO_POOLS.as_bytes(), TWO_POOLS_CERT.as_bytes());
+    let Ok(verdict) = check_on(&rt, rt.alloc(), 2, plan, cert, &gate) else {
+        return Err(Fail::from("the gate was held by one thread"));
+    };
+    assert!(rt; verdict.yes);
+    assert_eq!(rt; verdict.pools.len(), 2);
+    Ok(())
+}
+
+/// A no of the gate, of whichever pool, is told by any number of workers.
+#[test]
+fn a_no_of_the_gate(rt: HostRuntime) -> Result<(), Fail> {
+    let (plan, cert) = (TWO_POOLS.as_bytes(), TWO_POOLS_CERT.as_bytes());
+    for workers in [1, 2, 3, 64] {
+        for pool in 0..2 {
+            let Err(fault) = check_on(&rt, rt.alloc(), workers, plan, cert, &Only(pool)) else {
+                return Err(Fail::from("the gate was not asked"));
+            };
+            assert_eq!(rt; fault, CheckFault::Gate);
+        }
+    }
+    Ok(())
+}
