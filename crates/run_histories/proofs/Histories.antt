@@ -1,0 +1,23 @@
+-- Lengths of legal histories.
+use Rattle.std.proofs.Common.{[], List, length, refl}
+use Rattle.job_bodies.specs.Plan.{Plan}
+use Rattle.written_machine.specs.declared.event.Event.{Event}
+use Rattle.written_machine.specs.Reach.{start}
+use Rattle.held_machines.specs.declared.held.Receipt.{Receipt}
+use Rattle.live_views.specs.LiveView.{View}
+use Rattle.certified_worlds.specs.HeldWorld.{IsReachedBy}
+use Rattle.run_histories.specs.Run.{IsLegal, IsWhole, IsRun, IsLengthOfLegal}
+
+-- before the first event
+pub nothing_is_legal : (plan : Plan) → IsLengthOfLegal plan 0
+nothing_is_legal plan = ([], (start plan, refl), refl)
+
+pub legal_of : (plan : Plan) (history : List Event) (view : View) → IsReachedBy plan history view → IsLegal plan history
+legal_of plan history view reached = (reached.0, reached.1)
+
+pub length_of : (plan : Plan) (history : List Event) (view : View) → IsReachedBy plan history view → IsLengthOfLegal plan (length history)
+length_of plan history view reached = (history, legal_of plan history view reached, refl)
+
+-- a whole run of a held world
+pub run_of : (plan : Plan) (history : List Event) (view : View) (lists : List (List (Receipt Event))) → IsReachedBy plan history view → IsWhole plan history view lists → IsRun plan history lists
+run_of plan history view lists reached whole = record { last = reached.0; legal = reached.1; finished = whole.finished reached.0 reached.2; received = whole.received }

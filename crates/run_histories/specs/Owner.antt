@@ -1,0 +1,40 @@
+-- Whose an event is, and the lists of receipts of a run.
+use Rattle.std.specs.Prelude.{◌≡◌, ◌++◌, ℕ, List, map, replicate, length, take, slice_get, Option, Some, None}
+use Rattle.std.specs.List.{flat_map, enumerate_from}
+use Rattle.job_bodies.specs.Plan.{Plan, Client, Pool}
+use Rattle.written_machine.specs.declared.event.Event.{Event}
+use Rattle.written_machine.specs.declared.event.Event.TheVariants as event
+use Rattle.written_machine.specs.State.{State, job_at, pool_of}
+use Rattle.written_machine.specs.Reach.{Reaches}
+use Rattle.run_histories.specs.declared.owner.Owner.{Owner}
+use Rattle.run_histories.specs.declared.owner.Owner.TheVariants as owner
+
+-- whose the event is in the state before it: a client's own, or the pool's whose thread takes a job or does what it does;
+-- no thread of a run makes a retirement
+abbrev pub owner_in : Plan → State → Event → Option Owner
+owner_in plan s (event.Client c) = Some (owner.Client c)
+owner_in plan s (event.Job j) = Some (owner.Pool (pool_of plan (job_at s j).class))
+owner_in plan s (event.Take p) = Some (owner.Pool p)
+owner_in plan s (event.Retire p) = None
+
+abbrev pub kinds_of_entry : ℕ × Client → List ℕ
+kinds_of_entry entry = replicate entry.1.count entry.0
+
+-- the kind of each client: the kinds in plan order, each as often as its count says
+abbrev pub kinds_of : Plan → List ℕ
+kinds_of plan = flat_map kinds_of_entry (enumerate_from 0 plan.clients)
+
+abbrev pub client_list : ℕ × ℕ → Owner
+client_list entry = owner.Client entry.0
+
+abbrev pub pool_lists : ℕ × Pool → List Owner
+pool_lists entry = replicate entry.1.max (owner.Pool entry.0)
+
+-- a list for each client, then as many for each pool as it may have threads
+abbrev pub lists_of : Plan → List Owner
+lists_of plan = map client_list (enumerate_from 0 (kinds_of plan)) ++ flat_map pool_lists (enumerate_from 0 plan.pools)
+
+-- so many owners as events, each that of the event at its number
+pub record AreOwnersOf (plan : Plan) (history : List Event) (owners : List Owner) : Type 0 where
+  pub as_many : length owners ≡ length history
+  pub each : (n : ℕ) (s : State) (e : Event) (o : Owner) → slice_get history n ≡ Some e → slice_get owners n ≡ Some o → Reaches plan (take n history) s → owner_in plan s e ≡ Some o

@@ -1,0 +1,123 @@
+//! Whether what came back from a run's threads is a whole run.
+
+ghost use Rattle.std.specs.Prelude.{◌≡◌, IfOk, IfErr, map};
+ghost use Rattle.std.specs.Option.{IfNone};
+ghost use Rattle.run_histories.specs.Owner.{AreOwnersOf};
+ghost use Rattle.run_histories.specs.Run.{IsWhole, IsRun, IsLengthOfLegal};
+
+use crate::completeness::is_complete;
+use crate::numbers::RunNumbers;
+use crate::owner::{kinds_of, lists_of};
+use crate::receipts::{each_once, lists_fit};
+use crate::replay::{Replay, replay_history};
+use crate::{Met, RunFault, RunReport};
+use cert_check::Certified;
+use certified_worlds::{CertifiedWorld, held_worlds_refuse_nothing};
+use faults::number::{MEMORY, MIXED, STRANGE};
+use held_machines::{Held, Receipt};
+use interleaving::Event;
+use job_bodies::Plan;
+use std::alloc::{AllocError, Global};
+
+/// The report of what the threads of a run hand back, where it is a whole run of the plan, and else why it is not. Its
+/// history is the replayed one.
+///
+/// # Errors
+///
+/// The least fault that a thread met, 20 where memory runs out here; only where there is neither, 41 and then 42, as
+/// [`RunFault`] says. Its `events` is how many events of the history could be replayed.
+#[tactic(auto, using(crate::proofs::Histories::nothing_is_legal))]
+pub fn judge(
+    alloc: Global,
+    certified: &Certified,
+    rounds: u64,
+    numbers: RunNumbers,
+    met: Met,
+) -> Result<RunReport, RunFault>
+    ensures run { IfOk result (λ report. IsRun certified.now.plan report.history report.receipts) }
+    ensures none_refused { IfOk result (λ report. report.refused ≡ 0) }
+    ensures events { IfErr result (λ fault. IsLengthOfLegal certified.now.plan fault.events) }
+{
+    let Ok(replay) = replay_history(alloc, certified, &met.history) else {
+        return Err(RunFault {
+            number: MEMORY,
+            events: 0,
+        });
+    };
+    let found = match fault_of(alloc, certified.plan(), rounds, numbers, &met, &replay) {
+        Ok(found) => found,
+        Err(AllocError) => Some(MEMORY),
+    };
+    let Replay { held, .. } = replay;
+    match found {
+        Some(number) => Err(RunFault {
+            number,
+            events: events_of(&held),
+        }),
+        None => Ok(report(numbers, held, met.receipts)),
+    }
+}
+
+/// How many events the held world has made.
+#[tactic(auto, using(crate::proofs::Histories::length_of))]
+fn events_of(held: &Held<CertifiedWorld<'_>>) -> u64
+    ensures { IsLengthOfLegal held.now.machine.certified.now.plan result }
+{
+    held_worlds_refuse_nothing(held);
+    held.history().len() as u64
+}
+
+#[tactic(auto, using(crate::proofs::Histories::run_of))]
+fn report(
+    numbers: RunNumbers,
+    held: Held<CertifiedWorld<'_>>,
+    receipts: Vec<Vec<Receipt<Event>>>,
+) -> RunReport
+    requires { IsWhole held.machine.certified.now.plan held.history held.state (map (λ list. list.items) receipts.items) }
+    ensures run { IsRun held.entry.machine.certified.now.plan result.history result.receipts }
+    ensures none_refused { result.refused ≡ 0 }
+{
+    held_worlds_refuse_nothing(&held);
+    let refused = held.state().refusals();
+    RunReport {
+        jobs: numbers.jobs,
+        units: numbers.units,
+        refused,
+        history: held.into_history(),
+        receipts,
+    }
+}
+
+/// What is wrong with a history that was replayed as far as that goes, and its receipts.
+fn fault_of(
+    alloc: Global,
+    plan: &Plan,
+    rounds: u64,
+    numbers: RunNumbers,
+    met: &Met,
+    replay: &Replay<'_>,
+) -> Result<Option<u8>, AllocError>
+    requires { AreOwnersOf plan.now replay.now.held.history replay.now.owners.items }
+    ensures { IfOk result (λ found. IfNone found (IsWhole plan.now replay.now.held.history replay.now.held.state (map (λ list. list.items) met.now.receipts.items))) }
+{
+    if replay.ended_for_memory {
+        return Ok(Some(MEMORY));
+    }
+    if met.fault.is_some() {
+        return Ok(met.fault);
+    }
+    let history = replay.held.history();
+    let kinds = kinds_of(alloc, plan)?;
+    let of_lists = lists_of(alloc, plan, &kinds)?;
+    if !lists_fit(plan, history, &replay.owners, &of_lists, &met.receipts) {
+        return Ok(Some(STRANGE));
+    }
+    if history.len() < met.history.len()
+        || !is_complete(plan, &kinds, replay.held.state(), rounds, history)
+        || !each_once(alloc, history.len(), &met.receipts)?
+        || replay.held.state().made() as u64 != numbers.jobs
+    {
+        return Ok(Some(MIXED));
+    }
+    Ok(None)
+}

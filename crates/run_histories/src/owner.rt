@@ -1,0 +1,78 @@
+//! Whose an event is, and the lists of receipts that a run has.
+
+ghost use Rattle.std.specs.Prelude.{◌≡◌, Some, IfSome, IfOk, map};
+ghost use Rattle.written_machine.specs.State.{State};
+ghost use Rattle.live_views.specs.LiveView.{live_view};
+ghost use Rattle.std.specs.List.{enumerate_from};
+ghost use Rattle.run_histories.specs.Owner as spec;
+
+use interleaving::{Event, World};
+use job_bodies::Plan;
+use std::alloc::{AllocError, Global};
+
+/// Whose an event is: one client's, or one pool's, whose threads take jobs and do what these do.
+#[derive(Clone, Copy, Debug, PartialEq, Eq)]
+pub enum Owner {
+    Client(usize),
+    Pool(usize),
+}
+
+/// Whose the event is, in the world before it. None of a retirement, which no thread of a run makes, and of a job that is
+/// not live.
+#[tactic(auto, using(crate::proofs::Owners::class_seen))]
+pub(crate) fn owner_of(plan: &Plan, world: &World, event: Event) -> Option<Owner>
+    ensures { (s : State) → live_view plan.now s ≡ world.now → IfSome result (λ owner. spec.owner_in plan.now s event ≡ Some owner) }
+{
+    match event {
+        Event::Client(client) => Some(Owner::Client(client)),
+        Event::Take(pool) => Some(Owner::Pool(pool)),
+        Event::Job(number) => {
+            let job = world.job(number)?;
+            Some(Owner::Pool(plan.class_at(job.class)?.pool))
+        }
+        Event::Retire(_) => None,
+    }
+}
+
+/// The kind of each client, in their order.
+///
+/// # Errors
+///
+/// `AllocError` where there is no memory for the list.
+pub fn kinds_of(alloc: Global, plan: &Plan) -> Result<Vec<usize>, AllocError>
+    ensures { IfOk result (λ kinds. kinds.items ≡ spec.kinds_of plan.now) }
+{
+    let mut kinds = Vec::new(alloc);
+    for (kind, client) in plan.clients().iter().enumerate() {
+        let count = client.count as usize;
+        kinds.resize(kinds.len() + count, kind)?;
+    }
+    Ok(kinds)
+}
+
+/// Whose each list of receipts is: each client's in their order, and then as many of each pool as it has threads at most.
+///
+/// # Errors
+///
+/// `AllocError` where there is no memory for the list.
+pub fn lists_of(alloc: Global, plan: &Plan, kinds: &[usize]) -> Result<Vec<Owner>, AllocError>
+    requires { kinds.now ≡ spec.kinds_of plan.now }
+    ensures { IfOk result (λ lists. lists.items ≡ spec.lists_of plan.now) }
+{
+    let mut owners = clients_of(alloc, kinds)?;
+    for (number, pool) in plan.pools().iter().enumerate() {
+        let threads = pool.max as usize;
+        owners.resize(owners.len() + threads, Owner::Pool(number))?;
+    }
+    Ok(owners)
+}
+
+fn clients_of(alloc: Global, kinds: &[usize]) -> Result<Vec<Owner>, AllocError>
+    ensures { IfOk result (λ lists. lists.items ≡ map spec.client_list (enumerate_from 0 kinds.now)) }
+{
+    let mut owners = Vec::new(alloc);
+    for number in 0..kinds.len() {
+        owners.push(Owner::Client(number))?;
+    }
+    Ok(owners)
+}

@@ -1,0 +1,146 @@
+//! Whether the receipts of all threads are the events of a history, each once and each where it belongs.
+
+ghost use Rattle.std.specs.Prelude.{◌≡◌, ◌<◌, ◌+◌, ◌==◌, ℕ, IsTrue, IfOk, length, map, min, slice_index, count_by, if◌then◌else◌};
+ghost use Rattle.run_histories.specs.Owner.{AreOwnersOf};
+ghost use Rattle.run_histories.specs.Receipts.{IsReceiptOf, AreReceiptsOf, AreListsOf, places_of};
+
+use crate::owner::Owner;
+use held_machines::Receipt;
+use interleaving::Event;
+use job_bodies::Plan;
+use std::alloc::{AllocError, Global};
+
+/// Whether each list has events of its owner alone, each the history's event at its number, in rising order.
+pub(crate) fn lists_fit(
+    plan: &Plan,
+    history: &[Event],
+    owners: &[Owner],
+    of_lists: &[Owner],
+    lists: &[Vec<Receipt<Event>>],
+) -> bool
+    requires { AreOwnersOf plan.now history.now owners.now }
+    ensures { IsTrue result → AreListsOf plan.now history.now of_lists.now (map (λ list. list.items) lists.now) }
+{
+    if of_lists.len() != lists.len() {
+        return false;
+    }
+    for at in 0..lists.len() {
+        if !list_fits(plan, history, owners, of_lists[at], &lists[at]) {
+            return false;
+        }
+    }
+    true
+}
+
+fn list_fits(
+    plan: &Plan,
+    history: &[Event],
+    owners: &[Owner],
+    owner: Owner,
+    list: &[Receipt<Event>],
+) -> bool
+    requires { AreOwnersOf plan.now history.now owners.now }
+    ensures { IsTrue result → AreReceiptsOf plan.now history.now owner 0 list.now }
+{
+    let mut low = 0;
+    for receipt in list {
+        if receipt.number < low || !receipt_fits(plan, history, owners, owner, *receipt) {
+            return false;
+        }
+        low = receipt.number + 1;
+    }
+    true
+}
+
+/// Whether the history has the event at this number, and it is this owner's.
+fn receipt_fits(
+    _plan: &Plan,
+    history: &[Event],
+    owners: &[Owner],
+    owner: Owner,
+    receipt: Receipt<Event>,
+) -> bool
+    requires { AreOwnersOf _plan.now history.now owners.now }
+    ensures inside { IsTrue result → receipt.number < length history.now }
+    ensures fits { IsTrue result → IsReceiptOf _plan.now history.now owner receipt }
+{
+    let number = receipt.number as usize;
+    let Some(event) = history.get(number) else {
+        return false;
+    };
+    let Some(found) = owners.get(number) else {
+        return false;
+    };
+    is_same_event(*event, receipt.event) && is_same_owner(*found, owner)
+}
+
+fn is_same_event(a: Event, b: Event) -> bool
+    ensures { IsTrue result → a ≡ b }
+{
+    match (a, b) {
+        (Event::Client(a), Event::Client(b)) => a == b,
+        (Event::Job(a), Event::Job(b)) => a == b,
+        (Event::Take(a), Event::Take(b)) => a == b,
+        (Event::Retire(a), Event::Retire(b)) => a == b,
+        _ => false,
+    }
+}
+
+fn is_same_owner(a: Owner, b: Owner) -> bool
+    ensures { IsTrue result → a ≡ b }
+{
+    match (a, b) {
+        (Owner::Client(a), Owner::Client(b)) => a == b,
+        (Owner::Pool(a), Owner::Pool(b)) => a == b,
+        _ => false,
+    }
+}
+
+/// Whether each number below the length stands in just one place of the lists.
+///
+/// # Errors
+///
+/// `AllocError` where there is no memory for a mark at each number.
+pub(crate) fn each_once(
+    alloc: Global,
+    length: usize,
+    lists: &[Vec<Receipt<Event>>],
+) -> Result<bool, AllocError>
+    ensures { IfOk result (λ once. IsTrue once → (k : ℕ) → k < length → places_of k (map (λ list. list.items) lists.now) ≡ 1) }
+{
+    let mut marks = vec![in alloc; 0u8; length]?;
+    for list in lists {
+        mark_all(&mut marks, list);
+    }
+    Ok(all_are_one(&marks))
+}
+
+/// Raises the mark at each receipt's number. A mark of 255 stands for all numbers from there on.
+fn mark_all(marks: &mut [u8], list: &[Receipt<Event>])
+    ensures len { length marks.new ≡ length marks.old }
+    ensures marks { (k : ℕ) → k < length marks.old → slice_index marks.new k ≡ min (slice_index marks.old k + count_by (λ r. r.number == k) list.now) 255 }
+{
+    for receipt in list {
+        mark(marks, receipt.number as usize);
+    }
+}
+
+fn mark(marks: &mut [u8], number: usize)
+    ensures len { length marks.new ≡ length marks.old }
+    ensures marks { (k : ℕ) → k < length marks.old → slice_index marks.new k ≡ min (slice_index marks.old k + (if number == k then 1 else 0)) 255 }
+{
+    if number < marks.len() {
+        marks[number] = marks[number].saturating_add(1);
+    }
+}
+
+fn all_are_one(marks: &[u8]) -> bool
+    ensures { IsTrue result → (k : ℕ) → k < length marks.now → slice_index marks.now k ≡ 1 }
+{
+    for at in 0..marks.len() {
+        if marks[at] != 1 {
+            return false;
+        }
+    }
+    true
+}

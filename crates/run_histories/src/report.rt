@@ -1,0 +1,49 @@
+//! What a run answers.
+
+use held_machines::Receipt;
+use interleaving::Event;
+use std::marker::Model;
+
+/// A run that was made and judged.
+#[derive(Debug, Drop)]
+pub struct RunReport {
+    /// How many jobs were made.
+    pub jobs: u64,
+    /// How many units of work were done, by the clients and by the jobs.
+    pub units: u64,
+    /// How many submits were refused: none.
+    pub refused: u64,
+    /// Every event, in the order in which they were made.
+    pub history: Vec<Event>,
+    /// The receipts of each thread in rising order: a list for each client, then for each pool as many lists as its
+    /// maximum.
+    pub receipts: Vec<Vec<Receipt<Event>>>,
+}
+
+impl Model for RunReport {
+    ghost use Rattle.std.specs.Prelude.{map};
+    ghost use Rattle.run_histories.specs.Report.{RunReport};
+
+    ghost Value = { RunReport };
+
+    ghost view = { λ r. record { jobs = r.jobs; units = r.units; refused = r.refused; history = r.history.items; receipts = map (λ list. list.items) r.receipts.items } };
+}
+
+/// Why a run is no run: a number of `faults`, and the length of a legal history, of the events that were made.
+///
+/// 40: a limit of a run is passed, and nothing was started. 41: a receipt is strange: the history has no such event at its
+/// number, or it is not of its thread, or the numbers of a list do not rise. 42: the receipts are not those of the
+/// history, each once, or the history is not complete. 43: the gate failed. 20: memory ran out.
+#[derive(Clone, Copy, Debug, PartialEq, Eq)]
+pub struct RunFault {
+    pub number: u8,
+    pub events: u64,
+}
+
+/// What the threads of a run hand back: its history, the receipts of each thread, and the least fault that a thread met.
+#[derive(Debug, Drop)]
+pub struct Met {
+    pub history: Vec<Event>,
+    pub receipts: Vec<Vec<Receipt<Event>>>,
+    pub fault: Option<u8>,
+}
