@@ -8,9 +8,14 @@ use Rattle.written_machine.specs.declared.parent.Parent.TheVariants as parent
 use Rattle.written_machine.specs.State.{same_parent}
 use Rattle.live_views.specs.declared.job_view.JobView.{JobView}
 use Rattle.live_views.specs.ViewStep.{live_job, is_live_child, is_done, unless_orphan}
-use Rattle.interleaving.specs.LiveJobs.{Fades}
 
 -- ---- a job that changes its phase, or is live no more
+
+-- the second is gone, or it is the first in some phase
+abbrev pub Fades : Option JobView → Option JobView → Type 0
+Fades job None = Unit {0}
+Fades None (Some after) = ⊥
+Fades (Some job) (Some after) = (after.parent ≡ job.parent) × (after.slot ≡ job.slot)
 
 pub fades_to_itself : (job : Option JobView) → Fades job job
 fades_to_itself None = tt

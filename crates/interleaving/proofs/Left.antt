@@ -84,7 +84,7 @@ made_if : (a : Parent) (t : ℕ) (made : Made) (b : Bool) → is_live_child a t 
 made_if a t made true live = live
 made_if a t made false live = absurd cc
 
-live_unclaimed : (s : State) (a : Parent) (t k : ℕ) (made : Made) (stage : Stage) → is_live_child a t (job_with made (phase_seen s k made stage)) ≡ true → (is_made_by a t made ≡ true) × (stage ≢ Claimed)
+pub live_unclaimed : (s : State) (a : Parent) (t k : ℕ) (made : Made) (stage : Stage) → is_live_child a t (job_with made (phase_seen s k made stage)) ≡ true → (is_made_by a t made ≡ true) × (stage ≢ Claimed)
 live_unclaimed s a t k made Queued live = (live, λ f. absurd cc)
 live_unclaimed s a t k made (At i) live = (live, λ f. absurd cc)
 live_unclaimed s a t k made Done live = (made_if a t made (may_ask s made.parent && is_number (child s made.parent made.slot) k) live, λ f. absurd cc)

@@ -121,7 +121,7 @@ job_of_seen : (made : Made) (phase : Option Phase) (job : JobView) → job_with 
 job_of_seen made None job e = absurd cc
 job_of_seen made (Some phase) job e = ap (λ (x : JobView). x.class) (sym (same_Some _ job e))
 
-made_if_seen : (s : State) (j : ℕ) (job : JobView) → job_seen s j (job_at s j) ≡ Some job → j < length s.jobs
+pub made_if_seen : (s : State) (j : ℕ) (job : JobView) → job_seen s j (job_at s j) ≡ Some job → j < length s.jobs
 made_if_seen s j job e = elim (cases_lt j (length s.jobs)) [
   | inl inside ↦ inside
   | inr past ↦ let none : job_at s j ≡ no_job = get_or_past s.jobs j no_job past in

@@ -1,6 +1,9 @@
 pub mod OfPlan
 pub mod Answers
 pub mod NextAction
+pub mod PlaceList
+pub mod Places
+pub mod LatestList
 pub mod JobList
 pub mod LiveJobs
 pub mod Stuck

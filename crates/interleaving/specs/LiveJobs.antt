@@ -1,92 +1,116 @@
--- The live jobs of a world, and where those that an actor made can stand.
-use Rattle.std.specs.Prelude.{◌≡◌, ◌≢◌, ℕ, ◌+◌, ◌<◌, ◌≤◌, true, false, List, [], ◌∷◌, ◌++◌, length, slice_index, slice_index_or, slice_set, Option, Some, None}
+-- The live jobs of a world, and which of them are found by their makers.
+use Rattle.std.specs.Prelude.{◌≡◌, ◌≢◌, ℕ, ◌+◌, ◌<◌, ◌≤◌, ◌⊎◌, ◌==◌, Bool, true, false, List, length, slice_set, map, count_by, is_some, Option, Some, None, if◌then◌else◌}
+use Rattle.std.specs.Option.{option_map}
 use Rattle.written_machine.specs.declared.parent.Parent.{Parent}
 use Rattle.written_machine.specs.declared.parent.Parent.TheVariants as parent
 use Rattle.live_views.specs.declared.job_view.JobView.{JobView}
-use Rattle.live_views.specs.ViewStep.{live_job, is_live_child, live_child, is_done, unless_stale}
-use Rattle.interleaving.specs.declared.live_jobs.Link.{Link}
+use Rattle.live_views.specs.ViewStep.{live_job, is_live_child, live_child, is_done, is_unfinished_job, may_ask_for, unless_stale, unless_orphan}
+use Rattle.interleaving.specs.declared.places.Place.{Place}
+use Rattle.interleaving.specs.PlaceList.{PlaceList, place_at}
+use Rattle.interleaving.specs.LatestList.{LatestList, found, is_call}
+use Rattle.interleaving.specs.JobList.{JobList}
 
 -- the actor is one of so many clients, or one of so many jobs
 abbrev pub IsAmong : ℕ → ℕ → Parent → Type 0
 IsAmong clients jobs (parent.Client c) = c < clients
 IsAmong clients jobs (parent.Job j) = j < jobs
 
--- the second is gone, or it is the first in some phase
-abbrev pub Fades : Option JobView → Option JobView → Type 0
-Fades job None = Unit {0}
-Fades None (Some after) = ⊥
-Fades (Some job) (Some after) = (after.parent ≡ job.parent) × (after.slot ≡ job.slot)
+-- where the actor is a job it was made
+abbrev pub WasMade : List (Option JobView) → Parent → Type 0
+WasMade jobs (parent.Client c) = Unit {0}
+WasMade jobs (parent.Job j) = j < length jobs
 
 -- a job that is done is the latest live one that its maker made at its position
 abbrev pub DoneAreLatest : List (Option JobView) → Type 0
 DoneAreLatest jobs = (a : Parent) (t k : ℕ) (job : JobView) → live_job jobs k ≡ Some job → is_live_child a t (Some job) ≡ true → is_done job.phase ≡ true → live_child jobs a t ≡ Some k
 
+-- where the actor is a live job another one made it
+abbrev pub MadeByOther : List (Option JobView) → Parent → Type 0
+MadeByOther jobs (parent.Client c) = Unit {0}
+MadeByOther jobs (parent.Job j) = (job : JobView) → live_job jobs j ≡ Some job → job.parent ≢ parent.Job j
+
 -- of the jobs that the actor made at position t none but the latest is stale
 abbrev pub NoOtherIsStale : List (Option JobView) → Option ℕ → Parent → ℕ → Type 0
 NoOtherIsStale jobs latest a t = (k : ℕ) → latest ≢ Some k → unless_stale a t (live_job jobs k) ≡ live_job jobs k
 
--- ---- the links
+-- the actor made at most one live job at position t
+abbrev pub IsAlone : List (Option JobView) → Parent → ℕ → Type 0
+IsAlone jobs a t = (i k : ℕ) → is_live_child a t (live_job jobs i) ≡ true → is_live_child a t (live_job jobs k) ≡ true → i ≡ k
 
--- what stands past the last link
-abbrev pub no_link : Link
-no_link = record { maker = parent.Client 0; before = 0; end = 0 }
+-- ---- the places
 
-abbrev pub link_at : List Link → ℕ → Link
-link_at links j = slice_index_or links j no_link
+-- the jobs that stand in the places
+abbrev pub jobs_in : List (Option Place) → List (Option JobView)
+jobs_in items = map (option_map (λ place. place.job)) items
 
--- the number below which the actor's live jobs stand
-abbrev pub end_of : List Link → List ℕ → Parent → ℕ
-end_of links ends (parent.Client c) = slice_index ends c
-end_of links ends (parent.Job j) = (link_at links j).end
+-- job k is the latest live one that the actor made at position t
+pub record IsLatest (jobs : List (Option JobView)) (a : Parent) (t k : ℕ) : Type 0 where
+  pub passes : is_live_child a t (live_job jobs k) ≡ true
+  pub none_later : (i : ℕ) → k < i → is_live_child a t (live_job jobs i) ≡ false
 
--- no live job from the number on was made by the actor
-abbrev pub NoneFrom : List (Option JobView) → Parent → ℕ → Type 0
-NoneFrom jobs a n = (k t : ℕ) → n ≤ k → is_live_child a t (live_job jobs k) ≡ false
+-- an actor that may ask for a job of its own finds the latest; whatever is found is live
+pub record AreFound (jobs : List (Option JobView)) (latest : LatestList) : Type 0 where
+  pub sound : (a : Parent) (t k : ℕ) → found latest a t ≡ Some k → IsLatest jobs a t k
+  pub complete : (a : Parent) (t k : ℕ) → may_ask_for jobs a ≡ true → IsLatest jobs a t k → found latest a t ≡ Some k
 
--- nor one from the first number on, below the second
-abbrev pub NoneBetween : List (Option JobView) → Parent → ℕ → ℕ → Type 0
-NoneBetween jobs a low high = (k t : ℕ) → low ≤ k → k < high → is_live_child a t (live_job jobs k) ≡ false
+-- the live jobs that a job made come from below its reach
+abbrev pub AreReached : List (Option Place) → Type 0
+AreReached items = (j t k : ℕ) → is_live_child (parent.Job j) t (live_job (jobs_in items) k) ≡ true → (j < length items) × ((place : Place) → place_at items j ≡ Some place → t < place.reach)
 
--- the job just below the number, if there is one, was made by the actor
-abbrev pub IsNext : List Link → Parent → ℕ → Type 0
-IsNext links a n = (k : ℕ) → n ≡ k + 1 → (link_at links k).maker ≡ a
+pub record AreIndexed (items : List (Option Place)) (latest : LatestList) (unfinished : ℕ) : Type 0 where
+  pub are_found : AreFound (jobs_in items) latest
+  pub reached : AreReached items
+  pub counted : unfinished ≡ count_by is_unfinished_job (jobs_in items)
 
--- the actor made job k, and the live jobs that it made earlier stand below the number
-pub record IsLink (jobs : List (Option JobView)) (links : List Link) (k : ℕ) (a : Parent) (before : ℕ) : Type 0 where
-  pub inside : before ≤ k
-  pub next : IsNext links a before
-  pub none_between : NoneBetween jobs a before k
+-- how many places there are after the stale job, if there is one, was forgotten and another job was made
+abbrev pub places_made : JobList → List (Option JobView) → ℕ
+places_made list jobs = if count_by is_some jobs == list.places then list.places + 1 else list.places
 
-pub record AreLinked (jobs : List (Option JobView)) (links : List Link) : Type 0 where
-  pub as_many : length links ≡ length jobs
-  pub each : (k : ℕ) → k < length jobs → IsLink jobs links k (link_at links k).maker (link_at links k).before
+-- no place came up, and each reach is as it was or further
+pub record ReachesStay (items after : List (Option Place)) : Type 0 where
+  pub long : length after ≡ length items
+  pub each : (k : ℕ) (place : Place) → place_at after k ≡ Some place → (was : Place) × (place_at items k ≡ Some was) × (was.reach ≤ place.reach)
 
--- the links lead from this number to each live job that the actor made
-pub record StandBelow (jobs : List (Option JobView)) (links : List Link) (a : Parent) (end : ℕ) : Type 0 where
-  pub linked : AreLinked jobs links
-  pub none_behind : NoneFrom jobs a end
-  pub inside : end ≤ length jobs
-  pub next : IsNext links a end
+-- the job that the actor is, if it is one, reaches so far
+abbrev pub ReachesTo : List (Option Place) → Parent → ℕ → Type 0
+ReachesTo items (parent.Client c) n = Unit {0}
+ReachesTo items (parent.Job j) n = (place : Place) → place_at items j ≡ Some place → n ≤ place.reach
 
--- from each actor's end the links lead to its live jobs
-pub record IsIndexed (jobs : List (Option JobView)) (links : List Link) (ends : List ℕ) : Type 0 where
-  pub actors : (a : Parent) → StandBelow jobs links a (end_of links ends a)
+-- ---- the children of a job that finishes
 
--- an actor has an end
-abbrev pub HasEnd : Parent → List Link → List ℕ → Type 0
-HasEnd (parent.Client c) links ends = c < length ends
-HasEnd (parent.Job j) links ends = j < length links
+-- each done job that job j made is found
+abbrev pub OrphansAreFound : List (Option JobView) → LatestList → ℕ → Type 0
+OrphansAreFound jobs latest j = (t k : ℕ) (job : JobView) → live_job jobs k ≡ Some job → is_live_child (parent.Job j) t (Some job) ≡ true → is_done job.phase ≡ true → found latest (parent.Job j) t ≡ Some k
 
--- the clients' ends after the actor made job n
-abbrev pub ends_after : Parent → ℕ → List ℕ → List ℕ
-ends_after (parent.Client c) n ends = slice_set ends c (n + 1)
-ends_after (parent.Job j) n ends = ends
+-- the done jobs that job j made at positions below n are gone, and are not found any more
+pub record AreOrphaned (j n : ℕ) (jobs after : List (Option JobView)) (latest later : LatestList) : Type 0 where
+  pub long : length after ≡ length jobs
+  pub each : (k : ℕ) → (live_job after k ≡ live_job jobs k) ⊎ ((live_job after k ≡ None) × (unless_orphan j (live_job jobs k) ≡ None))
+  pub gone : (t k : ℕ) (job : JobView) → t < n → live_job after k ≡ Some job → is_live_child (parent.Job j) t (Some job) ≡ true → is_done job.phase ≡ false
+  pub sub : (a : Parent) (t k : ℕ) → found later a t ≡ Some k → (found latest a t ≡ Some k) × (live_job after k ≡ live_job jobs k)
+  pub others : (a : Parent) (t : ℕ) → a ≢ parent.Job j → found later a t ≡ found latest a t
+  pub behind : (t : ℕ) → n ≤ t → found later (parent.Job j) t ≡ found latest (parent.Job j) t
 
--- the links with the actor's end behind job n, where the actor is a job
-abbrev pub ended : Parent → ℕ → List Link → List Link
-ended (parent.Client c) n links = links
-ended (parent.Job j) n links = slice_set links j (record (link_at links j) { end = n + 1 })
+-- the job of this number, where it is gone, is not found by the submit any more, and the others are
+pub record IsGone (finished : Option JobView) (latest later : LatestList) (a : Parent) (t number : ℕ) : Type 0 where
+  pub sub : (b : Parent) (u k : ℕ) → found later b u ≡ Some k → (found latest b u ≡ Some k) × (finished ≡ None → is_call a t b u ≡ true → k ≢ number)
+  pub stay : (b : Parent) (u k : ℕ) → found latest b u ≡ Some k → (finished ≡ None → k ≢ number) → found later b u ≡ Some k
 
--- the links after the actor made job n, the last
-abbrev pub links_after : Parent → ℕ → List Link → List ℕ → List Link
-links_after a n links ends = ended a n links ++ (record { maker = a; before = end_of links ends a; end = 0 }) ∷ []
+-- a live job that is done
+abbrev pub is_done_job : Option JobView → Bool
+is_done_job None = false
+is_done_job (Some job) = is_done job.phase
+
+-- the number goes, with its place and as what is found, where it is the one of a done job
+abbrev pub ForgetsNumber : ℕ → ℕ → ℕ → Bool → PlaceList → PlaceList → LatestList → LatestList → Type 0
+ForgetsNumber j t k false kept kept' latest latest' = (kept' ≡ kept) × (latest' ≡ latest)
+ForgetsNumber j t k true kept kept' latest latest' = (kept'.items ≡ slice_set kept.items k None) × (kept'.places ≡ kept.places)
+    × ((b : Parent) (u : ℕ) → found latest' b u ≡ (if is_call (parent.Job j) t b u then None else found latest b u))
+
+-- what becomes of the done job that job j made at position t
+abbrev pub ForgetsFound : ℕ → ℕ → Option ℕ → PlaceList → PlaceList → LatestList → LatestList → Type 0
+ForgetsFound j t None kept kept' latest latest' = (kept' ≡ kept) × (latest' ≡ latest)
+ForgetsFound j t (Some k) kept kept' latest latest' = ForgetsNumber j t k (is_done_job (live_job (jobs_in kept.items) k)) kept kept' latest latest'
+
+abbrev pub ForgetsOrphan : ℕ → ℕ → PlaceList → PlaceList → LatestList → LatestList → Type 0
+ForgetsOrphan j t kept kept' latest latest' = ForgetsFound j t (found latest (parent.Job j) t) kept kept' latest latest'

@@ -1,17 +1,22 @@
 -- Views of a plan, and what holds of them.
-use Rattle.std.specs.Prelude.{◌≡◌, ◌<◌, length, IfSome}
+use Rattle.std.specs.Prelude.{◌≡◌, ℕ, ◌<◌, true, length, Some, IfSome}
 use Rattle.job_bodies.specs.Plan.{Plan}
+use Rattle.pool_machine.specs.PoolState.{PoolView, taken}
 use Rattle.written_machine.specs.declared.parent.Parent.{Parent}
 use Rattle.written_machine.specs.declared.parent.Parent.TheVariants as parent
 use Rattle.written_machine.specs.State.{State, pool_of}
 use Rattle.written_machine.specs.Reach.{IsReached}
 use Rattle.live_views.specs.declared.job_view.JobView.{JobView}
 use Rattle.live_views.specs.LiveView.{View, live_view}
-use Rattle.live_views.specs.ViewStep.{live_job, pool_in}
+use Rattle.live_views.specs.ViewStep.{live_job, may_ask_for, pool_in}
 
 -- it is the live view of a state that some list of events reaches
 abbrev pub IsOf : Plan → View → Type 0
 IsOf plan view = (s : State) × IsReached plan s × (live_view plan s ≡ view)
+
+-- the job that an idle worker would take from the pool's queue is not done
+abbrev pub WaitsAtHead : View → ℕ → Type 0
+WaitsAtHead view p = (j : ℕ) (pool : PoolView) → taken (pool_in view p) ≡ Some (j, pool) → may_ask_for view.jobs (parent.Job j) ≡ true
 
 -- a worker of the job's pool is busy
 pub record HasWorker (plan : Plan) (view : View) (job : JobView) : Type 0 where

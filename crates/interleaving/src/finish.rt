@@ -1,8 +1,10 @@
 //! The ends of bodies.
 
-ghost use Rattle.std.specs.Prelude.{◌≡◌, ◌<◌, length, slice_get, Some};
+ghost use Rattle.std.specs.Prelude.{◌≡◌, ◌≢◌, ◌<◌, true, false, length, slice_get, Some};
 ghost use Rattle.written_machine.specs.State.{pool_of};
-ghost use Rattle.live_views.specs.ViewStep.{live_job, pool_in, looped_in, finished_job_in, ended_in};
+ghost use Rattle.written_machine.specs.declared.parent.Parent.TheVariants.{Job};
+ghost use Rattle.interleaving.specs.LiveJobs.{DoneAreLatest, MadeByOther};
+ghost use Rattle.live_views.specs.ViewStep.{live_job, is_done, may_ask_for, pool_in, looped_in, finished_job_in, ended_in};
 
 use crate::World;
 use crate::plans::pool_of;
@@ -16,7 +18,10 @@ impl World {
 
     /// At the end of its body a job finishes, and a client of a kind that repeats begins again.
     pub(crate) fn end(&mut self, plan: &Plan, actor: Parent) -> Option<Outcome>
-        requires { IsAtWork plan.now self.old actor }
+        requires at_work { IsAtWork plan.now self.old actor }
+        requires asks { may_ask_for self.old.jobs actor ≡ true }
+        requires other { MadeByOther self.old.jobs actor }
+        requires done { DoneAreLatest self.old.jobs }
         ensures { AreOf (ended_in plan.now self.old actor) self.old result self.new }
     {
         match actor {
@@ -42,6 +47,9 @@ impl World {
     fn finish(&mut self, plan: &Plan, number: usize, job: JobView) -> Outcome
         requires live { live_job self.old.jobs number ≡ Some job }
         requires pool { pool_of plan.now job.class < length self.old.pools }
+        requires going { is_done job.phase ≡ false }
+        requires other { job.parent ≢ Job number }
+        requires done { DoneAreLatest self.old.jobs }
         requires busy { (pool_in self.old (pool_of plan.now job.class)).idle < (pool_in self.old (pool_of plan.now job.class)).threads }
         ensures { finished_job_in plan.now self.old number (Some job) ≡ Some (self.new, result) }
     {

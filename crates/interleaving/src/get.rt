@@ -1,7 +1,8 @@
 //! Gets.
 
-ghost use Rattle.std.specs.Prelude.{◌≡◌, ◌+◌, ◌<◌, ◌^◌};
-ghost use Rattle.live_views.specs.ViewStep.{got_child_in, live_child};
+ghost use Rattle.std.specs.Prelude.{◌≡◌, ◌+◌, ◌<◌, ◌^◌, true};
+ghost use Rattle.interleaving.specs.LiveJobs.{IsAlone};
+ghost use Rattle.live_views.specs.ViewStep.{got_child_in, live_child, may_ask_for};
 
 use crate::World;
 use crate::moves::move_actor;
@@ -12,15 +13,18 @@ impl World {
 
     /// The actor, at this position, gets the latest job that it made by the submit, once that is done.
     pub(crate) fn get(&mut self, actor: Parent, position: usize, submit: usize) -> Option<Outcome>
-        requires { position + 1 < 2 ^ 64 }
+        requires can_move_on { position + 1 < 2 ^ 64 }
+        requires asks { may_ask_for self.old.jobs actor ≡ true }
+        requires alone { IsAlone self.old.jobs actor submit }
         ensures { AreOf (got_child_in self.old actor position (live_child self.old.jobs actor submit)) self.old result self.new }
     {
         let number = self.jobs.latest(actor, submit)?;
-        if !self.jobs.get(number)?.is_done() {
+        let job = self.jobs.get(number)?;
+        if !job.is_done() {
             return None;
         }
         move_actor(&mut self.jobs, &mut self.clients, actor, position + 1);
-        self.jobs.forget(number);
+        self.jobs.forget(number, job);
         Some(Outcome::Got(number))
     }
 }

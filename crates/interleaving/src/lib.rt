@@ -4,9 +4,11 @@
 mod clients;
 mod finish;
 mod get;
+mod latest;
 mod live_jobs;
 mod moves;
 mod next_action;
+mod places;
 mod plans;
 mod pools;
 mod step;

@@ -1,172 +1,160 @@
-//! The live jobs of a world, by number. There is a place for each job that was ever made, and most are not live any more,
-//! so links lead from an actor to those that it made.
+//! The live jobs of a world: by number, and by who made them.
 
-ghost use Rattle.std.specs.Prelude.{◌≡◌, ◌+◌, ◌-◌, ◌<◌, ◌^◌, [], ◌∷◌, ◌++◌, length, map, count_by, slice_index, slice_set, min, vec_len, vec_capacity, None, Some, IfOk, OnOk};
+ghost use Rattle.std.specs.Prelude.{◌≡◌, ◌≢◌, ℕ, ◌+◌, ◌<◌, ◌≤◌, ◌^◌, [], ◌∷◌, ◌++◌, length, map, count_by, is_some, slice_set, IsSome, true, false, None, Some, OnOk};
 ghost use Rattle.written_machine.specs.declared.parent.Parent.TheVariants.{Job};
-ghost use Rattle.live_views.specs.ViewStep.{live_job, live_child, is_unfinished_job, may_ask_for, with_phase, unless_stale, unless_orphan, finished_or_gone};
-ghost use Rattle.interleaving.specs.LiveJobs.{IsAmong, Fades, NoOtherIsStale, HasEnd, StandBelow, end_of, ends_after, ended};
+ghost use Rattle.live_views.specs.declared.job_view.Phase.TheVariants.{At};
+ghost use Rattle.live_views.specs.ViewStep.{live_job, live_child, is_done, is_unfinished_job, may_ask_for, with_phase, unless_stale, unless_orphan, finished_or_gone};
+ghost use Rattle.interleaving.specs.LiveJobs.{WasMade, DoneAreLatest, NoOtherIsStale, IsAlone, places_made, jobs_in, AreReached, ReachesStay, ReachesTo, OrphansAreFound, AreOrphaned, AreFound, IsGone, ForgetsOrphan, is_done_job};
 
+use crate::latest::Latest;
+use crate::places::{Place, Places};
 use live_views::{JobView, Phase};
 use std::alloc::{AllocError, Global};
 use std::marker::Model;
 use written_machine::Parent;
 
-// What leads from a job, live or not, to other jobs: from the latest job of an actor back to each live one that it made.
-// In a reached state what is looked for stands among the jobs of the actor's last two rounds through its body.
-#[derive(Clone, Copy, Debug)]
-struct Link {
-    // Who made the job.
-    maker: Parent,
-    // The live jobs that its maker made earlier stand below this number. The job just below it, if any, is its maker's.
-    before: usize,
-    // The live jobs that it made itself stand below this number. The job just below it, if any, is its own.
-    end: usize,
-}
-
-/// The live jobs of a world, and where those that an actor made stand.
-///
-/// It grows by one place and one link for each job that is made.
+/// The live jobs of a world, and for each actor that may ask for one of its own the latest that it made at a position.
 #[derive(Debug, Drop)]
 pub(crate) struct LiveJobs {
-    // By number; None where the job is not live any more.
-    jobs: Vec<Option<JobView>>,
-    // By number, of each job that was made.
-    links: Vec<Link>,
-    // For each client the number below which the live jobs that it made stand.
-    ends: Vec<usize>,
+    kept: Places,
+    latest: Latest,
+    // How many are queued or at a position.
+    unfinished: usize,
 }
 
 impl Model for LiveJobs {
-    ghost use Rattle.std.specs.Prelude.{◌-◌, length, min, vec_len, vec_capacity};
+    ghost use Rattle.std.specs.Prelude.{min};
     ghost use Rattle.interleaving.specs.JobList.{JobList};
+    ghost use Rattle.interleaving.specs.LiveJobs.{jobs_in, AreIndexed};
 
     ghost Value = { JobList };
 
-    ghost view = { λ l. record { jobs = l.jobs.items; clients = length l.ends.items; room = min (vec_capacity l.jobs - vec_len l.jobs) (vec_capacity l.links - vec_len l.links) } };
+    ghost view = { λ l. record { jobs = jobs_in l.kept.items; places = l.kept.places; room = min l.kept.room l.latest.room } };
 
-    ghost use Rattle.interleaving.specs.LiveJobs.{IsIndexed};
-
-    ghost invariant = { λ l. IsIndexed l.jobs.items l.links.items l.ends.items };
+    ghost invariant = { λ l. AreIndexed l.kept.items l.latest l.unfinished };
 }
 
 impl LiveJobs {
     /// No jobs so far.
-    pub(crate) fn new(alloc: Global, clients: usize) -> Result<LiveJobs, AllocError>
-        ensures jobs { IfOk result (λ new. new.jobs ≡ []) }
-        ensures clients { IfOk result (λ new. new.clients ≡ clients) }
+    pub(crate) fn new(alloc: Global) -> LiveJobs
+        ensures jobs { result.jobs ≡ [] }
+        ensures places { result.places ≡ 0 }
     {
-        Ok(LiveJobs {
-            jobs: Vec::new(alloc),
-            links: Vec::new(alloc),
-            ends: vec![in alloc; 0; clients]?,
-        })
+        LiveJobs {
+            kept: Places::new(alloc),
+            latest: Latest::new(alloc),
+            unfinished: 0,
+        }
     }
 
     /// How many jobs were ever made.
     pub(crate) fn len(&self) -> usize
         ensures { result ≡ length self.now.jobs }
     {
-        self.jobs.len()
+        self.kept.made()
+    }
+
+    /// How many places there are for live jobs, free ones included.
+    pub(crate) fn places(&self) -> usize
+        ensures { result ≡ self.now.places }
+    {
+        self.kept.count()
     }
 
     /// The live job of this number.
     pub(crate) fn get(&self, number: usize) -> Option<JobView>
         ensures { result ≡ live_job self.now.jobs number }
     {
-        *self.jobs.get(number)?
+        Some(self.kept.get(number)?.job)
     }
 
     /// How many jobs are queued or at a position.
     pub(crate) fn unfinished(&self) -> usize
         ensures { result ≡ count_by is_unfinished_job self.now.jobs }
     {
-        self.jobs
-            .iter()
-            .filter(|job| job.is_some_and(|job| !job.is_done()))
-            .count()
+        self.unfinished
     }
 
-    /// The latest live job that the actor made by the submit at this position of its body.
+    /// The latest live job that the actor, which may ask for it, made by the submit at this position of its body.
     pub(crate) fn latest(&self, actor: Parent, submit: usize) -> Option<usize>
+        requires { may_ask_for self.now.jobs actor ≡ true }
         ensures { result ≡ live_child self.now.jobs actor submit }
     {
-        let mut below = end_of(&self.links, &self.ends, actor);
-        while below > 0 {
-            let number = below - 1;
-            if self.jobs[number].is_some_and(|job| job.is_child_of(actor, submit)) {
-                return Some(number);
-            }
-            below = self.links[number].before;
+        self.latest.get(actor, submit)
+    }
+
+    /// The job of this number, which is not done, comes to this position of its body.
+    pub(crate) fn go_to(&mut self, number: usize, position: usize)
+        requires { may_ask_for self.old.jobs (Job number) ≡ true }
+        ensures jobs { self.new.jobs ≡ with_phase number (At position) self.old.jobs }
+        ensures places { self.new.places ≡ self.old.places }
+        ensures room { self.new.room ≡ self.old.room }
+    {
+        if let Some(place) = self.kept.get(number) {
+            let job = JobView {
+                phase: Phase::At(position),
+                ..place.job
+            };
+            self.kept.set(number, Place { job, ..place });
         }
-        None
     }
 
-    /// The job of this number is in this phase from now on, if it is live.
-    pub(crate) fn set_phase(&mut self, number: usize, phase: Phase)
-        ensures { self.new ≡ record self.old { jobs = with_phase number phase self.old.jobs } }
+    /// The done job of this number is live no more: its maker gets it, and has no other from that position.
+    pub(crate) fn forget(&mut self, number: usize, job: JobView)
+        requires live { live_job self.old.jobs number ≡ Some job }
+        requires done { is_done job.phase ≡ true }
+        requires alone { IsAlone self.old.jobs job.parent job.slot }
+        ensures jobs { self.new.jobs ≡ slice_set self.old.jobs number None }
+        ensures places { self.new.places ≡ self.old.places }
     {
-        let job = self.get(number).map(|job| JobView { phase, ..job });
-        self.replace(number, job);
-    }
-
-    /// The job of this number is live no more.
-    pub(crate) fn forget(&mut self, number: usize)
-        ensures { self.new ≡ record self.old { jobs = slice_set self.old.jobs number None } }
-    {
-        self.replace(number, None);
-    }
-
-    /// The actor's done job of this submit is live no more: the actor makes a new one there. No other than its latest is
-    /// done.
-    pub(crate) fn forget_stale(&mut self, latest: Option<usize>, actor: Parent, submit: usize)
-        requires { NoOtherIsStale self.old.jobs latest actor submit }
-        ensures { self.new ≡ record self.old { jobs = map (unless_stale actor submit) self.old.jobs } }
-    {
-        if let Some(number) = latest {
-            let job = self
-                .get(number)
-                .and_then(|job| job.unless_stale(actor, submit));
-            self.replace(number, job);
-        }
+        self.latest.forget(job.parent, job.slot);
+        self.kept.free(number);
     }
 
     /// Makes room for one job.
     pub(crate) fn reserve(&mut self) -> Result<(), AllocError>
         ensures jobs { self.new.jobs ≡ self.old.jobs }
-        ensures clients { self.new.clients ≡ self.old.clients }
+        ensures places { self.new.places ≡ self.old.places }
         ensures room { OnOk result (0 < self.new.room) }
     {
-        self.jobs.reserve(1)?;
-        self.links.reserve(1)
+        self.latest.reserve()?;
+        self.kept.reserve()
     }
 
-    /// The job's parent makes it. There is room for it.
-    pub(crate) fn push(&mut self, job: JobView)
+    /// The job's parent makes it. There is room for it. The parent's done job of the same submit, which can only be its
+    /// latest, is live no more.
+    pub(crate) fn make(&mut self, latest: Option<usize>, job: JobView)
         requires room { 0 < self.old.room }
-        requires parent { IsAmong self.old.clients (length self.old.jobs) job.parent }
-        ensures jobs { self.new.jobs ≡ self.old.jobs ++ Some job ∷ [] }
-        ensures clients { self.new.clients ≡ self.old.clients }
+        requires parent { WasMade self.old.jobs job.parent }
+        requires stale { NoOtherIsStale self.old.jobs latest job.parent job.slot }
+        requires begins { is_done job.phase ≡ false }
+        requires fits { job.slot + 1 < 2 ^ 64 }
+        ensures jobs { self.new.jobs ≡ map (unless_stale job.parent job.slot) self.old.jobs ++ Some job ∷ [] }
+        ensures places { self.new.places ≡ places_made self.old (map (unless_stale job.parent job.slot) self.old.jobs) }
     {
-        let number = self.jobs.len();
-        let before = end_of(&self.links, &self.ends, job.parent);
-        set_end(&mut self.links, &mut self.ends, job.parent, number);
-        self.jobs.push_reserved(Some(job));
-        self.links.push_reserved(Link {
-            maker: job.parent,
-            before,
-            end: 0,
-        });
+        free_stale(&mut self.kept, latest, job.parent, job.slot);
+        let number = self.kept.made();
+        reach_to(&mut self.kept, job.parent, job.slot + 1);
+        self.kept.push(Place { job, reach: 0 });
+        self.latest.set(job.parent, job.slot, number);
+        self.unfinished += 1;
     }
 
     /// The job of this number finishes: it is live as long as its parent may ask for it, which asks for the latest alone.
     /// Nobody asks for the done jobs that it made.
     pub(crate) fn finish(&mut self, number: usize, job: JobView)
-        requires { live_job self.old.jobs number ≡ Some job }
-        ensures { self.new ≡ record self.old { jobs = map (unless_orphan number) (slice_set self.old.jobs number (finished_or_gone self.old.jobs number job)) } }
+        requires live { live_job self.old.jobs number ≡ Some job }
+        requires going { is_done job.phase ≡ false }
+        requires other { job.parent ≢ Job number }
+        requires done { DoneAreLatest self.old.jobs }
+        ensures jobs { self.new.jobs ≡ map (unless_orphan number) (slice_set self.old.jobs number (finished_or_gone self.old.jobs number job)) }
+        ensures places { self.new.places ≡ self.old.places }
     {
         let finished = self.finished_or_gone(number, job);
-        self.replace(number, finished);
-        self.forget_orphans(number);
+        forget_orphans(&mut self.kept, &mut self.latest, number);
+        finish_in(&mut self.kept, number, finished);
+        forget_if_gone(&mut self.latest, finished, job.parent, job.slot, number);
+        self.unfinished -= 1;
     }
 
     fn finished_or_gone(&self, number: usize, job: JobView) -> Option<JobView>
@@ -191,57 +179,114 @@ impl LiveJobs {
             Parent::Job(number) => self.get(number).is_some_and(|job| !job.is_done()),
         }
     }
+}
 
-    fn forget_orphans(&mut self, parent: usize)
-        ensures { self.new ≡ record self.old { jobs = map (unless_orphan parent) self.old.jobs } }
-    {
-        let end = end_of(&self.links, &self.ends, Parent::Job(parent));
-        forget_orphans(&mut self.jobs, &self.links, end, parent);
+// The actor's done job of this submit, which can only be its latest, is live no more.
+fn free_stale(kept: &mut Places, latest: Option<usize>, actor: Parent, submit: usize)
+    requires { NoOtherIsStale (jobs_in kept.old.items) latest actor submit }
+    ensures jobs { jobs_in kept.new.items ≡ map (unless_stale actor submit) (jobs_in kept.old.items) }
+    ensures reaches { ReachesStay kept.old.items kept.new.items }
+    ensures places { kept.new.places ≡ kept.old.places }
+    ensures room { kept.old.room ≤ kept.new.room }
+{
+    if let Some(number) = latest {
+        free_if_stale(kept, number, actor, submit);
     }
+}
 
-    // The job of this number changes its phase, or is live no more.
-    fn replace(&mut self, number: usize, job: Option<JobView>)
-        requires { Fades (live_job self.old.jobs number) job }
-        ensures { self.new ≡ record self.old { jobs = slice_set self.old.jobs number job } }
+// The job of this number is live no more, if it is a stale one of this submit.
+fn free_if_stale(kept: &mut Places, number: usize, actor: Parent, submit: usize)
+    ensures jobs { jobs_in kept.new.items ≡ slice_set (jobs_in kept.old.items) number (unless_stale actor submit (live_job (jobs_in kept.old.items) number)) }
+    ensures reaches { ReachesStay kept.old.items kept.new.items }
+    ensures places { kept.new.places ≡ kept.old.places }
+    ensures room { kept.old.room ≤ kept.new.room }
+{
+    if let Some(place) = kept.get(number)
+        && place.job.unless_stale(actor, submit).is_none()
     {
-        if number < self.jobs.len() {
-            self.jobs[number] = job;
+        kept.free(number);
+    }
+}
+
+// The actor, where it is a live job, made one by a submit below this position.
+fn reach_to(kept: &mut Places, actor: Parent, reach: usize)
+    ensures jobs { jobs_in kept.new.items ≡ jobs_in kept.old.items }
+    ensures reaches { ReachesStay kept.old.items kept.new.items }
+    ensures reached { ReachesTo kept.new.items actor reach }
+    ensures places { kept.new.places ≡ kept.old.places }
+    ensures room { kept.new.room ≡ kept.old.room }
+{
+    if let Parent::Job(number) = actor
+        && let Some(place) = kept.get(number)
+        && place.reach < reach
+    {
+        kept.set(number, Place { reach, ..place });
+    }
+}
+
+// The live job of this number is done, or live no more.
+fn finish_in(kept: &mut Places, number: usize, finished: Option<JobView>)
+    requires { IsSome (live_job (jobs_in kept.old.items) number) }
+    ensures jobs { jobs_in kept.new.items ≡ slice_set (jobs_in kept.old.items) number finished }
+    ensures reaches { ReachesStay kept.old.items kept.new.items }
+    ensures places { kept.new.places ≡ kept.old.places }
+{
+    match finished {
+        Some(job) => {
+            if let Some(place) = kept.get(number) {
+                kept.set(number, Place { job, ..place });
+            }
         }
+        None => kept.free(number),
     }
 }
 
-// The number below which the actor's live jobs stand. The latest job that it made, if it made one, is just below it.
-fn end_of(links: &[Link], ends: &[usize], actor: Parent) -> usize
-    ensures { result ≡ end_of links.now ends.now actor }
+// The job of this number, where nothing is left of it, is not found by this submit any more.
+fn forget_if_gone(
+    latest: &mut Latest,
+    finished: Option<JobView>,
+    actor: Parent,
+    submit: usize,
+    number: usize,
+)
+    ensures { IsGone finished latest.old latest.new actor submit number }
 {
-    match actor {
-        Parent::Client(client) => ends.get(client).copied().unwrap_or(0),
-        Parent::Job(number) => links.get(number).map_or(0, |link| link.end),
+    if finished.is_none() && latest.get(actor, submit) == Some(number) {
+        latest.forget(actor, submit);
     }
 }
 
-// The actor made the job of this number, its latest.
-fn set_end(links: &mut [Link], ends: &mut [usize], actor: Parent, number: usize)
-    requires there { HasEnd actor links.old ends.old }
-    requires fits { number + 1 < 2 ^ 64 }
-    ensures ends { ends.new ≡ ends_after actor number ends.old }
-    ensures links { links.new ≡ ended actor number links.old }
+// The done jobs of this job are live no more. They are found, and come from below its reach.
+fn forget_orphans(kept: &mut Places, latest: &mut Latest, parent: usize)
+    requires live { IsSome (live_job (jobs_in kept.old.items) parent) }
+    requires reached { AreReached kept.old.items }
+    requires are_found { AreFound (jobs_in kept.old.items) latest.old }
+    requires orphans { OrphansAreFound (jobs_in kept.old.items) latest.old parent }
+    ensures jobs { jobs_in kept.new.items ≡ map (unless_orphan parent) (jobs_in kept.old.items) }
+    ensures orphaned { (n : ℕ) × AreOrphaned parent n (jobs_in kept.old.items) (jobs_in kept.new.items) latest.old latest.new }
+    ensures reaches { ReachesStay kept.old.items kept.new.items }
+    ensures places { kept.new.places ≡ kept.old.places }
 {
-    match actor {
-        Parent::Client(client) => ends[client] = number + 1,
-        Parent::Job(parent) => links[parent].end = number + 1,
+    let reach = kept.get(parent).map_or(0, |place| place.reach);
+    for submit in 0..reach {
+        forget_orphan(kept, latest, parent, submit);
     }
 }
 
-// The done jobs of this job are live no more. The links lead to its live jobs from the end on.
-fn forget_orphans(jobs: &mut [Option<JobView>], links: &[Link], end: usize, parent: usize)
-    requires { StandBelow jobs.old links.now (Job parent) end }
-    ensures { jobs.new ≡ map (unless_orphan parent) jobs.old }
+// The job that this job made by this submit is live no more, if it is done.
+fn forget_orphan(kept: &mut Places, latest: &mut Latest, parent: usize, submit: usize)
+    ensures { ForgetsOrphan parent submit kept.old kept.new latest.old latest.new }
 {
-    let mut below = end;
-    while below > 0 {
-        let number = below - 1;
-        jobs[number] = jobs[number].and_then(|job| job.unless_orphan(parent));
-        below = links[number].before;
+    if let Some(number) = latest.get(Parent::Job(parent), submit)
+        && is_done(kept, number)
+    {
+        kept.free(number);
+        latest.forget(Parent::Job(parent), submit);
     }
+}
+
+fn is_done(kept: &Places, number: usize) -> bool
+    ensures { result ≡ is_done_job (live_job (jobs_in kept.now.items) number) }
+{
+    kept.get(number).is_some_and(|place| place.job.is_done())
 }

@@ -1,10 +1,10 @@
 //! Where an actor stands.
 
-ghost use Rattle.std.specs.Prelude.{◌≡◌, ◌+◌, ◌<◌, ◌^◌, length, IsSome, IfSome, OnSome};
+ghost use Rattle.std.specs.Prelude.{◌≡◌, ◌+◌, ◌<◌, ◌^◌, length, true, IsSome, IfSome, OnSome};
 ghost use Rattle.job_bodies.specs.WellFormed.{IsWellFormed};
 ghost use Rattle.std.specs.Option.{option_map};
 ghost use Rattle.written_machine.specs.declared.parent.Parent.TheVariants as parent;
-ghost use Rattle.live_views.specs.ViewStep.{point_in};
+ghost use Rattle.live_views.specs.ViewStep.{point_in, may_ask_for};
 ghost use Rattle.interleaving.specs.LiveJobs.{IsAmong};
 ghost use Rattle.interleaving.specs.NextAction.{next_action_in};
 
@@ -46,6 +46,7 @@ impl World {
         ensures can_move_on { IfSome result (λ next. IsSome next.action → next.position + 1 < 2 ^ 64) }
         ensures well_formed { IsWellFormed plan.now }
         ensures there { OnSome result (IsAmong (length self.now.clients) (length self.now.jobs) actor) }
+        ensures asks { OnSome result (may_ask_for self.now.jobs actor ≡ true) }
     {
         match actor {
             Parent::Client(client) => self.next_of_client(plan, client),
@@ -66,6 +67,7 @@ impl World {
 
     fn next_of_job(&self, plan: &Plan, number: usize) -> Option<NextAction>
         ensures there { OnSome result (number < length self.now.jobs) }
+        ensures asks { OnSome result (may_ask_for self.now.jobs (parent.Job number) ≡ true) }
         ensures value { result ≡ option_map next_action_at (point_in plan.now self.now (parent.Job number)) }
         ensures can_move_on { IfSome result (λ next. IsSome next.action → next.position + 1 < 2 ^ 64) }
         ensures well_formed { IsWellFormed plan.now }

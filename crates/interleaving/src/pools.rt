@@ -7,7 +7,6 @@ ghost use Rattle.live_views.specs.ViewStep.{pool_in, took_in, let_go_in};
 
 use crate::World;
 use job_bodies::{Plan, Pool};
-use live_views::Phase;
 use pool_machine::PoolState;
 use std::alloc::{AllocError, Global};
 use written_machine::Outcome;
@@ -26,10 +25,12 @@ pub(crate) fn new_pools(alloc: Global, pools: &[Pool]) -> Result<Vec<PoolState>,
 
 impl World {
     ghost use Rattle.interleaving.specs.Answers.{AreOf};
+    ghost use Rattle.interleaving.specs.OfPlan.{IsOf};
 
     /// An idle worker of the pool takes the head of its queue.
     pub(crate) fn take(&mut self, plan: &Plan, pool: usize) -> Option<Outcome>
-        requires { length self.old.pools ≡ length plan.now.pools }
+        requires pools { length self.old.pools ≡ length plan.now.pools }
+        requires of_plan { IsOf plan.now self.old }
         ensures value { AreOf (took_in self.old pool (taken (pool_in self.old pool))) self.old result self.new }
         ensures well_formed { IsWellFormed plan.now }
     {
@@ -37,7 +38,7 @@ impl World {
             return None;
         }
         let number = self.pools[pool].take()?;
-        self.jobs.set_phase(number, Phase::At(0));
+        self.jobs.go_to(number, 0);
         Some(Outcome::Took(number))
     }
 

@@ -1,6 +1,6 @@
 //! Sets of jobs that wait only for their own members.
 
-ghost use Rattle.std.specs.Prelude.{◌≡◌, ◌&&◌, ◌↔◌, IsTrue, Some};
+ghost use Rattle.std.specs.Prelude.{◌≡◌, ◌&&◌, ◌↔◌, true, IsTrue, Some};
 ghost use Rattle.std.specs.List.{list_all};
 ghost use Rattle.numbered_lists.specs.Places.{places_where};
 ghost use Rattle.job_bodies.specs.WellFormed.{IsWellFormed};
@@ -9,7 +9,7 @@ ghost use Rattle.written_machine.specs.State.{State};
 ghost use Rattle.written_machine.specs.Reach.{IsReached};
 ghost use Rattle.written_machine.specs.Waiting.{is_member, is_some_member, IsWaitingSet, is_waiting_set};
 ghost use Rattle.live_views.specs.LiveView.{live_view};
-ghost use Rattle.live_views.specs.ViewStep.{pool_in, live_job, live_child};
+ghost use Rattle.live_views.specs.ViewStep.{pool_in, live_job, live_child, may_ask_for};
 ghost use Rattle.live_views.specs.Waiting.{is_busy_job, waits_in_queue_of, is_waiting_set_in};
 ghost use Rattle.interleaving.specs.Stuck.{is_queued_job, has_queued, job_waits_unless_queued, unqueued_wait, QueuesWait};
 
@@ -82,6 +82,7 @@ impl World {
     }
 
     fn waits_for_member(&self, members: &[usize], number: usize, submit: usize) -> bool
+        requires { may_ask_for self.now.jobs (parent.Job number) ≡ true }
         ensures { result ≡ is_some_member members.now (live_child self.now.jobs (parent.Job number) submit) }
     {
         self.jobs

@@ -2,7 +2,7 @@
 
 ghost use Rattle.std.specs.Prelude.{◌≡◌, ◌+◌, ◌<◌, ◌^◌, length, true, None, IfOk, OnErr};
 ghost use Rattle.written_machine.specs.State.{pool_of};
-ghost use Rattle.live_views.specs.ViewStep.{live_child, submitted_in};
+ghost use Rattle.live_views.specs.ViewStep.{live_child, may_ask_for, submitted_in};
 ghost use Rattle.interleaving.specs.LiveJobs.{IsAmong, DoneAreLatest};
 
 use crate::World;
@@ -28,6 +28,7 @@ impl World {
         requires pool { pool_of plan.now class < length self.old.pools }
         requires there { IsAmong (length self.old.clients) (length self.old.jobs) actor }
         requires can_move_on { next.position + 1 < 2 ^ 64 }
+        requires asks { may_ask_for self.old.jobs actor ≡ true }
         requires asked { next.asked ≡ true → live_child self.old.jobs actor next.position ≡ None }
         requires done { DoneAreLatest self.old.jobs }
         ensures ok { IfOk result (λ outcome. submitted_in plan.now self.old actor next.position class ≡ (self.new, outcome)) }
@@ -46,19 +47,22 @@ impl World {
             }
         };
         move_actor(&mut self.jobs, &mut self.clients, actor, next.position + 1);
-        self.jobs.forget_stale(latest, actor, next.position);
-        self.jobs.push(JobView {
-            class,
-            parent: actor,
-            slot: next.position,
-            phase,
-        });
+        self.jobs.make(
+            latest,
+            JobView {
+                class,
+                parent: actor,
+                slot: next.position,
+                phase,
+            },
+        );
         Ok(outcome)
     }
 
     // The latest live job that the actor made by this submit so far: none where a get asked for the earlier ones.
     fn latest_before(&self, actor: Parent, next: NextAction) -> Option<usize>
-        requires { next.asked ≡ true → live_child self.now.jobs actor next.position ≡ None }
+        requires asks { may_ask_for self.now.jobs actor ≡ true }
+        requires asked { next.asked ≡ true → live_child self.now.jobs actor next.position ≡ None }
         ensures { result ≡ live_child self.now.jobs actor next.position }
     {
         if next.asked {

@@ -20,8 +20,8 @@ use written_machine::ClientState;
 
 /// A plan's pools, clients and live jobs, and how many submits were refused.
 ///
-/// A job is live while it is queued or at work, and while it is done and its parent may still get it. Of the others only
-/// their makers are kept, so a world grows by one place and one link for each job that is made.
+/// A job is live while it is queued or at work, and while it is done and its parent may still get it. Of the others nothing
+/// is kept: a job that is live no more leaves its place to another.
 #[derive(Debug, Drop)]
 pub struct World {
     pub(crate) jobs: LiveJobs,
@@ -36,10 +36,6 @@ impl Model for World {
     ghost Value = { View };
 
     ghost view = { λ w. record { jobs = w.jobs.jobs; pools = w.pools.items; clients = w.clients.items; refusals = w.refusals } };
-
-    ghost use Rattle.std.specs.Prelude.{◌≡◌, length};
-
-    ghost invariant = { λ w. w.jobs.clients ≡ length w.clients.items };
 }
 
 impl World {
@@ -59,7 +55,7 @@ impl World {
         let pools = new_pools(alloc, plan.pools())?;
         let clients = new_clients(alloc, plan.clients())?;
         Ok(World {
-            jobs: LiveJobs::new(alloc, clients.len())?,
+            jobs: LiveJobs::new(alloc),
             pools,
             clients,
             refusals: 0,

@@ -1,17 +1,11 @@
-use Rattle.std.proofs.Common.{◌≤◌, length}
-use Rattle.written_machine.specs.declared.parent.Parent.TheVariants.{Job}
-use Rattle.live_views.specs.ViewStep.{unless_orphan}
-use Rattle.interleaving.specs.LiveJobs.{IsNext}
-use Rattle.interleaving.proofs.Mapped.{AreMapped}
+use Rattle.std.proofs.Common.{◌≡◌}
+use Rattle.interleaving.specs.LiveJobs.{AreOrphaned, ReachesStay, jobs_in}
 use Rattle.interleaving.proofs.live_jobs.forget_orphans.Given as goal
 
--- the jobs from this number on are forgotten, and the links lead to those below it
-abbrev pub invariant-loop-below : goal.invariant-loop-below
-invariant-loop-below l = record {
-  mapped : AreMapped (unless_orphan l.parent) l.fn.jobs l.jobs l.below;
-  inside : l.below ≤ length l.jobs;
-  next : IsNext l.links (Job l.parent) l.below;
+-- the done jobs from positions before this one are forgotten
+abbrev pub invariant-loop-submit : goal.invariant-loop-submit
+invariant-loop-submit l = record {
+  orphaned : AreOrphaned l.parent l.submit (jobs_in l.fn.kept.items) (jobs_in l.kept.items) l.fn.latest l.latest;
+  reaches : ReachesStay l.fn.kept.items l.kept.items;
+  places : l.kept.places ≡ l.fn.kept.places;
 }
-
-abbrev pub decreases-loop-below : goal.decreases-loop-below
-decreases-loop-below l = l.below

@@ -1,13 +1,26 @@
 use Rattle.std.proofs.Common.{◌≡◌, sym, Some, rules}
-use Rattle.job_bodies.specs.declared.action.Action.TheVariants.{Submit}
+use Rattle.job_bodies.specs.declared.action.Action.TheVariants.{Submit, Get}
 use Rattle.interleaving.proofs.OfPlan.{pool_of_submit, at_work}
+use Rattle.interleaving.proofs.Going.{alone_at_get, made_by_other}
 use Rattle.interleaving.proofs.Left.{done_are_latest, none_left}
 use Rattle.interleaving.proofs.world.World.step_actor.Goals as goal
 
-pub end-requires : goal.end-requires
-end-requires c =
+pub end-requires-clause-at_work : goal.end-requires-clause-at_work
+end-requires-clause-at_work c =
     let next = c.in-Some.ensures in
     at_work c.args.plan.now c.args.self.now c.args.actor c.in-Some.next c.requires next.well_formed (sym next.value)
+
+pub end-requires-clause-other : goal.end-requires-clause-other
+end-requires-clause-other c = made_by_other c.args.plan.now c.args.self.now c.args.actor c.requires c.in-Some.ensures.well_formed
+
+pub end-requires-clause-done : goal.end-requires-clause-done
+end-requires-clause-done c = done_are_latest c.args.plan.now c.args.self.now c.requires
+
+pub get-requires-clause-alone : goal.get-requires-clause-alone
+get-requires-clause-alone c =
+    let next = c.in-Some.ensures in
+    let gets : c.in-Some.next.action ≡ Some (Get c.in-Some-Get.submit) = search rules in
+    alone_at_get c.args.plan.now c.args.self.now c.args.actor c.in-Some.next c.in-Some-Get.submit c.requires next.well_formed (sym next.value) gets
 
 pub submit-requires-clause-pool : goal.submit-requires-clause-pool
 submit-requires-clause-pool c =

@@ -1,0 +1,7 @@
+-- What an answer that is no error says.
+use Rattle.std.proofs.Common.{◌≡◌, false, Result, Ok, Err, OnOk}
+use Rattle.std.specs.Result.{is_err}
+
+pub when_ok : {T E : Type 0} {P : Type 0} (r : Result T E) → is_err r ≡ false → OnOk r P → P
+when_ok (Ok x) ok p = p
+when_ok (Err e) ok p = absurd cc
