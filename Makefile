@@ -30,14 +30,17 @@ examples: program
 checks: program
 	python3 checks/refused_growths.py
 	python3 checks/ends_of_streams.py
+	python3 checks/small_plans.py
 
 # Times a replay beside a plain program that only splits and counts the same lines, the reading of a plan beside the
-# reading of its TOML alone, and check and explain beside the reading of their two texts alone.
+# reading of its TOML alone, check and explain beside the reading of their two texts alone, and certify beside the reading
+# of its plan.
 bench: program plan_reader
 	@command -v valgrind > /dev/null || apt-get install -y valgrind || echo "no valgrind: no instructions are counted"
 	python3 bench/replay.py
 	python3 bench/read.py
 	python3 bench/check.py
+	python3 bench/certify.py
 
 # Proves and builds the program that reads the texts alone.
 plan_reader:
