@@ -18,8 +18,8 @@ from pathlib import Path
 HERE = Path(__file__).resolve().parent
 BUILT = HERE.parent / "crates" / "sizing" / "out" / "sizing"
 EXAMPLE = HERE.parent / "examples" / "two-clients"
-# What stands behind the line `%%`, by its file.
-SECOND_PARTS = {"replay": "events", "check": "json", "explain": "json"}
+# What each command reads, by the files of the example, with a line `%%` between two of them.
+PARTS = {"replay": ("toml", "events"), "check": ("toml", "json"), "explain": ("toml", "json"), "certify": ("toml",)}
 SECONDS = 20
 
 NOT_WRITTEN = (3, b"", b"fault 61 WriteFailed\n")
@@ -42,10 +42,9 @@ def main():
 
 def cases(program, folder):
     """Each case's name, its run, and how it must end: in this very way, or, without one, as where the words are bad."""
-    for command, second in SECOND_PARTS.items():
+    for command, parts in PARTS.items():
         given = folder / command
-        parts = [EXAMPLE.with_suffix(suffix).read_bytes() for suffix in (".toml", f".{second}")]
-        given.write_bytes(b"%%\n".join(parts))
+        given.write_bytes(b"%%\n".join(EXAMPLE.with_suffix(f".{part}").read_bytes() for part in parts))
         words = [program, command]
         yield f"{command}, a full device as standard output", lambda: full_device(words, given), NOT_WRITTEN
         yield f"{command}, a closed standard output", lambda: ends(words, given, close=1), NOT_WRITTEN

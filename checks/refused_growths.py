@@ -30,6 +30,7 @@ CASES = [
     *[("replay", name) for name in ("two-clients", "cross-pools", "there-and-back")],
     *[("check", name) for name in JUDGED],
     *[("explain", name) for name in [*JUDGED, "two-clients", "cross-pools"]],
+    *[("certify", name) for name in [*JUDGED, "two-clients"]],
 ]
 SHARED_OBJECT = "refuse_growth.so"
 SECONDS = 10
@@ -75,7 +76,8 @@ def compile_object(folder):
 
 def sweep(folder, program, command, name):
     """Refuses each growth of a command on an example in turn, and prints what it finds; how many runs end wrongly."""
-    given, right = given_to(command, name), right_end(command, name)
+    given = given_to(command, name)
+    right = certified_end(program, given) if command == "certify" else right_end(command, name)
     title = f"{command} {name}"
     ended, _ = run(folder, program, command, given, 0)
     if ended != right:
@@ -103,6 +105,8 @@ def sweep(folder, program, command, name):
 
 def given_to(command, name):
     """What a command reads of an example."""
+    if command == "certify":
+        return contents(f"{name}.toml")
     return contents(f"{name}.toml") + b"%%\n" + contents(f"{name}.{SECOND_PARTS[command]}")
 
 
@@ -120,6 +124,17 @@ def right_end(command, name):
         return Ended(int(status), answer, b"")
     except ValueError:
         raise Unable(f"the last line of {name}.{command} tells no status")
+
+
+def certified_end(program, plan):
+    """How `certify` ends where nothing is refused: with a bundle of the plan to which `check` says yes, or with none found."""
+    done = subprocess.run([program, "certify"], input=plan, capture_output=True, timeout=SECONDS, check=False)
+    if done.stdout == b"no certificate found\n":
+        return Ended(1, done.stdout, b"")
+    check = subprocess.run([program, "check"], input=done.stdout, capture_output=True, timeout=SECONDS, check=False)
+    if not done.stdout.startswith(plan) or not check.stdout.startswith(b"yes\n"):
+        raise Unable(f"certify answers {done.stdout!r}")
+    return Ended(0, done.stdout, b"")
 
 
 def contents(name):
