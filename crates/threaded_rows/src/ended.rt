@@ -1,0 +1,86 @@
+//! How a call that serves ended.
+
+ghost use Rattle.std.specs.Prelude.{◌≤◌};
+
+use sizing_cli::{
+    Command, MemorySink, MemorySource, ServeFault, Source, Status, serve, serve_alone,
+};
+use std::alloc::{AllocError, Global};
+use std::sync::Wait;
+use std::thread::Threads;
+
+/// What was written, and how the call ended.
+#[derive(PartialEq, Drop)]
+pub struct Ended {
+    pub written: Vec<u8>,
+    pub outcome: Result<Status, ServeFault>,
+}
+
+impl Ended {
+    /// Serves a plan's text to `certify`, whole.
+    pub fn of_plan<R: Threads + Wait + Sync>(
+        rt: &R,
+        alloc: Global,
+        workers: usize,
+        plan: &[u8],
+    ) -> Result<Ended, AllocError>
+        requires some { 1 ≤ workers }
+        requires most { workers ≤ 64 }
+    {
+        let sink = MemorySink::new(alloc);
+        Ended::of_source(rt, alloc, workers, &mut MemorySource::new(plan), sink)
+    }
+
+    /// Serves what the source gives to `certify`.
+    pub fn of_source<R: Threads + Wait + Sync, S: Source>(
+        rt: &R,
+        alloc: Global,
+        workers: usize,
+        source: &mut S,
+        sink: MemorySink,
+    ) -> Result<Ended, AllocError>
+        requires some { 1 ≤ workers }
+        requires most { workers ≤ 64 }
+    {
+        let mut sink = sink;
+        let outcome = serve(rt, alloc, Command::Certify { workers }, source, &mut sink);
+        let written = sink.written().to_vec(alloc)?;
+        Ok(Ended { written, outcome })
+    }
+
+    /// Serves a bundle to `check`.
+    pub fn of_bundle(alloc: Global, bundle: &[u8]) -> Result<Ended, AllocError> {
+        let mut sink = MemorySink::new(alloc);
+        let outcome = serve_alone(
+            alloc,
+            Command::Check,
+            &mut MemorySource::new(bundle),
+            &mut sink,
+        );
+        let written = sink.written().to_vec(alloc)?;
+        Ok(Ended { written, outcome })
+    }
+
+    /// What was written, with how the call ended behind it.
+    pub fn shown(&self, alloc: Global) -> Result<String, AllocError> {
+        let mut text = String::from_utf8_lossy(alloc, &self.written)?;
+        self.push_outcome(&mut text)?;
+        Ok(text)
+    }
+
+    /// The first line of what was written, with how the call ended behind it.
+    pub fn first_line(&self, alloc: Global) -> Result<String, AllocError> {
+        let written = String::from_utf8_lossy(alloc, &self.written)?;
+        let mut text = String::new(alloc);
+        writeln!(text, "{}", written.as_str().lines().next().unwrap_or(""))?;
+        self.push_outcome(&mut text)?;
+        Ok(text)
+    }
+
+    fn push_outcome(&self, text: &mut String) -> Result<(), AllocError> {
+        match self.outcome {
+            Ok(status) => write!(text, "status {}", status.code()),
+            Err(fault) => write!(text, "{fault}"),
+        }
+    }
+}
