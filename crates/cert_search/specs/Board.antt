@@ -1,5 +1,6 @@
 -- The board of one round, on which workers take the pools that they look at.
 use Rattle.std.specs.Prelude.{ℕ, Bool, true, false, List, map, Option, Some, None, slice_get, slice_set}
+use Rattle.held_machines.specs.Replay.{Leads}
 use Rattle.cert_search.specs.declared.board.Spot.{Spot}
 use Rattle.cert_search.specs.declared.board.Spot.TheVariants.{Free, Taken, Done}
 use Rattle.cert_search.specs.declared.board.BoardEvent.{BoardEvent}
@@ -27,6 +28,15 @@ returned spots p _ = None
 abbrev pub next_spots : List Spot → BoardEvent → Option (List Spot)
 next_spots spots (Claim p) = claimed spots p (slice_get spots p)
 next_spots spots (Return p) = returned spots p (slice_get spots p)
+
+-- the events of this history lead from the start of a board to these spots
+abbrev pub LeadsTo : List Bool → List BoardEvent → List Spot → Type 0
+LeadsTo has_rank history spots = Leads next_spots (first_spots has_rank) history spots
+
+-- nobody has looked at the pool
+abbrev pub is_free : Spot → Bool
+is_free Free = true
+is_free _ = false
 
 -- the pool was looked at
 abbrev pub is_done : Spot → Bool

@@ -1,9 +1,9 @@
 //! The board of one round, on which workers take the pools that they look at.
 
-ghost use Rattle.std.specs.Prelude.{◌≡◌, ◌++◌, ◌∷◌, [], true, false, Some, None, IfOk, IfSome, IsTrue, slice_get};
+ghost use Rattle.std.specs.Prelude.{◌≡◌, ◌++◌, ◌∷◌, [], List, true, false, Some, None, IfOk, IfSome, OnErr, IsTrue, is_some, position, slice_get};
 ghost use Rattle.std.specs.List.{list_all};
 ghost use Rattle.std.specs.Option.{IfNone};
-ghost use Rattle.cert_search.specs.declared.board.Spot.TheVariants as spot;
+ghost use Rattle.cert_search.specs.declared.board.Spot.{Spot};
 ghost use Rattle.cert_search.specs.declared.board.BoardEvent.TheVariants as event;
 ghost use Rattle.cert_search.specs.Board as spec;
 
@@ -38,6 +38,16 @@ fn first_spot(has_rank: bool) -> Spot
     if has_rank { Spot::Done } else { Spot::Free }
 }
 
+/// Whether nobody has looked at a pool that stands there.
+fn is_free(spot: Spot) -> bool
+    ensures { result ≡ spec.is_free spot }
+{
+    match spot {
+        Spot::Free => true,
+        Spot::Taken | Spot::Done => false,
+    }
+}
+
 /// Whether a pool that stands there was looked at.
 fn is_done(spot: Spot) -> bool
     ensures { result ≡ spec.is_done spot }
@@ -65,15 +75,10 @@ impl Model for Spots {
 
 impl Spots {
     /// The first pool that is free.
-    pub(crate) fn first_free(&self) -> Option<usize>
-        ensures { IfSome result (λ pool. slice_get self.now pool ≡ Some spot.Free) }
+    fn first_free(&self) -> Option<usize>
+        ensures { result ≡ position spec.is_free self.now }
     {
-        for (pool, spot) in self.spots.iter().enumerate() {
-            if matches!(spot, Spot::Free) {
-                return Some(pool);
-            }
-        }
-        None
+        self.spots.iter().position(|spot| is_free(*spot))
     }
 
     /// Whether each pool was looked at.
@@ -152,14 +157,16 @@ impl Machine for Board {
     }
 }
 
-/// Takes a pool that is free; None where none is.
+/// Takes the first pool that is free; None where none is.
 ///
 /// # Errors
 ///
 /// [`AllocError`] where memory runs out. Nothing is taken then.
 pub(crate) fn claim(board: &mut Held<Board>) -> Result<Option<usize>, AllocError>
+    ensures pool { IfOk result (λ taken. taken ≡ position spec.is_free board.old.state) }
     ensures taken { IfOk result (λ taken. IfSome taken (λ pool. board.new.history ≡ board.old.history ++ event.Claim pool ∷ [])) }
     ensures none { IfOk result (λ taken. IfNone taken (board.new ≡ board.old)) }
+    ensures error { OnErr result (board.new ≡ board.old) }
 {
     let Some(pool) = board.state().first_free() else {
         return Ok(None);
@@ -170,14 +177,17 @@ pub(crate) fn claim(board: &mut Held<Board>) -> Result<Option<usize>, AllocError
     }
 }
 
-/// Gives back a pool that was taken.
+/// Gives back a pool, and says whether it was taken. A pool that was not stays as it is.
 ///
 /// # Errors
 ///
 /// [`AllocError`] where memory runs out. Nothing is given back then.
 pub(crate) fn give_back(board: &mut Held<Board>, pool: usize) -> Result<bool, AllocError>
+    ensures possible { IfOk result (λ given. (spots : List Spot) → spec.LeadsTo board.old.machine.has_rank.items board.old.history spots
+        → given ≡ is_some (spec.next_spots spots (event.Return pool))) }
     ensures given { IfOk result (λ given. given ≡ true → board.new.history ≡ board.old.history ++ event.Return pool ∷ []) }
     ensures refused { IfOk result (λ given. given ≡ false → board.new ≡ board.old) }
+    ensures error { OnErr result (board.new ≡ board.old) }
 {
     match board.act(BoardEvent::Return(pool))? {
         Some(_) => Ok(true),

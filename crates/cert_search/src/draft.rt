@@ -1,6 +1,5 @@
 //! A certificate of which more is known after each round.
 
-use crate::board::Board;
 use crate::round::Found;
 use certificates::{Cert, PoolCert};
 use job_bodies::Plan;
@@ -42,14 +41,12 @@ impl Draft {
         self.pools.iter().filter(|pool| pool.rank.is_none()).count()
     }
 
-    /// The board of the next round.
-    pub(crate) fn board(&self, alloc: Global) -> Result<Board, AllocError> {
-        let has_rank = self
-            .pools
+    /// Whether each pool has a rank.
+    pub(crate) fn has_rank(&self, alloc: Global) -> Result<Vec<bool>, AllocError> {
+        self.pools
             .iter()
             .map(|pool| pool.rank.is_some())
-            .collect(alloc)?;
-        Ok(Board { has_rank })
+            .collect(alloc)
     }
 
     /// The rank of each pool, and this one for a pool that has none yet.
@@ -58,17 +55,6 @@ impl Draft {
             .iter()
             .map(|pool| pool.rank.unwrap_or(rank))
             .collect(alloc)
-    }
-
-    /// Whether each pool without a rank stands in the list once, and nothing else does.
-    pub(crate) fn is_named_by(&self, found: &[Found]) -> bool {
-        for (number, pool) in self.pools.iter().enumerate() {
-            let wanted = if pool.rank.is_none() { 1 } else { 0 };
-            if found.iter().filter(|found| found.pool == number).count() != wanted {
-                return false;
-            }
-        }
-        found.len() == self.unranked()
     }
 
     /// Notes what was found in a round, and gives its rank to each pool whose blocked vector was found. False where no pool

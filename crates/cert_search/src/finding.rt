@@ -20,7 +20,9 @@ use std::thread::Threads;
 pub enum SearchFault {
     /// Memory ran out, or a thread could not be started.
     Memory,
-    /// What the workers gave back is not one result for each pool that they were to look at.
+    /// In a round a worker took a pool that the plan does not have or gave back one that was not taken, a pool was left on
+    /// the board, or the results are not one for each pool that was to be looked at. No proof knows what workers do under
+    /// a lock, so it is looked for.
     Mixed,
     /// The gate said no to a pool.
     Gate,
@@ -35,7 +37,7 @@ impl From<AllocError> for SearchFault {
 }
 
 /// Looks for a certificate of the plan with so many workers, from 1 to 64. None says nothing of the plan: a plan that is
-/// safe may get none. Which certificate is found does not depend on the number of workers.
+/// safe may get none. That the number of workers does not change which certificate is found is shown by tests alone.
 ///
 /// In each round the workers look at the pools that have no rank yet. A pool whose blocked vector is found gets the round's
 /// number as its rank; in the next round gets are not counted that wait for pools with a rank.
@@ -43,7 +45,7 @@ impl From<AllocError> for SearchFault {
 /// # Errors
 ///
 /// [`SearchFault::Memory`] where memory runs out or a thread cannot be started, [`SearchFault::Gate`] where the gate says
-/// no to a pool, and [`SearchFault::Mixed`] where the workers lost or changed a pool's result.
+/// no to a pool, and [`SearchFault::Mixed`] where the results of the workers are not as its text says.
 pub fn search<R: Threads + Wait + Sync, G: PoolGate>(
     rt: &R,
     alloc: Global,
@@ -90,11 +92,8 @@ fn looked_for<R: Threads + Wait + Sync, G: PoolGate>(
             reach: &reach,
             rank,
         };
-        let board = draft.board(alloc)?;
-        let found = look_at_all(rt, alloc, &round, board, workers.min(unranked), gate)?;
-        if !draft.is_named_by(&found) {
-            return Err(SearchFault::Mixed);
-        }
+        let has_rank = draft.has_rank(alloc)?;
+        let found = look_at_all(rt, alloc, &round, &has_rank, workers.min(unranked), gate)?;
         if !draft.note(found, rank) {
             return Ok(None);
         }

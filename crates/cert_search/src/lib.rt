@@ -6,6 +6,7 @@
 mod board;
 mod draft;
 mod finding;
+mod results;
 mod round;
 mod workers;
 

@@ -1,6 +1,7 @@
 //! One round of the search, in which a worker looks at one pool after another.
 
-ghost use Rattle.std.specs.Prelude.{◌≡◌, IfOk};
+ghost use Rattle.std.specs.Prelude.{◌≡◌, ◌≢◌, ◌<◌, ◌≤◌, IfErr, IfOk, length};
+ghost use Rattle.cert_search.specs.declared.finding.SearchFault.TheVariants.{Memory, Mixed};
 
 use crate::SearchFault;
 use crate::board::{Board, claim, give_back};
@@ -34,9 +35,12 @@ pub(crate) struct Found {
 }
 
 impl Round<'_> {
-    /// Looks at a pool. A pool that the plan does not have is [`SearchFault::Mixed`].
+    /// Looks at a pool. [`SearchFault::Mixed`] is a pool that the plan does not have.
     fn look_at(&self, alloc: Global, pool: usize) -> Result<Found, SearchFault>
-        ensures { IfOk result (λ found. found.pool ≡ pool) }
+        ensures named { IfOk result (λ found. found.pool ≡ pool) }
+        ensures exists { IfOk result (λ _. pool < length self.now.plan.now.pools) }
+        ensures fault { IfErr result (λ fault. fault ≢ Memory → fault ≡ Mixed) }
+        ensures mixed { IfErr result (λ fault. fault ≡ Mixed → length self.now.plan.now.pools ≤ pool) }
     {
         if pool >= self.plan.pools().len() {
             return Err(SearchFault::Mixed);

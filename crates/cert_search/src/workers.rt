@@ -1,7 +1,11 @@
 //! The workers of a round, each on a thread of its own.
 
+ghost use Rattle.std.specs.Prelude.{IfOk, IsTrue};
+ghost use Rattle.cert_search.specs.Results.{are_complete};
+
 use crate::SearchFault;
 use crate::board::Board;
+use crate::results::complete;
 use crate::round::{Found, Round};
 use cert_check::PoolGate;
 use held_machines::{Held, Locked};
@@ -11,20 +15,25 @@ use std::sync::atomic::{AtomicBool, Ordering};
 use std::thread;
 use std::thread::{JoinHandle, Threads};
 
-/// Looks at each free pool of the board with so many workers, and gives what they found, in no order.
+/// Looks at each pool that has no rank yet with so many workers, and gives what they found, in no order.
 ///
 /// # Errors
 ///
 /// [`SearchFault::Memory`] where memory runs out or a thread cannot be started, [`SearchFault::Gate`] where the gate says no
-/// to a pool, and [`SearchFault::Mixed`] where a pool of the board was not looked at. All threads have ended then.
+/// to a pool, and [`SearchFault::Mixed`] where the results are not as its text says. All threads have ended then.
 pub(crate) fn look_at_all<R: Threads + Wait + Sync, G: PoolGate>(
     rt: &R,
     alloc: Global,
     round: &Round,
-    board: Board,
+    has_rank: &[bool],
     workers: usize,
     gate: &G,
-) -> Result<Vec<Found>, SearchFault> {
+) -> Result<Vec<Found>, SearchFault>
+    ensures { IfOk result (λ found. IsTrue (are_complete has_rank.now found.items)) }
+{
+    let board = Board {
+        has_rank: has_rank.to_vec(alloc)?,
+    };
     let board = Locked::new(Held::new(alloc, board)?);
     let stop = AtomicBool::new(false);
     let (shared, stops) = (&board, &stop);
@@ -54,7 +63,7 @@ pub(crate) fn look_at_all<R: Threads + Wait + Sync, G: PoolGate>(
         },
     )?;
     if board.into_inner().state().are_done() {
-        Ok(found)
+        complete(has_rank, found)
     } else {
         Err(SearchFault::Mixed)
     }
