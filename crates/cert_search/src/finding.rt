@@ -1,6 +1,6 @@
 //! The search for a certificate.
 
-ghost use Rattle.std.specs.Prelude.{◌≡◌, ◌≤◌, IfOk, IfSome, IsTrue};
+ghost use Rattle.std.specs.Prelude.{◌≡◌, ◌≢◌, ◌<◌, ◌≤◌, IfErr, IfOk, IfSome, IsTrue, length};
 ghost use Rattle.headline.specs.Accepted.{accepted};
 ghost use Rattle.cert_search.specs.declared.finding.SearchFault.TheVariants.{Memory};
 
@@ -55,7 +55,9 @@ pub fn search<R: Threads + Wait + Sync, G: PoolGate>(
 ) -> Result<Option<Cert>, SearchFault>
     requires some { 1 ≤ workers }
     requires few { workers ≤ 64 }
-    ensures { IfOk result (λ found. IfSome found (λ cert. IsTrue (accepted plan.now cert))) }
+    ensures accepted { IfOk result (λ found. IfSome found (λ cert. IsTrue (accepted plan.now cert))) }
+    // For a plan without pools no worker starts and the gate is not asked.
+    ensures fault { IfErr result (λ fault. fault ≢ Memory → 0 < length plan.now.pools) }
 {
     match looked_for(rt, alloc, plan, workers, gate)? {
         Some(cert) => Ok(if accepts(plan, &cert) {
@@ -74,7 +76,9 @@ fn looked_for<R: Threads + Wait + Sync, G: PoolGate>(
     plan: &Plan,
     workers: usize,
     gate: &G,
-) -> Result<Option<Cert>, SearchFault> {
+) -> Result<Option<Cert>, SearchFault>
+    ensures { IfErr result (λ fault. fault ≢ Memory → 0 < length plan.now.pools) }
+{
     let Some(levels) = Levels::of(alloc, plan)? else {
         return Ok(None);
     };
