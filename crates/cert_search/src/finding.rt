@@ -56,7 +56,7 @@ pub fn search<R: Threads + Wait + Sync, G: PoolGate>(
     requires some { 1 ≤ workers }
     requires few { workers ≤ 64 }
     ensures accepted { IfOk result (λ found. IfSome found (λ cert. IsTrue (accepted plan.now cert))) }
-    // For a plan without pools no worker starts and the gate is not asked.
+    // Mixed and Gate come only where there is a pool to look at.
     ensures fault { IfErr result (λ fault. fault ≢ Memory → 0 < length plan.now.pools) }
 {
     match looked_for(rt, alloc, plan, workers, gate)? {

@@ -11,6 +11,7 @@ pub struct Locked<M: Machine + Drop> {
 }
 
 impl<M: Machine + Drop> Locked<M> {
+    /// The held machine under a lock that nobody has.
     pub fn new(held: Held<M>) -> Locked<M> {
         Locked {
             held: Mutex::new(held),
