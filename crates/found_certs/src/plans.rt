@@ -1,5 +1,7 @@
 //! What is found for a plan, told in a few lines.
 
+ghost use Rattle.std.specs.Prelude.{◌≤◌};
+
 use cert_check::{PoolGate, check, push_verdict, write_cert};
 use cert_search::search;
 use certificates::Cert;
@@ -8,9 +10,6 @@ use plan_text::read_plan;
 use std::alloc::{AllocError, Global};
 use std::sync::Wait;
 use std::thread::Threads;
-
-// How many workers each plan is searched with.
-const WORKERS: [usize; 3] = [1, 2, 64];
 
 // The numbers that stand in place of COUNT are those from 1 to this one.
 const COUNTS: usize = 100;
@@ -27,7 +26,8 @@ impl PoolGate for Open {
 
 /// What the check says of the certificate that is found for the plan, or `no certificate found`; and more where another
 /// number of workers finds something else. A plan with COUNT in its text stands for 100 plans, with each number from 1 to
-/// 100 in place of it: then the answer is how many of them get a certificate that the check accepts.
+/// 100 in place of it: then the answer is how many of them get one certificate from workers of each number, to which the
+/// check says yes.
 pub fn answer<R: Threads + Wait + Sync>(
     rt: &R,
     alloc: Global,
@@ -39,8 +39,7 @@ pub fn answer<R: Threads + Wait + Sync>(
     let mut found = 0usize;
     for count in 0..COUNTS {
         let plan = counted(alloc, plan, count.saturating_add(1))?;
-        let answer = found_by_each(rt, alloc, &plan)?;
-        if answer.as_str().starts_with("yes\n") {
+        if is_yes_of_each(&found_by_each(rt, alloc, &plan)?) {
             found = found.saturating_add(1);
         }
     }
@@ -59,22 +58,26 @@ fn counted(alloc: Global, plan: &str, number: usize) -> Result<String, AllocErro
     Ok(text)
 }
 
-// What workers of each number find.
+// What one worker finds, and what 2 and 64 of them find where it is something else.
 fn found_by_each<R: Threads + Wait + Sync>(
     rt: &R,
     alloc: Global,
     plan: &str,
 ) -> Result<String, AllocError> {
-    let mut all = String::new(alloc);
-    for workers in WORKERS {
+    let alone = found(rt, alloc, plan, 1)?;
+    let mut all = alone.clone()?;
+    for workers in [2, 64] {
         let found = found(rt, alloc, plan, workers)?;
-        if all.is_empty() {
-            all = found;
-        } else if all != found {
+        if found != alone {
             write!(all, "\nwith {workers} workers {found}")?;
         }
     }
     Ok(all)
+}
+
+// Whether workers of each number find the same, and the check says yes to it.
+fn is_yes_of_each(answer: &str) -> bool {
+    answer.starts_with("yes\n") && !answer.contains("\nwith ")
 }
 
 // What so many workers find.
@@ -83,14 +86,14 @@ fn found<R: Threads + Wait + Sync>(
     alloc: Global,
     text: &str,
     workers: usize,
-) -> Result<String, AllocError> {
+) -> Result<String, AllocError>
+    requires some { 1 ≤ workers }
+    requires most { workers ≤ 64 }
+{
     let plan = match read_plan(alloc, text.as_bytes()) {
         Ok(plan) => plan,
         Err(fault) => return fault.to_string(alloc),
     };
-    if workers < 1 || workers > 64 {
-        return String::from_str(alloc, "no such number of workers");
-    }
     match search(rt, alloc, &plan, workers, &Open) {
         Ok(Some(cert)) => verdict_on(alloc, text, &plan, &cert),
         Ok(None) => String::from_str(alloc, "no certificate found"),
