@@ -1,5 +1,6 @@
 pub mod Results
 pub mod Calls
+pub mod Standing
 pub mod Items
 pub mod Placed
 pub mod Fading

@@ -5,7 +5,7 @@ use Rattle.std.proofs.lemmas.Bool.{cases_lt}
 use Rattle.std.proofs.lemmas.List.{get_or_past}
 use Rattle.std.proofs.lemmas.List.Sums.{sum_by-cons}
 use Rattle.std.proofs.lemmas.Option.{same_Some}
-use Rattle.job_bodies.specs.declared.action.Action.TheVariants.{Submit}
+use Rattle.job_bodies.specs.declared.action.Action.TheVariants.{Submit, Get}
 use Rattle.job_bodies.specs.Plan.{Plan}
 use Rattle.job_bodies.specs.WellFormed.{IsWellFormed}
 use Rattle.job_bodies.proofs.Bodies.{IsLawful, IsOrdered, ordered}
@@ -67,6 +67,15 @@ pool_of_submit plan view a next k of w e submits =
     let pools = as_many_pools plan view of in
     let inside = o.pools k class in
     omega arith
+
+-- an actor at a get is past the start of its body
+pub past_start : (plan : Plan) (view : View) (a : Parent) (next : NextAction) (t : ℕ) → IsWellFormed plan → option_map next_action_at (point_in plan view a) ≡ Some next → next.action ≡ Some (Get t) → 0 < next.position
+past_start plan view a next t w e gets =
+    let found = point_of_next (point_in plan view a) next e in
+    let lawful = lawful_point plan view a found.0 (ordered plan w) found.1 in
+    let behind = lawful.behind found.0.position t (ap (λ (p : NextAction). p.action) found.2 ∙ gets) in
+    let same = ap (λ (p : NextAction). p.position) found.2 in
+    omega (arith, behind, same)
 
 -- ---- jobs at work
 

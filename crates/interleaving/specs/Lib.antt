@@ -1,6 +1,8 @@
 pub mod OfPlan
 pub mod Answers
 pub mod NextAction
+pub mod ClientList
+pub mod Clients
 pub mod PlaceList
 pub mod Places
 pub mod LatestList

@@ -1,5 +1,5 @@
 -- Where an actor stands.
-use Rattle.std.specs.Prelude.{◌≡◌, ℕ, ◌&&◌, List, Some, slice_get}
+use Rattle.std.specs.Prelude.{◌≡◌, ℕ, ◌&&◌, ◌⊎◌, List, Some, IsSome, slice_get}
 use Rattle.job_bodies.specs.declared.action.Action.{Action}
 use Rattle.job_bodies.specs.declared.action.Action.TheVariants.{Submit}
 use Rattle.job_bodies.specs.Plan.{Plan, submits, is_got}
@@ -11,6 +11,7 @@ use Rattle.written_machine.specs.Step.{Point}
 use Rattle.live_views.specs.LiveView.{View}
 use Rattle.live_views.specs.ViewStep.{point_in}
 use Rattle.interleaving.specs.declared.next_action.NextAction.{NextAction}
+use Rattle.interleaving.specs.ClientList.{IsFirst}
 
 -- the position in the body, the action there, and whether it is a submit whose job a get of the body asks for
 abbrev pub next_action_in : List Action → ℕ → NextAction
@@ -26,9 +27,20 @@ pub record IsAtSubmit (plan : Plan) (view : View) (actor : Parent) : Type 0 wher
   pub class : ℕ
   pub submits : slice_get at.body at.position ≡ Some (Submit class)
 
--- the event is of an actor whose next action is a submit
-abbrev pub StandsAtSubmit : Plan → View → Event → Type 0
-StandsAtSubmit plan view (Client c) = IsAtSubmit plan view (parent.Client c)
-StandsAtSubmit plan view (Job j) = IsAtSubmit plan view (parent.Job j)
-StandsAtSubmit plan view (Take p) = ⊥
-StandsAtSubmit plan view (Retire p) = ⊥
+-- the actor is a client, and its next action is the first of its body
+pub record IsAtFirst (plan : Plan) (view : View) (actor : Parent) : Type 0 where
+  pub at : Point
+  pub stands : point_in plan view actor ≡ Some at
+  pub first : IsFirst actor at.position
+  pub acts : IsSome (slice_get at.body at.position)
+
+-- the actor's next action is a submit, or a client's first
+abbrev pub ActorMayGrow : Plan → View → Parent → Type 0
+ActorMayGrow plan view actor = IsAtSubmit plan view actor ⊎ IsAtFirst plan view actor
+
+-- the event is of an actor whose next action is a submit, or of a client whose next action is the first of its body
+abbrev pub MayGrow : Plan → View → Event → Type 0
+MayGrow plan view (Client c) = ActorMayGrow plan view (parent.Client c)
+MayGrow plan view (Job j) = ActorMayGrow plan view (parent.Job j)
+MayGrow plan view (Take p) = ⊥
+MayGrow plan view (Retire p) = ⊥

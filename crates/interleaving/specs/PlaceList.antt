@@ -1,5 +1,5 @@
 -- The places of a world's live jobs, as the rest of the world sees them.
-use Rattle.std.specs.Prelude.{ℕ, zero, suc, ◌+◌, List, [], ◌∷◌, ◌++◌, Option, Some, None, count_by, is_some, slice_index_or, ◌==◌, if◌then◌else◌}
+use Rattle.std.specs.Prelude.{ℕ, zero, suc, ◌+◌, List, [], ◌∷◌, ◌++◌, Option, None, count_by, is_some, slice_index_or, ◌==◌, if◌then◌else◌}
 use Rattle.interleaving.specs.declared.places.Place.{Place}
 
 -- at each number that was given to a job what is kept of it, or None where it is not live any more; how many places there

@@ -1,5 +1,5 @@
 -- How the places of live jobs are kept.
-use Rattle.std.specs.Prelude.{◌≡◌, ℕ, ◌<◌, ◌≤◌, ◌^◌, Some, nat_eq, count_by, is_some}
+use Rattle.std.specs.Prelude.{◌≡◌, ℕ, ◌<◌, ◌≤◌, Some, nat_eq, count_by, is_some}
 use Rattle.std.specs.HashMap.{HashMap, get, hash_map_len}
 use Rattle.interleaving.specs.declared.places.Place.{Place}
 use Rattle.interleaving.specs.PlaceList.{items_below}

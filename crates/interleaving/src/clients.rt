@@ -1,37 +1,152 @@
 //! The clients of a world.
 
-ghost use Rattle.std.specs.Prelude.{◌≡◌, ◌≤◌, ◌*◌, length, All, IfOk};
+ghost use Rattle.std.specs.Prelude.{◌≡◌, ◌≤◌, ◌<◌, length, All, Some, IfOk, OnOk, OnErr, is_some, slice_get, slice_set, nat_eq, if◌then◌else◌, ◌==◌, ℕ};
 ghost use Rattle.std.specs.List.{flat_map, enumerate_from};
+ghost use Rattle.std.specs.Option.{option_map};
+ghost use Rattle.std.specs.HashMap.{get, spare};
 ghost use Rattle.job_bodies.specs.declared.limits.TheConstants.{MOST_UNITS, MOST_CLIENTS};
 ghost use Rattle.written_machine.specs.Reach.{new_clients};
+ghost use Rattle.interleaving.specs.ClientList.{client_of, StandsAt, CanMove, IsFirst};
+ghost use Rattle.interleaving.specs.Clients.{ends_from, IsRising, starting, at_position};
 
 use job_bodies::Client;
 use std::alloc::{AllocError, Global};
-use written_machine::ClientState;
+use std::collections::HashMap;
+use std::marker::Model;
+use written_machine::{ClientState, Parent};
 
-// How many clients there are of all kinds.
-fn count_of_clients(kinds: &[Client]) -> u64
-    requires few { length kinds.now ≤ MOST_CLIENTS }
-    requires small { All (λ kind. kind.count ≤ MOST_UNITS) kinds.now }
-    ensures { result ≤ length kinds.now * MOST_UNITS }
-{
-    let mut count = 0;
-    for kind in kinds.iter() {
-        count += kind.count;
-    }
-    count
+/// Where the clients of a world stand.
+///
+/// A client is kept from its first step on. Each other one stands at the start of its body, so that nothing is kept of it
+/// but how many there are of its kind.
+#[derive(Debug, Drop)]
+pub(crate) struct Clients {
+    // For each kind how many clients there are of it and of the kinds before it.
+    ends: Vec<usize>,
+    // The clients that made a step, by number.
+    moved: HashMap<usize, ClientState>,
 }
 
-/// Each kind's clients, at the start of its body.
-pub(crate) fn new_clients(alloc: Global, kinds: &[Client]) -> Result<Vec<ClientState>, AllocError>
+impl Model for Clients {
+    ghost use Rattle.std.specs.Prelude.{nat_eq};
+    ghost use Rattle.std.specs.HashMap.{get, spare};
+    ghost use Rattle.interleaving.specs.ClientList.{ClientList};
+    ghost use Rattle.interleaving.specs.Clients.{AreClients, standing, starting};
+
+    ghost Value = { ClientList };
+
+    ghost view = { λ c. record { items = standing (get nat_eq c.moved) 0 (starting 0 0 c.ends.items); room = spare c.moved } };
+
+    ghost invariant = { λ c. AreClients c.ends.items c.moved };
+}
+
+impl Clients {
+    /// The clients of these kinds, each at the start of its body.
+    pub(crate) fn new(alloc: Global, kinds: &[Client]) -> Result<Clients, AllocError>
+        requires few { length kinds.now ≤ MOST_CLIENTS }
+        requires small { All (λ kind. kind.count ≤ MOST_UNITS) kinds.now }
+        ensures { IfOk result (λ clients. clients.items ≡ flat_map new_clients (enumerate_from 0 kinds.now)) }
+    {
+        let ends = ends_of(alloc, kinds)?;
+        Ok(Clients {
+            ends,
+            moved: HashMap::new(alloc),
+        })
+    }
+
+    /// The client of this number; None where there is no such client.
+    pub(crate) fn get(&self, number: usize) -> Option<ClientState>
+        ensures { result ≡ slice_get self.now.items number }
+    {
+        match self.moved.get(&number) {
+            Some(client) => Some(*client),
+            None => start_of(&self.ends, number),
+        }
+    }
+
+    /// Makes room for the actor, which stands at this position of its body, where it is a client at the start of it.
+    pub(crate) fn reserve_for(&mut self, actor: Parent, position: usize) -> Result<(), AllocError>
+        requires { StandsAt self.old.items actor position }
+        ensures items { self.new.items ≡ self.old.items }
+        ensures room { OnOk result (CanMove self.new actor) }
+        ensures error_only_at_start { OnErr result (IsFirst actor position) }
+    {
+        match actor {
+            Parent::Client(_) if position == 0 => self.moved.reserve(1),
+            _ => Ok(()),
+        }
+    }
+
+    /// The client of this number comes to this position of its body. There is room for it, if it stands at the start.
+    pub(crate) fn go_to(&mut self, number: usize, position: usize)
+        requires { (client_of self.old.items number).position ≡ 0 → 0 < self.old.room }
+        ensures { self.new.items ≡ slice_set self.old.items number (at_position position (client_of self.old.items number)) }
+    {
+        if go_on(&mut self.moved, number, position) {
+            return;
+        }
+        if let Some(client) = start_of(&self.ends, number) {
+            set_out(&mut self.moved, number, ClientState { position, ..client });
+        }
+    }
+
+    /// The client of this number comes to the start of its body again.
+    pub(crate) fn begin_again(&mut self, number: usize)
+        ensures { self.new.items ≡ slice_set self.old.items number (at_position 0 (client_of self.old.items number)) }
+    {
+        go_on(&mut self.moved, number, 0);
+    }
+}
+
+// For each kind how many clients there are of it and of the kinds before it.
+fn ends_of(alloc: Global, kinds: &[Client]) -> Result<Vec<usize>, AllocError>
     requires few { length kinds.now ≤ MOST_CLIENTS }
     requires small { All (λ kind. kind.count ≤ MOST_UNITS) kinds.now }
-    ensures { IfOk result (λ clients. clients.items ≡ flat_map new_clients (enumerate_from 0 kinds.now)) }
+    ensures { IfOk result (λ ends. ends.items ≡ ends_from 0 kinds.now) }
 {
-    let mut clients = Vec::with_capacity(alloc, count_of_clients(kinds) as usize)?;
-    for (kind, client) in kinds.iter().enumerate() {
-        let count = client.count as usize;
-        clients.resize(clients.len() + count, ClientState { kind, position: 0 })?;
+    let mut ends = Vec::with_capacity(alloc, kinds.len())?;
+    let mut end = 0;
+    for kind in kinds.iter() {
+        end += kind.count as usize;
+        ends.push(end)?;
     }
-    Ok(clients)
+    Ok(ends)
+}
+
+// The client of this number at the start of its body; None where there is no such client.
+fn start_of(ends: &[usize], number: usize) -> Option<ClientState>
+    requires { IsRising 0 ends.now }
+    ensures { result ≡ slice_get (starting 0 0 ends.now) number }
+{
+    let kind = ends.partition_point(|&end| end <= number);
+    if kind < ends.len() {
+        Some(ClientState { kind, position: 0 })
+    } else {
+        None
+    }
+}
+
+// The client of this number, if it is among these, comes to this position of its body. Whether it is.
+fn go_on(moved: &mut HashMap<usize, ClientState>, number: usize, position: usize) -> bool
+    ensures is_among { result ≡ is_some (get nat_eq moved.old number) }
+    ensures moves { (q : ℕ) → get nat_eq moved.new q ≡ (if number == q then option_map (at_position position) (get nat_eq moved.old number) else get nat_eq moved.old q) }
+    ensures spare { spare moved.new ≡ spare moved.old }
+{
+    match moved.get_mut(&number) {
+        Some(client) => {
+            client.position = position;
+            true
+        }
+        None => false,
+    }
+}
+
+// The client of this number, which is not among these, is among them from now on. There is room for it.
+fn set_out(moved: &mut HashMap<usize, ClientState>, number: usize, client: ClientState)
+    requires { 0 < spare moved.old }
+    ensures { (q : ℕ) → get nat_eq moved.new q ≡ (if number == q then Some client else get nat_eq moved.old q) }
+{
+    if moved.insert(number, client).is_err() {
+        return;
+    }
 }

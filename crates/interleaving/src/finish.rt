@@ -40,7 +40,7 @@ impl World {
         if !plan.client_at(kind)?.repeat {
             return None;
         }
-        self.clients[client].position = 0;
+        self.clients.begin_again(client);
         Some(Outcome::Looped)
     }
 

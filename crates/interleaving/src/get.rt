@@ -1,6 +1,7 @@
 //! Gets.
 
 ghost use Rattle.std.specs.Prelude.{◌≡◌, ◌+◌, ◌<◌, ◌^◌, true};
+ghost use Rattle.interleaving.specs.ClientList.{StandsAt};
 ghost use Rattle.interleaving.specs.LiveJobs.{IsAlone};
 ghost use Rattle.live_views.specs.ViewStep.{got_child_in, live_child, may_ask_for};
 
@@ -11,8 +12,10 @@ use written_machine::{Outcome, Parent};
 impl World {
     ghost use Rattle.interleaving.specs.Answers.{AreOf};
 
-    /// The actor, at this position, gets the latest job that it made by the submit, once that is done.
+    /// The actor, at this position, which is not the first, gets the latest job that it made by the submit, once that is done.
     pub(crate) fn get(&mut self, actor: Parent, position: usize, submit: usize) -> Option<Outcome>
+        requires stands { StandsAt self.old.clients actor position }
+        requires begun { 0 < position }
         requires can_move_on { position + 1 < 2 ^ 64 }
         requires asks { may_ask_for self.old.jobs actor ≡ true }
         requires alone { IsAlone self.old.jobs actor submit }

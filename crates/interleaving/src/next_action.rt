@@ -5,6 +5,7 @@ ghost use Rattle.job_bodies.specs.WellFormed.{IsWellFormed};
 ghost use Rattle.std.specs.Option.{option_map};
 ghost use Rattle.written_machine.specs.declared.parent.Parent.TheVariants as parent;
 ghost use Rattle.live_views.specs.ViewStep.{point_in, may_ask_for};
+ghost use Rattle.interleaving.specs.ClientList.{StandsAt};
 ghost use Rattle.interleaving.specs.LiveJobs.{IsAmong};
 ghost use Rattle.interleaving.specs.NextAction.{next_action_in};
 
@@ -47,6 +48,7 @@ impl World {
         ensures well_formed { IsWellFormed plan.now }
         ensures there { OnSome result (IsAmong (length self.now.clients) (length self.now.jobs) actor) }
         ensures asks { OnSome result (may_ask_for self.now.jobs actor ≡ true) }
+        ensures stands { IfSome result (λ next. StandsAt self.now.clients actor next.position) }
     {
         match actor {
             Parent::Client(client) => self.next_of_client(plan, client),
@@ -56,6 +58,7 @@ impl World {
 
     fn next_of_client(&self, plan: &Plan, client: usize) -> Option<NextAction>
         ensures there { OnSome result (client < length self.now.clients) }
+        ensures stands { IfSome result (λ next. StandsAt self.now.clients (parent.Client client) next.position) }
         ensures value { result ≡ option_map next_action_at (point_in plan.now self.now (parent.Client client)) }
         ensures can_move_on { IfSome result (λ next. IsSome next.action → next.position + 1 < 2 ^ 64) }
         ensures well_formed { IsWellFormed plan.now }

@@ -1,11 +1,11 @@
 //! One event of a world.
 
-ghost use Rattle.std.specs.Prelude.{◌≡◌, IfOk, OnErr};
+ghost use Rattle.std.specs.Prelude.{◌≡◌, ◌+◌, ◌<◌, ◌^◌, true, IfOk, OnOk, OnErr};
 ghost use Rattle.job_bodies.specs.WellFormed.{IsWellFormed};
 ghost use Rattle.written_machine.specs.State.{State};
 ghost use Rattle.written_machine.specs.Reach.{IsReached};
 ghost use Rattle.live_views.specs.LiveView.{live_view};
-ghost use Rattle.live_views.specs.ViewStep.{step_actor, point_in};
+ghost use Rattle.live_views.specs.ViewStep.{step_actor, point_in, may_ask_for, move_actor};
 ghost use Rattle.live_views.specs.Answers.{AnswersAs};
 
 use crate::World;
@@ -16,7 +16,8 @@ use written_machine::{Event, Outcome, Parent};
 
 impl World {
     ghost use Rattle.interleaving.specs.Answers.{AreOf, AnswersIn};
-    ghost use Rattle.interleaving.specs.NextAction.{IsAtSubmit, StandsAtSubmit};
+    ghost use Rattle.interleaving.specs.NextAction.{MayGrow, ActorMayGrow};
+    ghost use Rattle.interleaving.specs.ClientList.{StandsAt, IsFirst};
     ghost use Rattle.interleaving.specs.OfPlan.{IsOf};
 
     /// Makes the event, if it is possible, and says what came of it: None where it is not possible.
@@ -26,8 +27,8 @@ impl World {
     ///
     /// # Errors
     ///
-    /// `AllocError` where a submit finds no memory, or the count of jobs or of refusals stands at its greatest value. The
-    /// world is then unchanged.
+    /// `AllocError` where a submit or a client's first action finds no memory, or the count of jobs or of refusals stands at
+    /// its greatest value. The world is then unchanged.
     pub fn step(&mut self, plan: &Plan, event: Event) -> Result<Option<Outcome>, AllocError>
         requires { IsOf plan.now self.old }
 
@@ -39,7 +40,7 @@ impl World {
         ensures of_plan { IsOf plan.now self.new }
         ensures well_formed { IsWellFormed plan.now }
         ensures error_unchanged { OnErr result (self.new ≡ self.old) }
-        ensures error_only_at_submit { OnErr result (StandsAtSubmit plan.now self.old event) }
+        ensures error_only_where_it_grows { OnErr result (MayGrow plan.now self.old event) }
     {
         self.act(plan, event)
     }
@@ -50,7 +51,7 @@ impl World {
         ensures answered { IfOk result (λ answer. AnswersIn plan.now self.old event answer self.new) }
         ensures well_formed { IsWellFormed plan.now }
         ensures error_unchanged { OnErr result (self.new ≡ self.old) }
-        ensures error_only_at_submit { OnErr result (StandsAtSubmit plan.now self.old event) }
+        ensures error_only_where_it_grows { OnErr result (MayGrow plan.now self.old event) }
     {
         match event {
             Event::Client(client) => self.step_actor(plan, Parent::Client(client)),
@@ -65,7 +66,7 @@ impl World {
         ensures answered { IfOk result (λ answer. AreOf (step_actor plan.now self.old actor (point_in plan.now self.old actor)) self.old answer self.new) }
         ensures well_formed { IsWellFormed plan.now }
         ensures error_unchanged { OnErr result (self.new ≡ self.old) }
-        ensures error_only_at_submit { OnErr result (IsAtSubmit plan.now self.old actor) }
+        ensures error_only_where_it_grows { OnErr result (ActorMayGrow plan.now self.old actor) }
     {
         let Some(next) = self.next_action(plan, actor) else {
             return Ok(None);
@@ -73,11 +74,25 @@ impl World {
         match next.action {
             None => Ok(self.end(plan, actor)),
             Some(Action::Work(units)) => {
-                move_actor(&mut self.jobs, &mut self.clients, actor, next.position + 1);
+                self.move_on(actor, next.position)?;
                 Ok(Some(Outcome::Worked(units)))
             }
             Some(Action::Submit(class)) => Ok(Some(self.submit(plan, actor, next, class)?)),
             Some(Action::Get(submit)) => Ok(self.get(actor, next.position, submit)),
         }
+    }
+
+    // The actor, at this position of its body, comes to the next one.
+    fn move_on(&mut self, actor: Parent, position: usize) -> Result<(), AllocError>
+        requires stands { StandsAt self.old.clients actor position }
+        requires can_move_on { position + 1 < 2 ^ 64 }
+        requires asks { may_ask_for self.old.jobs actor ≡ true }
+        ensures ok { OnOk result (self.new ≡ move_actor actor (position + 1) self.old) }
+        ensures err { OnErr result (self.new ≡ self.old) }
+        ensures error_only_at_start { OnErr result (IsFirst actor position) }
+    {
+        self.clients.reserve_for(actor, position)?;
+        move_actor(&mut self.jobs, &mut self.clients, actor, position + 1);
+        Ok(())
     }
 }

@@ -3,6 +3,7 @@
 ghost use Rattle.std.specs.Prelude.{◌≡◌, ◌+◌, ◌<◌, ◌^◌, length, true, None, IfOk, OnErr};
 ghost use Rattle.written_machine.specs.State.{pool_of};
 ghost use Rattle.live_views.specs.ViewStep.{live_child, may_ask_for, submitted_in};
+ghost use Rattle.interleaving.specs.ClientList.{StandsAt};
 ghost use Rattle.interleaving.specs.LiveJobs.{IsAmong, DoneAreLatest};
 
 use crate::World;
@@ -27,6 +28,7 @@ impl World {
     ) -> Result<Outcome, AllocError>
         requires pool { pool_of plan.now class < length self.old.pools }
         requires there { IsAmong (length self.old.clients) (length self.old.jobs) actor }
+        requires stands { StandsAt self.old.clients actor next.position }
         requires can_move_on { next.position + 1 < 2 ^ 64 }
         requires asks { may_ask_for self.old.jobs actor ≡ true }
         requires asked { next.asked ≡ true → live_child self.old.jobs actor next.position ≡ None }
@@ -37,6 +39,7 @@ impl World {
         let pool = pool_of(plan, class);
         let latest = self.latest_before(actor, next);
         self.jobs.reserve()?;
+        self.clients.reserve_for(actor, next.position)?;
         let number = self.jobs.len();
         let (phase, outcome) = match self.pools[pool].offer(number)? {
             Offer::Started => (Phase::At(0), Outcome::Started(number)),

@@ -8,7 +8,7 @@ ghost use Rattle.job_bodies.specs.Plan as spec;
 ghost use Rattle.written_machine.specs.State.{State, is_unfinished};
 ghost use Rattle.written_machine.specs.Reach.{start};
 
-use crate::clients::new_clients;
+use crate::clients::Clients;
 use crate::live_jobs::LiveJobs;
 use crate::pools::new_pools;
 use job_bodies::Plan;
@@ -16,17 +16,17 @@ use live_views::JobView;
 use pool_machine::PoolState;
 use std::alloc::{AllocError, Global};
 use std::marker::Model;
-use written_machine::ClientState;
 
 /// A plan's pools, clients and live jobs, and how many submits were refused.
 ///
 /// A job is live while it is queued or at work, and while it is done and its parent may still get it. Of the others nothing
-/// is kept: a job that is live no more leaves its place to another.
+/// is kept: a job that is live no more leaves its place to another. Nor is anything kept of a client before its first step. So the
+/// memory goes by the pools, the kinds, the live jobs and the clients that moved, and by no number in the plan.
 #[derive(Debug, Drop)]
 pub struct World {
     pub(crate) jobs: LiveJobs,
     pub(crate) pools: Vec<PoolState>,
-    pub(crate) clients: Vec<ClientState>,
+    pub(crate) clients: Clients,
     pub(crate) refusals: u64,
 }
 
@@ -46,14 +46,14 @@ impl World {
     ///
     /// # Errors
     ///
-    /// `AllocError` where there is no memory for the pools and the clients.
+    /// `AllocError` where there is no memory for the pools and the kinds of clients.
     #[tactic(auto, using(live_views::proofs::Reached::starts_seen))]
     pub fn start(alloc: Global, plan: &Plan) -> Result<World, AllocError>
         ensures value { IfOk result (λ world. world ≡ live_view plan.now (start plan.now)) }
         ensures of_plan { IfOk result (λ world. IsOf plan.now world) }
     {
         let pools = new_pools(alloc, plan.pools())?;
-        let clients = new_clients(alloc, plan.clients())?;
+        let clients = Clients::new(alloc, plan.clients())?;
         Ok(World {
             jobs: LiveJobs::new(alloc),
             pools,

@@ -1,6 +1,6 @@
 use Rattle.std.proofs.Common.{◌≡◌, sym, Some, rules}
 use Rattle.job_bodies.specs.declared.action.Action.TheVariants.{Submit, Get}
-use Rattle.interleaving.proofs.OfPlan.{pool_of_submit, at_work}
+use Rattle.interleaving.proofs.OfPlan.{pool_of_submit, past_start, at_work}
 use Rattle.interleaving.proofs.Going.{alone_at_get, made_by_other}
 use Rattle.interleaving.proofs.Left.{done_are_latest, none_left}
 use Rattle.interleaving.proofs.world.World.step_actor.Goals as goal
@@ -21,6 +21,12 @@ get-requires-clause-alone c =
     let next = c.in-Some.ensures in
     let gets : c.in-Some.next.action ≡ Some (Get c.in-Some-Get.submit) = search rules in
     alone_at_get c.args.plan.now c.args.self.now c.args.actor c.in-Some.next c.in-Some-Get.submit c.requires next.well_formed (sym next.value) gets
+
+pub get-requires-clause-begun : goal.get-requires-clause-begun
+get-requires-clause-begun c =
+    let next = c.in-Some.ensures in
+    let gets : c.in-Some.next.action ≡ Some (Get c.in-Some-Get.submit) = search rules in
+    past_start c.args.plan.now c.args.self.now c.args.actor c.in-Some.next c.in-Some-Get.submit next.well_formed (sym next.value) gets
 
 pub submit-requires-clause-pool : goal.submit-requires-clause-pool
 submit-requires-clause-pool c =
