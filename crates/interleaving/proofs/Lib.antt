@@ -19,5 +19,7 @@ pub mod Reached
 pub mod OfPlan
 pub mod Left
 pub mod Going
+pub mod Membership
+pub mod AtWork
 pub mod WaitingSets
 pub mod Raised

@@ -9,3 +9,4 @@ pub mod LatestList
 pub mod JobList
 pub mod LiveJobs
 pub mod Stuck
+pub mod Shares

@@ -1,41 +1,24 @@
 //! Sets of jobs that wait only for their own members.
 
-ghost use Rattle.std.specs.Prelude.{◌≡◌, ◌&&◌, ◌↔◌, true, IsTrue, Some};
-ghost use Rattle.std.specs.List.{list_all};
-ghost use Rattle.numbered_lists.specs.Places.{places_where};
+ghost use Rattle.std.specs.Prelude.{◌≡◌, ◌<◌, ◌↔◌, true, false, length, IsTrue};
 ghost use Rattle.job_bodies.specs.WellFormed.{IsWellFormed};
 ghost use Rattle.written_machine.specs.declared.parent.Parent.TheVariants as parent;
 ghost use Rattle.written_machine.specs.State.{State};
 ghost use Rattle.written_machine.specs.Reach.{IsReached};
-ghost use Rattle.written_machine.specs.Waiting.{is_member, is_some_member, IsWaitingSet, is_waiting_set};
+ghost use Rattle.written_machine.specs.Waiting.{is_none, is_some_member, IsWaitingSet, is_waiting_set};
 ghost use Rattle.live_views.specs.LiveView.{live_view};
 ghost use Rattle.live_views.specs.ViewStep.{pool_in, live_job, live_child, may_ask_for};
-ghost use Rattle.live_views.specs.Waiting.{is_busy_job, waits_in_queue_of, is_waiting_set_in};
-ghost use Rattle.interleaving.specs.Stuck.{is_queued_job, has_queued, job_waits_unless_queued, unqueued_wait, QueuesWait};
+ghost use Rattle.live_views.specs.Waiting.{is_waiting_set_in};
+ghost use Rattle.interleaving.specs.Stuck.{job_waits_unless_queued, unqueued_wait, QueuesWait};
+ghost use Rattle.interleaving.specs.Shares.{leaves_none};
 
 use crate::World;
-use crate::plans::{body_of_class, pool_of};
+use crate::members::Members;
+use crate::plans::body_of_class;
+use crate::shares::Share;
 use job_bodies::{Action, Plan};
-use live_views::{JobView, Phase};
+use live_views::Phase;
 use written_machine::Parent;
-
-fn is_member(members: &[usize], number: usize) -> bool
-    ensures { result ≡ is_member members.now number }
-{
-    members.iter().any(|&member| member == number)
-}
-
-fn is_busy_in(plan: &Plan, pool: usize, job: JobView) -> bool
-    ensures { result ≡ is_busy_job plan.now pool (Some job) }
-{
-    matches!(job.phase, Phase::At(_)) && pool_of(plan, job.class) == pool
-}
-
-fn is_queued_in(plan: &Plan, pool: usize, job: JobView) -> bool
-    ensures { result ≡ is_queued_job plan.now pool (Some job) }
-{
-    matches!(job.phase, Phase::Queued) && pool_of(plan, job.class) == pool
-}
 
 impl World {
     ghost use Rattle.interleaving.specs.OfPlan.{IsOf};
@@ -43,7 +26,8 @@ impl World {
     /// Whether the jobs of these numbers, taken as a set, wait only for one another: each of them stands at a get whose
     /// job is one of them, or is queued in a pool that has no idle worker and no other jobs at work.
     ///
-    /// False for no numbers, and where a number is not of an unfinished job. Takes no memory.
+    /// False for no numbers, and where a number is not of an unfinished job. Takes no memory. Where the numbers rise, each of
+    /// them is looked up a few times; where they do not, it is looked for among the others.
     pub fn stuck(&self, plan: &Plan, members: &[usize]) -> bool
         requires { IsOf plan.now self.now }
         ensures in_words { (s : State) → IsReached plan.now s → live_view plan.now s ≡ self.now → IsTrue result ↔ IsWaitingSet plan.now s members.now }
@@ -53,19 +37,29 @@ impl World {
         if members.is_empty() {
             return false;
         }
+        self.is_waiting_set(plan, &Members::new(members))
+    }
+
+    fn is_waiting_set(&self, plan: &Plan, members: &Members<'_>) -> bool
+        requires of_plan { IsOf plan.now self.now }
+        requires some { is_none members.now ≡ false }
+        ensures value { result ≡ is_waiting_set_in plan.now self.now members.now }
+        ensures well_formed { IsWellFormed plan.now }
+    {
         self.queues_wait(plan, members) && self.unqueued_wait(plan, members)
     }
 
     // Whether each member that is not queued waits at a get.
-    fn unqueued_wait(&self, plan: &Plan, members: &[usize]) -> bool
+    fn unqueued_wait(&self, plan: &Plan, members: &Members<'_>) -> bool
         ensures { result ≡ unqueued_wait plan.now self.now members.now }
     {
         members
+            .numbers()
             .iter()
             .all(|&member| self.waits_unless_queued(plan, members, member))
     }
 
-    fn waits_unless_queued(&self, plan: &Plan, members: &[usize], number: usize) -> bool
+    fn waits_unless_queued(&self, plan: &Plan, members: &Members<'_>, number: usize) -> bool
         ensures { result ≡ job_waits_unless_queued plan.now self.now members.now number (live_job self.now.jobs number) }
     {
         let Some(job) = self.jobs.get(number) else {
@@ -81,63 +75,37 @@ impl World {
         }
     }
 
-    fn waits_for_member(&self, members: &[usize], number: usize, submit: usize) -> bool
+    fn waits_for_member(&self, members: &Members<'_>, number: usize, submit: usize) -> bool
         requires { may_ask_for self.now.jobs (parent.Job number) ≡ true }
         ensures { result ≡ is_some_member members.now (live_child self.now.jobs (parent.Job number) submit) }
     {
-        self.jobs
-            .latest(Parent::Job(number), submit)
-            .is_some_and(|child| is_member(members, child))
+        match self.jobs.latest(Parent::Job(number), submit) {
+            Some(child) => members.contains(child),
+            None => false,
+        }
     }
 
     // Each pool is looked at once, whatever the number of its queued members.
-    fn queues_wait(&self, plan: &Plan, members: &[usize]) -> bool
+    fn queues_wait(&self, plan: &Plan, members: &Members<'_>) -> bool
+        requires { IsOf plan.now self.now }
         ensures value { IsTrue result ↔ QueuesWait plan.now self.now members.now }
         ensures well_formed { IsWellFormed plan.now }
     {
-        for pool in 0..plan.pools().len() {
-            if self.has_queued(plan, members, pool) && !self.waits_in_queue(plan, members, pool) {
+        let pools = plan.pools().len();
+        let shares = self.shares(plan, members);
+        for pool in 0..pools {
+            if !self.leaves_none(pool, shares[pool]) {
                 return false;
             }
         }
         true
     }
 
-    fn has_queued(&self, plan: &Plan, members: &[usize], pool: usize) -> bool
-        ensures { result ≡ has_queued plan.now self.now members.now pool }
+    fn leaves_none(&self, pool: usize, share: Share) -> bool
+        requires { pool < length self.now.pools }
+        ensures { result ≡ leaves_none (pool_in self.now pool) share }
     {
-        members.iter().any(|&member| self
-            .jobs
-            .get(member)
-            .is_some_and(|job| is_queued_in(plan, pool, job)))
-    }
-
-    fn waits_in_queue(&self, plan: &Plan, members: &[usize], pool: usize) -> bool
-        ensures { result ≡ waits_in_queue_of plan.now self.now members.now pool }
-    {
-        self.idle_in(pool) == 0 && self.are_busy_members(plan, members, pool)
-    }
-
-    // Whether each job at work in the pool is a member.
-    fn are_busy_members(&self, plan: &Plan, members: &[usize], pool: usize) -> bool
-        ensures { result ≡ list_all (is_member members.now) (places_where (is_busy_job plan.now pool) self.now.jobs) }
-    {
-        for number in 0..self.jobs.len() {
-            let is_busy = self
-                .jobs
-                .get(number)
-                .is_some_and(|job| is_busy_in(plan, pool, job));
-            if is_busy && !is_member(members, number) {
-                return false;
-            }
-        }
-        true
-    }
-
-    // No worker where there is no such pool.
-    fn idle_in(&self, pool: usize) -> u64
-        ensures { result ≡ (pool_in self.now pool).idle }
-    {
-        self.pools.get(pool).map_or(0, |pool| pool.idle())
+        let pool = &self.pools[pool];
+        !share.queued || pool.idle() == 0 && pool.threads() == share.at_work as u64
     }
 }

@@ -20,8 +20,9 @@ use std::marker::Model;
 /// A plan's pools, clients and live jobs, and how many submits were refused.
 ///
 /// A job is live while it is queued or at work, and while it is done and its parent may still get it. Of the others nothing
-/// is kept: a job that is live no more leaves its place to another. Nor is anything kept of a client before its first step. So the
-/// memory goes by the pools, the kinds, the live jobs and the clients that moved, and by no number in the plan.
+/// is kept: a job that is live no more leaves its place to another. Nor is anything kept of a client before its first
+/// step. So the memory goes by the pools, the kinds, the live jobs and the clients that moved, and by no number in the
+/// plan.
 #[derive(Debug, Drop)]
 pub struct World {
     pub(crate) jobs: LiveJobs,

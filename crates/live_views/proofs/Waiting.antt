@@ -44,7 +44,7 @@ busy_with plan p job asks latest j Claimed = refl
 busy_seen : (plan : Plan) (p : ℕ) (s : State) (j : ℕ) (job : Made) → is_busy_job plan p (job_seen s j job) ≡ is_busy_in plan p job
 busy_seen plan p s j job = ap (is_busy_job plan p) (job_seen-with s j job) ∙ busy_with plan p job (may_ask s job.parent) (child s job.parent job.slot) j job.stage
 
-busy_places : (plan : Plan) (s : State) (p : ℕ) → places_where (is_busy_job plan p) (live_view plan s).jobs ≡ places_where (is_busy_in plan p) s.jobs
+pub busy_places : (plan : Plan) (s : State) (p : ℕ) → places_where (is_busy_job plan p) (live_view plan s).jobs ≡ places_where (is_busy_in plan p) s.jobs
 busy_places plan s p =
     let long = length-view plan s in
     places_where-agree_at (is_busy_job plan p) (is_busy_in plan p) (live_view plan s).jobs s.jobs None no_job long

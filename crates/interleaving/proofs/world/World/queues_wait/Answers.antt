@@ -1,0 +1,35 @@
+use Rattle.std.proofs.Common.{◌≡◌, ◌<◌, false, length, refl, ap, ◌∙◌, arith, below_more}
+use Rattle.std.proofs.lemmas.Bool.{both_ways}
+use Rattle.live_views.specs.ViewStep.{pool_in}
+use Rattle.interleaving.specs.Shares.{share_of, leaves_none}
+use Rattle.interleaving.proofs.OfPlan.{as_many_pools}
+use Rattle.interleaving.proofs.AtWork.{waits_if_queued, not_all_wait}
+use Rattle.interleaving.proofs.world.World.queues_wait.Goals as goal
+
+pub leaves_none-requires : goal.leaves_none-requires
+leaves_none-requires c =
+    let same = as_many_pools c.args.plan.now c.args.self.now c.requires in
+    let long = ap length c.pools-pools.ensures.value in
+    omega (arith, same, long)
+
+pub returns-then-not-leaves_none-clause-value : goal.returns-then-not-leaves_none-clause-value
+returns-then-not-leaves_none-clause-value c =
+    let plan = c.args.plan.now in
+    let view = c.args.self.now in
+    let p = c.loop-pool.pool in
+    let long = ap length c.pools-pools.ensures.value in
+    let few = c.pools-pools.ensures.well_formed.few_pools in
+    let inside : p < length plan.pools = omega (arith, long) in
+    let answer : c.leaves_none.result ≡ leaves_none (pool_in view p) (share_of plan view c.args.members.now p) = c.leaves_none.ensures ∙ ap (leaves_none (pool_in view p)) (c.shares-shares.ensures p (omega (arith, long, few))) in
+    (λ holds. absurd (both_ways false refl holds), λ queues. absurd (not_all_wait plan view c.args.members.now p c.requires inside c.leaves_none.result answer c.if-not-leaves_none.true (queues p inside)))
+
+pub loop-pool-preserved : goal.loop-pool-preserved
+loop-pool-preserved c =
+    let plan = c.args.plan.now in
+    let view = c.args.self.now in
+    let p = c.loop-pool.pool in
+    let long = ap length c.pools-pools.ensures.value in
+    let few = c.pools-pools.ensures.well_formed.few_pools in
+    let inside : p < length plan.pools = omega (arith, long) in
+    let answer : c.leaves_none.result ≡ leaves_none (pool_in view p) (share_of plan view c.args.members.now p) = c.leaves_none.ensures ∙ ap (leaves_none (pool_in view p)) (c.shares-shares.ensures p (omega (arith, long, few))) in
+    below_more _ _ c.loop-pool.invariant (waits_if_queued plan view c.args.members.now p c.requires inside c.leaves_none.result answer c.if-not-leaves_none.false)
