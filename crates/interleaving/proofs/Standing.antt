@@ -10,8 +10,8 @@ use Rattle.std.proofs.lemmas.Option.{slice_get-get_or, slice_get_past, get_or_fr
 use Rattle.job_bodies.specs.Plan.{Client}
 use Rattle.written_machine.specs.declared.client_state.ClientState.{ClientState}
 use Rattle.written_machine.specs.Reach.{new_clients}
-use Rattle.interleaving.specs.Clients.{ends_from, IsRising, starting, moved_or, standing, at_position}
-use Rattle.interleaving.specs.ClientList.{client_of}
+use Rattle.interleaving.specs.Clients.{ends_from, IsRising, starting, moved_or, standing}
+use Rattle.interleaving.specs.ClientList.{at_position, client_of}
 
 -- ---- the start
 

@@ -1,5 +1,6 @@
 -- The clients of a world, as the rest of the world sees them.
-use Rattle.std.specs.Prelude.{◌≡◌, ℕ, ◌<◌, List, slice_index_or}
+use Rattle.std.specs.Prelude.{◌≡◌, ℕ, ◌<◌, List, slice_index_or, Option, Some, None, slice_get, nat_eq}
+use Rattle.std.specs.Map.{lookup}
 use Rattle.written_machine.specs.declared.client_state.ClientState.{ClientState}
 use Rattle.written_machine.specs.declared.parent.Parent.{Parent}
 use Rattle.written_machine.specs.declared.parent.Parent.TheVariants as parent
@@ -8,6 +9,24 @@ use Rattle.written_machine.specs.declared.parent.Parent.TheVariants as parent
 pub record ClientList : Type 0 where
   pub items : List ClientState
   pub room : ℕ
+
+-- the clients that moved: those of the first numbers, and others by number; and for how many more there is room
+pub record Moved : Type 0 where
+  pub front : List ClientState
+  pub others : List (ℕ × ClientState)
+  pub room : ℕ
+
+abbrev pub first_of : Option ClientState → Option ClientState → Option ClientState
+first_of None other = other
+first_of (Some client) other = Some client
+
+-- the client of this number, if it moved
+abbrev pub moved_at : Moved → ℕ → Option ClientState
+moved_at moved q = first_of (slice_get moved.front q) (lookup (nat_eq q) moved.others)
+
+-- the client at this position
+abbrev pub at_position : ℕ → ClientState → ClientState
+at_position i client = record client { position = i }
 
 -- the client of this number
 abbrev pub client_of : List ClientState → ℕ → ClientState

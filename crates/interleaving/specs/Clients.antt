@@ -1,6 +1,5 @@
 -- How the clients of a world are kept: those that moved, and of each kind how many there are.
-use Rattle.std.specs.Prelude.{◌≡◌, ℕ, ◌+◌, ◌-◌, ◌<◌, ◌≤◌, List, [], ◌∷◌, ◌++◌, length, replicate, Option, Some, None, nat_eq}
-use Rattle.std.specs.HashMap.{HashMap, get}
+use Rattle.std.specs.Prelude.{◌≡◌, ℕ, ◌+◌, ◌-◌, ◌<◌, ◌≤◌, List, [], ◌∷◌, ◌++◌, length, replicate, Option, Some, None}
 use Rattle.job_bodies.specs.Plan.{Client}
 use Rattle.written_machine.specs.declared.client_state.ClientState.{ClientState}
 
@@ -31,10 +30,6 @@ standing at n [] = []
 standing at n (client ∷ clients) = moved_or (at n) client ∷ standing at (n + 1) clients
 
 -- the ends rise, and only clients that there are moved
-pub record AreClients {S : Type 0} (ends : List ℕ) (moved : HashMap ℕ ClientState S) : Type 0 where
+pub record AreClients (ends : List ℕ) (at : ℕ → Option ClientState) : Type 0 where
   pub rising : IsRising 0 ends
-  pub inside : (n : ℕ) (client : ClientState) → get nat_eq moved n ≡ Some client → n < length (starting 0 0 ends)
-
--- the client at this position
-abbrev pub at_position : ℕ → ClientState → ClientState
-at_position i client = record client { position = i }
+  pub inside : (n : ℕ) (client : ClientState) → at n ≡ Some client → n < length (starting 0 0 ends)

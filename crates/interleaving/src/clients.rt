@@ -6,12 +6,12 @@ ghost use Rattle.std.specs.Option.{option_map};
 ghost use Rattle.std.specs.HashMap.{get, spare};
 ghost use Rattle.job_bodies.specs.declared.limits.TheConstants.{MOST_UNITS, MOST_CLIENTS};
 ghost use Rattle.written_machine.specs.Reach.{new_clients};
-ghost use Rattle.interleaving.specs.ClientList.{client_of, StandsAt, CanMove, IsFirst};
-ghost use Rattle.interleaving.specs.Clients.{ends_from, IsRising, starting, at_position};
+ghost use Rattle.interleaving.specs.ClientList.{at_position, client_of, StandsAt, CanMove, IsFirst};
+ghost use Rattle.interleaving.specs.Clients.{ends_from, IsRising, starting};
 
+use crate::moved_clients::MovedClients;
 use job_bodies::Client;
 use std::alloc::{AllocError, Global};
-use std::collections::HashMap;
 use std::marker::Model;
 use written_machine::{ClientState, Parent};
 
@@ -23,21 +23,18 @@ use written_machine::{ClientState, Parent};
 pub(crate) struct Clients {
     // For each kind how many clients there are of it and of the kinds before it.
     ends: Vec<usize>,
-    // The clients that made a step, by number.
-    moved: HashMap<usize, ClientState>,
+    moved: MovedClients,
 }
 
 impl Model for Clients {
-    ghost use Rattle.std.specs.Prelude.{nat_eq};
-    ghost use Rattle.std.specs.HashMap.{get, spare};
-    ghost use Rattle.interleaving.specs.ClientList.{ClientList};
+    ghost use Rattle.interleaving.specs.ClientList.{ClientList, moved_at};
     ghost use Rattle.interleaving.specs.Clients.{AreClients, standing, starting};
 
     ghost Value = { ClientList };
 
-    ghost view = { λ c. record { items = standing (get nat_eq c.moved) 0 (starting 0 0 c.ends.items); room = spare c.moved } };
+    ghost view = { λ c. record { items = standing (moved_at c.moved) 0 (starting 0 0 c.ends.items); room = c.moved.room } };
 
-    ghost invariant = { λ c. AreClients c.ends.items c.moved };
+    ghost invariant = { λ c. AreClients c.ends.items (moved_at c.moved) };
 }
 
 impl Clients {
@@ -50,7 +47,7 @@ impl Clients {
         let ends = ends_of(alloc, kinds)?;
         Ok(Clients {
             ends,
-            moved: HashMap::new(alloc),
+            moved: MovedClients::new(alloc),
         })
     }
 
@@ -58,8 +55,8 @@ impl Clients {
     pub(crate) fn get(&self, number: usize) -> Option<ClientState>
         ensures { result ≡ slice_get self.now.items number }
     {
-        match self.moved.get(&number) {
-            Some(client) => Some(*client),
+        match self.moved.get(number) {
+            Some(client) => Some(client),
             None => start_of(&self.ends, number),
         }
     }
@@ -72,7 +69,7 @@ impl Clients {
         ensures error_only_at_start { OnErr result (IsFirst actor position) }
     {
         match actor {
-            Parent::Client(_) if position == 0 => self.moved.reserve(1),
+            Parent::Client(_) if position == 0 => self.moved.reserve(),
             _ => Ok(()),
         }
     }
@@ -82,11 +79,12 @@ impl Clients {
         requires { (client_of self.old.items number).position ≡ 0 → 0 < self.old.room }
         ensures { self.new.items ≡ slice_set self.old.items number (at_position position (client_of self.old.items number)) }
     {
-        if go_on(&mut self.moved, number, position) {
+        if self.moved.go_on(number, position) {
             return;
         }
         if let Some(client) = start_of(&self.ends, number) {
-            set_out(&mut self.moved, number, ClientState { position, ..client });
+            self.moved
+                .set_out(number, ClientState { position, ..client });
         }
     }
 
@@ -94,7 +92,7 @@ impl Clients {
     pub(crate) fn begin_again(&mut self, number: usize)
         ensures { self.new.items ≡ slice_set self.old.items number (at_position 0 (client_of self.old.items number)) }
     {
-        go_on(&mut self.moved, number, 0);
+        self.moved.go_on(number, 0);
     }
 }
 
@@ -123,30 +121,5 @@ fn start_of(ends: &[usize], number: usize) -> Option<ClientState>
         Some(ClientState { kind, position: 0 })
     } else {
         None
-    }
-}
-
-// The client of this number, if it is among these, comes to this position of its body. Whether it is.
-fn go_on(moved: &mut HashMap<usize, ClientState>, number: usize, position: usize) -> bool
-    ensures is_among { result ≡ is_some (get nat_eq moved.old number) }
-    ensures moves { (q : ℕ) → get nat_eq moved.new q ≡ (if number == q then option_map (at_position position) (get nat_eq moved.old number) else get nat_eq moved.old q) }
-    ensures spare { spare moved.new ≡ spare moved.old }
-{
-    match moved.get_mut(&number) {
-        Some(client) => {
-            client.position = position;
-            true
-        }
-        None => false,
-    }
-}
-
-// The client of this number, which is not among these, is among them from now on. There is room for it.
-fn set_out(moved: &mut HashMap<usize, ClientState>, number: usize, client: ClientState)
-    requires { 0 < spare moved.old }
-    ensures { (q : ℕ) → get nat_eq moved.new q ≡ (if number == q then Some client else get nat_eq moved.old q) }
-{
-    if moved.insert(number, client).is_err() {
-        return;
     }
 }

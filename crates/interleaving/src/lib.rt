@@ -7,6 +7,7 @@ mod get;
 mod latest;
 mod live_jobs;
 mod members;
+mod moved_clients;
 mod moves;
 mod next_action;
 mod places;

@@ -1,7 +1,6 @@
-use Rattle.std.proofs.Common.{nat_eq, set, ap, ◌∙◌}
-use Rattle.std.specs.HashMap.{get}
-use Rattle.interleaving.specs.ClientList.{ClientList, client_of}
-use Rattle.interleaving.specs.Clients.{starting, at_position}
+use Rattle.std.proofs.Common.{set, ap, ◌∙◌}
+use Rattle.interleaving.specs.ClientList.{moved_at, ClientList, client_of, at_position}
+use Rattle.interleaving.specs.Clients.{starting}
 use Rattle.interleaving.proofs.Standing.{begins_again, start_position}
 use Rattle.interleaving.proofs.clients.Clients.begin_again.Goals as goal
 
@@ -9,4 +8,4 @@ pub returns : goal.returns
 returns c =
     let p = c.self.inside in
     let n = c.args.number in
-    begins_again (get nat_eq p.moved) (starting 0 0 p.ends.items) n (get nat_eq c.go_on.new.moved) c.go_on.ensures.moves (start_position 0 0 p.ends.items n) (c.self.invariant.inside n) ∙ ap (λ (l : ClientList). set l.items n (at_position 0 (client_of l.items n))) c.self.view_is
+    begins_again (moved_at p.moved) (starting 0 0 p.ends.items) n (moved_at c.go_on.new.self) c.go_on.ensures.moves (start_position 0 0 p.ends.items n) (c.self.invariant.inside n) ∙ ap (λ (l : ClientList). set l.items n (at_position 0 (client_of l.items n))) c.self.view_is

@@ -1,5 +1,4 @@
-use Rattle.std.proofs.Common.{◌≡◌, Some, None, nat_eq, sym, ap, subst, ◌∙◌}
-use Rattle.std.specs.Map.{lookup}
+use Rattle.std.proofs.Common.{◌≡◌, Some, None, sym, ap, subst, ◌∙◌}
 use Rattle.interleaving.specs.Clients.{IsRising, starting}
 use Rattle.interleaving.proofs.Standing.{rising_ends, starting_ends, standing-none}
 use Rattle.interleaving.proofs.clients.Clients.new.Goals as goal
@@ -7,9 +6,9 @@ use Rattle.interleaving.proofs.clients.Clients.new.Goals as goal
 pub invariant_of-result : goal.invariant_of-result
 invariant_of-result c = record {
   rising = subst (IsRising 0) (sym c.in_ok-ends.ensures) (rising_ends 0 c.args.kinds.now);
-  inside = λ n client moved. absurd (let both : ◌≡◌ None (Some client) = sym (ap (lookup (nat_eq n)) c.new.ensures.empty) ∙ moved in cc);
+  inside = λ n client moved. absurd (let both : ◌≡◌ None (Some client) = sym (c.new.ensures n) ∙ moved in cc);
 }
 
 pub returns : goal.returns
 returns c =
-    standing-none _ 0 _ (λ q. ap (lookup (nat_eq q)) c.new.ensures.empty) ∙ ap (starting 0 0) c.in_ok-ends.ensures ∙ starting_ends 0 0 c.args.kinds.now
+    standing-none _ 0 _ c.new.ensures ∙ ap (starting 0 0) c.in_ok-ends.ensures ∙ starting_ends 0 0 c.args.kinds.now
