@@ -1,5 +1,5 @@
 -- Lengths of legal histories.
-use Rattle.std.proofs.Common.{[], List, length, refl}
+use Rattle.std.proofs.Common.{ℕ, [], List, length, refl}
 use Rattle.job_bodies.specs.Plan.{Plan}
 use Rattle.written_machine.specs.declared.event.Event.{Event}
 use Rattle.written_machine.specs.Reach.{start}
@@ -19,5 +19,5 @@ pub length_of : (plan : Plan) (history : List Event) (view : View) → IsReached
 length_of plan history view reached = (history, legal_of plan history view reached, refl)
 
 -- a whole run of a held world
-pub run_of : (plan : Plan) (history : List Event) (view : View) (lists : List (List (Receipt Event))) → IsReachedBy plan history view → IsWhole plan history view lists → IsRun plan history lists
-run_of plan history view lists reached whole = record { last = reached.0; legal = reached.1; finished = whole.finished reached.0 reached.2; received = whole.received }
+pub run_of : (plan : Plan) (rounds : ℕ) (history : List Event) (view : View) (lists : List (List (Receipt Event))) → IsReachedBy plan history view → IsWhole plan rounds history view lists → IsRun plan rounds history lists
+run_of plan rounds history view lists reached whole = record { last = reached.0; legal = reached.1; complete = whole.complete reached.0 reached.2; received = whole.received }

@@ -1,2 +1,3 @@
 mod Owners
 mod Histories
+mod Through

@@ -1,28 +1,29 @@
 -- Whole runs of a plan.
-use Rattle.std.specs.Prelude.{◌≡◌, ℕ, List, length, count_by}
+use Rattle.std.specs.Prelude.{◌≡◌, ℕ, List, length}
 use Rattle.job_bodies.specs.Plan.{Plan}
 use Rattle.written_machine.specs.declared.event.Event.{Event}
-use Rattle.written_machine.specs.State.{State, is_unfinished}
+use Rattle.written_machine.specs.State.{State}
 use Rattle.written_machine.specs.Reach.{Reaches}
 use Rattle.held_machines.specs.declared.held.Receipt.{Receipt}
 use Rattle.live_views.specs.LiveView.{View, live_view}
 use Rattle.run_histories.specs.Receipts.{AreReceipts}
+use Rattle.run_histories.specs.Complete.{IsComplete}
 
 -- a history is legal where it leads to a state
 abbrev pub IsLegal : Plan → List Event → Type 0
 IsLegal plan history = (s : State) × Reaches plan history s
 
--- in each state that is seen so no job is unfinished; each list has the receipts of its own client or pool, and each event
--- of the history stands in one place of the lists
-pub record IsWhole (plan : Plan) (history : List Event) (view : View) (lists : List (List (Receipt Event))) : Type 0 where
-  pub finished : (s : State) → live_view plan s ≡ view → count_by (λ job. is_unfinished job.stage) s.jobs ≡ 0
+-- in each state that is seen so the history is complete; each list has the receipts of its own client or pool, and each
+-- event of the history stands in one place of the lists
+pub record IsWhole (plan : Plan) (rounds : ℕ) (history : List Event) (view : View) (lists : List (List (Receipt Event))) : Type 0 where
+  pub complete : (s : State) → live_view plan s ≡ view → IsComplete plan rounds history s
   pub received : AreReceipts plan history lists
 
--- the history is legal and leaves no job unfinished, and these are its receipts
-pub record IsRun (plan : Plan) (history : List Event) (lists : List (List (Receipt Event))) : Type 0 where
+-- the history is legal, and complete for so many rounds, and these are its receipts
+pub record IsRun (plan : Plan) (rounds : ℕ) (history : List Event) (lists : List (List (Receipt Event))) : Type 0 where
   pub last : State
   pub legal : Reaches plan history last
-  pub finished : count_by (λ job. is_unfinished job.stage) last.jobs ≡ 0
+  pub complete : IsComplete plan rounds history last
   pub received : AreReceipts plan history lists
 
 -- this is how many events a legal history has

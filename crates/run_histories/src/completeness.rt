@@ -1,10 +1,11 @@
 //! Whether a history is complete.
 
-ghost use Rattle.std.specs.Prelude.{◌≡◌, IsTrue, IfSome, count_by};
-ghost use Rattle.job_bodies.specs.Plan.{Plan};
-ghost use Rattle.written_machine.specs.State.{State, is_unfinished};
+ghost use Rattle.std.specs.Prelude.{◌≡◌, ℕ, IsTrue, IfSome, Some, count_by, slice_get};
+ghost use Rattle.job_bodies.specs.Plan.{Plan, client_at};
+ghost use Rattle.written_machine.specs.State.{State};
 ghost use Rattle.live_views.specs.LiveView.{live_view};
 ghost use Rattle.run_histories.specs.Complete as spec;
+ghost use Rattle.run_histories.specs.Owner.{kinds_of};
 
 use interleaving::{Event, World};
 use job_bodies::{Client, Plan};
@@ -17,7 +18,8 @@ pub(crate) fn is_complete(
     rounds: u64,
     history: &[Event],
 ) -> bool
-    ensures { IsTrue result → (s : State) → live_view plan.now s ≡ world.now → count_by (λ job. is_unfinished job.stage) s.jobs ≡ 0 }
+    requires { kinds.now ≡ kinds_of plan.now }
+    ensures { IsTrue result → (s : State) → live_view plan.now s ≡ world.now → spec.IsComplete plan.now rounds history.now s }
 {
     world.unfinished() == 0 && clients_are_through(plan, kinds, world, rounds, history)
 }
@@ -29,7 +31,9 @@ fn clients_are_through(
     world: &World,
     rounds: u64,
     history: &[Event],
-) -> bool {
+) -> bool
+    ensures { IsTrue result → (s : State) → live_view plan.now s ≡ world.now → (c kind : ℕ) → slice_get kinds.now c ≡ Some kind → spec.IsThrough rounds history.now s c (client_at plan.now kind) }
+{
     for number in 0..kinds.len() {
         let Some(client) = plan.client_at(kinds[number]) else {
             return false;

@@ -34,7 +34,7 @@ pub fn judge(
     numbers: RunNumbers,
     met: Met,
 ) -> Result<RunReport, RunFault>
-    ensures run { IfOk result (λ report. IsRun certified.now.plan report.history report.receipts) }
+    ensures run { IfOk result (λ report. IsRun certified.now.plan rounds report.history report.receipts) }
     ensures none_refused { IfOk result (λ report. report.refused ≡ 0) }
     ensures events { IfErr result (λ fault. IsLengthOfLegal certified.now.plan fault.events) }
 {
@@ -54,7 +54,7 @@ pub fn judge(
             number,
             events: events_of(&held),
         }),
-        None => Ok(report(numbers, held, met.receipts)),
+        None => Ok(report(rounds, numbers, held, met.receipts)),
     }
 }
 
@@ -69,12 +69,13 @@ fn events_of(held: &Held<CertifiedWorld<'_>>) -> u64
 
 #[tactic(auto, using(crate::proofs::Histories::run_of))]
 fn report(
+    _rounds: u64,
     numbers: RunNumbers,
     held: Held<CertifiedWorld<'_>>,
     receipts: Vec<Vec<Receipt<Event>>>,
 ) -> RunReport
-    requires { IsWhole held.machine.certified.now.plan held.history held.state (map (λ list. list.items) receipts.items) }
-    ensures run { IsRun held.entry.machine.certified.now.plan result.history result.receipts }
+    requires { IsWhole held.machine.certified.now.plan _rounds held.history held.state (map (λ list. list.items) receipts.items) }
+    ensures run { IsRun held.entry.machine.certified.now.plan _rounds result.history result.receipts }
     ensures none_refused { result.refused ≡ 0 }
 {
     held_worlds_refuse_nothing(&held);
@@ -98,7 +99,7 @@ fn fault_of(
     replay: &Replay<'_>,
 ) -> Result<Option<u8>, AllocError>
     requires { AreOwnersOf plan.now replay.now.held.history replay.now.owners.items }
-    ensures { IfOk result (λ found. IfNone found (IsWhole plan.now replay.now.held.history replay.now.held.state (map (λ list. list.items) met.now.receipts.items))) }
+    ensures { IfOk result (λ found. IfNone found (IsWhole plan.now rounds replay.now.held.history replay.now.held.state (map (λ list. list.items) met.now.receipts.items))) }
 {
     if replay.ended_for_memory {
         return Ok(Some(MEMORY));
