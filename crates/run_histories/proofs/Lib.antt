@@ -1,3 +1,6 @@
 mod Owners
 mod Histories
 mod Through
+mod Capped
+mod Generations
+mod Faults

@@ -1,5 +1,6 @@
 -- Whole runs of a plan.
-use Rattle.std.specs.Prelude.{◌≡◌, ℕ, List, length}
+use Rattle.std.specs.Prelude.{◌≡◌, ◌⊎◌, ℕ, List, length, Option, Some, None}
+use Rattle.faults.specs.declared.number.TheConstants.{MEMORY, STRANGE, MIXED}
 use Rattle.job_bodies.specs.Plan.{Plan}
 use Rattle.written_machine.specs.declared.event.Event.{Event}
 use Rattle.written_machine.specs.State.{State}
@@ -29,3 +30,8 @@ pub record IsRun (plan : Plan) (rounds : ℕ) (history : List Event) (lists : Li
 -- this is how many events a legal history has
 abbrev pub IsLengthOfLegal : Plan → ℕ → Type 0
 IsLengthOfLegal plan n = (history : List Event) × IsLegal plan history × (length history ≡ n)
+
+-- what may be answered: the fault that was met, or 41 or 42 where none was; and 20, the least of all, where memory runs out
+abbrev pub IsAnswerTo : Option ℕ → ℕ → Type 0
+IsAnswerTo (Some met) number = (number ≡ met) ⊎ (number ≡ MEMORY)
+IsAnswerTo None number = (number ≡ STRANGE) ⊎ (number ≡ MIXED) ⊎ (number ≡ MEMORY)

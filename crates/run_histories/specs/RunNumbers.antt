@@ -1,9 +1,11 @@
 -- How many jobs, units and events a whole run has.
-use Rattle.std.specs.Prelude.{ℕ, zero, suc, ◌+◌, ◌*◌, List, [], ◌∷◌, length, sum_by, max}
+use Rattle.std.specs.Prelude.{◌≡◌, ◌<◌, ◌-◌, ◌^◌, ℕ, zero, suc, ◌+◌, ◌*◌, List, length, slice_index, sum_by, fold, min, max}
 use Rattle.job_bodies.specs.declared.action.Action.{Action}
 use Rattle.job_bodies.specs.declared.action.Action.TheVariants.{Work, Submit}
-use Rattle.job_bodies.specs.Plan.{Plan, Class, class_at}
+use Rattle.job_bodies.specs.Plan.{Plan, Class, Client, class_at}
 use Rattle.pool_ranks.specs.Ranks.{Ranks}
+use Rattle.run_histories.specs.declared.numbers.Measure.{Measure}
+use Rattle.run_histories.specs.declared.numbers.Measure.TheVariants.{Jobs, Units, Events}
 use Rattle.run_histories.specs.Complete.{rounds_of, events_of_client}
 
 abbrev pub units_of : Action → ℕ
@@ -23,30 +25,58 @@ of_submit f _ = 0
 abbrev pub submitted : (ℕ → ℕ) → List Action → ℕ
 submitted f body = sum_by (of_submit f) body
 
+-- what a job of the class has, without the jobs that it causes: as events its actions, its taking and its end
+abbrev pub own : Measure → Class → ℕ
+own Jobs class = 1
+own Units class = units_in class.body
+own Events class = length class.body + 2
+
 -- a job's own number with those of the jobs that it causes, as far as so many generations
 abbrev pub caused_within : Plan → (Class → ℕ) → ℕ → ℕ → ℕ
 caused_within plan own zero k = 0
 caused_within plan own (suc n) k = own (class_at plan k) + submitted (caused_within plan own n) (class_at plan k).body
 
 abbrev pub greatest : List ℕ → ℕ
-greatest [] = 0
-greatest (n ∷ ns) = max n (greatest ns)
+greatest = fold (λ a n. max a n) 0
 
 -- of all generations, since the level falls from a class to those that it submits
 abbrev pub caused : Plan → Ranks → (Class → ℕ) → ℕ → ℕ
 caused plan ranks own k = caused_within plan own (greatest ranks.levels + 1) k
 
--- f of the jobs that the clients cause in all their rounds
+-- f of the jobs that the clients of a kind submit in all their rounds
+abbrev pub submitted_by : ℕ → (ℕ → ℕ) → Client → ℕ
+submitted_by rounds f client = client.count * (rounds_of rounds client * submitted f client.body)
+
+-- what the jobs have that the clients cause in all their rounds
 abbrev pub by_jobs : Plan → Ranks → ℕ → (Class → ℕ) → ℕ
-by_jobs plan ranks rounds own = sum_by (λ client. client.count * (rounds_of rounds client * submitted (caused plan ranks own) client.body)) plan.clients
+by_jobs plan ranks rounds own = sum_by (submitted_by rounds (caused plan ranks own)) plan.clients
+
+-- the work of the clients of a kind in all their rounds
+abbrev pub units_of_clients : ℕ → Client → ℕ
+units_of_clients rounds client = client.count * (rounds_of rounds client * units_in client.body)
+
+abbrev pub events_of_clients : ℕ → Client → ℕ
+events_of_clients rounds client = client.count * events_of_client rounds client
 
 -- the jobs, and the units of work of jobs and clients
 abbrev pub jobs : Plan → Ranks → ℕ → ℕ
-jobs plan ranks rounds = by_jobs plan ranks rounds (λ class. 1)
+jobs plan ranks rounds = by_jobs plan ranks rounds (own Jobs)
 
 abbrev pub units : Plan → Ranks → ℕ → ℕ
-units plan ranks rounds = by_jobs plan ranks rounds (λ class. units_in class.body) + sum_by (λ client. client.count * (rounds_of rounds client * units_in client.body)) plan.clients
+units plan ranks rounds = by_jobs plan ranks rounds (own Units) + sum_by (units_of_clients rounds) plan.clients
 
--- the bound on events: a job has its actions, its taking and its end
+-- the bound on events, of jobs and clients
 abbrev pub bound : Plan → Ranks → ℕ → ℕ
-bound plan ranks rounds = by_jobs plan ranks rounds (λ class. length class.body + 2) + sum_by (λ client. client.count * events_of_client rounds client) plan.clients
+bound plan ranks rounds = by_jobs plan ranks rounds (own Events) + sum_by (events_of_clients rounds) plan.clients
+
+-- the number, cut off where a u64 ends
+abbrev pub capped : ℕ → ℕ
+capped n = min n (2 ^ 64 - 1)
+
+-- for each class of the plan this is f of it, cut off
+abbrev pub AreCapped : Plan → (ℕ → ℕ) → List ℕ → Type 0
+AreCapped plan f numbers = (k : ℕ) → k < length plan.classes → slice_index numbers k ≡ capped (f k)
+
+-- what a job of each class has with so many generations of jobs, itself the first
+abbrev pub AreCaused : Plan → (Class → ℕ) → ℕ → List ℕ → Type 0
+AreCaused plan own n numbers = AreCapped plan (caused_within plan own n) numbers

@@ -1,9 +1,9 @@
 //! Whether what came back from a run's threads is a whole run.
 
-ghost use Rattle.std.specs.Prelude.{◌≡◌, IfOk, IfErr, map};
+ghost use Rattle.std.specs.Prelude.{◌≡◌, IfOk, IfErr, IfSome, IsSome, IsNone, IsErr, map};
 ghost use Rattle.std.specs.Option.{IfNone};
 ghost use Rattle.run_histories.specs.Owner.{AreOwnersOf};
-ghost use Rattle.run_histories.specs.Run.{IsWhole, IsRun, IsLengthOfLegal};
+ghost use Rattle.run_histories.specs.Run.{IsWhole, IsRun, IsLengthOfLegal, IsAnswerTo};
 
 use crate::completeness::is_complete;
 use crate::numbers::RunNumbers;
@@ -26,7 +26,7 @@ use std::alloc::{AllocError, Global};
 ///
 /// The least fault that a thread met, 20 where memory runs out here; only where there is neither, 41 and then 42, as
 /// [`RunFault`] says. Its `events` is how many events of the history could be replayed.
-#[tactic(auto, using(crate::proofs::Histories::nothing_is_legal))]
+#[tactic(auto, using(crate::proofs::Histories::nothing_is_legal, crate::proofs::Faults::memory_answers))]
 pub fn judge(
     alloc: Global,
     certified: &Certified,
@@ -35,7 +35,11 @@ pub fn judge(
     met: Met,
 ) -> Result<RunReport, RunFault>
     ensures run { IfOk result (λ report. IsRun certified.now.plan rounds report.history report.receipts) }
+    ensures jobs { IfOk result (λ report. report.jobs ≡ numbers.jobs) }
+    ensures units { IfOk result (λ report. report.units ≡ numbers.units) }
     ensures none_refused { IfOk result (λ report. report.refused ≡ 0) }
+    ensures met { IsSome met.fault → IsErr result }
+    ensures fault { IfErr result (λ fault. IsAnswerTo met.fault fault.number) }
     ensures events { IfErr result (λ fault. IsLengthOfLegal certified.now.plan fault.events) }
 {
     let Ok(replay) = replay_history(alloc, certified, &met.history) else {
@@ -76,6 +80,8 @@ fn report(
 ) -> RunReport
     requires { IsWhole held.machine.certified.now.plan _rounds held.history held.state (map (λ list. list.items) receipts.items) }
     ensures run { IsRun held.entry.machine.certified.now.plan _rounds result.history result.receipts }
+    ensures jobs { result.jobs ≡ numbers.jobs }
+    ensures units { result.units ≡ numbers.units }
     ensures none_refused { result.refused ≡ 0 }
 {
     held_worlds_refuse_nothing(&held);
@@ -90,6 +96,7 @@ fn report(
 }
 
 /// What is wrong with a history that was replayed as far as that goes, and its receipts.
+#[tactic(auto, using(crate::proofs::Faults::memory_answers, crate::proofs::Faults::met_answers, crate::proofs::Faults::others_answer))]
 fn fault_of(
     alloc: Global,
     plan: &Plan,
@@ -99,7 +106,9 @@ fn fault_of(
     replay: &Replay<'_>,
 ) -> Result<Option<u8>, AllocError>
     requires { AreOwnersOf plan.now replay.now.held.history replay.now.owners.items }
-    ensures { IfOk result (λ found. IfNone found (IsWhole plan.now rounds replay.now.held.history replay.now.held.state (map (λ list. list.items) met.now.receipts.items))) }
+    ensures whole { IfOk result (λ found. IfNone found (IsWhole plan.now rounds replay.now.held.history replay.now.held.state (map (λ list. list.items) met.now.receipts.items))) }
+    ensures met { IfOk result (λ found. IfNone found (IsNone met.now.fault)) }
+    ensures fault { IfOk result (λ found. IfSome found (IsAnswerTo met.now.fault)) }
 {
     if replay.ended_for_memory {
         return Ok(Some(MEMORY));

@@ -1,14 +1,23 @@
 //! What a whole run has: its jobs, its units and its events.
 
-use job_bodies::{Action, Client, Plan};
+ghost use Rattle.std.specs.Prelude.{◌≡◌, ◌*◌, ℕ, suc, IfOk, slice_index, sum_by};
+ghost use Rattle.run_histories.specs.Complete as complete;
+ghost use Rattle.run_histories.specs.RunNumbers as spec;
+ghost use Rattle.run_histories.specs.RunNumbers.{capped};
+
+use job_bodies::{Action, Class, Client, Plan};
 use pool_ranks::Ranks;
 use std::alloc::{AllocError, Global};
 
-/// How many jobs, units and events a whole run has; 2 to the 64 less 1 stands for all numbers from there on.
+/// How many jobs and units of work a whole run has, and how many events it has at most. 2 to the 64 less 1 stands for all
+/// numbers from there on.
 #[derive(Clone, Copy, Debug, PartialEq, Eq)]
 pub struct RunNumbers {
+    /// The jobs that clients submit, with those that jobs submit.
     pub jobs: u64,
+    /// The units of work of clients and jobs.
     pub units: u64,
+    /// A bound on the events: it has a taking for each job, and a job whose submit starts a thread has none.
     pub events: u64,
 }
 
@@ -22,69 +31,132 @@ pub fn run_numbers(
     plan: &Plan,
     ranks: &Ranks,
     rounds: u64,
-) -> Result<RunNumbers, AllocError> {
-    let depth = depth(ranks);
-    let mut ones = Vec::with_capacity(alloc, plan.classes().len())?;
-    let mut units = Vec::with_capacity(alloc, plan.classes().len())?;
-    let mut events = Vec::with_capacity(alloc, plan.classes().len())?;
-    for class in plan.classes() {
-        ones.push(1)?;
-        units.push(units_in(&class.body))?;
-        events.push(class.body.len() as u64 + 2)?;
+) -> Result<RunNumbers, AllocError>
+    ensures jobs { IfOk result (λ numbers. numbers.jobs ≡ capped (spec.jobs plan.now ranks.now rounds)) }
+    ensures units { IfOk result (λ numbers. numbers.units ≡ capped (spec.units plan.now ranks.now rounds)) }
+    ensures events { IfOk result (λ numbers. numbers.events ≡ capped (spec.bound plan.now ranks.now rounds)) }
+{
+    let jobs = by_jobs(alloc, plan, ranks, rounds, Measure::Jobs)?;
+    let units = by_jobs(alloc, plan, ranks, rounds, Measure::Units)?;
+    let events = by_jobs(alloc, plan, ranks, rounds, Measure::Events)?;
+    Ok(RunNumbers {
+        jobs,
+        units: units.saturating_add(units_of_all(plan, rounds)),
+        events: events.saturating_add(events_of_all(plan, rounds)),
+    })
+}
+
+/// What is counted of a run.
+#[derive(Clone, Copy)]
+enum Measure {
+    Jobs,
+    Units,
+    Events,
+}
+
+/// What a job of the class has, without the jobs that it causes: as events its actions, its taking and its end.
+fn own(measure: Measure, class: &Class) -> u64
+    ensures { result ≡ capped (spec.own measure class.now) }
+{
+    match measure {
+        Measure::Jobs => 1,
+        Measure::Units => units_in(&class.body),
+        Measure::Events => (class.body.len() as u64).saturating_add(2),
     }
-    let jobs = caused(alloc, plan, &ones, depth)?;
-    let units = caused(alloc, plan, &units, depth)?;
-    let events = caused(alloc, plan, &events, depth)?;
-    let mut numbers = RunNumbers {
-        jobs: 0,
-        units: 0,
-        events: 0,
-    };
+}
+
+/// What the jobs have that the clients cause in all their rounds.
+fn by_jobs(
+    alloc: Global,
+    plan: &Plan,
+    ranks: &Ranks,
+    rounds: u64,
+    measure: Measure,
+) -> Result<u64, AllocError>
+    ensures { IfOk result (λ total. total ≡ capped (spec.by_jobs plan.now ranks.now rounds (spec.own measure))) }
+{
+    let numbers = caused(alloc, plan, ranks, measure)?;
+    Ok(submitted_by_all(plan, rounds, &numbers))
+}
+
+/// The numbers of the classes that the clients submit in all their rounds, added up.
+fn submitted_by_all(plan: &Plan, rounds: u64, numbers: &[u64]) -> u64
+    ensures { (f : ℕ → ℕ) → spec.AreCapped plan.now f numbers.now → result ≡ capped (sum_by (spec.submitted_by rounds f) plan.now.clients) }
+{
+    let mut total = 0u64;
     for client in plan.clients() {
-        let rounds = rounds_of(client, rounds);
-        let times = client.count.saturating_mul(rounds);
-        let units_of_body = units_in(&client.body).saturating_add(submitted(&client.body, &units));
-        let own_events = client.count.saturating_mul(own_events(client, rounds));
-        let jobs_events = times.saturating_mul(submitted(&client.body, &events));
-        numbers.jobs = numbers
-            .jobs
-            .saturating_add(times.saturating_mul(submitted(&client.body, &jobs)));
-        numbers.units = numbers
-            .units
-            .saturating_add(times.saturating_mul(units_of_body));
-        numbers.events = numbers
-            .events
-            .saturating_add(own_events)
-            .saturating_add(jobs_events);
+        total = total.saturating_add(submitted_by(client, rounds, numbers));
     }
-    Ok(numbers)
+    total
+}
+
+fn submitted_by(client: &Client, rounds: u64, numbers: &[u64]) -> u64
+    ensures { result ≡ capped (spec.submitted_by rounds (slice_index numbers.now) client.now) }
+{
+    in_all_rounds(client, rounds, submitted(&client.body, numbers))
+}
+
+/// The units of work of the clients themselves.
+fn units_of_all(plan: &Plan, rounds: u64) -> u64
+    ensures { result ≡ capped (sum_by (spec.units_of_clients rounds) plan.now.clients) }
+{
+    let mut total = 0u64;
+    for client in plan.clients() {
+        total = total.saturating_add(units_of_clients(client, rounds));
+    }
+    total
+}
+
+fn units_of_clients(client: &Client, rounds: u64) -> u64
+    ensures { result ≡ capped (spec.units_of_clients rounds client.now) }
+{
+    in_all_rounds(client, rounds, units_in(&client.body))
+}
+
+/// The events of the clients themselves.
+fn events_of_all(plan: &Plan, rounds: u64) -> u64
+    ensures { result ≡ capped (sum_by (spec.events_of_clients rounds) plan.now.clients) }
+{
+    let mut total = 0u64;
+    for client in plan.clients() {
+        total = total.saturating_add(
+            client
+                .count
+                .saturating_mul(events_of_client(client, rounds)),
+        );
+    }
+    total
+}
+
+/// What the clients of a kind have in all their rounds, of what one has in each.
+fn in_all_rounds(client: &Client, rounds: u64, in_one: u64) -> u64
+    ensures { (n : ℕ) → in_one ≡ capped n → result ≡ capped (client.now.count * (complete.rounds_of rounds client.now * n)) }
+{
+    let of_one = rounds_of_client(client, rounds).saturating_mul(in_one);
+    client.count.saturating_mul(of_one)
 }
 
 /// How often the client goes through its body.
-fn rounds_of(client: &Client, rounds: u64) -> u64 {
+fn rounds_of_client(client: &Client, rounds: u64) -> u64
+    ensures { result ≡ complete.rounds_of rounds client.now }
+{
     if client.repeat { rounds } else { 1 }
 }
 
 /// How many events a client makes: those of its rounds, and a loop between each two of them.
-fn own_events(client: &Client, rounds: u64) -> u64 {
+fn events_of_client(client: &Client, rounds: u64) -> u64
+    ensures { result ≡ capped (complete.events_of_client rounds client.now) }
+{
+    let rounds = rounds_of_client(client, rounds);
     rounds
-        .saturating_mul(client.body.len() as u64 + 1)
-        .saturating_sub(1)
-}
-
-/// How many generations of jobs there can be: 1 more than the greatest level.
-fn depth(ranks: &Ranks) -> u64 {
-    let mut greatest = 0;
-    for level in ranks.levels.as_slice() {
-        if *level > greatest {
-            greatest = *level;
-        }
-    }
-    greatest.saturating_add(1)
+        .saturating_mul(client.body.len() as u64)
+        .saturating_add(rounds.saturating_sub(1))
 }
 
 /// The units of work that the body declares.
-fn units_in(body: &[Action]) -> u64 {
+fn units_in(body: &[Action]) -> u64
+    ensures { result ≡ capped (spec.units_in body.now) }
+{
     let mut total = 0u64;
     for action in body {
         if let Action::Work(units) = action {
@@ -95,27 +167,31 @@ fn units_in(body: &[Action]) -> u64 {
 }
 
 /// The numbers of the classes that the body submits, added up.
-fn submitted(body: &[Action], numbers: &[u64]) -> u64 {
+fn submitted(body: &[Action], numbers: &[u64]) -> u64
+    ensures { result ≡ capped (spec.submitted (slice_index numbers.now) body.now) }
+{
     let mut total = 0u64;
     for action in body {
         if let Action::Submit(class) = action {
-            if let Some(number) = numbers.get(*class) {
-                total = total.saturating_add(*number);
-            }
+            total = total.saturating_add(numbers.get(*class).copied().unwrap_or(0));
         }
     }
     total
 }
 
-/// For each class its own number with those of the jobs that it causes, through so many generations.
-fn caused(alloc: Global, plan: &Plan, own: &[u64], depth: u64) -> Result<Vec<u64>, AllocError> {
-    let mut numbers = Vec::with_capacity(alloc, own.len())?;
-    for _ in 0..own.len() {
-        numbers.push(0)?;
-    }
-    for _ in 0..depth {
-        let next = with_one_more(alloc, plan, own, &numbers)?;
-        if next.as_slice() == numbers.as_slice() {
+/// For each class a job's own number with those of the jobs that it causes, of all generations.
+fn caused(
+    alloc: Global,
+    plan: &Plan,
+    ranks: &Ranks,
+    measure: Measure,
+) -> Result<Vec<u64>, AllocError>
+    ensures { IfOk result (λ numbers. spec.AreCapped plan.now (spec.caused plan.now ranks.now (spec.own measure)) numbers.items) }
+{
+    let mut numbers = one_more(alloc, plan, measure, &[])?;
+    for generation in 0..greatest(&ranks.levels) {
+        let next = one_more(alloc, plan, measure, &numbers)?;
+        if next == numbers {
             return Ok(numbers);
         }
         numbers = next;
@@ -123,16 +199,30 @@ fn caused(alloc: Global, plan: &Plan, own: &[u64], depth: u64) -> Result<Vec<u64
     Ok(numbers)
 }
 
-/// The numbers through one generation more.
-fn with_one_more(
+fn greatest(levels: &[u64]) -> u64
+    ensures { result ≡ spec.greatest levels.now }
+{
+    let mut greatest = 0;
+    for level in levels {
+        if *level > greatest {
+            greatest = *level;
+        }
+    }
+    greatest
+}
+
+/// The numbers with one generation of jobs more: the classes themselves, before the jobs that they submit.
+fn one_more(
     alloc: Global,
     plan: &Plan,
-    own: &[u64],
+    measure: Measure,
     numbers: &[u64],
-) -> Result<Vec<u64>, AllocError> {
-    let mut next = Vec::with_capacity(alloc, own.len())?;
-    for (class, own) in plan.classes().iter().zip(own) {
-        next.push(own.saturating_add(submitted(&class.body, numbers)))?;
+) -> Result<Vec<u64>, AllocError>
+    ensures { IfOk result (λ next. (n : ℕ) → spec.AreCaused plan.now (spec.own measure) n numbers.now → spec.AreCaused plan.now (spec.own measure) (suc n) next.items) }
+{
+    let mut next = Vec::with_capacity(alloc, plan.classes().len())?;
+    for class in plan.classes() {
+        next.push(own(measure, class).saturating_add(submitted(&class.body, numbers)))?;
     }
     Ok(next)
 }
