@@ -1,0 +1,2 @@
+pub mod RunMachine
+pub mod Limits

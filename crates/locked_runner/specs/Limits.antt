@@ -1,0 +1,21 @@
+-- The limits of a run.
+use Rattle.std.specs.Prelude.{ℕ, Bool, ◌||◌, nat_lt, sum_by}
+use Rattle.job_bodies.specs.Plan.{Plan}
+use Rattle.pool_ranks.specs.Ranks.{Ranks}
+use Rattle.run_histories.specs.RunNumbers.{bound}
+use Rattle.locked_runner.specs.declared.limits.TheConstants.{MOST_RUN_CLIENTS, MOST_RUN_CARRIERS, MOST_RUN_EVENTS}
+
+-- the clients of all kinds
+abbrev pub clients : Plan → ℕ
+clients plan = sum_by (λ client. client.count) plan.clients
+
+-- the threads that the pools may have together
+abbrev pub carriers : Plan → ℕ
+carriers plan = sum_by (λ pool. pool.max) plan.pools
+
+-- a limit is passed, where a run has so many events at most
+abbrev pub is_beyond : Plan → ℕ → Bool
+is_beyond plan events = nat_lt MOST_RUN_CLIENTS (clients plan) || nat_lt MOST_RUN_CARRIERS (carriers plan) || nat_lt MOST_RUN_EVENTS events
+
+abbrev pub is_too_large : Plan → Ranks → ℕ → Bool
+is_too_large plan ranks rounds = is_beyond plan (bound plan ranks rounds)

@@ -1,0 +1,25 @@
+-- The machine of a run: the machine of its plan, with what came of its last event.
+use Rattle.std.specs.Prelude.{Option, Some, None}
+use Rattle.job_bodies.specs.Plan.{Plan}
+use Rattle.written_machine.specs.declared.event.Event.{Event}
+use Rattle.written_machine.specs.declared.event.Outcome.{Outcome}
+use Rattle.written_machine.specs.State.{State}
+use Rattle.written_machine.specs.Step.{step}
+use Rattle.written_machine.specs.Reach as reach
+
+-- a state, and what came of the event that led to it
+pub record Traced : Type 0 where
+  pub state : State
+  pub outcome : Option Outcome
+
+-- at the start nothing came of anything
+abbrev pub start : Plan → Traced
+start plan = record { state = reach.start plan; outcome = None }
+
+abbrev pub traced : Option (State × Outcome) → Option Traced
+traced None = None
+traced (Some x) = Some (record { state = x.0; outcome = Some x.1 })
+
+-- the plan's own step, where it is possible
+abbrev pub next : Plan → Traced → Event → Option Traced
+next plan t event = traced (step plan t.state event)

@@ -1,0 +1,44 @@
+//! The limits of a run.
+
+ghost use Rattle.std.specs.Prelude.{◌≡◌, ◌-◌, ◌^◌, min};
+ghost use Rattle.locked_runner.specs.Limits as spec;
+
+use job_bodies::Plan;
+
+/// The most clients of a run.
+pub const MOST_RUN_CLIENTS: u64 = 64;
+/// The most threads that the pools of a run may have together.
+pub const MOST_RUN_CARRIERS: u64 = 64;
+/// The greatest bound on the events of a run.
+pub const MOST_RUN_EVENTS: u64 = 1_000_000;
+
+/// Whether a limit of a run is passed, where it has so many events at most.
+pub(crate) fn is_beyond(plan: &Plan, events: u64) -> bool
+    ensures { result ≡ spec.is_beyond plan.now events }
+{
+    clients_of(plan) > MOST_RUN_CLIENTS
+        || carriers_of(plan) > MOST_RUN_CARRIERS
+        || events > MOST_RUN_EVENTS
+}
+
+/// How many clients there are, of all kinds.
+fn clients_of(plan: &Plan) -> u64
+    ensures { result ≡ min (spec.clients plan.now) (2 ^ 64 - 1) }
+{
+    let mut total = 0u64;
+    for client in plan.clients() {
+        total = total.saturating_add(client.count);
+    }
+    total
+}
+
+/// How many threads the pools may have together.
+fn carriers_of(plan: &Plan) -> u64
+    ensures { result ≡ min (spec.carriers plan.now) (2 ^ 64 - 1) }
+{
+    let mut total = 0u64;
+    for pool in plan.pools() {
+        total = total.saturating_add(pool.max);
+    }
+    total
+}

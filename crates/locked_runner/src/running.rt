@@ -1,0 +1,58 @@
+//! A run of a certified plan on threads.
+
+ghost use Rattle.std.specs.Prelude.{◌≡◌, IfOk, IfErr};
+ghost use Rattle.job_bodies.specs.Plan.{Plan};
+ghost use Rattle.run_histories.specs.Run.{IsRun, IsLengthOfLegal};
+
+use crate::Gate;
+use crate::limits::is_beyond;
+use crate::starting::on_threads;
+use cert_check::Certified;
+use faults::number::{MEMORY, RUN_TOO_LARGE};
+use run_histories::{RunFault, RunReport, judge, run_numbers};
+use std::alloc::Global;
+use std::sync::Wait;
+use std::thread::Threads;
+
+/// Runs a certified plan: a thread for each client, and as many for each pool as its maximum, make the events of its
+/// machine, and the gate stands for the declared work.
+///
+/// A client of a kind that repeats goes through its body `rounds` times, which is at least 1, and another once.
+///
+/// # Errors
+///
+/// 40 where a limit is passed: more than 64 clients, more than 64 threads of all pools together, or a bound on the events
+/// above 1,000,000; nothing is started then. 43 where the gate failed, 20 where there is no memory or no thread; 41 and 42
+/// where what the threads hand back is no whole run.
+pub fn run<R: Threads + Wait + Sync, G: Gate>(
+    rt: &R,
+    alloc: Global,
+    certified: &Certified,
+    rounds: u64,
+    gate: &G,
+) -> Result<RunReport, RunFault>
+    ensures run { IfOk result (λ report. IsRun certified.now.plan report.history report.receipts) }
+    ensures none_refused { IfOk result (λ report. report.refused ≡ 0) }
+    ensures events { IfErr result (λ fault. IsLengthOfLegal certified.now.plan fault.events) }
+{
+    let plan = certified.plan();
+    let Ok(numbers) = run_numbers(alloc, plan, &certified.cert().ranks, rounds) else {
+        return Err(at_start(MEMORY));
+    };
+    if is_beyond(plan, numbers.events) {
+        return Err(at_start(RUN_TOO_LARGE));
+    }
+    let Ok(met) = on_threads(rt, alloc, certified, rounds, gate) else {
+        return Err(at_start(MEMORY));
+    };
+    judge(alloc, certified, rounds, numbers, met)
+}
+
+/// A fault before the first event.
+#[tactic(auto, using(crate::proofs::Starts::nothing_is_legal))]
+fn at_start(number: u8) -> RunFault
+    ensures value { result ≡ record { number = number; events = 0 } }
+    ensures legal { (plan : Plan) → IsLengthOfLegal plan result.events }
+{
+    RunFault { number, events: 0 }
+}

@@ -1,0 +1,101 @@
+//! The threads of a run.
+
+use crate::Gate;
+use crate::progress::Cause;
+use crate::run_machine::RunMachine;
+use crate::shared::Shared;
+use crate::threads::Runner;
+use cert_check::Certified;
+use held_machines::{Held, Receipt};
+use interleaving::Event;
+use job_bodies::{Client, Plan};
+use run_histories::{Met, Owner, kinds_of, lists_of};
+use std::alloc::{AllocError, Global};
+use std::sync::Wait;
+use std::thread;
+use std::thread::Threads;
+
+/// Starts a thread for each list of receipts, and hands back what they met once all of them have ended. A start that is
+/// refused ends the run.
+///
+/// # Errors
+///
+/// `AllocError` where there is no memory before the first thread is started.
+pub(crate) fn on_threads<R: Threads + Wait + Sync, G: Gate>(
+    rt: &R,
+    alloc: Global,
+    certified: &Certified,
+    rounds: u64,
+    gate: &G,
+) -> Result<Met, AllocError> {
+    let plan = certified.plan();
+    let kinds = kinds_of(alloc, plan)?;
+    let owners = lists_of(alloc, plan, &kinds)?;
+    let held = Held::new(alloc, RunMachine { certified })?;
+    let mut receipts = Vec::with_capacity(alloc, owners.len())?;
+    let shared = Shared::new(alloc, plan, held, kinds.len())?;
+    let lent = &shared;
+    let kinds = kinds.as_slice();
+    let all = owners.as_slice();
+    let lists = &mut receipts;
+    thread::scope(thread::scope_env(), rt, |scope| {
+        let mut handles = Vec::new(alloc);
+        if handles.reserve(all.len()).is_err() {
+            lent.fail(rt, Cause::Memory);
+            return;
+        }
+        for owner in all {
+            let owner = *owner;
+            match scope.spawn(move || run_one(rt, alloc, lent, gate, kinds, owner, rounds)) {
+                Ok(handle) => {
+                    if handles.push(handle).is_err() {
+                        lent.fail(rt, Cause::Memory);
+                    }
+                }
+                Err(_) => {
+                    lent.fail(rt, Cause::Memory);
+                    break;
+                }
+            }
+        }
+        for handle in handles {
+            if lists.push(handle.join(rt)).is_err() {
+                lent.fail(rt, Cause::Memory);
+            }
+        }
+    });
+    let (history, fault) = shared.into_history();
+    Ok(Met {
+        history,
+        receipts,
+        fault,
+    })
+}
+
+/// What one thread does, a client's or a pool's.
+fn run_one<R: Wait, G: Gate>(
+    rt: &R,
+    alloc: Global,
+    shared: &Shared<'_>,
+    gate: &G,
+    kinds: &[usize],
+    owner: Owner,
+    rounds: u64,
+) -> Vec<Receipt<Event>> {
+    let runner = Runner::new(alloc, rt, shared, gate);
+    match owner {
+        Owner::Client(number) => match client_of(shared.plan, kinds, number) {
+            Some(client) => {
+                let rounds = if client.repeat { rounds } else { 1 };
+                runner.run_client(client, number, rounds)
+            }
+            None => runner.receipts,
+        },
+        Owner::Pool(pool) => runner.run_carrier(pool),
+    }
+}
+
+/// The kind of the client of this number.
+fn client_of<'p>(plan: &'p Plan, kinds: &[usize], number: usize) -> Option<&'p Client> {
+    plan.client_at(*kinds.get(number)?)
+}

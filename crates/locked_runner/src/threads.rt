@@ -1,0 +1,120 @@
+//! What each thread of a run does.
+
+use crate::progress::Cause;
+use crate::shared::Shared;
+use crate::{Actor, Gate};
+use held_machines::Receipt;
+use interleaving::Event;
+use job_bodies::{Action, Client};
+use std::alloc::Global;
+use std::sync::Wait;
+
+/// One thread of a run, with the receipts of its events.
+#[derive(Drop)]
+pub(crate) struct Runner<'a, 'b, R, G> {
+    pub(crate) rt: &'b R,
+    pub(crate) shared: &'b Shared<'a>,
+    pub(crate) gate: &'b G,
+    pub(crate) receipts: Vec<Receipt<Event>>,
+}
+
+impl<'a, 'b, R: Wait, G: Gate> Runner<'a, 'b, R, G> {
+    pub(crate) fn new(
+        alloc: Global,
+        rt: &'b R,
+        shared: &'b Shared<'a>,
+        gate: &'b G,
+    ) -> Runner<'a, 'b, R, G> {
+        Runner {
+            rt,
+            shared,
+            gate,
+            receipts: Vec::new(alloc),
+        }
+    }
+
+    /// A client's thread: it goes through its body so many times, and leaves.
+    pub(crate) fn run_client(
+        mut self,
+        client: &Client,
+        number: usize,
+        rounds: u64,
+    ) -> Vec<Receipt<Event>> {
+        for round in 0..rounds {
+            if !self.follow(&client.body, Actor::Client(number)) {
+                return self.receipts;
+            }
+            if round + 1 < rounds && !self.act(Event::Client(number)) {
+                return self.receipts;
+            }
+        }
+        self.shared.leave(self.rt);
+        self.receipts
+    }
+
+    /// A carrier's thread: it carries out one job of its pool after another, until the run is at its end.
+    pub(crate) fn run_carrier(mut self, pool: usize) -> Vec<Receipt<Event>> {
+        for _ in self.rt.forever() {
+            let Some(work) = self.shared.next_job(self.rt, pool) else {
+                break;
+            };
+            if let Some(taken) = work.taken {
+                if !self.note(taken) {
+                    break;
+                }
+            }
+            if !self.carry_out(work.job, work.class) {
+                break;
+            }
+        }
+        self.receipts
+    }
+
+    /// Carries one job out to its finish. False where the run is to end.
+    fn carry_out(&mut self, job: usize, class: usize) -> bool {
+        match self.shared.plan.class_at(class) {
+            Some(class) => self.follow(&class.body, Actor::Job(job)) && self.act(Event::Job(job)),
+            None => false,
+        }
+    }
+
+    /// Makes the events of a body's actions. False where the run is to end.
+    fn follow(&mut self, body: &[Action], actor: Actor) -> bool {
+        for action in body {
+            if let Action::Work(units) = action {
+                if self.gate.work(actor, *units).is_err() {
+                    self.shared.fail(self.rt, Cause::Gate);
+                    return false;
+                }
+            }
+            if !self.act(event_of(actor)) {
+                return false;
+            }
+        }
+        true
+    }
+
+    /// Makes one event, once it is possible. False where the run is to end.
+    fn act(&mut self, event: Event) -> bool {
+        match self.shared.act(self.rt, event) {
+            Some(receipt) => self.note(receipt),
+            None => false,
+        }
+    }
+
+    fn note(&mut self, receipt: Receipt<Event>) -> bool {
+        let noted = self.receipts.push(receipt).is_ok();
+        if !noted {
+            self.shared.fail(self.rt, Cause::Memory);
+        }
+        noted
+    }
+}
+
+/// The actor's next step.
+fn event_of(actor: Actor) -> Event {
+    match actor {
+        Actor::Client(number) => Event::Client(number),
+        Actor::Job(number) => Event::Job(number),
+    }
+}
