@@ -1,2 +1,5 @@
 mod Traces
 mod Starts
+mod Beyond
+mod Numbers
+mod Faults

@@ -1,2 +1,3 @@
 pub mod RunMachine
 pub mod Limits
+pub mod Faults

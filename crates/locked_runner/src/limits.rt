@@ -1,6 +1,7 @@
 //! The limits of a run.
 
 ghost use Rattle.std.specs.Prelude.{◌≡◌, ◌-◌, ◌^◌, min};
+ghost use Rattle.job_bodies.specs.WellFormed.{IsWellFormed};
 ghost use Rattle.locked_runner.specs.Limits as spec;
 
 use job_bodies::Plan;
@@ -14,7 +15,8 @@ pub const MOST_RUN_EVENTS: u64 = 1_000_000;
 
 /// Whether a limit of a run is passed, where it has so many events at most.
 pub(crate) fn is_beyond(plan: &Plan, events: u64) -> bool
-    ensures { result ≡ spec.is_beyond plan.now events }
+    ensures value { result ≡ spec.is_beyond plan.now events }
+    ensures well_formed { IsWellFormed plan.now }
 {
     clients_of(plan) > MOST_RUN_CLIENTS
         || carriers_of(plan) > MOST_RUN_CARRIERS
@@ -23,7 +25,8 @@ pub(crate) fn is_beyond(plan: &Plan, events: u64) -> bool
 
 /// How many clients there are, of all kinds.
 fn clients_of(plan: &Plan) -> u64
-    ensures { result ≡ min (spec.clients plan.now) (2 ^ 64 - 1) }
+    ensures value { result ≡ min (spec.clients plan.now) (2 ^ 64 - 1) }
+    ensures well_formed { IsWellFormed plan.now }
 {
     let mut total = 0u64;
     for client in plan.clients() {

@@ -1,5 +1,8 @@
 //! How far a run is.
 
+ghost use Rattle.std.specs.Prelude.{IfSome};
+ghost use Rattle.locked_runner.specs.Faults.{IsThreadFault};
+
 use faults::number::{GATE, MEMORY};
 
 /// Why a run ends before all is done.
@@ -50,7 +53,9 @@ impl Progress {
     }
 
     /// The number of the fault that was met.
-    pub(crate) fn fault(&self) -> Option<u8> {
+    pub(crate) fn fault(&self) -> Option<u8>
+        ensures { IfSome result IsThreadFault }
+    {
         match self.cause? {
             Cause::Memory => Some(MEMORY),
             Cause::Gate => Some(GATE),

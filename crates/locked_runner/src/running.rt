@@ -1,15 +1,20 @@
 //! A run of a certified plan on threads.
 
-ghost use Rattle.std.specs.Prelude.{◌≡◌, IfOk, IfErr};
-ghost use Rattle.job_bodies.specs.Plan.{Plan};
+ghost use Rattle.std.specs.Prelude.{◌≡◌, IfOk, IfErr, false};
+ghost use Rattle.job_bodies.specs.Plan as spec;
 ghost use Rattle.run_histories.specs.Run.{IsRun, IsLengthOfLegal};
+ghost use Rattle.run_histories.specs.RunNumbers.{jobs, units};
+ghost use Rattle.locked_runner.specs.Limits.{is_too_large};
+ghost use Rattle.locked_runner.specs.Faults.{IsFaultOf};
 
 use crate::Gate;
 use crate::limits::is_beyond;
 use crate::starting::on_threads;
 use cert_check::Certified;
 use faults::number::{MEMORY, RUN_TOO_LARGE};
-use run_histories::{RunFault, RunReport, judge, run_numbers};
+use job_bodies::Plan;
+use pool_ranks::Ranks;
+use run_histories::{RunFault, RunNumbers, RunReport, judge, run_numbers};
 use std::alloc::Global;
 use std::sync::Wait;
 use std::thread::Threads;
@@ -24,6 +29,7 @@ use std::thread::Threads;
 /// 40 where a limit is passed: more than 64 clients, more than 64 threads of all pools together, or a bound on the events
 /// above 1,000,000; nothing is started then. 43 where the gate failed, 20 where there is no memory or no thread; 41 and 42
 /// where what the threads hand back is no whole run.
+#[tactic(auto, using(crate::proofs::Faults::answered))]
 pub fn run<R: Threads + Wait + Sync, G: Gate>(
     rt: &R,
     alloc: Global,
@@ -31,28 +37,52 @@ pub fn run<R: Threads + Wait + Sync, G: Gate>(
     rounds: u64,
     gate: &G,
 ) -> Result<RunReport, RunFault>
-    ensures run { IfOk result (λ report. IsRun certified.now.plan report.history report.receipts) }
+    ensures run { IfOk result (λ report. IsRun certified.now.plan rounds report.history report.receipts) }
+    ensures jobs { IfOk result (λ report. report.jobs ≡ jobs certified.now.plan certified.now.cert.ranks rounds) }
+    ensures units { IfOk result (λ report. report.units ≡ units certified.now.plan certified.now.cert.ranks rounds) }
     ensures none_refused { IfOk result (λ report. report.refused ≡ 0) }
+    ensures within { IfOk result (λ _. is_too_large certified.now.plan certified.now.cert.ranks rounds ≡ false) }
+    ensures fault { IfErr result (IsFaultOf (is_too_large certified.now.plan certified.now.cert.ranks rounds)) }
     ensures events { IfErr result (λ fault. IsLengthOfLegal certified.now.plan fault.events) }
 {
-    let plan = certified.plan();
-    let Ok(numbers) = run_numbers(alloc, plan, &certified.cert().ranks, rounds) else {
-        return Err(at_start(MEMORY));
-    };
-    if is_beyond(plan, numbers.events) {
-        return Err(at_start(RUN_TOO_LARGE));
-    }
+    let numbers = numbers_within(alloc, certified.plan(), &certified.cert().ranks, rounds)?;
     let Ok(met) = on_threads(rt, alloc, certified, rounds, gate) else {
         return Err(at_start(MEMORY));
     };
     judge(alloc, certified, rounds, numbers, met)
 }
 
+/// The numbers of a run that passes no limit.
+///
+/// # Errors
+///
+/// 40 where a limit is passed, and 20 where there is no memory.
+fn numbers_within(
+    alloc: Global,
+    plan: &Plan,
+    ranks: &Ranks,
+    rounds: u64,
+) -> Result<RunNumbers, RunFault>
+    ensures jobs { IfOk result (λ numbers. numbers.jobs ≡ jobs plan.now ranks.now rounds) }
+    ensures units { IfOk result (λ numbers. numbers.units ≡ units plan.now ranks.now rounds) }
+    ensures within { IfOk result (λ _. is_too_large plan.now ranks.now rounds ≡ false) }
+    ensures fault { IfErr result (IsFaultOf (is_too_large plan.now ranks.now rounds)) }
+    ensures events { IfErr result (λ fault. IsLengthOfLegal plan.now fault.events) }
+{
+    let Ok(numbers) = run_numbers(alloc, plan, ranks, rounds) else {
+        return Err(at_start(MEMORY));
+    };
+    if is_beyond(plan, numbers.events) {
+        return Err(at_start(RUN_TOO_LARGE));
+    }
+    Ok(numbers)
+}
+
 /// A fault before the first event.
 #[tactic(auto, using(crate::proofs::Starts::nothing_is_legal))]
 fn at_start(number: u8) -> RunFault
     ensures value { result ≡ record { number = number; events = 0 } }
-    ensures legal { (plan : Plan) → IsLengthOfLegal plan result.events }
+    ensures legal { (plan : spec.Plan) → IsLengthOfLegal plan result.events }
 {
     RunFault { number, events: 0 }
 }

@@ -1,5 +1,8 @@
 //! What the threads of a run share.
 
+ghost use Rattle.std.specs.Prelude.{IfSome};
+ghost use Rattle.locked_runner.specs.Faults.{IsThreadFault};
+
 use crate::progress::{Cause, Progress};
 use crate::run_machine::RunMachine;
 use held_machines::{Held, Locked, Receipt};
@@ -80,7 +83,9 @@ impl<'a> Shared<'a> {
     }
 
     /// The history that was made, and the least fault that a thread met.
-    pub(crate) fn into_history(self) -> (Vec<Event>, Option<u8>) {
+    pub(crate) fn into_history(self) -> (Vec<Event>, Option<u8>)
+        ensures { IfSome result.1 IsThreadFault }
+    {
         let Shared {
             machine,
             progress,

@@ -1,5 +1,8 @@
 //! The threads of a run.
 
+ghost use Rattle.std.specs.Prelude.{IfOk, IfSome};
+ghost use Rattle.locked_runner.specs.Faults.{IsThreadFault};
+
 use crate::Gate;
 use crate::progress::Cause;
 use crate::run_machine::RunMachine;
@@ -27,7 +30,9 @@ pub(crate) fn on_threads<R: Threads + Wait + Sync, G: Gate>(
     certified: &Certified,
     rounds: u64,
     gate: &G,
-) -> Result<Met, AllocError> {
+) -> Result<Met, AllocError>
+    ensures { IfOk result (λ met. IfSome met.fault IsThreadFault) }
+{
     let plan = certified.plan();
     let kinds = kinds_of(alloc, plan)?;
     let owners = lists_of(alloc, plan, &kinds)?;
