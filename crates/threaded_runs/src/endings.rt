@@ -1,0 +1,100 @@
+//! Runs of plans of many kinds, each of which ends.
+
+use crate::gates::Counting;
+use crate::plans::{TWO_CLIENTS, certified};
+use locked_runner::run;
+use std::test::Fail;
+
+const NO_PLAN: &str = "";
+
+// Nobody comes to the pool.
+const NO_CLIENTS: &str = "
+    pool = [{ name = 'p', core = 2, max = 3, queue = 1, prestart = true }]
+    class = [{ name = 'a', pool = 'p', body = ['work 1'] }]
+";
+
+// Two clients that work by themselves.
+const NO_POOLS: &str = "
+    client = [{ name = 'c', count = 2, repeat = true, body = ['work 2'] }]
+";
+
+// A client that leaves before its job is done.
+const NO_GET: &str = "
+    pool = [{ name = 'p', core = 1, max = 1, queue = 2 }]
+    class = [{ name = 'a', pool = 'p', body = ['work 1'] }]
+    client = [{ name = 'c', count = 1, body = ['submit a'] }]
+";
+
+// A body of no actions, and a job of none.
+const NOTHING_TO_DO: &str = "
+    pool = [{ name = 'p', core = 1, max = 1, queue = 4 }]
+    class = [{ name = 'a', pool = 'p', body = [] }]
+    client = [
+        { name = 'b', count = 2, repeat = true, body = [] },
+        { name = 'c', count = 2, body = ['submit a', 'submit a'] },
+    ]
+";
+
+// Three clients that go through their bodies once, however many rounds there are.
+const ONCE: &str = "
+    pool = [{ name = 'p', core = 2, max = 2, queue = 1 }]
+    class = [{ name = 'a', pool = 'p', body = ['work 1'] }]
+    client = [{ name = 'c', count = 3, body = ['submit a as x', 'get x'] }]
+";
+
+// A job that waits for three others of its pool.
+const FAN_OUT: &str = "
+    pool = [{ name = 'p', core = 2, max = 2, queue = 3 }]
+    class = [
+        { name = 'outer', pool = 'p', body = [
+            'submit inner as x', 'submit inner as y', 'submit inner as z', 'get x', 'get y', 'get z',
+        ] },
+        { name = 'inner', pool = 'p', body = ['work 1'] },
+    ]
+    client = [{ name = 'c', count = 1, repeat = true, body = ['submit outer as x', 'get x'] }]
+";
+
+// Two pools, whose jobs wait for jobs of the other.
+const TWO_POOLS: &str = "
+    pool = [
+        { name = 'p', core = 1, max = 1, queue = 2 },
+        { name = 'q', core = 2, max = 2, queue = 2 },
+    ]
+    class = [
+        { name = 'a', pool = 'p', body = ['submit b as x', 'get x'] },
+        { name = 'b', pool = 'q', body = ['work 1'] },
+        { name = 'c', pool = 'q', body = ['submit d as x', 'get x'] },
+        { name = 'd', pool = 'p', body = ['work 1'] },
+    ]
+    client = [
+        { name = 'u', count = 1, repeat = true, body = ['submit a as x', 'get x'] },
+        { name = 'w', count = 1, repeat = true, body = ['submit c as x', 'get x'] },
+    ]
+";
+
+// Each run has so many jobs and units, and calls its gate so often.
+#[test]
+fn every_run_ends(rt: HostRuntime) -> Result<(), Fail> {
+    for (plan, rounds, jobs, units, calls) in [
+        (NO_PLAN, 1, 0, 0, 0),
+        (NO_CLIENTS, 2, 0, 0, 0),
+        (NO_POOLS, 3, 0, 12, 6),
+        (NO_GET, 1, 1, 1, 1),
+        (NOTHING_TO_DO, 3, 4, 0, 0),
+        (ONCE, 5, 3, 3, 3),
+        (TWO_CLIENTS, 50, 100, 100, 100),
+        (FAN_OUT, 50, 200, 150, 150),
+        (TWO_POOLS, 50, 200, 100, 100),
+    ] {
+        let certified = certified(&rt, rt.alloc(), plan).expect(&rt, "a certificate is found");
+        let gate = Counting::new();
+        match run(&rt, rt.alloc(), &certified, rounds, &gate) {
+            Ok(report) => {
+                assert_eq!(rt; (report.jobs, report.units), (jobs, units), "{plan}");
+            }
+            Err(fault) => assert_eq!(rt; Some(fault), None, "{plan}"),
+        }
+        assert_eq!(rt; gate.calls(), calls, "{plan}");
+    }
+    Ok(())
+}
