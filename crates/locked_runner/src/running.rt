@@ -29,7 +29,6 @@ use std::thread::Threads;
 /// 40 where a limit is passed: more than 64 clients, more than 64 threads of all pools together, or a bound on the events
 /// above 1,000,000; nothing is started then. 43 where the gate failed, 20 where there is no memory or no thread; 41 and 42
 /// where what the threads hand back is no whole run.
-#[tactic(auto, using(crate::proofs::Faults::answered))]
 pub fn run<R: Threads + Wait + Sync, G: Gate>(
     rt: &R,
     alloc: Global,
