@@ -1,7 +1,9 @@
 //! Whether what came back from a run's threads is a whole run.
 
-ghost use Rattle.std.specs.Prelude.{◌≡◌, IfOk, IfErr, IfSome, IsSome, IsNone, IsErr, map};
+ghost use Rattle.std.specs.Prelude.{◌≡◌, IfOk, IfErr, IfSome, IsSome, IsNone, IsErr, length, map};
 ghost use Rattle.std.specs.Option.{IfNone};
+ghost use Rattle.written_machine.specs.State.{State};
+ghost use Rattle.written_machine.specs.Reach.{Reaches};
 ghost use Rattle.run_histories.specs.Owner.{AreOwnersOf};
 ghost use Rattle.run_histories.specs.Run.{IsWhole, IsRun, IsLengthOfLegal, IsAnswerTo};
 
@@ -19,8 +21,8 @@ use interleaving::Event;
 use job_bodies::Plan;
 use std::alloc::{AllocError, Global};
 
-/// The report of what the threads of a run hand back, where it is a whole run of the plan, and else why it is not. Its
-/// history is the replayed one.
+/// The report of what the threads of a run hand back, where it is a whole run of the plan in so many rounds and with that
+/// number of jobs, and else why it is not. Its history is the replayed one.
 ///
 /// # Errors
 ///
@@ -36,6 +38,7 @@ pub fn judge(
 ) -> Result<RunReport, RunFault>
     ensures run { IfOk result (λ report. IsRun certified.now.plan rounds report.history report.receipts) }
     ensures jobs { IfOk result (λ report. report.jobs ≡ numbers.jobs) }
+    ensures made { IfOk result (λ report. (s : State) → Reaches certified.now.plan report.history s → length s.jobs ≡ report.jobs) }
     ensures units { IfOk result (λ report. report.units ≡ numbers.units) }
     ensures none_refused { IfOk result (λ report. report.refused ≡ 0) }
     ensures met { IsSome met.fault → IsErr result }
@@ -78,9 +81,11 @@ fn report(
     held: Held<CertifiedWorld<'_>>,
     receipts: Vec<Vec<Receipt<Event>>>,
 ) -> RunReport
-    requires { IsWhole held.machine.certified.now.plan _rounds held.history held.state (map (λ list. list.items) receipts.items) }
+    requires made { length held.state.jobs ≡ numbers.jobs }
+    requires whole { IsWhole held.machine.certified.now.plan _rounds held.history held.state (map (λ list. list.items) receipts.items) }
     ensures run { IsRun held.entry.machine.certified.now.plan _rounds result.history result.receipts }
     ensures jobs { result.jobs ≡ numbers.jobs }
+    ensures made { (s : State) → Reaches held.entry.machine.certified.now.plan result.history s → length s.jobs ≡ result.jobs }
     ensures units { result.units ≡ numbers.units }
     ensures none_refused { result.refused ≡ 0 }
 {
@@ -107,6 +112,7 @@ fn fault_of(
 ) -> Result<Option<u8>, AllocError>
     requires { AreOwnersOf plan.now replay.now.held.history replay.now.owners.items }
     ensures whole { IfOk result (λ found. IfNone found (IsWhole plan.now rounds replay.now.held.history replay.now.held.state (map (λ list. list.items) met.now.receipts.items))) }
+    ensures made { IfOk result (λ found. IfNone found (length replay.now.held.state.jobs ≡ numbers.jobs)) }
     ensures met { IfOk result (λ found. IfNone found (IsNone met.now.fault)) }
     ensures fault { IfOk result (λ found. IfSome found (IsAnswerTo met.now.fault)) }
 {

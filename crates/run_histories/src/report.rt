@@ -33,7 +33,8 @@ impl Model for RunReport {
 ///
 /// 40: a limit of a run is passed, and nothing was started. 41: a receipt is strange: the history has no such event at its
 /// number, or it is not of its thread, or the numbers of a list do not rise. 42: the receipts are not those of the
-/// history, each once, or the history is not complete. 43: the gate failed. 20: memory ran out.
+/// history, each once, or the history is not complete or has another number of jobs than was computed. 43: the gate failed.
+/// 20: memory ran out.
 #[derive(Clone, Copy, Debug, PartialEq, Eq)]
 pub struct RunFault {
     pub number: u8,
