@@ -23,10 +23,40 @@ struct Loan {
     sketch: Sketch,
 }
 
-/// The least vector that is wanted, or None where none is found whose total is within its limit.
+/// What each pool's workers weigh, and what comes of it.
+#[derive(Debug, Drop)]
+pub(crate) struct Loans {
+    pub(crate) workers: Vec<u64>,
+    pub(crate) sketch: Sketch,
+}
+
+/// The loans that bring the total of the vector that is wanted within its limit or, where none do, those behind which no
+/// further one makes it less.
 ///
 /// While the total is above its limit, one pool lends: its workers weigh as much as its jobs do at most, so that its
-/// queued jobs weigh less. Of all pools that one lends which makes the total the least.
+/// queued jobs weigh less. Of all pools that may lend one lends which makes the total the least.
+pub(crate) fn lent(
+    alloc: Global,
+    plan: &Plan,
+    levels: &Levels,
+    wanted: &Wanted,
+) -> Result<Loans, AllocError> {
+    let mut workers = vec![in alloc; 0; plan.pools().len()]?;
+    let mut sketch = Sketch::of(alloc, plan, levels, wanted, &workers)?;
+    for _ in 0..MOST_LOANS {
+        if sketch.total <= wanted.limit {
+            break;
+        }
+        let Some(loan) = best_loan(alloc, plan, levels, wanted, &mut workers, &sketch)? else {
+            break;
+        };
+        put_at(&mut workers, loan.pool, loan.weight);
+        sketch = loan.sketch;
+    }
+    Ok(Loans { workers, sketch })
+}
+
+/// The least vector that is wanted, or None where none is found whose total is within its limit.
 pub(crate) fn least_vector(
     alloc: Global,
     plan: &Plan,
@@ -35,22 +65,11 @@ pub(crate) fn least_vector(
 ) -> Result<Option<Vector>, AllocError>
     ensures { IfOk result (λ found. IfSome found (λ vector. IsTrue (vector_fits plan.now vector))) }
 {
-    let mut workers = vec![in alloc; 0; plan.pools().len()]?;
-    let mut sketch = Sketch::of(alloc, plan, levels, wanted, &workers)?;
-    for _ in 0..MOST_LOANS {
-        if sketch.total <= wanted.limit {
-            return vector_of(alloc, plan, wanted, workers, &sketch);
-        }
-        if !wanted.lends() || wanted.limit == 0 {
-            return Ok(None);
-        }
-        let Some(loan) = best_loan(alloc, plan, levels, wanted, &mut workers, &sketch)? else {
-            return Ok(None);
-        };
-        put_at(&mut workers, loan.pool, loan.weight);
-        sketch = loan.sketch;
+    let Loans { workers, sketch } = lent(alloc, plan, levels, wanted)?;
+    if sketch.total > wanted.limit {
+        return Ok(None);
     }
-    Ok(None)
+    vector_of(alloc, plan, wanted, workers, &sketch)
 }
 
 /// The loan that makes the total the least, if one makes it less than it is. The workers stay as they are.
@@ -65,6 +84,9 @@ fn best_loan(
     let mut best = None;
     let mut least = sketch.total;
     for pool in 0..plan.pools().len() {
+        if !wanted.may_lend(pool) {
+            continue;
+        }
         let before = number_at(workers, pool);
         let weight = peak(alloc, plan, levels, wanted, workers, pool, sketch)?;
         if weight != before {

@@ -5,6 +5,7 @@
 //! on a vector tests it, as by `cert_check::accepts`. That they are the vectors that one hopes for is shown by tests.
 #![tactic(auto)]
 
+mod growing;
 mod lending;
 mod levels;
 mod numbers;
@@ -15,6 +16,7 @@ mod vectors;
 mod wanted;
 mod weight;
 
+pub use growing::{Growing, Kind, Weighed};
 pub use levels::Levels;
 pub use reached::reach;
 pub use vectors::{blocked_vector, pool_bound};

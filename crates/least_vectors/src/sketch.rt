@@ -9,7 +9,7 @@ use std::alloc::{AllocError, Global};
 use weights::{MOST_WEIGHT, class_got};
 
 /// What is said of a vector that is too heavy for every bound, or that there is not.
-const TOO_HEAVY: u64 = u64::MAX;
+pub(crate) const TOO_HEAVY: u64 = u64::MAX;
 
 /// A vector without its rows.
 #[derive(Debug, Drop)]
@@ -48,7 +48,7 @@ impl Sketch {
             }
         }
         for (number, pool) in plan.pools().iter().enumerate() {
-            sketch.add(number_at(workers, number), pool.max);
+            sketch.add(number_at(workers, number), wanted.max_of(number, pool));
         }
         for client in plan.clients() {
             sketch.weigh_client(wanted, client)?;
@@ -107,7 +107,7 @@ impl Sketch {
         match action {
             Action::Work(_) => weight,
             Action::Submit(class) => weight.plus(number_at(&self.queued, class)),
-            Action::Get(submit) if wanted.lends() => {
+            Action::Get(submit) if wanted.gives_back() => {
                 weight.less(number_at(&self.done, class_got(actions, submit)))
             }
             Action::Get(_) => weight,

@@ -26,11 +26,12 @@ pub fn pool_bound(
     ensures { IfOk result (λ found. IfSome found (λ bound. IsTrue (vector_fits plan.now (bound_vector bound)))) }
 {
     let sizes = &plan.pools()[pool];
-    let standing = Wanted::standing(pool, sizes);
+    let standing = Wanted::standing(pool, sizes.queue).without_vain_loans();
     if let Some(vector) = least_vector(alloc, plan, levels, &standing)? {
         return Ok(Some(Bound::Standing(vector)));
     }
-    let lifetime = Wanted::lifetime(pool, sizes);
+    let places = sizes.queue.saturating_add(sizes.max);
+    let lifetime = Wanted::lifetime(pool, places.saturating_sub(sizes.first_workers()));
     match least_vector(alloc, plan, levels, &lifetime)? {
         Some(vector) => Ok(Some(Bound::Lifetime(vector))),
         None => Ok(None),
@@ -54,6 +55,12 @@ pub fn blocked_vector(
     requires { pool < length plan.now.pools }
     ensures { IfOk result (λ found. IfSome found (λ vector. IsTrue (vector_fits plan.now vector))) }
 {
-    let wanted = Wanted::blocked(pool, &plan.pools()[pool], reach, rank);
+    let sizes = &plan.pools()[pool];
+    let wanted = Wanted::blocked(
+        pool,
+        sizes.core.saturating_sub(1),
+        reach,
+        rank,
+    ).without_vain_loans();
     least_vector(alloc, plan, levels, &wanted)
 }

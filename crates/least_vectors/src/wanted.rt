@@ -20,6 +20,17 @@ pub(crate) enum Heavy<'a> {
     Everywhere,
 }
 
+/// Whose workers may weigh something, so that jobs weigh less.
+#[derive(Clone, Copy, Debug, PartialEq, Eq)]
+pub(crate) enum Lenders {
+    /// Each pool's.
+    All,
+    /// Those of each pool but the one whose vector it is.
+    Others,
+    /// No pool's.
+    Nobody,
+}
+
 /// A vector of a pool that is looked for.
 #[derive(Clone, Copy)]
 pub(crate) struct Wanted<'a> {
@@ -29,39 +40,78 @@ pub(crate) struct Wanted<'a> {
     pub(crate) heavy: Heavy<'a>,
     /// The most that the total may be.
     pub(crate) limit: u64,
+    /// Whose workers may weigh something.
+    pub(crate) lenders: Lenders,
+    /// The maximum of each pool, where it is not the plan's.
+    pub(crate) maxes: Option<&'a [u64]>,
 }
 
 impl<'a> Wanted<'a> {
-    /// The pool's standing vector.
-    pub(crate) fn standing(number: usize, pool: &Pool) -> Wanted<'static> {
+    /// The pool's standing vector, whose total may be so much.
+    pub(crate) fn standing(number: usize, limit: u64) -> Wanted<'static> {
         Wanted {
             pool: number,
             heavy: Heavy::WhileQueued,
-            limit: pool.queue,
+            limit,
+            lenders: Lenders::All,
+            maxes: None,
         }
     }
 
-    /// The pool's lifetime vector.
-    pub(crate) fn lifetime(number: usize, pool: &Pool) -> Wanted<'static> {
-        let places = pool.queue.saturating_add(pool.max);
+    /// The pool's lifetime vector, whose total may be so much.
+    pub(crate) fn lifetime(number: usize, limit: u64) -> Wanted<'static> {
         Wanted {
             pool: number,
             heavy: Heavy::Everywhere,
-            limit: places.saturating_sub(pool.first_workers()),
+            limit,
+            lenders: Lenders::Nobody,
+            maxes: None,
         }
     }
 
-    /// The pool's blocked vector, where the pool has this rank and the classes reach as high as told.
-    pub(crate) fn blocked(number: usize, pool: &Pool, reach: &'a [u64], rank: u64) -> Wanted<'a> {
+    /// The pool's blocked vector, where the pool has this rank and the classes reach as high as told, and its total may be so
+    /// much.
+    pub(crate) fn blocked(number: usize, limit: u64, reach: &'a [u64], rank: u64) -> Wanted<'a> {
         Wanted {
             pool: number,
             heavy: Heavy::AtGets { reach, rank },
-            limit: pool.core.saturating_sub(1),
+            limit,
+            lenders: Lenders::All,
+            maxes: None,
         }
     }
 
-    /// Whether workers may weigh something, and gets give something back.
-    pub(crate) fn lends(&self) -> bool {
+    /// The same without loans where no total with loans is within the limit: workers that weigh something weigh more than
+    /// nothing.
+    pub(crate) fn without_vain_loans(self) -> Wanted<'a> {
+        if self.limit > 0 {
+            return self;
+        }
+        Wanted {
+            lenders: Lenders::Nobody,
+            ..self
+        }
+    }
+
+    /// Whether workers of the pool may weigh something.
+    pub(crate) fn may_lend(&self, pool: usize) -> bool {
+        match self.lenders {
+            Lenders::All => true,
+            Lenders::Others => pool != self.pool,
+            Lenders::Nobody => false,
+        }
+    }
+
+    /// How many workers the pool of this number has at most.
+    pub(crate) fn max_of(&self, number: usize, pool: &Pool) -> u64 {
+        match self.maxes {
+            Some(maxes) => number_at(maxes, number),
+            None => pool.max,
+        }
+    }
+
+    /// Whether gets give something back.
+    pub(crate) fn gives_back(&self) -> bool {
         !matches!(self.heavy, Heavy::Everywhere)
     }
 
