@@ -15,5 +15,6 @@ pub use laws::{
     accepted_plans_fit, fitted_sizes_are_least, larger_sizes_are_accepted, smallest_fit_is_least,
     widened_maxes_are_least,
 };
+pub use resized::copied;
 pub use unfit::Unfit;
 pub use wide::widened;

@@ -61,6 +61,16 @@ fn copied_clients(alloc: Global, clients: &[Client]) -> Result<Vec<Client>, Allo
     Ok(copies)
 }
 
+fn copied_pools(alloc: Global, pools: &[Pool]) -> Result<Vec<Pool>, AllocError>
+    ensures { IfOk result (λ copies. copies.items ≡ pools.now) }
+{
+    let mut copies = Vec::with_capacity(alloc, pools.len())?;
+    for pool in pools {
+        copies.push(copied_pool(alloc, pool)?)?;
+    }
+    Ok(copies)
+}
+
 /// The plan with these pools in place of its own.
 pub(crate) fn with_pools(alloc: Global, plan: &Plan, pools: Vec<Pool>) -> Result<Plan, AllocError>
     requires { IsWellFormed (given pools.items plan.now.classes plan.now.clients) }
@@ -69,4 +79,16 @@ pub(crate) fn with_pools(alloc: Global, plan: &Plan, pools: Vec<Pool>) -> Result
     let classes = copied_classes(alloc, plan.classes())?;
     let clients = copied_clients(alloc, plan.clients())?;
     Ok(Plan::of_well_formed(pools, classes, clients))
+}
+
+/// A copy of the plan.
+///
+/// # Errors
+///
+/// [`AllocError`] where memory runs out.
+pub fn copied(alloc: Global, plan: &Plan) -> Result<Plan, AllocError>
+    ensures { IfOk result (λ copy. copy ≡ plan.now) }
+{
+    let pools = copied_pools(alloc, plan.pools())?;
+    with_pools(alloc, plan, pools)
 }
