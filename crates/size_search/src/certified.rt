@@ -1,0 +1,71 @@
+//! The certificate of pools that all have ranks.
+
+use crate::bounds::bound_of;
+use crate::found::{Halt, NoSizes};
+use crate::remembered::{Look, Remembered};
+use crate::rooms::maxes_of;
+use crate::rounds::Placing;
+use certificates::{Cert, PoolCert};
+use least_vectors::{Growing, Kind, reach};
+use pool_ranks::Ranks;
+use std::alloc::{AllocError, Global};
+use weights::Vector;
+
+/// The certificate, for sizes that are at least as large as those of the placing.
+pub(crate) fn cert_of(
+    alloc: Global,
+    known: &mut Remembered,
+    placing: &Placing,
+) -> Result<Cert, Halt> {
+    let maxes = maxes_of(alloc, &placing.rooms)?;
+    let ranks = placing.ranks_or(alloc, 0)?;
+    let reach = reach(alloc, known.plan, known.levels, &ranks)?;
+    let mut pools = Vec::with_capacity(alloc, ranks.len())?;
+    for (number, pool) in known.plan.pools().iter().enumerate() {
+        let (Some(room), Some(Some((rank, look)))) = (
+            placing.rooms.get(number),
+            placing.placed.get(number),
+        ) else {
+            return Err(Halt::NotFound(NoSizes::Unknown));
+        };
+        let blocked = blocked_of(alloc, known, *look, &maxes, *rank, &reach)?;
+        let bound = bound_of(alloc, known, number, pool, *room, &maxes)?;
+        let cert = PoolCert { bound, blocked };
+        pools.push(cert).map_err(AllocError::from)?;
+    }
+    Ok(Cert {
+        pools,
+        ranks: Ranks {
+            pools: ranks,
+            reach,
+            levels: Vec::from_slice(alloc, &known.levels.of_classes)?,
+        },
+    })
+}
+
+/// The blocked vector that was found for a pool of this rank. How high the classes reach now counts the same gets as in the
+/// round in which the pool got its rank: pools that had none then have no lower one now.
+fn blocked_of(
+    alloc: Global,
+    known: &Remembered,
+    look: Look,
+    maxes: &[u64],
+    rank: u64,
+    reach: &[u64],
+) -> Result<Vector, Halt> {
+    let growing = Growing {
+        plan: known.plan,
+        levels: known.levels,
+        maxes,
+    };
+    let kind = Kind::Blocked {
+        reach,
+        rank,
+        lending: true,
+    };
+    let vector = match known.workers_at(look) {
+        Some(workers) => growing.vector(alloc, look.pool, kind, workers)?,
+        None => None,
+    };
+    vector.ok_or(Halt::NotFound(NoSizes::Core(look.pool)))
+}

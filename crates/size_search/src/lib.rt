@@ -1,0 +1,20 @@
+//! Looks for sizes with which a certificate accepts a plan: which numbers to change, and how large they have to be.
+//!
+//! Nothing that was looked for is trusted: what [`search_sizes`] finds went through [`fitted_sizes::fitted`], so that the
+//! certificate accepts the plan of those sizes, and no smaller core or queue would do for it.
+#![tactic(auto)]
+
+mod attempt;
+mod bounds;
+mod causes;
+mod certified;
+mod found;
+mod reached;
+mod remembered;
+mod rooms;
+mod rounds;
+mod search;
+mod settled;
+
+pub use found::{NoSizes, SizesFound};
+pub use search::search_sizes;

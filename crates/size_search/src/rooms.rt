@@ -1,0 +1,51 @@
+//! Cores and maximums of pools, which a search raises.
+
+use job_bodies::{Plan, Pool};
+use std::alloc::{AllocError, Global};
+
+/// How many threads a pool keeps, and how many it may have.
+#[derive(Clone, Copy, Debug, PartialEq, Eq)]
+pub(crate) struct Room {
+    pub(crate) core: u64,
+    pub(crate) max: u64,
+}
+
+impl Room {
+    /// What the pool declares.
+    pub(crate) fn of(pool: &Pool) -> Room {
+        Room {
+            core: pool.core,
+            max: pool.max,
+        }
+    }
+
+    /// How much core and maximum together lack for so much core.
+    pub(crate) fn lack(self, core: u64) -> u64 {
+        let max = core.saturating_sub(self.max);
+        core.saturating_sub(self.core).saturating_add(max)
+    }
+
+    /// By how much core and maximum together are above the others.
+    pub(crate) fn growth(self, other: Room) -> u64 {
+        let max = self.max.saturating_sub(other.max);
+        self.core.saturating_sub(other.core).saturating_add(max)
+    }
+
+    /// With so much core at least.
+    pub(crate) fn raised(self, core: u64) -> Room {
+        Room {
+            core: self.core.max(core),
+            max: self.max.max(core),
+        }
+    }
+}
+
+/// What each pool of the plan declares.
+pub(crate) fn rooms_of(alloc: Global, plan: &Plan) -> Result<Vec<Room>, AllocError> {
+    plan.pools().iter().map(Room::of).collect(alloc)
+}
+
+/// The maximum of each pool.
+pub(crate) fn maxes_of(alloc: Global, rooms: &[Room]) -> Result<Vec<u64>, AllocError> {
+    rooms.iter().map(|room| room.max).collect(alloc)
+}

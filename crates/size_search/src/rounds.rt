@@ -1,0 +1,182 @@
+//! Rounds in which pools get their ranks, while their cores grow.
+
+use crate::found::{Halt, NoSizes};
+use crate::remembered::{Look, Remembered};
+use crate::rooms::{Room, maxes_of};
+use job_bodies::MOST_UNITS;
+use least_vectors::{Kind, reach};
+use std::alloc::{AllocError, Global};
+
+/// The pools as far as they have ranks.
+#[derive(Debug, Drop)]
+pub(crate) struct Placing {
+    /// The core and the maximum that each pool has by now.
+    pub(crate) rooms: Vec<Room>,
+    /// The rank and the blocked vector of each pool that has them.
+    pub(crate) placed: Vec<Option<(u64, Look)>>,
+    /// Whether a maximum has grown.
+    pub(crate) has_widened: bool,
+    /// How many pools there were to choose from where first none had core enough; 0 where there was always one.
+    pub(crate) choices: usize,
+}
+
+impl Placing {
+    /// No pool has a rank.
+    fn at(alloc: Global, rooms: Vec<Room>) -> Result<Placing, AllocError> {
+        let placed = vec![in alloc; None; rooms.len()]?;
+        Ok(Placing {
+            rooms,
+            placed,
+            has_widened: false,
+            choices: 0,
+        })
+    }
+
+    /// The rank of each pool, and this one for a pool that has none yet.
+    pub(crate) fn ranks_or(&self, alloc: Global, rank: u64) -> Result<Vec<u64>, AllocError> {
+        self.placed
+            .iter()
+            .map(|placed| placed.map_or(rank, |placed| placed.0))
+            .collect(alloc)
+    }
+
+    /// The lightest blocked vector that each pool without a rank has in this round.
+    fn looks(
+        &self,
+        alloc: Global,
+        known: &mut Remembered,
+        rank: u64,
+        lending: bool,
+    ) -> Result<Vec<Look>, AllocError> {
+        let maxes = maxes_of(alloc, &self.rooms)?;
+        let ranks = self.ranks_or(alloc, rank)?;
+        let reach = reach(alloc, known.plan, known.levels, &ranks)?;
+        let kind = Kind::Blocked {
+            reach: &reach,
+            rank,
+            lending,
+        };
+        let mut looks = Vec::new(alloc);
+        for (pool, (room, placed)) in self.rooms.iter().zip(&self.placed).enumerate() {
+            if placed.is_none() {
+                let enough = room.core.saturating_sub(1);
+                if let Some(look) = known.lightest(alloc, pool, kind, &maxes, enough)? {
+                    looks.push(look)?;
+                }
+            }
+        }
+        Ok(looks)
+    }
+
+    /// Gives the rank to each pool whose core is enough. False where none is.
+    fn place_all(&mut self, looks: &[Look], rank: u64) -> bool {
+        let mut any = false;
+        for look in looks {
+            if self.lack(look) == 0 {
+                self.place(*look, rank);
+                any = true;
+            }
+        }
+        any
+    }
+
+    /// Gives the rank to one pool, of those that lack least the one of this number, and the core to it that it lacks.
+    fn place_one(&mut self, looks: &[Look], rank: u64, choice: usize) -> Result<(), Halt> {
+        let Some(look) = self.choice_of(looks, choice) else {
+            return Err(Halt::NotFound(NoSizes::Unknown));
+        };
+        let core = core_for(&look);
+        if core > MOST_UNITS {
+            return Err(Halt::NotFound(NoSizes::Core(look.pool)));
+        }
+        if let Some(room) = self.rooms.get_mut(look.pool) {
+            self.has_widened = self.has_widened || core > room.max;
+            *room = room.raised(core);
+        }
+        self.place(look, rank);
+        Ok(())
+    }
+
+    /// The pool before which so many stand where those that lack less stand first.
+    fn choice_of(&self, looks: &[Look], choice: usize) -> Option<Look> {
+        for look in looks {
+            let lack = self.lack(look);
+            let before = looks
+                .iter()
+                .filter(|other| {
+                    let less = self.lack(other);
+                    less < lack || (less == lack && other.pool < look.pool)
+                })
+                .count();
+            if before == choice {
+                return Some(*look);
+            }
+        }
+        None
+    }
+
+    fn place(&mut self, look: Look, rank: u64) {
+        if let Some(placed) = self.placed.get_mut(look.pool) {
+            *placed = Some((rank, look));
+        }
+    }
+
+    /// How much core and maximum the pool lacks.
+    fn lack(&self, look: &Look) -> u64 {
+        match self.rooms.get(look.pool) {
+            Some(room) => room.lack(core_for(look)),
+            None => u64::MAX,
+        }
+    }
+}
+
+/// The core that leaves a thread that is not blocked.
+fn core_for(look: &Look) -> u64 {
+    look.total.saturating_add(1)
+}
+
+/// Gives each pool a rank and a blocked vector, where the pools have these cores and maximums or larger ones: in each round
+/// to all whose core is enough or, where none is, to the one that lacks least. Where that is so for the first time, so many
+/// that lack less are passed over.
+pub(crate) fn ranked(
+    alloc: Global,
+    known: &mut Remembered,
+    rooms: Vec<Room>,
+    lending: bool,
+    passed_over: usize,
+) -> Result<Placing, Halt> {
+    let mut placing = Placing::at(alloc, rooms)?;
+    for rank in 0..known.plan.pools().len() as u64 {
+        let looks = placing.looks(alloc, known, rank, lending)?;
+        if looks.is_empty() {
+            break;
+        }
+        if !placing.place_all(&looks, rank) {
+            let choice = if placing.choices == 0 { passed_over } else { 0 };
+            placing.choices = placing.choices.max(looks.len());
+            placing.place_one(&looks, rank, choice)?;
+        }
+    }
+    Ok(placing)
+}
+
+/// The same with rounds that begin again while maximums grow, since workers that lend weigh more then. In the end no worker
+/// lends, so that it comes to an end.
+pub(crate) fn ranked_at_last(
+    alloc: Global,
+    known: &mut Remembered,
+    rooms: Vec<Room>,
+    passed_over: usize,
+) -> Result<Placing, Halt> {
+    let turns = known.plan.pools().len().saturating_mul(2).saturating_add(4);
+    let mut placing = ranked(alloc, known, rooms, true, passed_over)?;
+    let choices = placing.choices;
+    for turn in 0..=turns {
+        if !placing.has_widened {
+            break;
+        }
+        placing = ranked(alloc, known, placing.rooms, turn < turns, 0)?;
+    }
+    placing.choices = choices;
+    Ok(placing)
+}

@@ -1,0 +1,160 @@
+//! The search for sizes.
+
+ghost use Rattle.std.specs.Prelude.{◌≡◌, IfOk, IfSome, IsTrue};
+ghost use Rattle.headline.specs.Accepted.{accepted};
+ghost use Rattle.size_search.specs.Sized.{IsFound};
+ghost use Rattle.size_search.specs.declared.found.SizesFound.TheVariants.{Found};
+
+use crate::attempt::{Attempt, tried};
+use crate::causes::{circle, never_got};
+use crate::found::{Halt, NoSizes, SizesFound};
+use crate::remembered::Remembered;
+use crate::rooms::{Room, rooms_of};
+use crate::settled::settled;
+use cert_check::accepts;
+use certificates::Cert;
+use fitted_sizes::copied;
+use job_bodies::{MOST_POOLS, Plan};
+use least_vectors::Levels;
+use std::alloc::{AllocError, Global};
+
+/// How many pools are tried first beside the one that lacks least, and from how many the growth is taken back.
+const FURTHER_ATTEMPTS: usize = 3;
+
+/// Looks for sizes with which a certificate accepts the plan. Where `first`, which a search for the plan as it is has found,
+/// accepts it, nothing changes.
+///
+/// # Errors
+///
+/// [`AllocError`] where memory runs out.
+pub fn search_sizes(
+    alloc: Global,
+    plan: &Plan,
+    first: Option<Cert>,
+) -> Result<SizesFound, AllocError>
+    ensures found { IfOk result (IsFound plan.now) }
+    ensures unchanged { IfSome first (λ cert. IsTrue (accepted plan.now cert) → IfOk result (λ found. found ≡ Found plan.now cert)) }
+{
+    if let Some(cert) = first {
+        if accepts(plan, &cert) {
+            let plan = copied(alloc, plan)?;
+            return Ok(SizesFound::Found { plan, cert });
+        }
+    }
+    let cert = match looked_for(alloc, plan)? {
+        Ok(cert) => cert,
+        Err(cause) => return Ok(SizesFound::NotFound(cause)),
+    };
+    Ok(match settled(alloc, plan, &cert)? {
+        Ok(plan) => SizesFound::Found { plan, cert },
+        Err(cause) => SizesFound::NotFound(cause),
+    })
+}
+
+/// A certificate that other sizes make accepted, which nobody has tested.
+fn looked_for(alloc: Global, plan: &Plan) -> Result<Result<Cert, NoSizes>, AllocError> {
+    let Some(levels) = Levels::of(alloc, plan)? else {
+        let circle = circle(alloc, plan)?;
+        return Ok(Err(circle.unwrap_or(NoSizes::Unknown)));
+    };
+    if let Some(cause) = never_got(alloc, plan)? {
+        return Ok(Err(cause));
+    }
+    let mut known = Remembered::of(alloc, plan, &levels)?;
+    Ok(match cheapest(alloc, &mut known)? {
+        Ok(best) => Ok(best.cert),
+        Err(cause) => Err(cause),
+    })
+}
+
+/// The cheapest attempt.
+fn cheapest(alloc: Global, known: &mut Remembered) -> Result<Result<Attempt, NoSizes>, AllocError> {
+    let declared = rooms_of(alloc, known.plan)?;
+    let first = outcome(tried(alloc, known, rooms_of(alloc, known.plan)?, 0))?;
+    let choices = match &first {
+        Ok(first) => first.choices,
+        Err(_) => MOST_POOLS,
+    };
+    let mut best = first;
+    for passed_over in 1..choices.min(1 + FURTHER_ATTEMPTS) {
+        let rooms = rooms_of(alloc, known.plan)?;
+        let next = outcome(tried(alloc, known, rooms, passed_over))?;
+        best = cheaper(best, next);
+    }
+    for pool in most_raised(alloc, &best, &declared)? {
+        if let Some(rooms) = put_back(alloc, &best, &declared, pool)? {
+            let next = outcome(tried(alloc, known, rooms, 0))?;
+            best = cheaper(best, next);
+        }
+    }
+    Ok(best)
+}
+
+/// The first attempt, unless the second one is cheaper.
+fn cheaper(
+    first: Result<Attempt, NoSizes>,
+    second: Result<Attempt, NoSizes>,
+) -> Result<Attempt, NoSizes> {
+    match (first, second) {
+        (Ok(first), Ok(second)) => Ok(if second.cost < first.cost {
+            second
+        } else {
+            first
+        }),
+        (Err(_), Ok(second)) => Ok(second),
+        (first, Err(_)) => first,
+    }
+}
+
+/// What an attempt came to, where memory did not run out.
+fn outcome(tried: Result<Attempt, Halt>) -> Result<Result<Attempt, NoSizes>, AllocError> {
+    match tried {
+        Ok(attempt) => Ok(Ok(attempt)),
+        Err(Halt::NotFound(cause)) => Ok(Err(cause)),
+        Err(Halt::Memory(error)) => Err(error),
+    }
+}
+
+/// The pools whose core and maximum have grown most, at most three.
+fn most_raised(
+    alloc: Global,
+    best: &Result<Attempt, NoSizes>,
+    declared: &[Room],
+) -> Result<Vec<usize>, AllocError> {
+    let mut raised = Vec::new(alloc);
+    let Ok(best) = best else {
+        return Ok(raised);
+    };
+    for _ in 0..FURTHER_ATTEMPTS {
+        let mut most = 0;
+        let mut chosen = None;
+        for (pool, (room, declared)) in best.rooms.iter().zip(declared).enumerate() {
+            let growth = room.growth(*declared);
+            if growth > most && !raised.contains(&pool) {
+                most = growth;
+                chosen = Some(pool);
+            }
+        }
+        if let Some(pool) = chosen {
+            raised.push(pool)?;
+        }
+    }
+    Ok(raised)
+}
+
+/// What the attempt needs, but with what this pool declares.
+fn put_back(
+    alloc: Global,
+    best: &Result<Attempt, NoSizes>,
+    declared: &[Room],
+    pool: usize,
+) -> Result<Option<Vec<Room>>, AllocError> {
+    let Ok(best) = best else {
+        return Ok(None);
+    };
+    let mut rooms = Vec::from_slice(alloc, &best.rooms)?;
+    if let (Some(room), Some(declared)) = (rooms.get_mut(pool), declared.get(pool)) {
+        *room = *declared;
+    }
+    Ok(Some(rooms))
+}

@@ -1,0 +1,68 @@
+//! The least sizes for a certificate.
+
+ghost use Rattle.std.specs.Prelude.{IfOk};
+ghost use Rattle.size_search.specs.Sized.{IsSized, IsWider};
+
+use crate::NoSizes;
+use certificates::Cert;
+use fitted_sizes::{Unfit, fitted, widened};
+use job_bodies::Plan;
+use std::alloc::{AllocError, Global};
+
+/// The plan with the least sizes that the certificate needs, or why there are none.
+pub(crate) fn settled(
+    alloc: Global,
+    plan: &Plan,
+    cert: &Cert,
+) -> Result<Result<Plan, NoSizes>, AllocError>
+    ensures { IfOk result (λ answer. IfOk answer (IsSized plan.now cert.now)) }
+{
+    let wide = match widest(alloc, plan, cert)? {
+        Ok(wide) => wide,
+        Err(unfit) => return Ok(Err(cause_of(unfit))),
+    };
+    Ok(match fitted(alloc, wide, cert)? {
+        Ok(fit) => Ok(fit),
+        Err((_plan, unfit)) => Err(cause_of(unfit)),
+    })
+}
+
+/// The plan with maximums that are widened until they leave room for each core. A wider pool can need another one to be wider,
+/// but not itself, so that as many turns as pools are enough.
+fn widest(alloc: Global, plan: &Plan, cert: &Cert) -> Result<Result<Plan, Unfit>, AllocError>
+    ensures { IfOk result (λ answer. IfOk answer (IsWider plan.now)) }
+{
+    let mut wide = match widened(alloc, plan, cert)? {
+        Ok(wide) => wide,
+        Err(unfit) => return Ok(Err(unfit)),
+    };
+    for _ in 0..plan.pools().len() {
+        let wider = match widened(alloc, &wide, cert)? {
+            Ok(wider) => wider,
+            Err(unfit) => return Ok(Err(unfit)),
+        };
+        let is_widest = have_same_maxes(&wide, &wider);
+        wide = wider;
+        if is_widest {
+            break;
+        }
+    }
+    Ok(Ok(wide))
+}
+
+/// Whether the pools of both plans have the same maximums.
+fn have_same_maxes(plan: &Plan, other: &Plan) -> bool {
+    plan.pools()
+        .iter()
+        .zip(other.pools())
+        .all(|(pool, other)| pool.max == other.max)
+}
+
+/// What is said where no sizes make the certificate accepted.
+fn cause_of(unfit: Unfit) -> NoSizes {
+    match unfit {
+        Unfit::Core(pool) => NoSizes::Core(pool),
+        Unfit::Queue(pool) => NoSizes::Queue(pool),
+        Unfit::Shape | Unfit::Condition(_) => NoSizes::Unknown,
+    }
+}
