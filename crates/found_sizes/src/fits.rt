@@ -1,0 +1,219 @@
+//! Plans that are fitted to certificates: the sizes that come of it, worked out by hand.
+
+use cert_check::{Cert, read_cert};
+use fitted_sizes::{Unfit, copied, fitted, smallest, widened};
+use job_bodies::Plan;
+use plan_text::read_plan;
+use size_search::{SizesFound, search_sizes};
+use std::alloc::{AllocError, Global};
+use std::process::Abort;
+use std::test::*;
+
+// Clients that each have a job at most, which weighs 1 until it is got.
+const STANDING: &str = r#"{"version":1,"pools":[
+{"standing":{"workers":[0],"classes":[[1,1,1,1]],"clients":[[1,0,1]]},
+"blocked":{"workers":[0],"classes":[[0,0,0,0]],"clients":[[0,0,0]]}}],
+"ranks":{"pools":[0],"reach":[0],"levels":[0]}}"#;
+
+// The same, but a queued job weighs nothing.
+const WEIGHTLESS: &str = r#"{"version":1,"pools":[
+{"standing":{"workers":[0],"classes":[[0,0,0,0]],"clients":[[0,0,0]]},
+"blocked":{"workers":[0],"classes":[[0,0,0,0]],"clients":[[0,0,0]]}}],
+"ranks":{"pools":[0],"reach":[0],"levels":[0]}}"#;
+
+// A job that waits for a job of its own pool.
+const NESTED: &str = r#"{"version":1,"pools":[
+{"standing":{"workers":[0],"classes":[[1,1,0,1,1],[1,1,1,1]],"clients":[[1,0,1]]},
+"blocked":{"workers":[0],"classes":[[1,1,1,1,1],[0,0,0,0]],"clients":[[1,0,1]]}}],
+"ranks":{"pools":[0],"reach":[0,0],"levels":[1,0]}}"#;
+
+// Core, maximum and queue of the pool, and how many clients there are.
+type Sizes = [u64; 4];
+
+fn one_pool(alloc: Global, sizes: Sizes) -> Result<String, AllocError> {
+    let [core, max, queue, count] = sizes;
+    let mut text = String::new(alloc);
+    write!(
+        text,
+        "[[pool]]\nname = 'p'\ncore = {core}\nmax = {max}\nqueue = {queue}\n"
+    )?;
+    text.push_str("[[class]]\nname = 'a'\npool = 'p'\nbody = ['work 1']\n")?;
+    write!(
+        text,
+        "[[client]]\nname = 'c'\ncount = {count}\nrepeat = true\n"
+    )?;
+    text.push_str("body = ['submit a as x', 'get x']\n")?;
+    Ok(text)
+}
+
+fn nested(alloc: Global, sizes: Sizes) -> Result<String, AllocError> {
+    let [core, max, queue, count] = sizes;
+    let mut text = String::new(alloc);
+    write!(
+        text,
+        "[[pool]]\nname = 'p'\ncore = {core}\nmax = {max}\nqueue = {queue}\n"
+    )?;
+    text.push_str(
+        "[[class]]\nname = 'outer'\npool = 'p'\nbody = ['submit inner as x', 'get x']\n",
+    )?;
+    text.push_str("[[class]]\nname = 'inner'\npool = 'p'\nbody = ['work 1']\n")?;
+    write!(
+        text,
+        "[[client]]\nname = 'c'\ncount = {count}\nrepeat = true\n"
+    )?;
+    text.push_str("body = ['submit outer as x', 'get x']\n")?;
+    Ok(text)
+}
+
+fn plan_of(rt: &impl Abort, alloc: Global, text: Result<String, AllocError>) -> Plan {
+    let text = text.expect(rt, "there is memory");
+    read_plan(alloc, text.as_bytes()).expect(rt, "the plan is read")
+}
+
+fn cert_of(rt: &impl Abort, alloc: Global, text: &str, plan: &Plan) -> Cert {
+    read_cert(alloc, text.as_bytes(), plan).expect(rt, "the certificate is read")
+}
+
+// Core, maximum and queue of the first pool; nothing where there is none.
+fn sizes_of(plan: &Plan) -> [u64; 3] {
+    match plan.pool_at(0) {
+        Some(pool) => [pool.core, pool.max, pool.queue],
+        None => [0, 0, 0],
+    }
+}
+
+// What came of a plan: the sizes of its pool, or why there are none.
+#[derive(Clone, Copy, Debug, PartialEq, Eq)]
+enum Answer {
+    Sizes([u64; 3]),
+    Unfit(Unfit),
+    Condition,
+}
+
+fn answer_of(unfit: Unfit) -> Answer {
+    match unfit {
+        Unfit::Condition(_) => Answer::Condition,
+        other => Answer::Unfit(other),
+    }
+}
+
+fn fit(alloc: Global, plan: Plan, cert: &Cert) -> Result<Answer, AllocError> {
+    Ok(match fitted(alloc, plan, cert)? {
+        Ok(fit) => Answer::Sizes(sizes_of(&fit)),
+        Err((_plan, unfit)) => answer_of(unfit),
+    })
+}
+
+fn widen(alloc: Global, plan: &Plan, cert: &Cert) -> Result<Answer, AllocError> {
+    Ok(match widened(alloc, plan, cert)? {
+        Ok(wide) => Answer::Sizes(sizes_of(&wide)),
+        Err(unfit) => answer_of(unfit),
+    })
+}
+
+// The least sizes for the certificate, whatever the plan declares.
+fn fit_smallest(alloc: Global, plan: &Plan, cert: &Cert) -> Result<Answer, AllocError> {
+    let small = smallest(alloc, plan)?;
+    fit(alloc, small, cert)
+}
+
+// What is widened, fitted, smallest of all, and a copy.
+fn answers(alloc: Global, plan: Plan, cert: &Cert) -> Result<[Answer; 4], AllocError> {
+    let copy = Answer::Sizes(sizes_of(&copied(alloc, &plan)?));
+    let wide = widen(alloc, &plan, cert)?;
+    let least = fit_smallest(alloc, &plan, cert)?;
+    Ok([wide, fit(alloc, plan, cert)?, least, copy])
+}
+
+#[test]
+fn plans_are_fitted_to_certificates(rt: HostRuntime) {
+    let alloc = rt.alloc();
+    let sizes = |core, max, queue| Answer::Sizes([core, max, queue]);
+    let core = Answer::Unfit(Unfit::Core(0));
+    for (declared, wide, fit, least) in [
+        ([1, 1, 1, 2], sizes(1, 1, 1), sizes(1, 1, 2), sizes(1, 1, 2)),
+        ([1, 1, 9, 2], sizes(1, 1, 9), sizes(1, 1, 9), sizes(1, 1, 2)),
+        ([3, 4, 5, 7], sizes(3, 4, 5), sizes(3, 4, 7), sizes(1, 4, 7)),
+    ] {
+        let plan = plan_of(&rt, alloc, one_pool(alloc, declared));
+        let cert = cert_of(&rt, alloc, STANDING, &plan);
+        let all = answers(alloc, plan, &cert).expect(&rt, "there is memory");
+        assert_eq!(rt;
+            all,
+            [
+                wide,
+                fit,
+                least,
+                sizes(declared[0], declared[1], declared[2])
+            ]
+        );
+    }
+    for (declared, wide, fit, least) in [
+        ([1, 1, 5, 1], sizes(1, 2, 5), core, core),
+        ([1, 8, 5, 1], sizes(1, 8, 5), sizes(2, 8, 5), sizes(2, 8, 1)),
+        ([1, 3, 1, 4], sizes(1, 5, 1), core, core),
+        ([1, 1, 1, 1_000_000], core, core, core),
+    ] {
+        let plan = plan_of(&rt, alloc, nested(alloc, declared));
+        let cert = cert_of(&rt, alloc, NESTED, &plan);
+        let all = answers(alloc, plan, &cert).expect(&rt, "there is memory");
+        assert_eq!(rt;
+            all,
+            [
+                wide,
+                fit,
+                least,
+                sizes(declared[0], declared[1], declared[2])
+            ]
+        );
+    }
+}
+
+#[test]
+fn plans_are_not_fitted_to_certificates_that_no_size_helps(rt: HostRuntime) {
+    let alloc = rt.alloc();
+    let plan = plan_of(&rt, alloc, one_pool(alloc, [1, 1, 1, 2]));
+    let other = plan_of(&rt, alloc, nested(alloc, [1, 1, 1, 2]));
+    let weightless = cert_of(&rt, alloc, WEIGHTLESS, &plan);
+    let of_other = cert_of(&rt, alloc, NESTED, &other);
+    let shape = Answer::Unfit(Unfit::Shape);
+    let all = answers(alloc, other, &weightless).expect(&rt, "there is memory");
+    assert_eq!(rt; all, [shape, shape, shape, Answer::Sizes([1, 1, 1])]);
+    assert_eq!(rt; widen(alloc, &plan, &of_other).ok(), Some(shape));
+    assert_eq!(rt; fit(alloc, plan, &weightless).ok(), Some(Answer::Condition));
+}
+
+// What a search finds: the sizes of the first pool, and the certificate.
+fn found(
+    alloc: Global,
+    plan: &Plan,
+    first: Option<Cert>,
+) -> Result<Option<(Plan, Cert)>, AllocError> {
+    Ok(match search_sizes(alloc, plan, first)? {
+        SizesFound::Found { plan, cert } => Some((plan, cert)),
+        SizesFound::NotFound(_) => None,
+    })
+}
+
+#[test]
+fn a_certificate_that_accepts_the_plan_changes_nothing(rt: HostRuntime) {
+    let alloc = rt.alloc();
+    // With a certificate in which each job weighs 1, a queue of 9 is more than is needed.
+    let plan = plan_of(&rt, alloc, one_pool(alloc, [1, 1, 9, 2]));
+    let first = cert_of(&rt, alloc, STANDING, &plan);
+    let (same, cert) = found(alloc, &plan, Some(first))
+        .expect(&rt, "there is memory")
+        .expect(&rt, "it is accepted");
+    assert_eq!(rt; sizes_of(&same), [1, 1, 9]);
+    // Of another plan it is not the one that is found.
+    let other = plan_of(&rt, alloc, nested(alloc, [1, 1, 5, 1]));
+    let (fit, cert) = found(alloc, &other, Some(cert))
+        .expect(&rt, "there is memory")
+        .expect(&rt, "another one is found");
+    assert_eq!(rt; sizes_of(&fit), [2, 2, 5]);
+    // And of the plan that was found it is.
+    let (same, _cert) = found(alloc, &fit, Some(cert))
+        .expect(&rt, "there is memory")
+        .expect(&rt, "it is accepted");
+    assert_eq!(rt; sizes_of(&same), [2, 2, 5]);
+}

@@ -1,0 +1,20 @@
+//! Tests of the search for sizes: plans on standard input, and by hand the sizes that are found for each of them. They stand
+//! apart by lines `%%`, and each begins with its title, as a comment.
+#![tactic(auto)]
+
+mod answers;
+#[cfg(test)]
+mod fits;
+
+use answers::answer;
+use std::io;
+
+fn main(rt: HostRuntime) -> io::Result<()> {
+    let text = io::read_to_string(rt.alloc(), rt.stdin())?;
+    for plan in text.as_str().split("\n%%\n") {
+        let title = plan.lines().next().unwrap_or("");
+        let answer = answer(rt.alloc(), plan)?;
+        println!(rt; "{title}\n{answer}\n")?;
+    }
+    Ok(())
+}
