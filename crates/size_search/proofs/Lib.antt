@@ -1,1 +1,2 @@
 pub mod Sizings
+pub mod Submits

@@ -5,6 +5,7 @@ use Rattle.certificates.specs.Cert.{Cert}
 use Rattle.headline.specs.Accepted.{accepted}
 use Rattle.fitted_sizes.specs.Fitted.{IsResized, IsNoSmaller}
 use Rattle.fitted_sizes.specs.Widened.{IsWideFit}
+use Rattle.size_search.specs.Submitted.{IsCause}
 use Rattle.size_search.specs.declared.found.SizesFound.{SizesFound}
 use Rattle.size_search.specs.declared.found.SizesFound.TheVariants.{Found, NotFound}
 
@@ -15,10 +16,10 @@ pub record IsSized (plan : Plan) (cert : Cert) (fit : Plan) : Type 0 where
   pub no_smaller : IsNoSmaller fit plan
   pub least : (other : Plan) → IsResized fit other → IsNoSmaller other plan → IsTrue (accepted other cert) → IsNoSmaller other fit
 
--- where sizes were found, it is so of them
+-- where sizes were found it is so of them, and else what the cause says
 abbrev pub IsFound : Plan → SizesFound → Type 0
 IsFound plan (Found fit cert) = IsSized plan cert fit
-IsFound plan (NotFound cause) = Unit {0}
+IsFound plan (NotFound cause) = IsCause plan cause
 
 -- ---- plans that were widened
 

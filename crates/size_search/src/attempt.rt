@@ -39,7 +39,7 @@ pub(crate) fn tried(
             cost: growth(known.plan, &fit),
             choices: placing.choices,
         }),
-        Err(cause) => Err(Halt::NotFound(cause)),
+        Err(limit) => Err(Halt::Limit(limit)),
     }
 }
 

@@ -1,6 +1,6 @@
 //! The vector that bounds a pool's queue.
 
-use crate::found::{Halt, NoSizes};
+use crate::found::{Halt, Limit};
 use crate::remembered::Remembered;
 use crate::rooms::Room;
 use job_bodies::Pool;
@@ -32,7 +32,7 @@ pub(crate) fn bound_of(
                 let vector = growing.vector(alloc, number, Kind::Lifetime, &weighed.workers)?;
                 return match vector {
                     Some(vector) => Ok(Bound::Lifetime(vector)),
-                    None => Err(Halt::NotFound(NoSizes::Queue(number))),
+                    None => Err(Halt::Limit(Limit::Queue(number))),
                 };
             }
         }
@@ -43,7 +43,7 @@ pub(crate) fn bound_of(
     };
     match vector {
         Some(vector) => Ok(Bound::Standing(vector)),
-        None => Err(Halt::NotFound(NoSizes::Queue(number))),
+        None => Err(Halt::Limit(Limit::Queue(number))),
     }
 }
 

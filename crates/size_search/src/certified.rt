@@ -1,7 +1,7 @@
 //! The certificate of pools that all have ranks.
 
 use crate::bounds::bound_of;
-use crate::found::{Halt, NoSizes};
+use crate::found::{Halt, Limit};
 use crate::remembered::{Look, Remembered};
 use crate::rooms::maxes_of;
 use crate::rounds::Placing;
@@ -26,7 +26,7 @@ pub(crate) fn cert_of(
             placing.rooms.get(number),
             placing.placed.get(number),
         ) else {
-            return Err(Halt::NotFound(NoSizes::Unknown));
+            return Err(Halt::Limit(Limit::Unknown));
         };
         let blocked = blocked_of(alloc, known, *look, &maxes, *rank, &reach)?;
         let bound = bound_of(alloc, known, number, pool, *room, &maxes)?;
@@ -67,5 +67,5 @@ fn blocked_of(
         Some(workers) => growing.vector(alloc, look.pool, kind, workers)?,
         None => None,
     };
-    vector.ok_or(Halt::NotFound(NoSizes::Core(look.pool)))
+    vector.ok_or(Halt::Limit(Limit::Core(look.pool)))
 }

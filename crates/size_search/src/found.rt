@@ -1,5 +1,8 @@
 //! What a search for sizes comes to.
 
+ghost use Rattle.job_bodies.specs.Plan as spec;
+ghost use Rattle.size_search.specs.Submitted.{IsCause};
+
 use certificates::Cert;
 use job_bodies::Plan;
 use std::alloc::AllocError;
@@ -13,7 +16,8 @@ pub enum SizesFound {
     NotFound(NoSizes),
 }
 
-/// Why no sizes were found. With the first three there is no certificate at any sizes.
+/// Why no sizes were found. The first three say of the plan why no sizes help, and that they hold of it is proved. They say no
+/// more: a plan may be safe for which there is no certificate.
 #[derive(Clone, Copy, Debug, PartialEq, Eq)]
 pub enum NoSizes {
     /// The class of this number submits itself, at whatever remove.
@@ -31,13 +35,37 @@ pub enum NoSizes {
     Unknown,
 }
 
+/// What an attempt did not get past.
+#[derive(Clone, Copy, Debug, PartialEq, Eq)]
+pub(crate) enum Limit {
+    /// The core of the pool of this number.
+    Core(usize),
+    /// Its queue.
+    Queue(usize),
+    /// Something else.
+    Unknown,
+}
+
+impl Limit {
+    /// What is told of it.
+    pub(crate) fn cause(self) -> NoSizes
+        ensures { (plan : spec.Plan) → IsCause plan result }
+    {
+        match self {
+            Limit::Core(pool) => NoSizes::Core(pool),
+            Limit::Queue(pool) => NoSizes::Queue(pool),
+            Limit::Unknown => NoSizes::Unknown,
+        }
+    }
+}
+
 /// Why an attempt came to nothing.
 #[derive(Debug, Drop)]
 pub(crate) enum Halt {
     /// Memory ran out.
     Memory(AllocError),
     /// There is no certificate that way.
-    NotFound(NoSizes),
+    Limit(Limit),
 }
 
 impl From<AllocError> for Halt {

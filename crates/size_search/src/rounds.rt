@@ -1,6 +1,6 @@
 //! Rounds in which pools get their ranks, while their cores grow.
 
-use crate::found::{Halt, NoSizes};
+use crate::found::{Halt, Limit};
 use crate::remembered::{Look, Remembered};
 use crate::rooms::{Room, maxes_of};
 use job_bodies::MOST_UNITS;
@@ -83,11 +83,11 @@ impl Placing {
     /// Gives the rank to one pool, of those that lack least the one of this number, and the core to it that it lacks.
     fn place_one(&mut self, looks: &[Look], rank: u64, choice: usize) -> Result<(), Halt> {
         let Some(look) = self.choice_of(looks, choice) else {
-            return Err(Halt::NotFound(NoSizes::Unknown));
+            return Err(Halt::Limit(Limit::Unknown));
         };
         let core = core_for(&look);
         if core > MOST_UNITS {
-            return Err(Halt::NotFound(NoSizes::Core(look.pool)));
+            return Err(Halt::Limit(Limit::Core(look.pool)));
         }
         if let Some(room) = self.rooms.get_mut(look.pool) {
             self.has_widened = self.has_widened || core > room.max;

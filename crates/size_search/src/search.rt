@@ -1,13 +1,14 @@
 //! The search for sizes.
 
-ghost use Rattle.std.specs.Prelude.{◌≡◌, IfOk, IfSome, IsTrue};
+ghost use Rattle.std.specs.Prelude.{◌≡◌, IfOk, IfErr, IfSome, IsTrue};
 ghost use Rattle.headline.specs.Accepted.{accepted};
+ghost use Rattle.size_search.specs.Submitted.{IsCause};
 ghost use Rattle.size_search.specs.Sized.{IsFound};
 ghost use Rattle.size_search.specs.declared.found.SizesFound.TheVariants.{Found};
 
 use crate::attempt::{Attempt, tried};
 use crate::causes::{circle, never_got};
-use crate::found::{Halt, NoSizes, SizesFound};
+use crate::found::{Halt, Limit, NoSizes, SizesFound};
 use crate::remembered::Remembered;
 use crate::rooms::{Room, rooms_of};
 use crate::settled::settled;
@@ -21,8 +22,15 @@ use std::alloc::{AllocError, Global};
 /// How many pools are tried first beside the one that lacks least, and from how many the growth is taken back.
 const FURTHER_ATTEMPTS: usize = 3;
 
-/// Looks for sizes with which a certificate accepts the plan. Where `first`, which a search for the plan as it is has found,
-/// accepts it, nothing changes.
+/// Looks for sizes with which a certificate accepts the plan, and so that their increases are few and small. Where `first`
+/// accepts the plan as it is, as what a search for a certificate finds, nothing changes.
+///
+/// In rounds, as in the search for a certificate, pools get ranks and blocked vectors. Where no pool has core enough in a
+/// round, the one that lacks least gets it. The queues follow, and then the sizes are put back to what the certificate
+/// needs. Some further attempts begin with another pool, or without what a pool got; the cheapest one is answered.
+///
+/// That the certificate accepts the plan of these sizes is proved, and that no smaller core or queue would do for it. Another
+/// certificate may need less.
 ///
 /// # Errors
 ///
@@ -47,12 +55,14 @@ pub fn search_sizes(
     };
     Ok(match settled(alloc, plan, &cert)? {
         Ok(plan) => SizesFound::Found { plan, cert },
-        Err(cause) => SizesFound::NotFound(cause),
+        Err(limit) => SizesFound::NotFound(limit.cause()),
     })
 }
 
 /// A certificate that other sizes make accepted, which nobody has tested.
-fn looked_for(alloc: Global, plan: &Plan) -> Result<Result<Cert, NoSizes>, AllocError> {
+fn looked_for(alloc: Global, plan: &Plan) -> Result<Result<Cert, NoSizes>, AllocError>
+    ensures { IfOk result (λ answer. IfErr answer (IsCause plan.now)) }
+{
     let Some(levels) = Levels::of(alloc, plan)? else {
         let circle = circle(alloc, plan)?;
         return Ok(Err(circle.unwrap_or(NoSizes::Unknown)));
@@ -63,12 +73,12 @@ fn looked_for(alloc: Global, plan: &Plan) -> Result<Result<Cert, NoSizes>, Alloc
     let mut known = Remembered::of(alloc, plan, &levels)?;
     Ok(match cheapest(alloc, &mut known)? {
         Ok(best) => Ok(best.cert),
-        Err(cause) => Err(cause),
+        Err(limit) => Err(limit.cause()),
     })
 }
 
 /// The cheapest attempt.
-fn cheapest(alloc: Global, known: &mut Remembered) -> Result<Result<Attempt, NoSizes>, AllocError> {
+fn cheapest(alloc: Global, known: &mut Remembered) -> Result<Result<Attempt, Limit>, AllocError> {
     let declared = rooms_of(alloc, known.plan)?;
     let first = outcome(tried(alloc, known, rooms_of(alloc, known.plan)?, 0))?;
     let choices = match &first {
@@ -92,9 +102,9 @@ fn cheapest(alloc: Global, known: &mut Remembered) -> Result<Result<Attempt, NoS
 
 /// The first attempt, unless the second one is cheaper.
 fn cheaper(
-    first: Result<Attempt, NoSizes>,
-    second: Result<Attempt, NoSizes>,
-) -> Result<Attempt, NoSizes> {
+    first: Result<Attempt, Limit>,
+    second: Result<Attempt, Limit>,
+) -> Result<Attempt, Limit> {
     match (first, second) {
         (Ok(first), Ok(second)) => Ok(if second.cost < first.cost {
             second
@@ -107,10 +117,10 @@ fn cheaper(
 }
 
 /// What an attempt came to, where memory did not run out.
-fn outcome(tried: Result<Attempt, Halt>) -> Result<Result<Attempt, NoSizes>, AllocError> {
+fn outcome(tried: Result<Attempt, Halt>) -> Result<Result<Attempt, Limit>, AllocError> {
     match tried {
         Ok(attempt) => Ok(Ok(attempt)),
-        Err(Halt::NotFound(cause)) => Ok(Err(cause)),
+        Err(Halt::Limit(limit)) => Ok(Err(limit)),
         Err(Halt::Memory(error)) => Err(error),
     }
 }
@@ -118,7 +128,7 @@ fn outcome(tried: Result<Attempt, Halt>) -> Result<Result<Attempt, NoSizes>, All
 /// The pools whose core and maximum have grown most, at most three.
 fn most_raised(
     alloc: Global,
-    best: &Result<Attempt, NoSizes>,
+    best: &Result<Attempt, Limit>,
     declared: &[Room],
 ) -> Result<Vec<usize>, AllocError> {
     let mut raised = Vec::new(alloc);
@@ -145,7 +155,7 @@ fn most_raised(
 /// What the attempt needs, but with what this pool declares.
 fn put_back(
     alloc: Global,
-    best: &Result<Attempt, NoSizes>,
+    best: &Result<Attempt, Limit>,
     declared: &[Room],
     pool: usize,
 ) -> Result<Option<Vec<Room>>, AllocError> {

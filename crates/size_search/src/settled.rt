@@ -3,7 +3,7 @@
 ghost use Rattle.std.specs.Prelude.{IfOk};
 ghost use Rattle.size_search.specs.Sized.{IsSized, IsWider};
 
-use crate::NoSizes;
+use crate::found::Limit;
 use certificates::Cert;
 use fitted_sizes::{Unfit, fitted, widened};
 use job_bodies::Plan;
@@ -14,16 +14,16 @@ pub(crate) fn settled(
     alloc: Global,
     plan: &Plan,
     cert: &Cert,
-) -> Result<Result<Plan, NoSizes>, AllocError>
+) -> Result<Result<Plan, Limit>, AllocError>
     ensures { IfOk result (λ answer. IfOk answer (IsSized plan.now cert.now)) }
 {
     let wide = match widest(alloc, plan, cert)? {
         Ok(wide) => wide,
-        Err(unfit) => return Ok(Err(cause_of(unfit))),
+        Err(unfit) => return Ok(Err(limit_of(unfit))),
     };
     Ok(match fitted(alloc, wide, cert)? {
         Ok(fit) => Ok(fit),
-        Err((_plan, unfit)) => Err(cause_of(unfit)),
+        Err((_plan, unfit)) => Err(limit_of(unfit)),
     })
 }
 
@@ -58,11 +58,11 @@ fn have_same_maxes(plan: &Plan, other: &Plan) -> bool {
         .all(|(pool, other)| pool.max == other.max)
 }
 
-/// What is said where no sizes make the certificate accepted.
-fn cause_of(unfit: Unfit) -> NoSizes {
+/// What keeps all sizes from making the certificate accepted.
+fn limit_of(unfit: Unfit) -> Limit {
     match unfit {
-        Unfit::Core(pool) => NoSizes::Core(pool),
-        Unfit::Queue(pool) => NoSizes::Queue(pool),
-        Unfit::Shape | Unfit::Condition(_) => NoSizes::Unknown,
+        Unfit::Core(pool) => Limit::Core(pool),
+        Unfit::Queue(pool) => Limit::Queue(pool),
+        Unfit::Shape | Unfit::Condition(_) => Limit::Unknown,
     }
 }
