@@ -4,7 +4,7 @@ use crate::found::{Halt, Limit};
 use crate::remembered::Remembered;
 use crate::rooms::Room;
 use job_bodies::Pool;
-use least_vectors::{Growing, Kind, Weighed};
+use least_vectors::Kind;
 use std::alloc::Global;
 use weights::Bound;
 
@@ -18,38 +18,34 @@ pub(crate) fn bound_of(
     room: Room,
     maxes: &[u64],
 ) -> Result<Bound, Halt> {
-    let growing = Growing {
-        plan: known.plan,
-        levels: known.levels,
-        maxes,
-    };
-    let look = known.lightest(alloc, number, Kind::Standing, maxes, pool.queue)?;
-    let missing = look.map_or(u64::MAX, |look| look.total.saturating_sub(pool.queue));
+    let mut look = known.lightest(alloc, number, Kind::Standing, maxes, pool.queue)?;
+    let missing = look.total.saturating_sub(pool.queue);
+    let mut is_lifetime = false;
     if missing > 0 {
-        let lifetime = growing.lightest(alloc, number, Kind::Lifetime, 0)?;
-        if let Some(weighed) = lifetime {
-            if lifetime_queue(pool, room, &weighed).saturating_sub(pool.queue) < missing {
-                let vector = growing.vector(alloc, number, Kind::Lifetime, &weighed.workers)?;
-                return match vector {
-                    Some(vector) => Ok(Bound::Lifetime(vector)),
-                    None => Err(Halt::Limit(Limit::Queue(number))),
-                };
-            }
+        let lifetime = known.lightest(alloc, number, Kind::Lifetime, maxes, 0)?;
+        is_lifetime = lifetime_queue(pool, room, lifetime.total).saturating_sub(pool.queue)
+            < missing;
+        if is_lifetime {
+            look = lifetime;
         }
     }
-    let vector = match look.and_then(|look| known.workers_at(look)) {
-        Some(workers) => growing.vector(alloc, number, Kind::Standing, workers)?,
-        None => None,
+    let Some(workers) = known.workers_at(look) else {
+        return Err(Halt::Limit(Limit::Queue(number)));
     };
-    match vector {
+    let kind = if is_lifetime {
+        Kind::Lifetime
+    } else {
+        Kind::Standing
+    };
+    match known.growing(maxes).vector(alloc, number, kind, workers)? {
+        Some(vector) if is_lifetime => Ok(Bound::Lifetime(vector)),
         Some(vector) => Ok(Bound::Standing(vector)),
         None => Err(Halt::Limit(Limit::Queue(number))),
     }
 }
 
-/// The queue that the pool needs for all jobs that are ever made: the threads take as many of them as do not begin idle.
-fn lifetime_queue(pool: &Pool, room: Room, weighed: &Weighed) -> u64 {
+/// The queue that the pool needs for so many jobs that are ever made: the threads take as many of them as do not begin idle.
+fn lifetime_queue(pool: &Pool, room: Room, jobs: u64) -> u64 {
     let first_workers = if pool.prestart { room.core } else { 0 };
-    let jobs = weighed.total.saturating_add(first_workers);
-    jobs.saturating_sub(room.max)
+    jobs.saturating_add(first_workers).saturating_sub(room.max)
 }

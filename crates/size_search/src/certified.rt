@@ -6,7 +6,7 @@ use crate::remembered::{Look, Remembered};
 use crate::rooms::maxes_of;
 use crate::rounds::Placing;
 use certificates::{Cert, PoolCert};
-use least_vectors::{Growing, Kind, reach};
+use least_vectors::{Kind, reach};
 use pool_ranks::Ranks;
 use std::alloc::{AllocError, Global};
 use weights::Vector;
@@ -53,18 +53,15 @@ fn blocked_of(
     rank: u64,
     reach: &[u64],
 ) -> Result<Vector, Halt> {
-    let growing = Growing {
-        plan: known.plan,
-        levels: known.levels,
-        maxes,
-    };
     let kind = Kind::Blocked {
         reach,
         rank,
         lending: true,
     };
     let vector = match known.workers_at(look) {
-        Some(workers) => growing.vector(alloc, look.pool, kind, workers)?,
+        Some(workers) => known
+            .growing(maxes)
+            .vector(alloc, look.pool, kind, workers)?,
         None => None,
     };
     vector.ok_or(Halt::Limit(Limit::Core(look.pool)))

@@ -5,17 +5,27 @@ use least_vectors::{Growing, Kind, Levels, Weighed};
 use std::alloc::{AllocError, Global};
 use weights::class_got;
 
+/// Which vector of a pool was looked for.
+#[derive(Debug, PartialEq, Drop)]
+enum Asked {
+    Standing,
+    Lifetime,
+    Blocked {
+        /// Whether the pool's jobs count a get of a job of each class.
+        counted: Vec<bool>,
+        /// Whether other pools may lend.
+        lending: bool,
+    },
+}
+
 /// All on which a pool's lightest vector depends.
 #[derive(Debug, PartialEq, Drop)]
 struct Question {
-    /// The total that is small enough.
-    enough: u64,
+    asked: Asked,
     /// The maximum of each pool.
     maxes: Vec<u64>,
-    /// For a blocked vector, whether other pools may lend.
-    lending: Option<bool>,
-    /// For a blocked vector, whether the pool's jobs count a get of a job of each class.
-    counted: Vec<bool>,
+    /// The total that is small enough.
+    enough: u64,
 }
 
 /// A vector that was looked for.
@@ -41,6 +51,17 @@ pub(crate) struct Look {
     pub(crate) total: u64,
     /// The answer's place in what is remembered of the pool.
     pub(crate) place: usize,
+}
+
+impl Look {
+    /// There is no vector.
+    fn nothing(pool: usize) -> Look {
+        Look {
+            pool,
+            total: u64::MAX,
+            place: 0,
+        }
+    }
 }
 
 /// A plan whose sizes are looked for, and the vectors that were looked for so far.
@@ -80,39 +101,30 @@ impl<'a> Remembered<'a> {
         kind: Kind,
         maxes: &[u64],
         enough: u64,
-    ) -> Result<Option<Look>, AllocError> {
-        let growing = Growing {
+    ) -> Result<Look, AllocError> {
+        let growing = self.growing(maxes);
+        let Some(memory) = self.pools.get_mut(pool) else {
+            return Ok(Look::nothing(pool));
+        };
+        let question = memory.question(alloc, kind, maxes, enough)?;
+        if let Some(place) = memory.place_of(&question) {
+            return Ok(memory.look(pool, place));
+        }
+        let answer = growing.lightest(alloc, pool, kind, enough)?;
+        memory.answered.push(Answered { question, answer })?;
+        Ok(memory.look(pool, memory.answered.len().saturating_sub(1)))
+    }
+
+    /// The plan where the pools have these maximums.
+    pub(crate) fn growing<'b>(&self, maxes: &'b [u64]) -> Growing<'b>
+    where
+        'a: 'b,
+    {
+        Growing {
             plan: self.plan,
             levels: self.levels,
             maxes,
-        };
-        let Some(memory) = self.pools.get_mut(pool) else {
-            return Ok(None);
-        };
-        let question = memory.question(alloc, kind, maxes, enough)?;
-        let known = memory
-            .answered
-            .iter()
-            .position(|answered| answered.question == question);
-        let place = match known {
-            Some(place) => place,
-            None => {
-                let answer = growing.lightest(alloc, pool, kind, enough)?;
-                let place = memory.answered.len();
-                memory.answered.push(Answered { question, answer })?;
-                place
-            }
-        };
-        let total = match memory.answered.get(place) {
-            Some(
-                Answered {
-                    answer: Some(weighed),
-                    ..
-                },
-            ) => weighed.total,
-            _ => u64::MAX,
-        };
-        Ok(Some(Look { pool, total, place }))
+        }
     }
 
     /// What the workers of each pool weigh in an answer's vector.
@@ -133,28 +145,51 @@ impl PoolMemory {
         maxes: &[u64],
         enough: u64,
     ) -> Result<Question, AllocError> {
-        let (lending, counted) = match kind {
+        let asked = match kind {
+            Kind::Standing => Asked::Standing,
+            Kind::Lifetime => Asked::Lifetime,
             Kind::Blocked {
                 reach,
                 rank,
                 lending,
-            } => {
-                let counted = self
-                    .gets
-                    .iter()
-                    .zip(reach)
-                    .map(|(gets, reach)| *gets && *reach >= rank)
-                    .collect(alloc)?;
-                (Some(lending), counted)
-            }
-            Kind::Standing | Kind::Lifetime => (None, Vec::new(alloc)),
+            } => Asked::Blocked {
+                counted: self.counted(alloc, reach, rank)?,
+                lending,
+            },
         };
         Ok(Question {
-            enough,
+            asked,
             maxes: Vec::from_slice(alloc, maxes)?,
-            lending,
-            counted,
+            enough,
         })
+    }
+
+    /// For each class, whether a job of the pool of this rank counts its gets of jobs of the class.
+    fn counted(&self, alloc: Global, reach: &[u64], rank: u64) -> Result<Vec<bool>, AllocError> {
+        self.gets
+            .iter()
+            .zip(reach)
+            .map(|(gets, reach)| *gets && *reach >= rank)
+            .collect(alloc)
+    }
+
+    /// Where the answer to the question stands.
+    fn place_of(&self, question: &Question) -> Option<usize> {
+        self.answered
+            .iter()
+            .position(|answered| answered.question == *question)
+    }
+
+    /// What the answer at this place says.
+    fn look(&self, pool: usize, place: usize) -> Look {
+        let mut look = Look::nothing(pool);
+        if let Some(answered) = self.answered.get(place) {
+            look.place = place;
+            if let Some(weighed) = &answered.answer {
+                look.total = weighed.total;
+            }
+        }
+        look
     }
 }
 

@@ -60,9 +60,7 @@ impl Placing {
         for (pool, (room, placed)) in self.rooms.iter().zip(&self.placed).enumerate() {
             if placed.is_none() {
                 let enough = room.core.saturating_sub(1);
-                if let Some(look) = known.lightest(alloc, pool, kind, &maxes, enough)? {
-                    looks.push(look)?;
-                }
+                looks.push(known.lightest(alloc, pool, kind, &maxes, enough)?)?;
             }
         }
         Ok(looks)
