@@ -1,9 +1,9 @@
 -- The application that `clap` reads the words by, as its definitions write one.
-use Rattle.std.specs.Prelude.{ℕ, [], ◌∷◌, Some, codes}
+use Rattle.std.specs.Prelude.{ℕ, [], ◌∷◌, true, Some, codes}
 use Rattle.clap.specs.Words.{App, Rule, Shape, Text, new_app, new_rule, with_rule, with_subcommand}
 use Rattle.clap.specs.declared.builder.action.ArgAction.TheVariants.{Set}
 use Rattle.clap.specs.declared.builder.value_parser.ValueParser.TheVariants as parser
-use Rattle.command_line.specs.declared.command.TheConstants.{MOST_WORKERS}
+use Rattle.command_line.specs.declared.command.TheConstants.{MOST_ROUNDS, MOST_WORKERS}
 
 -- the subcommands that have no option
 abbrev pub replay_shape : Shape
@@ -26,9 +26,18 @@ workers_option = record (number_option (codes "workers") 1 MOST_WORKERS) { defau
 abbrev pub certify_shape : Shape
 certify_shape = (with_rule (new_app (codes "certify")) workers_option).top
 
+-- how often each repeating client goes through its body, which must be said
+abbrev pub rounds_option : Rule
+rounds_option = record (number_option (codes "rounds") 1 MOST_ROUNDS) { required = true }
+
+abbrev pub run_shape : Shape
+run_shape = (with_rule (new_app (codes "run")) rounds_option).top
+
 -- the program, with a subcommand for each command
 abbrev pub sizing : App
 sizing =
     with_subcommand
+    (with_subcommand
     (with_subcommand (with_subcommand (with_subcommand (new_app (codes "sizing")) replay_shape) check_shape) explain_shape)
-    certify_shape
+    certify_shape)
+    run_shape

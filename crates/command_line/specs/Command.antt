@@ -8,9 +8,9 @@ use Rattle.clap.specs.ValueTests.{accepts}
 use Rattle.clap.specs.declared.builder.value_parser.ValueParser.TheVariants as parser
 use Rattle.clap.specs.declared.error.kind.ErrorKind.TheVariants.{ValueValidation}
 use Rattle.command_line.specs.Application.{sizing}
-use Rattle.command_line.specs.declared.command.TheConstants.{MOST_WORKERS}
+use Rattle.command_line.specs.declared.command.TheConstants.{MOST_ROUNDS, MOST_WORKERS}
 use Rattle.command_line.specs.declared.command.Command.{Command}
-use Rattle.command_line.specs.declared.command.Command.TheVariants.{Replay, Check, Explain, Certify}
+use Rattle.command_line.specs.declared.command.Command.TheVariants.{Replay, Check, Explain, Certify, Run}
 
 -- the whole number that a text is, where it lies in the range
 abbrev pub number_in : ℕ → ℕ → Text → Option ℕ
@@ -23,13 +23,17 @@ number_of id low high rows = option_and_then (number_in low high) (first_of id r
 abbrev pub certify_with : Option ℕ → Option Command
 certify_with = option_map (λ workers. Certify workers)
 
+abbrev pub run_with : Option ℕ → Option Command
+run_with = option_map (λ rounds. Run rounds)
+
 -- the command of the subcommand with this name and these rows
 abbrev pub command_named : Text × List Row → Option Command
 command_named (name, rows) =
     if bytes_eq name (codes "replay") then Some Replay
     else (if bytes_eq name (codes "check") then Some Check
     else (if bytes_eq name (codes "explain") then Some Explain
-    else (if bytes_eq name (codes "certify") then certify_with (number_of (codes "workers") 1 MOST_WORKERS rows) else None)))
+    else (if bytes_eq name (codes "certify") then certify_with (number_of (codes "workers") 1 MOST_WORKERS rows)
+    else (if bytes_eq name (codes "run") then run_with (number_of (codes "rounds") 1 MOST_ROUNDS rows) else None))))
 
 -- the command of the subcommand that was entered, if one was
 abbrev pub command_among : Option (Text × List Row) → Option Command
@@ -50,4 +54,5 @@ faults_of words = or_else (fault_of sizing words) (if is_out_of_range (subcomman
 -- the numbers of a command lie in their ranges
 abbrev pub IsInRange : Command → Type 0
 IsInRange (Certify workers) = (1 ≤ workers) × (workers ≤ MOST_WORKERS)
+IsInRange (Run rounds) = (1 ≤ rounds) × (rounds ≤ MOST_ROUNDS)
 IsInRange _ = Unit {0}

@@ -2,9 +2,9 @@
 ghost use Rattle.std.specs.Prelude.{◌≡◌, IfOk, false};
 ghost use Rattle.clap.specs.Words.{app_of, new_app, rule_of, shape_of};
 ghost use Rattle.clap.specs.declared.builder.command.Command.TheViews.{out-Command as fields_of};
-ghost use Rattle.command_line.specs.Application.{certify_shape, check_shape, explain_shape, number_option, replay_shape, sizing, workers_option};
+ghost use Rattle.command_line.specs.Application.{certify_shape, check_shape, explain_shape, number_option, replay_shape, rounds_option, run_shape, sizing, workers_option};
 
-use crate::command::MOST_WORKERS;
+use crate::command::{MOST_ROUNDS, MOST_WORKERS};
 use crate::help;
 use clap::builder::ValueParser;
 use clap::{Arg, ArgAction, Command};
@@ -21,7 +21,8 @@ pub(crate) fn application<'a>(alloc: Global) -> Result<Command<'a>, AllocError>
         .subcommand(replay(alloc))?
         .subcommand(check(alloc))?
         .subcommand(explain(alloc))?
-        .subcommand(certify(alloc)?)
+        .subcommand(certify(alloc)?)?
+        .subcommand(run(alloc)?)
 }
 
 fn replay<'a>(alloc: Global) -> Command<'a>
@@ -84,6 +85,29 @@ fn workers<'a>(alloc: Global) -> Arg<'a>
     number(alloc, "workers", 1, MOST_WORKERS)
         .default_value("4")
         .help("In how many threads to search and to check, 1 to 64")
+}
+
+fn run<'a>(alloc: Global) -> Result<Command<'a>, AllocError>
+    ensures shape { IfOk result (λ made. shape_of made ≡ run_shape) }
+    ensures local { IfOk result (λ made. (fields_of made).has_globals ≡ false) }
+{
+    subcommand(
+        alloc,
+        "run",
+        help::RUN_ABOUT,
+        help::RUN_USAGE,
+        help::RUN_NOTES,
+    )
+    .arg(rounds(alloc))
+}
+
+fn rounds<'a>(alloc: Global) -> Arg<'a>
+    ensures rule { rule_of result ≡ rounds_option }
+    ensures local { result.global ≡ false }
+{
+    number(alloc, "rounds", 1, MOST_ROUNDS)
+        .help("How often each repeating client goes through its body, 1 to 1000000")
+        .required(true)
 }
 
 // The option `--ID N`, for one whole number of this range.

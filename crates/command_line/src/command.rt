@@ -12,6 +12,9 @@ use std::alloc::Global;
 /// The most threads that a search may have.
 pub const MOST_WORKERS: u64 = 64;
 
+/// The most rounds that a run may have.
+pub const MOST_ROUNDS: u64 = 1_000_000;
+
 /// What the program is asked to do.
 #[derive(Clone, Copy, Debug, PartialEq, Eq)]
 pub enum Command {
@@ -25,6 +28,11 @@ pub enum Command {
     Certify {
         /// In how many threads, 1 to 64.
         workers: usize,
+    },
+    /// Runs a certified plan on threads, and counts its jobs and their units of work.
+    Run {
+        /// How often each repeating client goes through its body, 1 to 1,000,000.
+        rounds: u64,
     },
 }
 
@@ -66,6 +74,7 @@ fn command_among(matches: &ArgMatches<'_>) -> Option<Command>
         ("check", _) => Some(Command::Check),
         ("explain", _) => Some(Command::Explain),
         ("certify", options) => certify(options),
+        ("run", options) => run(options),
         _ => None,
     }
 }
@@ -78,4 +87,12 @@ fn certify(options: &ArgMatches<'_>) -> Option<Command>
     Some(Command::Certify {
         workers: workers as usize,
     })
+}
+
+fn run(options: &ArgMatches<'_>) -> Option<Command>
+    ensures command { result ≡ spec.run_with (spec.number_of (codes "rounds") 1 MOST_ROUNDS (rows_of (found_of options.now))) }
+    ensures in_range { IfSome result spec.IsInRange }
+{
+    let rounds = number_of(options, "rounds", 1, MOST_ROUNDS)?;
+    Some(Command::Run { rounds })
 }

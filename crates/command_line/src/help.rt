@@ -12,16 +12,16 @@ pub(crate) const SIZING_USAGE: &str = "sizing <COMMAND>";
 pub(crate) const SIZING_NOTES: &str = "\
 sizing reads standard input. For `certify` it is a plan. For the others it is a plan, and
 behind it a line that is exactly `%%`, and then
-  for `replay`               one event a line
-  for `check` and `explain`  a certificate
+  for `replay`                      one event a line
+  for `check`, `explain` and `run`  a certificate
 It answers on standard output. To begin, paste the example of `sizing certify --help` into a shell.
 
 Exit status:
   0  yes, or done
   1  no: a condition fails, a job is refused or stuck, an event is not possible, or no certificate
      was found
-  2  bad text in the input, or bad arguments
-  3  memory ran out, or reading or writing failed";
+  2  bad text in the input, a run that is too large, or bad arguments
+  3  memory ran out, or reading, writing or running failed";
 
 /// What `replay` does, in the list of commands and at the top of its own help.
 pub(crate) const REPLAY_ABOUT: &str = "Replays events on a plan, and says what came of each";
@@ -260,3 +260,62 @@ It answers, with status 0:
 
 yes
 pool pages: standing 2 of 2, blocked 0 of 0";
+
+/// What `run` does, in the list of commands and at the top of its own help.
+pub(crate) const RUN_ABOUT: &str =
+    "Runs a certified plan on threads, and counts its jobs and their units of work";
+
+/// How `run` is called.
+pub(crate) const RUN_USAGE: &str = "sizing run --rounds N < INPUT";
+
+/// What `run` reads and answers, with an example.
+pub(crate) const RUN_NOTES: &str = "\
+INPUT is what `sizing check` reads: a plan in TOML, a line that is exactly `%%`, and a certificate
+in JSON. Where `sizing check` answers yes, there is a thread for each client, and for each pool as
+many as its maximum, and they make the events of the plan: each repeating client goes through its
+body N times, the others once, and every job is finished. No submit is refused, whatever the
+threads do. A unit of work is counted and takes no time. A run has at most 64 clients, at most 64
+threads of pools, and at most 1000000 events, of which a job has one for each of its actions and 2
+more.
+
+The answer is one line:
+  jobs N, units N, refused 0   how many jobs there were, and how much work of clients and jobs
+  no                           `sizing check` answers no
+  fault 40 RunTooLarge         the run would have more than it may have, and was not begun
+
+Exit status:
+  0  the plan was run
+  1  no
+  2  bad text in INPUT, a run that is too large, or bad arguments
+  3  memory ran out, or reading, writing or running failed
+
+Example, to be pasted into a shell. It is that of `sizing check --help`: each of the two clients
+submits a job in each of its rounds.
+
+sizing run --rounds 3 <<'END'
+[[pool]]
+name = \"pages\"
+core = 1
+max = 1
+queue = 2
+
+[[class]]
+name = \"render\"
+pool = \"pages\"
+body = [\"work 1\"]
+
+[[client]]
+name = \"browser\"
+count = 2
+repeat = true
+body = [\"submit render as page\", \"get page\"]
+%%
+{\"version\":1,
+ \"pools\":[{\"standing\":{\"workers\":[0],\"classes\":[[1,1,1,1]],\"clients\":[[1,0,1]]},
+           \"blocked\":{\"workers\":[0],\"classes\":[[0,0,0,0]],\"clients\":[[0,0,0]]}}],
+ \"ranks\":{\"pools\":[0],\"reach\":[0],\"levels\":[0]}}
+END
+
+It answers, with status 0:
+
+jobs 6, units 6, refused 0";

@@ -10,4 +10,4 @@ mod command;
 mod help;
 mod number;
 
-pub use command::{Command, MOST_WORKERS, read_words};
+pub use command::{Command, MOST_ROUNDS, MOST_WORKERS, read_words};

@@ -5,3 +5,4 @@ pub mod LastSeparator
 pub mod SafeInputs
 pub mod Certified
 pub mod ServedAnswers
+mod Runs

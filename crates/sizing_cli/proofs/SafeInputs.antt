@@ -10,13 +10,13 @@ use Rattle.headline.specs.Accepted.{accepted}
 use Rattle.cert_check.specs.Check.{IsSafeWith, IsSafeToRun}
 use Rattle.cert_check.proofs.Yes.{plans_read_are_well_formed, safe_with}
 use Rattle.command_line.specs.declared.command.Command.{Command}
-use Rattle.command_line.specs.declared.command.Command.TheVariants.{Check}
+use Rattle.command_line.specs.declared.command.Command.TheVariants.{Check, Run}
 use Rattle.sizing_cli.specs.declared.limits.TheConstants.{MOST_INPUT_BYTES}
 use Rattle.sizing_cli.specs.declared.status.Status.{Status}
 use Rattle.sizing_cli.specs.declared.status.Status.TheVariants.{Done}
 use Rattle.sizing_cli.specs.Answer.{Answer, yes_or_no, input_too_long}
 use Rattle.sizing_cli.specs.Bundle.{Bundle, bundle_of}
-use Rattle.sizing_cli.specs.Report.{check_of_cert, answer_of_plan, answer_of_bundle, report}
+use Rattle.sizing_cli.specs.Report.{check_of_cert, run_of_cert, run_of_accepted, not_run, answer_of_plan, answer_of_bundle, report}
 use Rattle.sizing_cli.specs.SafeInput.{IsSafeInput, YesMeansSafe}
 
 -- a question that ends as done is answered yes
@@ -45,6 +45,31 @@ yes_means_safe input done = by_length (ltb MOST_INPUT_BYTES (length input)) done
     by_length : (long : Bool) → (cond long input_too_long (answer_of_bundle Check (bundle_of input))).status ≡ Done → IsSafeInput input
     by_length true done = absurd cc
     by_length false done = with_bundle input (bundle_of input) refl done
+
+-- ---- a run that goes through
+
+run_with_cert : (rounds : ℕ) (plan : Plan) (text : List ℕ) (found : Result Cert CertFault) → (bytes : List ℕ) → plan_of bytes ≡ Ok plan → cert_of text plan ≡ found → (run_of_cert plan rounds found).status ≡ Done → IsSafeWith plan text
+run_with_cert rounds plan text (Err fault) bytes is_plan is done = absurd cc
+run_with_cert rounds plan text (Ok cert) bytes is_plan is done = safe_with plan cert text (plans_read_are_well_formed bytes plan is_plan) is (by_test (accepted plan cert) done)
+  where
+    by_test : (test : Bool) → (cond test (run_of_accepted plan cert rounds) not_run).status ≡ Done → test ≡ true
+    by_test true done = refl
+    by_test false done = absurd cc
+
+run_with_plan : (rounds : ℕ) (bytes text : List ℕ) (found : Result Plan PlanFault) → plan_of bytes ≡ found → (answer_of_plan (Run rounds) text found).status ≡ Done → IsSafeToRun bytes text
+run_with_plan rounds bytes text (Err fault) is done = absurd cc
+run_with_plan rounds bytes text (Ok plan) is done = record { plan = plan; is_plan = is; with_cert = run_with_cert rounds plan text (cert_of text plan) bytes is refl done }
+
+run_with_bundle : (rounds : ℕ) (input : List ℕ) (found : Option Bundle) → bundle_of input ≡ found → (answer_of_bundle (Run rounds) found).status ≡ Done → IsSafeInput input
+run_with_bundle rounds input None is done = absurd cc
+run_with_bundle rounds input (Some bundle) is done = record { bundle = bundle; is_bundle = is; safe = run_with_plan rounds bundle.plan bundle.second (plan_of bundle.plan) refl done }
+
+pub run_means_safe : (rounds : ℕ) (input : List ℕ) → (report (Run rounds) input).status ≡ Done → IsSafeInput input
+run_means_safe rounds input done = by_length (ltb MOST_INPUT_BYTES (length input)) done
+  where
+    by_length : (long : Bool) → (cond long input_too_long (answer_of_bundle (Run rounds) (bundle_of input))).status ≡ Done → IsSafeInput input
+    by_length true done = absurd cc
+    by_length false done = run_with_bundle rounds input (bundle_of input) refl done
 
 -- of what was read, where the answer is its report
 pub safe_where_known : (remaining : Option (List ℕ)) (command : Command) (status : Status) → IfSome remaining (λ input. status ≡ (report command input).status)

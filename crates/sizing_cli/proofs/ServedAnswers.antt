@@ -10,16 +10,16 @@ use Rattle.job_bodies.specs.Plan.{Plan}
 use Rattle.job_bodies.specs.declared.fault.PlanFault.{PlanFault}
 use Rattle.plan_text.specs.PlanOf.{plan_of}
 use Rattle.command_line.specs.declared.command.Command.{Command}
-use Rattle.command_line.specs.declared.command.Command.TheVariants.{Replay, Check, Explain, Certify}
+use Rattle.command_line.specs.declared.command.Command.TheVariants.{Replay, Check, Explain, Certify, Run}
 use Rattle.sizing_cli.specs.declared.limits.TheConstants.{MOST_INPUT_BYTES}
 use Rattle.sizing_cli.specs.declared.status.Status.{Status}
 use Rattle.sizing_cli.specs.declared.status.Status.TheVariants.{Done, Refused, BadText}
 use Rattle.sizing_cli.specs.declared.status.ServeFault.{ServeFault}
 use Rattle.sizing_cli.specs.Answer.{Answer, input_too_long}
-use Rattle.sizing_cli.specs.Report.{report, is_alone}
+use Rattle.sizing_cli.specs.Report.{report, has_report}
 use Rattle.sizing_cli.specs.Certify.{IsCertifyAnswer, IsCertifiedBundle, AnswersReading, AnswersPlan, whole_lines}
 use Rattle.sizing_cli.specs.Served.{IsAnswer, WritesAnswer, WritesFront, MeansSafe}
-use Rattle.sizing_cli.proofs.SafeInputs.{yes_means_safe}
+use Rattle.sizing_cli.proofs.SafeInputs.{yes_means_safe, run_means_safe}
 
 -- ---- an answer to what was read is one to the whole input
 
@@ -58,27 +58,28 @@ certify_wrote_front (Some input) old new workers answer bytes is text written =
     let Written : List ℕ → Type 0 = λ t. AppendsFront old new t in
     record { answer = answer; is_answer = is; written = subst Written text written }
 
--- the report of a command that waits for nobody is its answer
-report_is_answer : (command : Command) → is_alone command ≡ true → (input : List ℕ) → IsAnswer command input (report command input)
+-- the report of a command that has one is its answer
+report_is_answer : (command : Command) → has_report command ≡ true → (input : List ℕ) → IsAnswer command input (report command input)
 report_is_answer Replay alone input = refl
 report_is_answer Check alone input = refl
 report_is_answer Explain alone input = refl
 report_is_answer (Certify workers) alone input = absurd cc
+report_is_answer (Run rounds) alone input = refl
 
-pub alone_answered : (result : Result Status ServeFault) (remaining old new : Option (List ℕ)) (command : Command) → is_alone command ≡ true
+pub report_answered : (result : Result Status ServeFault) (remaining old new : Option (List ℕ)) (command : Command) → has_report command ≡ true
     → IfOk result (λ status. IfSome remaining (λ input. Appends old new (report command input).text × (status ≡ (report command input).status)))
     → IfOk result (λ status. IfSome remaining (λ input. WritesAnswer command input status old new))
-alone_answered (Err fault) remaining old new command alone answered = tt
-alone_answered (Ok status) None old new command alone answered = tt
-alone_answered (Ok status) (Some input) old new command alone answered =
+report_answered (Err fault) remaining old new command alone answered = tt
+report_answered (Ok status) None old new command alone answered = tt
+report_answered (Ok status) (Some input) old new command alone answered =
     record { answer = report command input; is_answer = report_is_answer command alone input; written = answered.0; status_is = answered.1 }
 
-pub alone_front : (result : Result Status ServeFault) (remaining old new : Option (List ℕ)) (command : Command) → is_alone command ≡ true
+pub report_front : (result : Result Status ServeFault) (remaining old new : Option (List ℕ)) (command : Command) → has_report command ≡ true
     → IfErr result (λ fault. fault.number ≡ WRITE_FAILED → IfSome remaining (λ input. AppendsFront old new (report command input).text))
     → IfErr result (λ fault. fault.number ≡ WRITE_FAILED → IfSome remaining (λ input. WritesFront command input old new))
-alone_front (Ok status) remaining old new command alone front = tt
-alone_front (Err fault) None old new command alone front = λ failed. tt
-alone_front (Err fault) (Some input) old new command alone front = λ failed.
+report_front (Ok status) remaining old new command alone front = tt
+report_front (Err fault) None old new command alone front = λ failed. tt
+report_front (Err fault) (Some input) old new command alone front = λ failed.
     record { answer = report command input; is_answer = report_is_answer command alone input; written = front failed }
 
 -- ---- what status 0 means
@@ -111,6 +112,7 @@ means_safe : (command : Command) (input : List ℕ) (status : Status) (old new :
 means_safe Replay input status old new writes done = tt
 means_safe Check input status old new writes done = yes_means_safe input (sym (ap (λ (a : Answer). a.status) writes.is_answer) ∙ (sym writes.status_is ∙ done))
 means_safe Explain input status old new writes done = tt
+means_safe (Run rounds) input status old new writes done = run_means_safe rounds input (sym (ap (λ (a : Answer). a.status) writes.is_answer) ∙ (sym writes.status_is ∙ done))
 means_safe (Certify workers) input status old new writes done =
     record { text = writes.answer.text; certified = certified_answer input writes.answer writes.is_answer (sym writes.status_is ∙ done); written = writes.written }
 

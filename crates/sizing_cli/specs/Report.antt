@@ -1,24 +1,28 @@
 -- What the program writes for an input: a function of the bytes that it reads.
-use Rattle.std.specs.Prelude.{ℕ, Bool, true, false, nat_lt, [], if◌then◌else◌, List, length, Option, Some, None, Result, Ok, Err}
+use Rattle.std.specs.Prelude.{ℕ, Bool, true, false, nat_lt, [], ◌∷◌, ◌++◌, codes, if◌then◌else◌, List, length, Option, Some, None, Result, Ok, Err}
+use Rattle.std.specs.Fmt.{decimal}
 use Rattle.job_bodies.specs.Plan.{Plan}
 use Rattle.job_bodies.specs.FaultText.{fault_line}
 use Rattle.job_bodies.specs.declared.fault.PlanFault.{PlanFault}
 use Rattle.faults.specs.Name.{head}
+use Rattle.faults.specs.declared.number.TheConstants.{RUN_TOO_LARGE}
 use Rattle.plan_text.specs.PlanOf.{plan_of}
 use Rattle.certificates.specs.Cert.{Cert}
 use Rattle.cert_text.specs.declared.fault.CertFault.{CertFault}
 use Rattle.cert_text.specs.CertOf.{cert_of}
 use Rattle.headline.specs.Conditions.{failing}
-use Rattle.headline.specs.Accepted.{is_nil}
+use Rattle.headline.specs.Accepted.{is_nil, accepted}
 use Rattle.cert_check.specs.Verdict.{Verdict, verdict}
 use Rattle.cert_check.specs.Text.{verdict_text}
 use Rattle.refusal_notes.specs.Explanation.{explanation}
 use Rattle.written_machine.specs.Reach.{start}
+use Rattle.run_histories.specs.RunNumbers.{jobs, units}
+use Rattle.locked_runner.specs.Limits.{is_too_large}
 use Rattle.event_lines.specs.EventLine.{Line, event_lines}
 use Rattle.command_line.specs.declared.command.Command.{Command}
-use Rattle.command_line.specs.declared.command.Command.TheVariants.{Replay, Check, Explain, Certify}
+use Rattle.command_line.specs.declared.command.Command.TheVariants.{Replay, Check, Explain, Certify, Run}
 use Rattle.sizing_cli.specs.declared.limits.TheConstants.{MOST_INPUT_BYTES, MOST_EVENT_BYTES}
-use Rattle.sizing_cli.specs.declared.status.Status.TheVariants.{Done}
+use Rattle.sizing_cli.specs.declared.status.Status.TheVariants.{Done, Refused}
 use Rattle.sizing_cli.specs.Answer.{Answer, fault, no_separator, input_too_long, bad_event, yes_or_no}
 use Rattle.sizing_cli.specs.Bundle.{Bundle, bundle_of}
 use Rattle.sizing_cli.specs.Transcript.{transcript}
@@ -57,14 +61,47 @@ explain_of_cert plan (Ok cert) = record { text = explanation plan (failing plan 
 abbrev pub explain : Plan → List ℕ → Answer
 explain plan second = explain_of_cert plan (cert_of second plan)
 
+-- ---- run
+
+-- the plan is not run
+abbrev pub not_run : Answer
+not_run = record { text = codes "no" ++ 10 ∷ []; status = Refused }
+
+abbrev pub too_large : Answer
+too_large = fault (head RUN_TOO_LARGE)
+
+-- so many jobs and units of work went through, and no submit was refused
+abbrev pub run_through : ℕ → ℕ → Answer
+run_through jobs units = record { text = codes "jobs " ++ (decimal jobs ++ (codes ", units " ++ (decimal units ++ (codes ", refused 0" ++ 10 ∷ [])))); status = Done }
+
+abbrev pub run_of_accepted : Plan → Cert → ℕ → Answer
+run_of_accepted plan cert rounds = if is_too_large plan cert.ranks rounds then too_large else run_through (jobs plan cert.ranks rounds) (units plan cert.ranks rounds)
+
+abbrev pub run_of_cert : Plan → ℕ → Result Cert CertFault → Answer
+run_of_cert plan rounds (Err f) = fault (head f.number)
+run_of_cert plan rounds (Ok cert) = if accepted plan cert then run_of_accepted plan cert rounds else not_run
+
+-- the run of the plan with the certificate that the second part is
+abbrev pub run : Plan → ℕ → List ℕ → Answer
+run plan rounds second = run_of_cert plan rounds (cert_of second plan)
+
 -- ---- the whole
 
--- the command waits for nobody, and has a report
+-- the command waits for nobody
 abbrev pub is_alone : Command → Bool
 is_alone Replay = true
 is_alone Check = true
 is_alone Explain = true
 is_alone (Certify workers) = false
+is_alone (Run rounds) = false
+
+-- the command has a report
+abbrev pub has_report : Command → Bool
+has_report Replay = true
+has_report Check = true
+has_report Explain = true
+has_report (Certify workers) = false
+has_report (Run rounds) = true
 
 -- what stands where there is no report
 abbrev nothing : Answer
@@ -76,6 +113,7 @@ answer_of_plan Replay second (Ok plan) = replay plan second
 answer_of_plan Check second (Ok plan) = check plan second
 answer_of_plan Explain second (Ok plan) = explain plan second
 answer_of_plan (Certify workers) second (Ok plan) = nothing
+answer_of_plan (Run rounds) second (Ok plan) = run plan rounds second
 
 -- the plan's fault comes before what the second part has to say
 abbrev pub answer_of_bundle : Command → Option Bundle → Answer

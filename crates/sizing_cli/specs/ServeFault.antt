@@ -2,7 +2,7 @@
 use Rattle.std.specs.Prelude.{ℕ, Bool, ◌==◌, ◌||◌, if◌then◌else◌, Result, Ok, Err}
 use Rattle.byte_streams.specs.declared.reading.InputError.{InputError}
 use Rattle.byte_streams.specs.declared.reading.InputError.TheVariants.{Memory, Fault}
-use Rattle.faults.specs.declared.number.TheConstants.{MEMORY, MIXED, GATE, READ_FAILED, WRITE_FAILED}
+use Rattle.faults.specs.declared.number.TheConstants.{MEMORY, STRANGE, MIXED, GATE, READ_FAILED, WRITE_FAILED}
 use Rattle.sizing_cli.specs.declared.status.Status.{Status}
 use Rattle.sizing_cli.specs.declared.status.ServeFault.{ServeFault}
 
@@ -20,9 +20,9 @@ count_of number (Err fault) = if fault.number == number then 1 else 0
 abbrev pub is_known : ℕ → Bool
 is_known number = number == MEMORY || number == READ_FAILED || number == WRITE_FAILED
 
--- a search or a check on threads ends with no fault of another number
+-- a run, a search or a check on threads ends with no fault of another number
 abbrev pub is_of_threads : ℕ → Bool
-is_of_threads number = number == MEMORY || number == MIXED || number == GATE
+is_of_threads number = number == MEMORY || number == STRANGE || number == MIXED || number == GATE
 
 -- nor does a call that serves any command
 abbrev pub is_known_on_threads : ℕ → Bool

@@ -3,7 +3,7 @@ use Rattle.std.specs.Prelude.{◌≡◌, ℕ, List, Option}
 use Rattle.std.specs.Io.KnownBytes.{Appends}
 use Rattle.byte_streams.specs.Writing.{AppendsFront}
 use Rattle.command_line.specs.declared.command.Command.{Command}
-use Rattle.command_line.specs.declared.command.Command.TheVariants.{Replay, Check, Explain, Certify}
+use Rattle.command_line.specs.declared.command.Command.TheVariants.{Replay, Check, Explain, Certify, Run}
 use Rattle.sizing_cli.specs.declared.status.Status.{Status}
 use Rattle.sizing_cli.specs.Answer.{Answer}
 use Rattle.sizing_cli.specs.Report.{report}
@@ -16,6 +16,7 @@ IsAnswer Replay input answer = answer ≡ report Replay input
 IsAnswer Check input answer = answer ≡ report Check input
 IsAnswer Explain input answer = answer ≡ report Explain input
 IsAnswer (Certify workers) input answer = IsCertifyAnswer input answer
+IsAnswer (Run rounds) input answer = answer ≡ report (Run rounds) input
 
 -- such an answer was written, and the status is its
 pub record WritesAnswer (command : Command) (input : List ℕ) (status : Status) (old new : Option (List ℕ)) : Type 0 where
@@ -36,9 +37,11 @@ pub record WritesCertified (input : List ℕ) (old new : Option (List ℕ)) : Ty
   pub certified : IsCertifiedBundle (whole_lines input) text
   pub written : Appends old new text
 
--- what status 0 means: of `check`, that the input's plan is safe; of `certify`, that what was written is a plan that is
+-- what status 0 means: of `check` and `run`, that the input's plan is safe; of `certify`, that what was written is a plan
+-- that is
 abbrev pub MeansSafe : Command → List ℕ → Option (List ℕ) → Option (List ℕ) → Type 0
 MeansSafe Replay input old new = Unit {0}
 MeansSafe Check input old new = IsSafeInput input
 MeansSafe Explain input old new = Unit {0}
 MeansSafe (Certify workers) input old new = WritesCertified input old new
+MeansSafe (Run rounds) input old new = IsSafeInput input

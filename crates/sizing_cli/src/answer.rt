@@ -4,6 +4,7 @@ ghost use Rattle.std.specs.Prelude.{◌≡◌, ◌++◌, [], IfOk, string_bytes}
 ghost use Rattle.faults.specs.Name.{head};
 ghost use Rattle.job_bodies.specs.FaultText.{fault_line};
 ghost use Rattle.sizing_cli.specs.Answer as spec;
+ghost use Rattle.sizing_cli.specs.Report.{too_large};
 ghost use Rattle.sizing_cli.specs.Transcript.{is_no, replied};
 
 use crate::Status;
@@ -82,6 +83,13 @@ pub fn input_too_long(alloc: Global) -> Result<Answer, AllocError>
     ensures { IfOk result (λ answer. answer ≡ spec.input_too_long) }
 {
     fault(format!(in alloc; "{}", Head(number::INPUT_TOO_LONG))?)
+}
+
+/// The answer to a plan that is too large to be run.
+pub fn too_large(alloc: Global) -> Result<Answer, AllocError>
+    ensures { IfOk result (λ answer. answer ≡ too_large) }
+{
+    fault(format!(in alloc; "{}", Head(number::RUN_TOO_LARGE))?)
 }
 
 /// The answer to event lines of which this one, counted from 1, is bad.

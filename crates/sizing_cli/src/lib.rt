@@ -11,6 +11,7 @@ mod limits;
 mod output;
 mod replaying;
 mod report;
+mod running;
 mod serving;
 mod status;
 mod transcript;

@@ -1,15 +1,18 @@
 //! Serves one input to any command.
 
 ghost use Rattle.std.specs.Prelude.{◌≡◌, ◌≢◌, ◌≤◌, ◌+◌, IfOk, IfErr, IfSome, IsTrue};
-ghost use Rattle.std.specs.Io.KnownBytes.{Keeps};
+ghost use Rattle.std.specs.Io.KnownBytes.{Appends, Keeps};
 ghost use Rattle.byte_streams.specs.Reading.{ConsumesAtMost};
+ghost use Rattle.byte_streams.specs.Writing.{AppendsFront};
 ghost use Rattle.command_line.specs.Command.{IsInRange};
+ghost use Rattle.sizing_cli.specs.Report.{report};
 ghost use Rattle.sizing_cli.specs.ServeFault.{count_of, is_known_on_threads};
 ghost use Rattle.sizing_cli.specs.Served.{MeansSafe, WritesAnswer, WritesFront};
 
 use crate::alone::serve_alone;
 use crate::certify::certify;
 use crate::limits::MOST_INPUT_BYTES;
+use crate::running::run_report;
 use crate::status::{ServeFault, Status};
 use byte_streams::{Sink, Source, read_up_to, write_all};
 use command_line::Command;
@@ -21,13 +24,13 @@ use std::thread::Threads;
 /// Reads an input, and writes the command's answer to it. The whole answer is made before its first byte is written. The
 /// numbers of the command lie in their ranges.
 ///
-/// It reads at most 2,097,156 bytes, one at least in each turn but the last. For [`Command::Certify`] it starts threads,
-/// and waits for them.
+/// It reads at most 2,097,156 bytes, one at least in each turn but the last. For [`Command::Certify`] and
+/// [`Command::Run`] it starts threads, and waits for them.
 ///
 /// # Errors
 ///
-/// Fault 20 where memory ran out or a thread could not be started, 42 and 43 of [`search`](cert_search::search), 60 where
-/// the source failed in this call, and 61 where the sink did. After 61 a front of the answer was written, and after any
+/// Fault 20 where memory ran out or a thread could not be started, 42 and 43 of [`search`](cert_search::search), 41 to 43
+/// of [`run`](locked_runner::run), 60 where the source failed in this call, and 61 where the sink did. After 61 a front of the answer was written, and after any
 /// other nothing.
 pub fn serve<R: Threads + Wait + Sync, S: Source, K: Sink>(
     rt: &R,
@@ -42,10 +45,10 @@ pub fn serve<R: Threads + Wait + Sync, S: Source, K: Sink>(
     ensures front { IfErr result (λ fault. fault.number ≡ WRITE_FAILED → IfSome (S.remaining source.old) (λ input. WritesFront command input (K.written sink.old) (K.written sink.new))) }
     ensures nothing { IfErr result (λ fault. fault.number ≢ WRITE_FAILED → Keeps (K.written sink.old) (K.written sink.new)) }
 
-    // Where `check` answers yes, the plan is safe; and `check` answers yes to a bundle of `certify`.
+    // Where `check` answers yes, or a run went through, the plan is safe; and `check` answers yes to a bundle of `certify`.
     ensures safe { IfOk result (λ status. status ≡ Status.Done → IfSome (S.remaining source.old) (λ input. MeansSafe command input (K.written sink.old) (K.written sink.new))) }
 
-    // No other fault than 20, 42, 43, 60 and 61 comes, and 60 and 61 just where the source and the sink failed.
+    // No other fault than 20, 41, 42, 43, 60 and 61 comes, and 60 and 61 just where the source and the sink failed.
     ensures known { IfErr result (λ fault. IsTrue (is_known_on_threads fault.number)) }
     ensures read_failed { S.failures source.new ≡ S.failures source.old + count_of READ_FAILED result }
     ensures write_failed { K.failures sink.new ≡ K.failures sink.old + count_of WRITE_FAILED result }
@@ -57,6 +60,7 @@ pub fn serve<R: Threads + Wait + Sync, S: Source, K: Sink>(
             serve_alone(alloc, command, source, sink)
         }
         Command::Certify { workers } => serve_certify(rt, alloc, workers, source, sink),
+        Command::Run { rounds } => serve_run(rt, alloc, rounds, source, sink),
     }
 }
 
@@ -81,4 +85,27 @@ fn serve_certify<R: Threads + Wait + Sync, S: Source, K: Sink>(
     let output = certify(rt, alloc, workers, input)?;
     write_all(sink, &output.bytes)?;
     Ok(output.status)
+}
+
+fn serve_run<R: Threads + Wait + Sync, S: Source, K: Sink>(
+    rt: &R,
+    alloc: Global,
+    rounds: u64,
+    source: &mut S,
+    sink: &mut K,
+) -> Result<Status, ServeFault>
+    ensures answered { IfOk result (λ status. IfSome (S.remaining source.old) (λ input.
+        Appends (K.written sink.old) (K.written sink.new) (report (Command.Run rounds) input).text × (status ≡ (report (Command.Run rounds) input).status))) }
+    ensures front { IfErr result (λ fault. fault.number ≡ WRITE_FAILED → IfSome (S.remaining source.old) (λ input.
+        AppendsFront (K.written sink.old) (K.written sink.new) (report (Command.Run rounds) input).text)) }
+    ensures nothing { IfErr result (λ fault. fault.number ≢ WRITE_FAILED → Keeps (K.written sink.old) (K.written sink.new)) }
+    ensures known { IfErr result (λ fault. IsTrue (is_known_on_threads fault.number)) }
+    ensures read_failed { S.failures source.new ≡ S.failures source.old + count_of READ_FAILED result }
+    ensures write_failed { K.failures sink.new ≡ K.failures sink.old + count_of WRITE_FAILED result }
+    ensures at_most { ConsumesAtMost (S.remaining source.old) (S.remaining source.new) (MOST_INPUT_BYTES + 1) }
+{
+    let input = read_up_to(alloc, source, MOST_INPUT_BYTES + 1)?;
+    let answer = run_report(rt, alloc, rounds, input.as_slice())?;
+    write_all(sink, answer.text.as_bytes())?;
+    Ok(answer.status)
 }

@@ -2,7 +2,7 @@
 
 use crate::ended::Ended;
 use crate::failing::{push_failing_reads, push_failing_writes};
-use sizing_cli::{MemorySink, MemorySource, Status};
+use sizing_cli::{Command, MemorySink, MemorySource, Status};
 use std::alloc::{AllocError, Global};
 use std::sync::Wait;
 use std::thread::Threads;
@@ -16,7 +16,7 @@ pub fn certified<R: Threads + Wait + Sync>(
     alloc: Global,
     plan: &[u8],
 ) -> Result<String, AllocError> {
-    let ended = Ended::of_plan(rt, alloc, 1, plan)?;
+    let ended = Ended::of_input(rt, alloc, Command::Certify { workers: 1 }, plan)?;
     let mut answer = ended.shown(alloc)?;
     push_otherwise(rt, alloc, plan, &ended, &mut answer)?;
     Ok(answer)
@@ -28,7 +28,7 @@ pub fn certified_and_checked<R: Threads + Wait + Sync>(
     alloc: Global,
     plan: &[u8],
 ) -> Result<String, AllocError> {
-    let ended = Ended::of_plan(rt, alloc, 1, plan)?;
+    let ended = Ended::of_input(rt, alloc, Command::Certify { workers: 1 }, plan)?;
     let mut answer = if ended.outcome == Ok(Status::Done) {
         Ended::of_bundle(alloc, &ended.written)?.first_line(alloc)?
     } else {
@@ -60,18 +60,19 @@ fn push_otherwise<R: Threads + Wait + Sync>(
     answer: &mut String,
 ) -> Result<(), AllocError> {
     for workers in [2, 64] {
-        if Ended::of_plan(rt, alloc, workers, plan)? != *ended {
+        if Ended::of_input(rt, alloc, Command::Certify { workers }, plan)? != *ended {
             write!(answer, ", but not with {workers} workers")?;
         }
     }
+    let command = Command::Certify { workers: 2 };
     let mut source = MemorySource::new(plan).at_most(1);
     let sink = MemorySink::new(alloc).at_most(1);
-    if Ended::of_source(rt, alloc, 2, &mut source, sink)? != *ended {
+    if Ended::of_source(rt, alloc, command, &mut source, sink)? != *ended {
         answer.push_str(", but not a byte at a time")?;
     }
     if plan.len() <= SHORT {
-        push_failing_reads(rt, alloc, plan, ended, answer)?;
-        push_failing_writes(rt, alloc, plan, ended, answer)?;
+        push_failing_reads(rt, alloc, command, plan, ended, answer)?;
+        push_failing_writes(rt, alloc, command, plan, ended, answer)?;
     }
     Ok(())
 }

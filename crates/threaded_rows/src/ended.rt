@@ -1,6 +1,6 @@
 //! How a call that serves ended.
 
-ghost use Rattle.std.specs.Prelude.{◌≤◌};
+ghost use Rattle.command_line.specs.Command.{IsInRange};
 
 use sizing_cli::{
     Command, MemorySink, MemorySource, ServeFault, Source, Status, serve, serve_alone,
@@ -17,33 +17,31 @@ pub struct Ended {
 }
 
 impl Ended {
-    /// Serves a plan's text to `certify`, whole.
-    pub fn of_plan<R: Threads + Wait + Sync>(
+    /// Serves an input to the command, whole.
+    pub fn of_input<R: Threads + Wait + Sync>(
         rt: &R,
         alloc: Global,
-        workers: usize,
-        plan: &[u8],
+        command: Command,
+        input: &[u8],
     ) -> Result<Ended, AllocError>
-        requires some { 1 ≤ workers }
-        requires most { workers ≤ 64 }
+        requires { IsInRange command }
     {
         let sink = MemorySink::new(alloc);
-        Ended::of_source(rt, alloc, workers, &mut MemorySource::new(plan), sink)
+        Ended::of_source(rt, alloc, command, &mut MemorySource::new(input), sink)
     }
 
-    /// Serves what the source gives to `certify`.
+    /// Serves what the source gives to the command.
     pub fn of_source<R: Threads + Wait + Sync, S: Source>(
         rt: &R,
         alloc: Global,
-        workers: usize,
+        command: Command,
         source: &mut S,
         sink: MemorySink,
     ) -> Result<Ended, AllocError>
-        requires some { 1 ≤ workers }
-        requires most { workers ≤ 64 }
+        requires { IsInRange command }
     {
         let mut sink = sink;
-        let outcome = serve(rt, alloc, Command::Certify { workers }, source, &mut sink);
+        let outcome = serve(rt, alloc, command, source, &mut sink);
         let written = sink.written().to_vec(alloc)?;
         Ok(Ended { written, outcome })
     }

@@ -1,7 +1,9 @@
 //! Sources and sinks that fail at one of their calls.
 
+ghost use Rattle.command_line.specs.Command.{IsInRange};
+
 use crate::ended::Ended;
-use sizing_cli::{MemorySink, MemorySource, ServeFault};
+use sizing_cli::{Command, MemorySink, MemorySource, ServeFault};
 use std::alloc::{AllocError, Global};
 use std::sync::Wait;
 use std::thread::Threads;
@@ -18,14 +20,19 @@ const PIECE: usize = 100;
 pub fn push_failing_reads<R: Threads + Wait + Sync>(
     rt: &R,
     alloc: Global,
-    plan: &[u8],
+    command: Command,
+    input: &[u8],
     ended: &Ended,
     answer: &mut String,
-) -> Result<(), AllocError> {
-    let last = plan.len().div_ceil(PIECE) as u64;
+) -> Result<(), AllocError>
+    requires { IsInRange command }
+{
+    let last = input.len().div_ceil(PIECE) as u64;
     for calls in 0..=last.saturating_add(1) {
-        let mut source = MemorySource::new(plan).at_most(PIECE).failing_after(calls);
-        let failed = Ended::of_source(rt, alloc, 2, &mut source, MemorySink::new(alloc))?;
+        let mut source = MemorySource::new(input)
+            .at_most(PIECE)
+            .failing_after(calls);
+        let failed = Ended::of_source(rt, alloc, command, &mut source, MemorySink::new(alloc))?;
         let is_right = if calls <= last {
             failed.written.is_empty() && failed.outcome == Err(READ_FAILED)
         } else {
@@ -43,16 +50,19 @@ pub fn push_failing_reads<R: Threads + Wait + Sync>(
 pub fn push_failing_writes<R: Threads + Wait + Sync>(
     rt: &R,
     alloc: Global,
-    plan: &[u8],
+    command: Command,
+    input: &[u8],
     ended: &Ended,
     answer: &mut String,
-) -> Result<(), AllocError> {
+) -> Result<(), AllocError>
+    requires { IsInRange command }
+{
     for calls in 0..=ended.written.len().div_ceil(PIECE) {
         let sink = MemorySink::new(alloc)
             .at_most(PIECE)
             .failing_after(calls as u64);
-        let mut source = MemorySource::new(plan);
-        let failed = Ended::of_source(rt, alloc, 2, &mut source, sink)?;
+        let mut source = MemorySource::new(input);
+        let failed = Ended::of_source(rt, alloc, command, &mut source, sink)?;
         if !is_front_of(&failed, ended, PIECE.saturating_mul(calls)) {
             write!(answer, ", but not with a sink that fails after {calls}")?;
         }

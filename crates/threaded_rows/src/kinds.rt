@@ -2,6 +2,7 @@
 
 use crate::certify::{certified, certified_and_checked};
 use crate::check::checked;
+use crate::run::ran_for;
 use std::alloc::{AllocError, Global};
 use std::sync::Wait;
 use std::thread::Threads;
@@ -13,6 +14,8 @@ use std::thread::Threads;
 /// - `certify and check` is the same, but in place of a bundle stands what `check` answers to it: its first line and its
 ///   status.
 /// - `check` is a bundle. Its answer is the verdict or the fault of the check on threads, with each number of workers.
+/// - `run N` is a bundle, which is run for N rounds. Its answer is what the command writes, with the status on a last line.
+///   Where the rounds are few it is asked for a byte at a time too, and with a source and a sink that fail.
 pub fn answered<R: Threads + Wait + Sync>(
     rt: &R,
     alloc: Global,
@@ -23,6 +26,9 @@ pub fn answered<R: Threads + Wait + Sync>(
         "certify" => certified(rt, alloc, input),
         "certify and check" => certified_and_checked(rt, alloc, input),
         "check" => checked(rt, alloc, input),
-        _ => String::from_str(alloc, "no such kind of input"),
+        _ => match kind.strip_prefix("run ") {
+            Some(rounds) => ran_for(rt, alloc, rounds, input),
+            None => String::from_str(alloc, "no such kind of input"),
+        },
     }
 }

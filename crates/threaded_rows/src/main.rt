@@ -6,6 +6,7 @@ mod check;
 mod ended;
 mod failing;
 mod kinds;
+mod run;
 mod suite;
 
 use kinds::answered;
@@ -17,5 +18,5 @@ use suite::OnThreads;
 fn main(rt: HostRuntime) -> io::Result<()> {
     let answer = move |alloc: Global, kind: &str, input: &[u8]| answered(&rt, alloc, kind, input);
     let suite = OnThreads::new(Box::new(rt.alloc(), answer)?);
-    run_files(&rt, &suite, &["certify", "checks"])
+    run_files(&rt, &suite, &["certify", "checks", "runs"])
 }

@@ -6,7 +6,7 @@ use std::test::*;
 /// What help prints says where to begin, and the help of each command has an example with its answer.
 #[test]
 fn words_that_ask_for_help(rt: HostRuntime) -> Result<(), Fail> {
-    let table: [(&[&str], [&str; 6]); 5] = [
+    let table: [(&[&str], [&str; 6]); 6] = [
         (
             &["sizing", "--help"],
             [
@@ -60,6 +60,17 @@ fn words_that_ask_for_help(rt: HostRuntime) -> Result<(), Fail> {
                 "\nsizing certify <<'END' | sizing check\n[[pool]]\n",
                 "\nEND\n\nIt answers, with status 0:\n",
                 "\nyes\npool pages: standing 2 of 2, blocked 0 of 0\n",
+            ],
+        ),
+        (
+            &["sizing", "run", "--help"],
+            [
+                "\nUsage: sizing run --rounds N < INPUT\n",
+                "--rounds <N>",
+                "\nsizing run --rounds 3 <<'END'\n[[pool]]\n",
+                "\n%%\n{\"version\":1,\n",
+                "\nEND\n\nIt answers, with status 0:\n",
+                "\njobs 6, units 6, refused 0\n",
             ],
         ),
     ];

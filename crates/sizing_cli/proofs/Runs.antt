@@ -1,0 +1,39 @@
+-- What a run comes to: the answer to a plan with a certificate that accepts it, and the fault where there is none.
+use Rattle.std.proofs.Common.{◌≡◌, ℕ, Bool, true, false, cond, inl, inr, Result, Ok, Err, IfOk, refl, subst, ap, ◌∙◌, arith}
+use Rattle.std.specs.Prelude.{◌==◌}
+use Rattle.faults.specs.declared.number.TheConstants.{RUN_TOO_LARGE}
+use Rattle.run_histories.specs.declared.report.RunFault.{RunFault}
+use Rattle.locked_runner.specs.Faults.{IsFaultOf}
+use Rattle.sizing_cli.specs.ServeFault.{is_of_threads}
+use Rattle.job_bodies.specs.Plan.{Plan}
+use Rattle.certificates.specs.Cert.{Cert}
+use Rattle.headline.specs.Accepted.{accepted}
+use Rattle.cert_check.specs.Certified.{Certified}
+use Rattle.sizing_cli.specs.declared.status.ServeFault.{ServeFault}
+use Rattle.sizing_cli.specs.Answer.{Answer}
+use Rattle.sizing_cli.specs.Report.{run_of_cert, run_of_accepted, not_run}
+
+pub run_of_certified : (plan : Plan) (cert : Cert) (rounds : ℕ) (certified : Certified) (result : Result Answer ServeFault) → certified ≡ record { plan = plan; cert = cert } → accepted plan cert ≡ true
+    → IfOk result (λ answer. answer ≡ run_of_accepted certified.plan certified.cert rounds) → IfOk result (λ answer. answer ≡ run_of_cert plan rounds (Ok cert))
+run_of_certified plan cert rounds certified (Err fault) is fits ran = tt
+run_of_certified plan cert rounds certified (Ok answer) is fits ran =
+    rw fits (ran ∙ ap (λ (c : Certified). run_of_accepted c.plan c.cert rounds) is)
+
+-- 40 is told of no plan but one that is too large
+pub too_large_where_told : (large : Bool) (fault : RunFault) → IsFaultOf large fault → fault.number ≡ RUN_TOO_LARGE → large ≡ true
+too_large_where_told true fault is told = refl
+too_large_where_told false fault (inl strange) told = absurd (omega arith)
+too_large_where_told false fault (inr (inl mixed)) told = absurd (omega arith)
+too_large_where_told false fault (inr (inr (inl memory))) told = absurd (omega arith)
+too_large_where_told false fault (inr (inr (inr gate))) told = absurd (omega arith)
+
+-- and every other number is one of threads
+pub of_threads_else : (large : Bool) (fault : RunFault) → IsFaultOf large fault → (fault.number == RUN_TOO_LARGE) ≡ false → is_of_threads fault.number ≡ true
+of_threads_else true fault (inl told, none) other =
+    let no : (RUN_TOO_LARGE == RUN_TOO_LARGE) ≡ false = subst (λ (n : ℕ). (n == RUN_TOO_LARGE) ≡ false) told other in
+    absurd cc
+of_threads_else true fault (inr memory, none) other = rw memory refl
+of_threads_else false fault (inl strange) other = rw strange refl
+of_threads_else false fault (inr (inl mixed)) other = rw mixed refl
+of_threads_else false fault (inr (inr (inl memory))) other = rw memory refl
+of_threads_else false fault (inr (inr (inr gate))) other = rw gate refl

@@ -1,0 +1,134 @@
+//! A run of a plan with its certificate, from the bytes of an input to the line of its numbers.
+
+ghost use Rattle.std.specs.Prelude.{◌≡◌, IfOk, IfErr, IsTrue, Ok};
+ghost use Rattle.command_line.specs.declared.command.Command.TheVariants.{Run};
+ghost use Rattle.plan_text.specs.PlanOf.{plan_of};
+ghost use Rattle.sizing_cli.specs.Report as spec;
+ghost use Rattle.sizing_cli.specs.ServeFault.{is_of_threads};
+
+use crate::answer::{Answer, cert_fault, input_too_long, no_separator, plan_fault, too_large};
+use crate::bundle::bundle_of;
+use crate::limits::MOST_INPUT_BYTES;
+use crate::{ServeFault, Status};
+use cert_check::Certified;
+use cert_text::read_cert;
+use certificates::Cert;
+use faults::number::{MEMORY, RUN_TOO_LARGE};
+use job_bodies::{Plan, PlanFault};
+use locked_runner::{Actor, Gate, GateFault, run};
+use plan_text::read_plan;
+use std::alloc::{AllocError, Global};
+use std::sync::Wait;
+use std::thread::Threads;
+
+/// A gate that answers at once: the declared work takes no time.
+struct AtOnce;
+
+impl Gate for AtOnce {
+    fn work(&self, _actor: Actor, _units: u32) -> Result<(), GateFault> {
+        Ok(())
+    }
+}
+
+/// The answer to an input, which is a bundle: the numbers of a run of its plan, in which each repeating client goes
+/// through its body so many times, or why it is not run.
+///
+/// # Errors
+///
+/// Fault 20 where memory ran out or a thread could not be started, and 41 to 43 of the run.
+pub fn run_report<R: Threads + Wait + Sync>(
+    rt: &R,
+    alloc: Global,
+    rounds: u64,
+    input: &[u8],
+) -> Result<Answer, ServeFault>
+    ensures answer { IfOk result (λ answer. answer ≡ spec.report (Run rounds) input.now) }
+    ensures fault { IfErr result (λ fault. IsTrue (is_of_threads fault.number)) }
+{
+    if input.len() > MOST_INPUT_BYTES {
+        return Ok(input_too_long(alloc)?);
+    }
+    match bundle_of(input) {
+        Some(bundle) => run_bundle(rt, alloc, rounds, bundle.plan, bundle.second),
+        None => Ok(no_separator(alloc)?),
+    }
+}
+
+fn run_bundle<R: Threads + Wait + Sync>(
+    rt: &R,
+    alloc: Global,
+    rounds: u64,
+    plan: &[u8],
+    cert: &[u8],
+) -> Result<Answer, ServeFault>
+    ensures answer { IfOk result (λ answer. answer ≡ spec.answer_of_plan (Run rounds) cert.now (plan_of plan.now)) }
+    ensures fault { IfErr result (λ fault. IsTrue (is_of_threads fault.number)) }
+{
+    match read_plan(alloc, plan) {
+        Ok(plan) => run_plan(rt, alloc, rounds, plan, cert),
+        Err(fault) if fault == PlanFault::at_text(MEMORY) => Err(ServeFault::from(AllocError)),
+        Err(fault) => Ok(plan_fault(alloc, fault)?),
+    }
+}
+
+fn run_plan<R: Threads + Wait + Sync>(
+    rt: &R,
+    alloc: Global,
+    rounds: u64,
+    plan: Plan,
+    cert: &[u8],
+) -> Result<Answer, ServeFault>
+    ensures answer { IfOk result (λ answer. answer ≡ spec.run plan rounds cert.now) }
+    ensures fault { IfErr result (λ fault. IsTrue (is_of_threads fault.number)) }
+{
+    match read_cert(alloc, cert, &plan) {
+        Ok(cert) => run_with(rt, alloc, rounds, plan, cert),
+        Err(fault) if fault.number == MEMORY => Err(ServeFault::from(AllocError)),
+        Err(fault) => Ok(cert_fault(alloc, fault)?),
+    }
+}
+
+fn run_with<R: Threads + Wait + Sync>(
+    rt: &R,
+    alloc: Global,
+    rounds: u64,
+    plan: Plan,
+    cert: Cert,
+) -> Result<Answer, ServeFault>
+    ensures answer { IfOk result (λ answer. answer ≡ spec.run_of_cert plan rounds (Ok cert)) }
+    ensures fault { IfErr result (λ fault. IsTrue (is_of_threads fault.number)) }
+{
+    match Certified::check(plan, cert) {
+        Ok(certified) => run_certified(rt, alloc, rounds, &certified),
+        Err(_) => Ok(Answer::no(alloc, "no\n")?),
+    }
+}
+
+#[tactic(auto, using(crate::proofs::Runs::too_large_where_told, crate::proofs::Runs::of_threads_else))]
+fn run_certified<R: Threads + Wait + Sync>(
+    rt: &R,
+    alloc: Global,
+    rounds: u64,
+    certified: &Certified,
+) -> Result<Answer, ServeFault>
+    ensures answer { IfOk result (λ answer. answer ≡ spec.run_of_accepted certified.now.plan certified.now.cert rounds) }
+    ensures fault { IfErr result (λ fault. IsTrue (is_of_threads fault.number)) }
+{
+    match run(rt, alloc, certified, rounds, &AtOnce) {
+        Ok(report) => Ok(run_through(alloc, report.jobs, report.units)?),
+        Err(fault) if fault.number == RUN_TOO_LARGE => Ok(too_large(alloc)?),
+        Err(fault) => Err(ServeFault {
+            number: fault.number,
+        }),
+    }
+}
+
+/// The line of a run that went through: its jobs and its units of work.
+fn run_through(alloc: Global, jobs: u64, units: u64) -> Result<Answer, AllocError>
+    ensures { IfOk result (λ answer. answer ≡ spec.run_through jobs units) }
+{
+    Ok(Answer {
+        text: format!(in alloc; "jobs {jobs}, units {units}, refused 0\n")?,
+        status: Status::Done,
+    })
+}
