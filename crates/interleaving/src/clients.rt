@@ -17,8 +17,8 @@ use written_machine::{ClientState, Parent};
 
 /// Where the clients of a world stand.
 ///
-/// A client is kept from its first step on. Each other one stands at the start of its body, so that nothing is kept of it
-/// but how many there are of its kind.
+/// A client is kept from its first step on. Each other one stands at the start of its body, so that nothing is kept of
+/// it but how many there are of its kind.
 #[derive(Debug, Drop)]
 pub(crate) struct Clients {
     // For each kind how many clients there are of it and of the kinds before it.

@@ -12,7 +12,8 @@ use written_machine::{Outcome, Parent};
 impl World {
     ghost use Rattle.interleaving.specs.Answers.{AreOf};
 
-    /// The actor, at this position, which is not the first, gets the latest job that it made by the submit, once that is done.
+    /// The actor, at this position, which is not the first, gets the latest job that it made by the submit, once that is
+    /// done.
     pub(crate) fn get(&mut self, actor: Parent, position: usize, submit: usize) -> Option<Outcome>
         requires stands { StandsAt self.old.clients actor position }
         requires begun { 0 < position }

@@ -27,8 +27,8 @@ impl World {
     ///
     /// # Errors
     ///
-    /// `AllocError` where a submit or a client's first action finds no memory, or the count of jobs or of refusals stands at
-    /// its greatest value. The world is then unchanged.
+    /// `AllocError` where a submit or a client's first action finds no memory, or the count of jobs or of refusals stands
+    /// at its greatest value. The world is then unchanged.
     pub fn step(&mut self, plan: &Plan, event: Event) -> Result<Option<Outcome>, AllocError>
         requires { IsOf plan.now self.old }
 

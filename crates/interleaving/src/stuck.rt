@@ -26,8 +26,8 @@ impl World {
     /// Whether the jobs of these numbers, taken as a set, wait only for one another: each of them stands at a get whose
     /// job is one of them, or is queued in a pool that has no idle worker and no other jobs at work.
     ///
-    /// False for no numbers, and where a number is not of an unfinished job. Takes no memory. Where the numbers rise, each of
-    /// them is looked up a few times; where they do not, it is looked for among the others.
+    /// False for no numbers, and where a number is not of an unfinished job. Takes no memory. Where the numbers rise, each
+    /// of them is looked up a few times; where they do not, it is looked for among the others.
     pub fn stuck(&self, plan: &Plan, members: &[usize]) -> bool
         requires { IsOf plan.now self.now }
         ensures in_words { (s : State) → IsReached plan.now s → live_view plan.now s ≡ self.now → IsTrue result ↔ IsWaitingSet plan.now s members.now }
