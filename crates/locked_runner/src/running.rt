@@ -1,7 +1,9 @@
 //! A run of a certified plan on threads.
 
-ghost use Rattle.std.specs.Prelude.{◌≡◌, IfOk, IfErr, false};
+ghost use Rattle.std.specs.Prelude.{◌≡◌, IfOk, IfErr, false, length};
 ghost use Rattle.job_bodies.specs.Plan as spec;
+ghost use Rattle.written_machine.specs.State.{State};
+ghost use Rattle.written_machine.specs.Reach.{Reaches};
 ghost use Rattle.run_histories.specs.Run.{IsRun, IsLengthOfLegal};
 ghost use Rattle.run_histories.specs.RunNumbers.{jobs, units};
 ghost use Rattle.locked_runner.specs.Limits.{is_too_large};
@@ -38,6 +40,7 @@ pub fn run<R: Threads + Wait + Sync, G: Gate>(
 ) -> Result<RunReport, RunFault>
     ensures run { IfOk result (λ report. IsRun certified.now.plan rounds report.history report.receipts) }
     ensures jobs { IfOk result (λ report. report.jobs ≡ jobs certified.now.plan certified.now.cert.ranks rounds) }
+    ensures made { IfOk result (λ report. (s : State) → Reaches certified.now.plan report.history s → length s.jobs ≡ report.jobs) }
     ensures units { IfOk result (λ report. report.units ≡ units certified.now.plan certified.now.cert.ranks rounds) }
     ensures none_refused { IfOk result (λ report. report.refused ≡ 0) }
     ensures within { IfOk result (λ _. is_too_large certified.now.plan certified.now.cert.ranks rounds ≡ false) }

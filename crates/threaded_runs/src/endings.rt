@@ -18,10 +18,13 @@ const NO_POOLS: &str = "
     client = [{ name = 'c', count = 2, repeat = true, body = ['work 2'] }]
 ";
 
-// A client that leaves before its job is done.
+// A client that leaves before its job is done, while other threads of two pools wait for one: the job's end ends them all.
 const NO_GET: &str = "
-    pool = [{ name = 'p', core = 1, max = 1, queue = 2 }]
-    class = [{ name = 'a', pool = 'p', body = ['work 1'] }]
+    pool = [
+        { name = 'p', core = 2, max = 3, queue = 2 },
+        { name = 'q', core = 1, max = 2, queue = 1 },
+    ]
+    class = [{ name = 'a', pool = 'p', body = ['work 1', 'work 1'] }]
     client = [{ name = 'c', count = 1, body = ['submit a'] }]
 ";
 
@@ -79,7 +82,7 @@ fn every_run_ends(rt: HostRuntime) -> Result<(), Fail> {
         (NO_PLAN, 1, 0, 0, 0),
         (NO_CLIENTS, 2, 0, 0, 0),
         (NO_POOLS, 3, 0, 12, 6),
-        (NO_GET, 1, 1, 1, 1),
+        (NO_GET, 1, 1, 2, 2),
         (NOTHING_TO_DO, 3, 4, 0, 0),
         (ONCE, 5, 3, 3, 3),
         (TWO_CLIENTS, 50, 100, 100, 100),
