@@ -1,0 +1,171 @@
+#!/usr/bin/env python3
+"""Tests the sizes that the program found_sizes finds, on small plans made by chance, with the second search of found_certs.py.
+
+Of each plan:
+
+- A circle of submits, or a submit of a body that a client runs for ever and that no get of the body names, gets that answer.
+- Every other plan gets sizes. None is smaller than the plan's.
+- A plan that the second search finds a certificate for stays as it is.
+
+Of small plans, with one or two pools and single clients: no plan whose sizes grow by less, all together, gets a certificate
+of the second search. All such sizes are tried, where they are not too many.
+
+    python3 checks/found_sizes.py [PLANS [SMALL_PLANS [SEED]]]     # 2,000 plans, 100 small ones and seed 1 where nothing is said
+
+The program is crates/found_sizes/out/found_sizes, or the one that the environment variable FOUND_SIZES names.
+
+Exit status: 0 where all is so, 1 where something is not, 2 where there is no program.
+"""
+
+import os
+import random
+import re
+import subprocess
+import sys
+from pathlib import Path
+
+from found_certs import NONE, Plan, Pool, answer, levels_of, plan_by_chance, text
+
+HERE = Path(__file__).resolve().parent
+BUILT = HERE.parent / "crates" / "found_sizes" / "out" / "found_sizes"
+SECONDS = 600
+SIZES = re.compile(r"pool \S+: core (\d+)(?: \(now \d+\))?, max (\d+)(?: \(now \d+\))?, queue (\d+)(?: \(now \d+\))?")
+# Small plans whose sizes grow by more than this are not compared with all other sizes.
+MOST_GROWTH = {1: 9, 2: 7}
+
+
+def main():
+    program = Path(os.environ.get("FOUND_SIZES") or BUILT).resolve()
+    if not os.access(program, os.X_OK) or not program.is_file():
+        print(f"there is no program at {program}: run `rt run` in crates/found_sizes", file=sys.stderr)
+        return 2
+    words = [int(word) for word in sys.argv[1:]]
+    count, small_count, seed = (words + [2000, 100, 1][len(words):])[:3]
+    chance = random.Random(seed)
+    plans = [plan_by_chance(chance) for _ in range(count)]
+    small = [small_plan(chance) for _ in range(small_count)]
+    wrong = 0
+    kinds = {"circle": 0, "never got": 0, "as it is": 0, "sizes change": 0}
+    for plan, told in zip(plans, answers(program, plans)):
+        kind, fault = fault_of(plan, told)
+        kinds[kind] += 1
+        wrong += report(plan, told, fault)
+    tried = 0
+    for plan, told in zip(small, answers(program, small)):
+        sizes = sizes_told(told)
+        if sizes is None or growth(plan, sizes) > MOST_GROWTH[len(plan.pools)]:
+            continue
+        tried += 1
+        cheaper = cheaper_sizes(plan, growth(plan, sizes))
+        wrong += report(plan, told, cheaper and f"less would do: {cheaper}")
+    print(f"{count} plans: " + ", ".join(f"{kind} {number}" for kind, number in kinds.items()))
+    print(f"{small_count} small plans, {tried} compared with all sizes; {wrong} of all are wrong")
+    return 1 if wrong else 0
+
+
+def report(plan, told, fault):
+    if fault:
+        print(f"{text(plan)}is answered\n{told}\n{fault}")
+    return bool(fault)
+
+
+def answers(program, plans):
+    given = "%%\n".join(f"# plan {number}\n{text(plan)}" for number, plan in enumerate(plans))
+    ended = subprocess.run([program], input=given, capture_output=True, text=True, timeout=SECONDS, check=True)
+    told = [part.strip() for part in re.split(r"^# plan \d+$", ended.stdout, flags=re.M)[1:]]
+    assert len(told) == len(plans), ended.stderr
+    return told
+
+
+def fault_of(plan, told):
+    """Of which kind the plan is, and what is wrong with the answer."""
+    if levels_of(plan) is None:
+        return "circle", "" if told.endswith("submits itself") else "a circle"
+    if never_got(plan):
+        return "never got", "" if told.endswith("submits for ever, never got") else "a submit that is never got"
+    sizes = sizes_told(told)
+    if sizes is None:
+        return "sizes change", "no sizes"
+    if any(now > size for pool, found in zip(plan.pools, sizes) for now, size in zip(sizes_of(pool), found)):
+        return "sizes change", "a size that falls"
+    if answer(plan) == NONE:
+        return "sizes change", ""
+    return "as it is", "a change" if growth(plan, sizes) else ""
+
+
+def never_got(plan):
+    """Whether a body that begins again and again, as clients or jobs of theirs, submits what it never gets."""
+    bodies = [client.body for client in plan.clients if client.repeat]
+    seen = set()
+    while bodies:
+        body = bodies.pop()
+        for place, (word, what) in enumerate(body):
+            if word == "submit":
+                if ("get", place) not in body:
+                    return True
+                if what not in seen:
+                    seen.add(what)
+                    bodies.append(plan.classes[what].body)
+    return False
+
+
+# ---- sizes
+
+def sizes_of(pool):
+    return pool.core, pool.most, pool.queue
+
+
+def sizes_told(told):
+    found = [tuple(map(int, numbers)) for numbers in SIZES.findall(told)]
+    return found if "\nchanges " in told else None
+
+
+def with_sizes(plan, sizes):
+    pools = [Pool(*found, pool.prestart) for pool, found in zip(plan.pools, sizes)]
+    return Plan(pools, plan.classes, plan.clients)
+
+
+def growth(plan, sizes):
+    return sum(sum(found) - sum(sizes_of(pool)) for pool, found in zip(plan.pools, sizes))
+
+
+def cheaper_sizes(plan, limit):
+    """Sizes that grow by less than this, all together, and get a certificate; None where there are none."""
+    declared = [size for pool in plan.pools for size in sizes_of(pool)]
+    for total in range(limit):
+        for added in shares(len(declared), total):
+            numbers = [size + more for size, more in zip(declared, added)]
+            sizes = list(zip(numbers[0::3], numbers[1::3], numbers[2::3]))
+            if all(core <= most for core, most, _ in sizes) and answer(with_sizes(plan, sizes)) != NONE:
+                return sizes
+    return None
+
+
+def shares(places, total):
+    """All ways to share the total among so many places."""
+    if places == 1:
+        yield (total,)
+        return
+    for first in range(total + 1):
+        for rest in shares(places - 1, total - first):
+            yield (first, *rest)
+
+
+def small_plan(chance):
+    """A plan of one or two small pools that has a certificate at some sizes, and none at its own."""
+    while True:
+        plan = plan_by_chance(chance)
+        for client in plan.clients:
+            client.count = 1
+        plan.pools = [small_pool(pool) for pool in plan.pools]
+        if len(plan.pools) <= 2 and levels_of(plan) is not None and not never_got(plan) and answer(plan) == NONE:
+            return plan
+
+
+def small_pool(pool):
+    core = min(pool.core, 2)
+    return Pool(core, core + min(pool.most - pool.core, 1), min(pool.queue, 2), pool.prestart)
+
+
+if __name__ == "__main__":
+    sys.exit(main())
