@@ -29,9 +29,7 @@ pub fn push_failing_reads<R: Threads + Wait + Sync>(
 {
     let last = input.len().div_ceil(PIECE) as u64;
     for calls in 0..=last.saturating_add(1) {
-        let mut source = MemorySource::new(input)
-            .at_most(PIECE)
-            .failing_after(calls);
+        let mut source = MemorySource::new(input).at_most(PIECE).failing_after(calls);
         let failed = Ended::of_source(rt, alloc, command, &mut source, MemorySink::new(alloc))?;
         let is_right = if calls <= last {
             failed.written.is_empty() && failed.outcome == Err(READ_FAILED)
