@@ -13,7 +13,7 @@ const READ_FAILED: ServeFault = ServeFault { number: 60 };
 const WRITE_FAILED: ServeFault = ServeFault { number: 61 };
 
 // How many bytes a call reads or writes.
-const PIECE: usize = 100;
+const PIECE: usize = 25;
 
 /// Says where a source that fails does not give 60 with nothing written. One call more than those that give the bytes is
 /// made, which tells their end; a failure of a later call is never met.
