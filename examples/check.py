@@ -3,8 +3,9 @@
 
 An example is a plan NAME.toml with events NAME.events, a certificate NAME.json, or both. NAME.replay is what `sizing
 replay` must answer to the plan, a line `%%` and the events; NAME.check and NAME.explain are what those commands must
-answer to the plan, a line `%%` and the certificate. The last line of each tells the exit status. The program is
-crates/sizing/out/sizing, or the one that the environment variable SIZING names.
+answer to the plan, a line `%%` and the certificate, and NAME.run is what `sizing run --rounds 3` must. The last line of
+each tells the exit status. The program is crates/sizing/out/sizing, or the one that the environment variable SIZING
+names.
 
 Exit status: 0 where all examples agree, 1 where one differs, 2 where the program isn't there.
 """
@@ -17,7 +18,9 @@ from pathlib import Path
 
 HERE = Path(__file__).resolve().parent
 BUILT = HERE.parent / "crates" / "sizing" / "out" / "sizing"
-SECOND_PARTS = {"replay": "events", "check": "json", "explain": "json"}
+SECOND_PARTS = {"replay": "events", "check": "json", "explain": "json", "run": "json"}
+# The words behind the command.
+OPTIONS = {"run": ["--rounds", "3"]}
 SECONDS = 60
 
 
@@ -46,7 +49,8 @@ def compare(program, answer):
     except OSError as error:
         return f"the example can't be read: {error}"
     try:
-        ended = subprocess.run([program, command], input=plan + b"%%\n" + second, capture_output=True, timeout=SECONDS)
+        words = [program, command, *OPTIONS.get(command, [])]
+        ended = subprocess.run(words, input=plan + b"%%\n" + second, capture_output=True, timeout=SECONDS)
     except subprocess.TimeoutExpired:
         return f"no answer within {SECONDS} seconds"
     except OSError as error:
