@@ -1,8 +1,8 @@
 /* usage: measure INPUT OUTPUT PROGRAM [WORD..]
 
-   Runs the program with standard input from one file and standard output to another, and prints three numbers: its
-   exit status (128 and the signal's number where one ended it), the microseconds of CPU time that it used, and its peak
-   memory in KiB. A program that uses too much CPU time is ended.
+   Runs the program with standard input from one file and standard output to another, and prints four numbers: its exit
+   status (128 and the signal's number where one ended it), the microseconds of CPU time that it used, its peak memory in
+   KiB, and the microseconds that went by. A program that uses too much CPU time is ended.
 
    A new process takes over the peak memory of the one that started it, and python3's own is larger than what is
    measured here. This one's is small. */
@@ -13,6 +13,7 @@
 #include <stdlib.h>
 #include <sys/resource.h>
 #include <sys/wait.h>
+#include <time.h>
 #include <unistd.h>
 
 enum { MOST_SECONDS = 600 };
@@ -37,12 +38,22 @@ static long long microseconds(struct timeval time)
     return time.tv_sec * 1000000LL + time.tv_usec;
 }
 
+/* The microseconds of a clock that only runs on. */
+static long long now(void)
+{
+    struct timespec time;
+    if (clock_gettime(CLOCK_MONOTONIC, &time) < 0)
+        fail("clock_gettime");
+    return time.tv_sec * 1000000LL + time.tv_nsec / 1000;
+}
+
 int main(int count, char **words)
 {
     if (count < 4) {
         fputs("usage: measure INPUT OUTPUT PROGRAM [WORD..]\n", stderr);
         return 2;
     }
+    long long begun = now();
     pid_t child = fork();
     if (child < 0)
         fail("fork");
@@ -59,7 +70,7 @@ int main(int count, char **words)
     struct rusage used;
     if (wait4(child, &status, 0, &used) != child)
         fail("wait4");
-    printf("%d %lld %ld\n", WIFEXITED(status) ? WEXITSTATUS(status) : 128 + WTERMSIG(status),
-           microseconds(used.ru_utime) + microseconds(used.ru_stime), used.ru_maxrss);
+    printf("%d %lld %ld %lld\n", WIFEXITED(status) ? WEXITSTATUS(status) : 128 + WTERMSIG(status),
+           microseconds(used.ru_utime) + microseconds(used.ru_stime), used.ru_maxrss, now() - begun);
     return 0;
 }

@@ -36,10 +36,11 @@ class Program:
 
 @dataclass
 class Cost:
-    """The least CPU time and the greatest peak memory of some runs."""
+    """The least CPU time and the greatest peak memory of some runs, and the least time that went by."""
 
     milliseconds: float
     mebibytes: float
+    elapsed: float
 
 
 def in_folder(bench):
@@ -64,12 +65,12 @@ def built(name):
     return program
 
 
-def compiled(folder, name):
+def compiled(folder, name, *options):
     """The path of a C program of this folder, compiled into another."""
     if shutil.which("gcc") is None:
         raise Unable("gcc is needed, and there is none")
     path = folder / name
-    if subprocess.run(["gcc", "-O2", "-o", path, HERE / f"{name}.c"]).returncode != 0:
+    if subprocess.run(["gcc", "-O2", *options, "-o", path, HERE / f"{name}.c"]).returncode != 0:
         raise Unable(f"gcc doesn't compile {name}.c")
     return path
 
@@ -81,26 +82,29 @@ def costs(folder, measure, programs, runs):
     """
     measured = [[run(folder, measure, program) for program in programs] for _ in range(runs)]
     return [
-        Cost(min(time for time, _ in of_one) / 1000, max(memory for _, memory in of_one) / 1024)
-        for of_one in zip(*measured)
+        Cost(min(times) / 1000, max(memories) / 1024, min(elapsed) / 1000)
+        for times, memories, elapsed in (zip(*of_one) for of_one in zip(*measured))
     ]
 
 
 def run(folder, measure, program):
-    """The microseconds and the KiB of a run. It must end with its status and, if that is compared, its answer."""
+    """The microseconds of CPU time, the KiB, and the microseconds that went by, of a run.
+
+    It must end with its status and, if that is compared, its answer.
+    """
     name = program.words[0]
     output = folder / "output" if program.is_compared else Path(os.devnull)
     ended = subprocess.run([measure, folder / program.given, output, *program.words], stdout=subprocess.PIPE)
     if ended.returncode != 0:
         raise Unable(f"{name} can't be measured")
-    status, microseconds, kibibytes = map(int, ended.stdout.split())
+    status, microseconds, kibibytes, elapsed = map(int, ended.stdout.split())
     if status > 128:
         raise Wrong(f"{name} is ended by signal {status - 128} after {microseconds / 1e6:.1f} s of CPU time")
     if program.is_compared and output.read_bytes() != program.answer:
         raise Wrong(f"{name} ends with status {status}: {difference(output.read_bytes(), program.answer)}")
     if status != program.status:
         raise Wrong(f"{name} ends with status {status}, wanted {program.status}")
-    return microseconds, kibibytes
+    return microseconds, kibibytes, elapsed
 
 
 def difference(printed, wanted):
