@@ -17,9 +17,16 @@ from pathlib import Path
 
 HERE = Path(__file__).resolve().parent
 BUILT = HERE.parent / "crates" / "sizing" / "out" / "sizing"
-EXAMPLE = HERE.parent / "examples" / "two-clients"
-# What each command reads, by the files of the example, with a line `%%` between two of them.
-PARTS = {"replay": ("toml", "events"), "check": ("toml", "json"), "explain": ("toml", "json"), "certify": ("toml",)}
+EXAMPLES = HERE.parent / "examples"
+# The words of each command, and the files that it reads, with a line `%%` between two of them.
+COMMANDS = [
+    (["replay"], ["two-clients.toml", "two-clients.events"]),
+    (["check"], ["two-clients.toml", "two-clients.json"]),
+    (["explain"], ["two-clients.toml", "two-clients.json"]),
+    (["certify"], ["two-clients.toml"]),
+    (["run", "--rounds", "3"], ["two-clients-queue-of-two.toml", "two-clients-queue-of-two.json"]),
+]
+BAD_ROUNDS = [[], ["--rounds"], *(["--rounds", word] for word in ("0", "1000001", "-1", "three", "18446744073709551617"))]
 SECONDS = 20
 
 NOT_WRITTEN = (3, b"", b"fault 61 WriteFailed\n")
@@ -42,10 +49,10 @@ def main():
 
 def cases(program, folder):
     """Each case's name, its run, and how it must end: in this very way, or, without one, as where the words are bad."""
-    for command, parts in PARTS.items():
+    for (command, *options), parts in COMMANDS:
         given = folder / command
-        given.write_bytes(b"%%\n".join(EXAMPLE.with_suffix(f".{part}").read_bytes() for part in parts))
-        words = [program, command]
+        given.write_bytes(b"%%\n".join((EXAMPLES / part).read_bytes() for part in parts))
+        words = [program, command, *options]
         yield f"{command}, a full device as standard output", lambda: full_device(words, given), NOT_WRITTEN
         yield f"{command}, a closed standard output", lambda: ends(words, given, close=1), NOT_WRITTEN
         yield f"{command}, a pipe that nobody reads", lambda: broken_pipe(words, given), NOT_WRITTEN
@@ -53,6 +60,8 @@ def cases(program, folder):
         yield f"{command}, a closed standard input", lambda: ends(words, given, close=0), NOT_READ
         yield f"{command}, a word too many", lambda: ends([*words, "now"], given), None
         yield f"help of {command}", lambda: ends([*words, "--help"], given), None
+    for options in BAD_ROUNDS:
+        yield " ".join(["run", *options]), lambda: ends([program, "run", *options], folder / "run"), None
     given = folder / "check"
     yield "no command", lambda: ends([program], given), NO_COMMAND
     yield "a bad word", lambda: ends([program, "chek"], given), None
@@ -75,7 +84,8 @@ def shown(name, run, wanted):
 def told_usage(ended):
     """Nothing on standard output, and what is right on standard error."""
     status, printed, complained = ended
-    return status == 2 and printed == b"" and b"sizing" in complained and complained.endswith(b"\n")
+    is_told = b"sizing" in complained or complained.startswith(b"error: ")
+    return status == 2 and printed == b"" and is_told and complained.endswith(b"\n")
 
 
 def ends(words, given, stdout=subprocess.PIPE, close=None):

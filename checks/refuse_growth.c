@@ -1,14 +1,17 @@
-/* A shared object that LD_PRELOAD puts before a program, and that refuses one growth of its memory: it has one call of
-   malloc, calloc, realloc, reallocarray, posix_memalign, aligned_alloc or mmap fail as it does where memory ran out.
-   The calls are counted from 1, and only those behind this object's constructor, which the loader calls when the C
-   library has started, right before main.
+/* A shared object that LD_PRELOAD puts before a program, and that refuses one growth of its memory or one start of a
+   thread: it has one call of malloc, calloc, realloc, reallocarray, posix_memalign, aligned_alloc or mmap fail as it does
+   where memory ran out, or one of pthread_create as it does where no thread is to be had. The calls are counted from 1,
+   all in one row, and only those behind this object's constructor, which the loader calls when the C library has
+   started, right before main.
 
    REFUSE_AT     the number of the call to refuse; none is refused if it is 0 or too large
    REFUSE_TOLD   a file, to which are added a line "counting" at the start, and a line with the refused call's name */
 
 #define _GNU_SOURCE
+#include <dlfcn.h>
 #include <errno.h>
 #include <fcntl.h>
+#include <pthread.h>
 #include <stdatomic.h>
 #include <stdbool.h>
 #include <stdlib.h>
@@ -23,6 +26,9 @@ extern void *__libc_calloc(size_t, size_t);
 extern void *__libc_realloc(void *, size_t);
 extern void *__libc_memalign(size_t, size_t);
 
+typedef int create_thread(pthread_t *, const pthread_attr_t *, void *(*)(void *), void *);
+
+static create_thread *real_pthread_create;
 static atomic_bool counting;
 static atomic_ullong calls;
 static unsigned long long refused_call;
@@ -41,6 +47,9 @@ __attribute__((constructor)) static void start(void)
 {
     const char *number = getenv("REFUSE_AT");
     refused_call = number == NULL ? 0 : strtoull(number, NULL, 10);
+    real_pthread_create = (create_thread *)dlsym(RTLD_NEXT, "pthread_create");
+    if (real_pthread_create == NULL)
+        abort();
     tell("counting\n");
     counting = true;
 }
@@ -105,3 +114,8 @@ void *mmap(void *place, size_t size, int protection, int flags, int file, off_t 
 
 void *mmap64(void *place, size_t size, int protection, int flags, int file, off64_t offset)
     __attribute__((alias("mmap")));
+
+int pthread_create(pthread_t *thread, const pthread_attr_t *attributes, void *(*begin)(void *), void *given)
+{
+    return refused("pthread_create\n") ? EAGAIN : real_pthread_create(thread, attributes, begin, given);
+}

@@ -1,7 +1,8 @@
 #!/usr/bin/env python3
-"""Refuses each growth of the memory of `sizing` in turn, on examples of each command. README.md says what that shows.
+"""Refuses each growth of the memory of `sizing` in turn, on examples of each command, and each start of a thread. README.md
+says what that shows.
 
-A run in which the N-th growth is refused must end with fault 20 and no answer, or with the example's own answer and
+A run in which the N-th of them is refused must end with fault 20 and no answer, or with the example's own answer and
 status. N goes from 1 to the first that a run doesn't reach.
 
 The program is crates/sizing/out/sizing, or the one that the environment variable SIZING names.
@@ -24,15 +25,20 @@ HERE = Path(__file__).resolve().parent
 BUILT = HERE.parent / "crates" / "sizing" / "out" / "sizing"
 EXAMPLES = HERE.parent / "examples"
 # What stands behind the line `%%`, by its file.
-SECOND_PARTS = {"replay": "events", "check": "json", "explain": "json"}
+SECOND_PARTS = {"replay": "events", "check": "json", "explain": "json", "run": "json"}
+# The words behind the command.
+OPTIONS = {"run": ["--rounds", "3"]}
 JUDGED = ["two-clients-queue-of-two", "nested-two-workers", "web-and-database-sized", "cross-pools-two-threads"]
 CASES = [
     *[("replay", name) for name in ("two-clients", "cross-pools", "there-and-back")],
     *[("check", name) for name in JUDGED],
     *[("explain", name) for name in [*JUDGED, "two-clients", "cross-pools"]],
     *[("certify", name) for name in [*JUDGED, "two-clients"]],
+    *[("run", name) for name in [*JUDGED, "there-and-back", "front-and-back"]],
 ]
 SHARED_OBJECT = "refuse_growth.so"
+# The threads of a run share its jobs otherwise each time, and so they ask for memory a few times more or less.
+UNREACHED = {"run": 5}
 SECONDS = 10
 
 
@@ -53,12 +59,10 @@ OUT_OF_MEMORY = Ended(3, b"", b"fault 20 Memory\n")
 
 
 def main():
-    program = Path(os.environ.get("SIZING") or BUILT).resolve()
     try:
-        if not os.access(program, os.X_OK) or not program.is_file():
-            raise Unable(f"there is no program at {program}: run `make program` at the top of the repository")
+        program = built()
         with tempfile.TemporaryDirectory() as folder:
-            compile_object(Path(folder))
+            compile_object(Path(folder), "refuse_growth")
             wrong = sum(sweep(Path(folder), program, command, name) for command, name in CASES)
     except Unable as why:
         print(why, file=sys.stderr)
@@ -66,12 +70,22 @@ def main():
     return 1 if wrong else 0
 
 
-def compile_object(folder):
+def built():
+    """The path of the program."""
+    program = Path(os.environ.get("SIZING") or BUILT).resolve()
+    if not os.access(program, os.X_OK) or not program.is_file():
+        raise Unable(f"there is no program at {program}: run `make program` at the top of the repository")
+    return program
+
+
+def compile_object(folder, name):
+    """The path of the shared object of a C file of this folder, in another one."""
     if shutil.which("gcc") is None:
         raise Unable("gcc is needed, and there is none")
-    words = ["gcc", "-O2", "-shared", "-fPIC", "-o", folder / SHARED_OBJECT, HERE / "refuse_growth.c"]
-    if subprocess.run(words).returncode != 0:
-        raise Unable("gcc doesn't compile refuse_growth.c")
+    path = folder / f"{name}.so"
+    if subprocess.run(["gcc", "-O2", "-shared", "-fPIC", "-o", path, HERE / f"{name}.c"]).returncode != 0:
+        raise Unable(f"gcc doesn't compile {name}.c")
+    return path
 
 
 def sweep(folder, program, command, name):
@@ -82,21 +96,20 @@ def sweep(folder, program, command, name):
     ended, _ = run(folder, program, command, given, 0)
     if ended != right:
         raise Unable(f"{title}: with no growth refused, {shown(ended)}")
-    calls, ends = Counter(), Counter()
+    calls, ends, unreached = Counter(), Counter(), 0
     for number in count(1):
         ended, call = run(folder, program, command, given, number)
-        if call is None:
-            break
-        calls[call] += 1
-        end = {OUT_OF_MEMORY: "fault 20", right: "the right answer"}.get(ended, "wrong")
+        calls.update([call] if call else [])
+        right_ends = {OUT_OF_MEMORY: "fault 20", right: "the right answer"} if call else {right: "with nothing refused"}
+        end = right_ends.get(ended, "wrong")
         ends[end] += 1
         if end == "wrong":
-            print(f"{title}, growth {number} ({call}): {shown(ended)}", flush=True)
+            print(f"{title}, growth {number} ({call or 'not reached'}): {shown(ended)}", flush=True)
+        unreached += call is None
+        if unreached == UNREACHED.get(command, 1):
+            break
     if not calls:
         raise Unable(f"{title}: the program makes no call that could be refused")
-    if ended != right:
-        print(f"{title}, growth {number} (not reached): {shown(ended)}", flush=True)
-        ends["wrong"] += 1
     each_call = ", ".join(f"{call} {times}" for call, times in sorted(calls.items()))
     each_end = ", ".join(f"{end} {ends[end]}" for end in ("fault 20", "the right answer", "wrong"))
     print(f"{title}: {sum(calls.values())} growths refused ({each_call}): {each_end}", flush=True)
@@ -151,7 +164,8 @@ def run(folder, program, command, given, number):
     settings = {"LD_PRELOAD": f"./{SHARED_OBJECT}", "REFUSE_AT": str(number), "REFUSE_TOLD": str(told)}
     try:
         done = subprocess.run(
-            [program, command], input=given, capture_output=True, cwd=folder, env=settings, timeout=SECONDS
+            [program, command, *OPTIONS.get(command, [])],
+            input=given, capture_output=True, cwd=folder, env=settings, timeout=SECONDS,
         )
         ended = Ended(done.returncode, done.stdout, done.stderr)
     except subprocess.TimeoutExpired as late:
