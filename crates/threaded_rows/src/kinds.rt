@@ -14,8 +14,9 @@ use std::thread::Threads;
 /// - `certify and check` is the same, but in place of a bundle stands what `check` answers to it: its first line and its
 ///   status.
 /// - `check` is a bundle. Its answer is the verdict or the fault of the check on threads, with each number of workers.
-/// - `run N` is a bundle, which is run for N rounds. Its answer is what the command writes, with the status on a last line.
-///   Where the rounds are few it is asked for a byte at a time too, and with a source and a sink that fail.
+/// - `run` is a line with a number of rounds, and a bundle, which is run for so many. Its answer is what the command
+///   writes, with the status on a last line. Where the rounds are few it is asked for a byte at a time too, and with a
+///   source and a sink that fail.
 pub fn answered<R: Threads + Wait + Sync>(
     rt: &R,
     alloc: Global,
@@ -26,9 +27,7 @@ pub fn answered<R: Threads + Wait + Sync>(
         "certify" => certified(rt, alloc, input),
         "certify and check" => certified_and_checked(rt, alloc, input),
         "check" => checked(rt, alloc, input),
-        _ => match kind.strip_prefix("run ") {
-            Some(rounds) => ran_for(rt, alloc, rounds, input),
-            None => String::from_str(alloc, "no such kind of input"),
-        },
+        "run" => ran_for(rt, alloc, input),
+        _ => String::from_str(alloc, "no such kind of input"),
     }
 }

@@ -38,15 +38,20 @@ pub fn ran<R: Threads + Wait + Sync>(
     Ok(answer)
 }
 
-/// What `run` answers for the rounds that a text says, 1 to 1,000,000.
+/// What `run` answers to a bundle, behind a line with the number of rounds, 1 to 1,000,000.
 pub fn ran_for<R: Threads + Wait + Sync>(
     rt: &R,
     alloc: Global,
-    rounds: &str,
-    bundle: &[u8],
+    input: &[u8],
 ) -> Result<String, AllocError> {
+    let input = String::from_utf8_lossy(alloc, input)?;
+    let Some((rounds, bundle)) = input.as_str().split_once("\n") else {
+        return String::from_str(alloc, "no line with the number of rounds");
+    };
     match rounds.parse::<u64>() {
-        Ok(rounds) if 1 <= rounds && rounds <= 1_000_000 => ran(rt, alloc, rounds, bundle),
+        Ok(rounds) if 1 <= rounds && rounds <= 1_000_000 => {
+            ran(rt, alloc, rounds, bundle.as_bytes())
+        }
         _ => String::from_str(alloc, "no such number of rounds"),
     }
 }
