@@ -31,9 +31,9 @@ OPTIONS = {"run": ["--rounds", "3"]}
 JUDGED = ["two-clients-queue-of-two", "nested-two-workers", "web-and-database-sized", "cross-pools-two-threads"]
 CASES = [
     *[("replay", name) for name in ("two-clients", "cross-pools", "there-and-back")],
-    *[("check", name) for name in JUDGED],
-    *[("explain", name) for name in [*JUDGED, "two-clients", "cross-pools"]],
-    *[("certify", name) for name in [*JUDGED, "two-clients"]],
+    *[("check", name) for name in [*JUDGED, "front-and-back", "there-and-back"]],
+    *[("explain", name) for name in [*JUDGED, "front-and-back", "two-clients", "cross-pools", "there-and-back"]],
+    *[("certify", name) for name in [*JUDGED, "front-and-back", "two-clients", "there-and-back"]],
     *[("run", name) for name in [*JUDGED, "there-and-back", "front-and-back"]],
 ]
 SHARED_OBJECT = "refuse_growth.so"
