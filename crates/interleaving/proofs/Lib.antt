@@ -14,6 +14,7 @@ pub mod Orphans
 pub mod Gone
 pub mod Ended
 pub mod Stale
+pub mod UsedAgain
 pub mod Mapped
 pub mod Reached
 pub mod OfPlan

@@ -13,6 +13,7 @@ use Rattle.live_views.specs.ViewStep.{is_unfinished_job}
 use Rattle.live_views.specs.Waiting.{is_waiting_set_in}
 use Rattle.live_views.specs.Answers.{AnswersAs}
 use Rattle.live_views.proofs.Reached.{unfinished, sets_seen, answers_possible, answers_impossible, reached_after}
+use Rattle.interleaving.specs.WorldValue.{WorldValue}
 use Rattle.interleaving.specs.OfPlan.{IsOf}
 use Rattle.interleaving.specs.Answers.{AnswersIn}
 
@@ -36,9 +37,10 @@ of_plan_after plan event None s new reached a = (s, reached, sym a.1)
 of_plan_after plan event (Some outcome) s new reached a = (a.0, reached_after plan s a.0 event outcome reached a.1, sym a.2)
 
 -- the world is of the plan after the event too
-pub still_of_plan : {E : Type 0} (plan : Plan) (event : Event) (old new : View) (answered : Result (Option Outcome) E) → IsWellFormed plan → IsOf plan old → IfOk answered (λ answer. AnswersIn plan old event answer new) → OnErr answered (new ≡ old) → IsOf plan new
-still_of_plan plan event old new (Ok answer) w of a unchanged = of_plan_after plan event answer of.0 new of.1 (answers_in plan of.0 event answer old new w of.1 of.2 a)
-still_of_plan plan event old new (Err e) w of a unchanged = subst (IsOf plan) (sym unchanged) of
+pub still_of_plan : {E : Type 0} (plan : Plan) (event : Event) (old new : WorldValue) (answered : Result (Option Outcome) E) → IsWellFormed plan → IsOf plan old.view → IfOk answered (λ answer. AnswersIn plan old.view event answer new.view) → OnErr answered (new ≡ old)
+    → IsOf plan new.view
+still_of_plan plan event old new (Ok answer) w of a unchanged = of_plan_after plan event answer of.0 new.view of.1 (answers_in plan of.0 event answer old.view new.view w of.1 of.2 a)
+still_of_plan plan event old new (Err e) w of a unchanged = subst (λ (world : WorldValue). IsOf plan world.view) (sym unchanged) of
 
 -- the world of the start is of the plan
 pub start_of_plan : (plan : Plan) (view : View) → view ≡ live_view plan (start plan) → IsOf plan view

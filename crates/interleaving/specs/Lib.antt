@@ -1,3 +1,4 @@
+pub mod WorldValue
 pub mod OfPlan
 pub mod Answers
 pub mod NextAction

@@ -18,11 +18,12 @@ impl World {
 
     /// At the end of its body a job finishes, and a client of a kind that repeats begins again.
     pub(crate) fn end(&mut self, plan: &Plan, actor: Parent) -> Option<Outcome>
-        requires at_work { IsAtWork plan.now self.old actor }
-        requires asks { may_ask_for self.old.jobs actor ≡ true }
-        requires other { MadeByOther self.old.jobs actor }
-        requires done { DoneAreLatest self.old.jobs }
-        ensures { AreOf (ended_in plan.now self.old actor) self.old result self.new }
+        requires at_work { IsAtWork plan.now self.old.view actor }
+        requires asks { may_ask_for self.old.view.jobs actor ≡ true }
+        requires other { MadeByOther self.old.view.jobs actor }
+        requires done { DoneAreLatest self.old.view.jobs }
+        ensures value { AreOf (ended_in plan.now self.old.view actor) self.old.view result self.new.view }
+        ensures places { self.new.places ≡ self.old.places }
     {
         match actor {
             Parent::Client(client) => self.begin_again(plan, client),
@@ -34,7 +35,8 @@ impl World {
     }
 
     fn begin_again(&mut self, plan: &Plan, client: usize) -> Option<Outcome>
-        ensures { AreOf (looped_in plan.now self.old client (slice_get self.old.clients client)) self.old result self.new }
+        ensures value { AreOf (looped_in plan.now self.old.view client (slice_get self.old.view.clients client)) self.old.view result self.new.view }
+        ensures places { self.new.places ≡ self.old.places }
     {
         let kind = self.clients.get(client)?.kind;
         if !plan.client_at(kind)?.repeat {
@@ -45,13 +47,14 @@ impl World {
     }
 
     fn finish(&mut self, plan: &Plan, number: usize, job: JobView) -> Outcome
-        requires live { live_job self.old.jobs number ≡ Some job }
-        requires pool { pool_of plan.now job.class < length self.old.pools }
+        requires live { live_job self.old.view.jobs number ≡ Some job }
+        requires pool { pool_of plan.now job.class < length self.old.view.pools }
         requires going { is_done job.phase ≡ false }
         requires other { job.parent ≢ Job number }
-        requires done { DoneAreLatest self.old.jobs }
-        requires busy { (pool_in self.old (pool_of plan.now job.class)).idle < (pool_in self.old (pool_of plan.now job.class)).threads }
-        ensures { finished_job_in plan.now self.old number (Some job) ≡ Some (self.new, result) }
+        requires done { DoneAreLatest self.old.view.jobs }
+        requires busy { (pool_in self.old.view (pool_of plan.now job.class)).idle < (pool_in self.old.view (pool_of plan.now job.class)).threads }
+        ensures value { finished_job_in plan.now self.old.view number (Some job) ≡ Some (self.new.view, result) }
+        ensures places { self.new.places ≡ self.old.places }
     {
         self.pools[pool_of(plan, job.class)].finish();
         self.jobs.finish(number, job);

@@ -15,12 +15,13 @@ impl World {
     /// The actor, at this position, which is not the first, gets the latest job that it made by the submit, once that is
     /// done.
     pub(crate) fn get(&mut self, actor: Parent, position: usize, submit: usize) -> Option<Outcome>
-        requires stands { StandsAt self.old.clients actor position }
+        requires stands { StandsAt self.old.view.clients actor position }
         requires begun { 0 < position }
         requires can_move_on { position + 1 < 2 ^ 64 }
-        requires asks { may_ask_for self.old.jobs actor ≡ true }
-        requires alone { IsAlone self.old.jobs actor submit }
-        ensures { AreOf (got_child_in self.old actor position (live_child self.old.jobs actor submit)) self.old result self.new }
+        requires asks { may_ask_for self.old.view.jobs actor ≡ true }
+        requires alone { IsAlone self.old.view.jobs actor submit }
+        ensures value { AreOf (got_child_in self.old.view actor position (live_child self.old.view.jobs actor submit)) self.old.view result self.new.view }
+        ensures places { self.new.places ≡ self.old.places }
     {
         let number = self.jobs.latest(actor, submit)?;
         let job = self.jobs.get(number)?;

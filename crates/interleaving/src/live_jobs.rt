@@ -56,7 +56,8 @@ impl LiveJobs {
 
     /// How many places there are for live jobs, free ones included.
     pub(crate) fn places(&self) -> usize
-        ensures { result ≡ self.now.places }
+        ensures value { result ≡ self.now.places }
+        ensures enough { count_by is_some self.now.jobs ≤ result }
     {
         self.kept.count()
     }
@@ -115,6 +116,7 @@ impl LiveJobs {
     pub(crate) fn reserve(&mut self) -> Result<(), AllocError>
         ensures jobs { self.new.jobs ≡ self.old.jobs }
         ensures places { self.new.places ≡ self.old.places }
+        ensures enough { OnOk result (count_by is_some self.new.jobs ≤ self.new.places) }
         ensures room { OnOk result (0 < self.new.room) }
     {
         self.latest.reserve()?;

@@ -67,7 +67,8 @@ impl Places {
 
     /// How many places there are, free ones included.
     pub(crate) fn count(&self) -> usize
-        ensures { result ≡ self.now.places }
+        ensures value { result ≡ self.now.places }
+        ensures enough { count_by is_some self.now.items ≤ result }
     {
         self.count
     }
@@ -102,6 +103,7 @@ impl Places {
     pub(crate) fn reserve(&mut self) -> Result<(), AllocError>
         ensures items { self.new.items ≡ self.old.items }
         ensures places { self.new.places ≡ self.old.places }
+        ensures enough { count_by is_some self.new.items ≤ self.new.places }
         ensures room { OnOk result (0 < self.new.room) }
     {
         self.made.checked_add(1).ok_or(AllocError)?;

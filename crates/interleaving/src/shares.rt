@@ -44,9 +44,9 @@ impl World {
 
     /// What the members do in each pool. Each of them is looked up once.
     pub(crate) fn shares(&self, plan: &Plan, members: &Members<'_>) -> [Share; MOST_POOLS]
-        requires of_plan { IsOf plan.now self.now }
+        requires of_plan { IsOf plan.now self.now.view }
         requires well_formed { IsWellFormed plan.now }
-        ensures { (p : ℕ) → p < MOST_POOLS → share_at result p ≡ share_of plan.now self.now members.now p }
+        ensures { (p : ℕ) → p < MOST_POOLS → share_at result p ≡ share_of plan.now self.now.view members.now p }
     {
         let mut shares = [Share {
             queued: false,

@@ -19,6 +19,7 @@ impl World {
     ghost use Rattle.interleaving.specs.NextAction.{MayGrow, ActorMayGrow};
     ghost use Rattle.interleaving.specs.ClientList.{StandsAt, IsFirst};
     ghost use Rattle.interleaving.specs.OfPlan.{IsOf};
+    ghost use Rattle.interleaving.specs.WorldValue.{UsesPlacesAgain};
 
     /// Makes the event, if it is possible, and says what came of it: None where it is not possible.
     ///
@@ -30,28 +31,32 @@ impl World {
     /// `AllocError` where a submit or a client's first action finds no memory, or the count of jobs or of refusals stands
     /// at its greatest value. The world is then unchanged.
     pub fn step(&mut self, plan: &Plan, event: Event) -> Result<Option<Outcome>, AllocError>
-        requires { IsOf plan.now self.old }
+        requires { IsOf plan.now self.old.view }
 
         // What comes of the event is what the written machine says, in each state that is seen so.
-        ensures answered { IfOk result (λ answer. (s : State) → IsReached plan.now s → live_view plan.now s ≡ self.old → AnswersAs plan.now s event answer self.new) }
-        ensures in_view { IfOk result (λ answer. AnswersIn plan.now self.old event answer self.new) }
+        ensures answered { IfOk result (λ answer. (s : State) → IsReached plan.now s → live_view plan.now s ≡ self.old.view → AnswersAs plan.now s event answer self.new.view) }
+        ensures in_view { IfOk result (λ answer. AnswersIn plan.now self.old.view event answer self.new.view) }
 
         // Whatever came of it, the world is still of this plan.
-        ensures of_plan { IsOf plan.now self.new }
+        ensures of_plan { IsOf plan.now self.new.view }
         ensures well_formed { IsWellFormed plan.now }
+
+        // A place more only for a job that is made while each place holds a live one.
+        ensures places { UsesPlacesAgain self.old self.new }
         ensures error_unchanged { OnErr result (self.new ≡ self.old) }
-        ensures error_only_where_it_grows { OnErr result (MayGrow plan.now self.old event) }
+        ensures error_only_where_it_grows { OnErr result (MayGrow plan.now self.old.view event) }
     {
         self.act(plan, event)
     }
 
     // The event, as it is defined on views.
     fn act(&mut self, plan: &Plan, event: Event) -> Result<Option<Outcome>, AllocError>
-        requires { IsOf plan.now self.old }
-        ensures answered { IfOk result (λ answer. AnswersIn plan.now self.old event answer self.new) }
+        requires { IsOf plan.now self.old.view }
+        ensures answered { IfOk result (λ answer. AnswersIn plan.now self.old.view event answer self.new.view) }
         ensures well_formed { IsWellFormed plan.now }
+        ensures places { UsesPlacesAgain self.old self.new }
         ensures error_unchanged { OnErr result (self.new ≡ self.old) }
-        ensures error_only_where_it_grows { OnErr result (MayGrow plan.now self.old event) }
+        ensures error_only_where_it_grows { OnErr result (MayGrow plan.now self.old.view event) }
     {
         match event {
             Event::Client(client) => self.step_actor(plan, Parent::Client(client)),
@@ -62,11 +67,12 @@ impl World {
     }
 
     fn step_actor(&mut self, plan: &Plan, actor: Parent) -> Result<Option<Outcome>, AllocError>
-        requires { IsOf plan.now self.old }
-        ensures answered { IfOk result (λ answer. AreOf (step_actor plan.now self.old actor (point_in plan.now self.old actor)) self.old answer self.new) }
+        requires { IsOf plan.now self.old.view }
+        ensures answered { IfOk result (λ answer. AreOf (step_actor plan.now self.old.view actor (point_in plan.now self.old.view actor)) self.old.view answer self.new.view) }
         ensures well_formed { IsWellFormed plan.now }
+        ensures places { UsesPlacesAgain self.old self.new }
         ensures error_unchanged { OnErr result (self.new ≡ self.old) }
-        ensures error_only_where_it_grows { OnErr result (ActorMayGrow plan.now self.old actor) }
+        ensures error_only_where_it_grows { OnErr result (ActorMayGrow plan.now self.old.view actor) }
     {
         let Some(next) = self.next_action(plan, actor) else {
             return Ok(None);
@@ -84,10 +90,11 @@ impl World {
 
     // The actor, at this position of its body, comes to the next one.
     fn move_on(&mut self, actor: Parent, position: usize) -> Result<(), AllocError>
-        requires stands { StandsAt self.old.clients actor position }
+        requires stands { StandsAt self.old.view.clients actor position }
         requires can_move_on { position + 1 < 2 ^ 64 }
-        requires asks { may_ask_for self.old.jobs actor ≡ true }
-        ensures ok { OnOk result (self.new ≡ move_actor actor (position + 1) self.old) }
+        requires asks { may_ask_for self.old.view.jobs actor ≡ true }
+        ensures ok { OnOk result (self.new.view ≡ move_actor actor (position + 1) self.old.view) }
+        ensures places { self.new.places ≡ self.old.places }
         ensures err { OnErr result (self.new ≡ self.old) }
         ensures error_only_at_start { OnErr result (IsFirst actor position) }
     {

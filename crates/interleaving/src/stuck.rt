@@ -29,10 +29,10 @@ impl World {
     /// False for no numbers, and where a number is not of an unfinished job. Takes no memory. Where the numbers rise, each
     /// of them is looked up a few times; where they do not, it is looked for among the others.
     pub fn stuck(&self, plan: &Plan, members: &[usize]) -> bool
-        requires { IsOf plan.now self.now }
-        ensures in_words { (s : State) → IsReached plan.now s → live_view plan.now s ≡ self.now → IsTrue result ↔ IsWaitingSet plan.now s members.now }
-        ensures value { (s : State) → IsReached plan.now s → live_view plan.now s ≡ self.now → result ≡ is_waiting_set plan.now s members.now }
-        ensures in_view { result ≡ is_waiting_set_in plan.now self.now members.now }
+        requires { IsOf plan.now self.now.view }
+        ensures in_words { (s : State) → IsReached plan.now s → live_view plan.now s ≡ self.now.view → IsTrue result ↔ IsWaitingSet plan.now s members.now }
+        ensures value { (s : State) → IsReached plan.now s → live_view plan.now s ≡ self.now.view → result ≡ is_waiting_set plan.now s members.now }
+        ensures in_view { result ≡ is_waiting_set_in plan.now self.now.view members.now }
     {
         if members.is_empty() {
             return false;
@@ -41,9 +41,9 @@ impl World {
     }
 
     fn is_waiting_set(&self, plan: &Plan, members: &Members<'_>) -> bool
-        requires of_plan { IsOf plan.now self.now }
+        requires of_plan { IsOf plan.now self.now.view }
         requires some { is_none members.now ≡ false }
-        ensures value { result ≡ is_waiting_set_in plan.now self.now members.now }
+        ensures value { result ≡ is_waiting_set_in plan.now self.now.view members.now }
         ensures well_formed { IsWellFormed plan.now }
     {
         self.queues_wait(plan, members) && self.unqueued_wait(plan, members)
@@ -51,7 +51,7 @@ impl World {
 
     // Whether each member that is not queued waits at a get.
     fn unqueued_wait(&self, plan: &Plan, members: &Members<'_>) -> bool
-        ensures { result ≡ unqueued_wait plan.now self.now members.now }
+        ensures { result ≡ unqueued_wait plan.now self.now.view members.now }
     {
         members
             .numbers()
@@ -60,7 +60,7 @@ impl World {
     }
 
     fn waits_unless_queued(&self, plan: &Plan, members: &Members<'_>, number: usize) -> bool
-        ensures { result ≡ job_waits_unless_queued plan.now self.now members.now number (live_job self.now.jobs number) }
+        ensures { result ≡ job_waits_unless_queued plan.now self.now.view members.now number (live_job self.now.view.jobs number) }
     {
         let Some(job) = self.jobs.get(number) else {
             return false;
@@ -76,8 +76,8 @@ impl World {
     }
 
     fn waits_for_member(&self, members: &Members<'_>, number: usize, submit: usize) -> bool
-        requires { may_ask_for self.now.jobs (parent.Job number) ≡ true }
-        ensures { result ≡ is_some_member members.now (live_child self.now.jobs (parent.Job number) submit) }
+        requires { may_ask_for self.now.view.jobs (parent.Job number) ≡ true }
+        ensures { result ≡ is_some_member members.now (live_child self.now.view.jobs (parent.Job number) submit) }
     {
         match self.jobs.latest(Parent::Job(number), submit) {
             Some(child) => members.contains(child),
@@ -87,8 +87,8 @@ impl World {
 
     // Each pool is looked at once, whatever the number of its queued members.
     fn queues_wait(&self, plan: &Plan, members: &Members<'_>) -> bool
-        requires { IsOf plan.now self.now }
-        ensures value { IsTrue result ↔ QueuesWait plan.now self.now members.now }
+        requires { IsOf plan.now self.now.view }
+        ensures value { IsTrue result ↔ QueuesWait plan.now self.now.view members.now }
         ensures well_formed { IsWellFormed plan.now }
     {
         let pools = plan.pools().len();
@@ -102,8 +102,8 @@ impl World {
     }
 
     fn leaves_none(&self, pool: usize, share: Share) -> bool
-        requires { pool < length self.now.pools }
-        ensures { result ≡ leaves_none (pool_in self.now pool) share }
+        requires { pool < length self.now.view.pools }
+        ensures { result ≡ leaves_none (pool_in self.now.view pool) share }
     {
         let pool = &self.pools[pool];
         !share.queued || pool.idle() == 0 && pool.threads() == share.at_work as u64

@@ -17,6 +17,8 @@ use std::alloc::AllocError;
 use written_machine::{Outcome, Parent};
 
 impl World {
+    ghost use Rattle.interleaving.specs.WorldValue.{UsesPlacesAgain};
+
     /// The actor, at a submit, offers a job of the class to the class's pool. Where a get of its body asks for the job, the
     /// earlier ones of this submit were got. All growths come first.
     pub(crate) fn submit(
@@ -26,14 +28,15 @@ impl World {
         next: NextAction,
         class: usize,
     ) -> Result<Outcome, AllocError>
-        requires pool { pool_of plan.now class < length self.old.pools }
-        requires there { IsAmong (length self.old.clients) (length self.old.jobs) actor }
-        requires stands { StandsAt self.old.clients actor next.position }
+        requires pool { pool_of plan.now class < length self.old.view.pools }
+        requires there { IsAmong (length self.old.view.clients) (length self.old.view.jobs) actor }
+        requires stands { StandsAt self.old.view.clients actor next.position }
         requires can_move_on { next.position + 1 < 2 ^ 64 }
-        requires asks { may_ask_for self.old.jobs actor ≡ true }
-        requires asked { next.asked ≡ true → live_child self.old.jobs actor next.position ≡ None }
-        requires done { DoneAreLatest self.old.jobs }
-        ensures ok { IfOk result (λ outcome. submitted_in plan.now self.old actor next.position class ≡ (self.new, outcome)) }
+        requires asks { may_ask_for self.old.view.jobs actor ≡ true }
+        requires asked { next.asked ≡ true → live_child self.old.view.jobs actor next.position ≡ None }
+        requires done { DoneAreLatest self.old.view.jobs }
+        ensures ok { IfOk result (λ outcome. submitted_in plan.now self.old.view actor next.position class ≡ (self.new.view, outcome)) }
+        ensures places { UsesPlacesAgain self.old self.new }
         ensures err { OnErr result (self.new ≡ self.old) }
     {
         let pool = pool_of(plan, class);
@@ -64,9 +67,9 @@ impl World {
 
     // The latest live job that the actor made by this submit so far: none where a get asked for the earlier ones.
     fn latest_before(&self, actor: Parent, next: NextAction) -> Option<usize>
-        requires asks { may_ask_for self.now.jobs actor ≡ true }
-        requires asked { next.asked ≡ true → live_child self.now.jobs actor next.position ≡ None }
-        ensures { result ≡ live_child self.now.jobs actor next.position }
+        requires asks { may_ask_for self.now.view.jobs actor ≡ true }
+        requires asked { next.asked ≡ true → live_child self.now.view.jobs actor next.position ≡ None }
+        ensures { result ≡ live_child self.now.view.jobs actor next.position }
     {
         if next.asked {
             None

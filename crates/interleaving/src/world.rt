@@ -1,6 +1,6 @@
 //! A world: the state of a plan's machine as far as it can still be asked for.
 
-ghost use Rattle.std.specs.Prelude.{◌≡◌, ◌<◌, length, count_by, slice_get, Some, IfOk};
+ghost use Rattle.std.specs.Prelude.{◌≡◌, ◌<◌, ◌≤◌, length, count_by, slice_get, Some, IfOk};
 ghost use Rattle.std.specs.Option.{option_map};
 ghost use Rattle.live_views.specs.LiveView.{live_view};
 ghost use Rattle.live_views.specs.ViewStep.{live_job, is_unfinished_job};
@@ -32,15 +32,16 @@ pub struct World {
 }
 
 impl Model for World {
-    ghost use Rattle.live_views.specs.LiveView.{View};
+    ghost use Rattle.interleaving.specs.WorldValue.{WorldValue};
 
-    ghost Value = { View };
+    ghost Value = { WorldValue };
 
-    ghost view = { λ w. record { jobs = w.jobs.jobs; pools = w.pools.items; clients = w.clients.items; refusals = w.refusals } };
+    ghost view = { λ w. record { view = record { jobs = w.jobs.jobs; pools = w.pools.items; clients = w.clients.items; refusals = w.refusals }; places = w.jobs.places } };
 }
 
 impl World {
     ghost use Rattle.interleaving.specs.OfPlan.{IsOf};
+    ghost use Rattle.interleaving.specs.WorldValue.{live_jobs};
 
     /// The plan's world before its first event: no jobs, core idle workers in each pool that is prestarted and no threads
     /// in the others, each client at the start of its body.
@@ -50,8 +51,9 @@ impl World {
     /// `AllocError` where there is no memory for the pools and the kinds of clients.
     #[tactic(auto, using(live_views::proofs::Reached::starts_seen))]
     pub fn start(alloc: Global, plan: &Plan) -> Result<World, AllocError>
-        ensures value { IfOk result (λ world. world ≡ live_view plan.now (start plan.now)) }
-        ensures of_plan { IfOk result (λ world. IsOf plan.now world) }
+        ensures value { IfOk result (λ world. world.view ≡ live_view plan.now (start plan.now)) }
+        ensures of_plan { IfOk result (λ world. IsOf plan.now world.view) }
+        ensures places { IfOk result (λ world. world.places ≡ 0) }
     {
         let pools = new_pools(alloc, plan.pools())?;
         let clients = Clients::new(alloc, plan.clients())?;
@@ -65,44 +67,54 @@ impl World {
 
     /// How many submits were refused.
     pub fn refusals(&self) -> u64
-        ensures { result ≡ self.now.refusals }
+        ensures { result ≡ self.now.view.refusals }
     {
         self.refusals
     }
 
     /// How many jobs are queued or at work.
     pub fn unfinished(&self) -> u64
-        ensures value { (plan : spec.Plan) (s : State) → live_view plan s ≡ self.now → result ≡ count_by (λ job. is_unfinished job.stage) s.jobs }
-        ensures in_view { result ≡ count_by is_unfinished_job self.now.jobs }
+        ensures value { (plan : spec.Plan) (s : State) → live_view plan s ≡ self.now.view → result ≡ count_by (λ job. is_unfinished job.stage) s.jobs }
+        ensures in_view { result ≡ count_by is_unfinished_job self.now.view.jobs }
     {
         self.jobs.unfinished() as u64
     }
 
     /// How many jobs were ever made.
     pub fn made(&self) -> usize
-        ensures { result ≡ length self.now.jobs }
+        ensures { result ≡ length self.now.view.jobs }
     {
         self.jobs.len()
     }
 
+    /// How many places there are for live jobs, free ones included.
+    ///
+    /// A step raises it by at most 1, and only where it makes a job while every place holds a live one. Otherwise it stays.
+    pub fn places(&self) -> usize
+        ensures value { result ≡ self.now.places }
+        ensures enough { live_jobs self.now.view ≤ result }
+    {
+        self.jobs.places()
+    }
+
     /// The pool of this number.
     pub fn pool(&self, pool: usize) -> &PoolState
-        requires { pool < length self.now.pools }
-        ensures { slice_get self.now.pools pool ≡ Some result.now }
+        requires { pool < length self.now.view.pools }
+        ensures { slice_get self.now.view.pools pool ≡ Some result.now }
     {
         &self.pools[pool]
     }
 
     /// Where the client of this number stands in its body; None where there is no such client.
     pub fn client(&self, client: usize) -> Option<usize>
-        ensures { result ≡ option_map (λ client. client.position) (slice_get self.now.clients client) }
+        ensures { result ≡ option_map (λ client. client.position) (slice_get self.now.view.clients client) }
     {
         Some(self.clients.get(client)?.position)
     }
 
     /// The live job of this number; None where the number is not of a live job.
     pub fn job(&self, job: usize) -> Option<JobView>
-        ensures { result ≡ live_job self.now.jobs job }
+        ensures { result ≡ live_job self.now.view.jobs job }
     {
         self.jobs.get(job)
     }

@@ -1,5 +1,5 @@
 use Rattle.std.proofs.Common.{◌≡◌, ◌+◌, true, rules, Some, sym, ap, subst, ◌∙◌}
-use Rattle.live_views.specs.LiveView.{View}
+use Rattle.interleaving.specs.WorldValue.{WorldValue}
 use Rattle.live_views.specs.ViewStep.{live_job, live_child, is_done, moved_live_jobs}
 use Rattle.interleaving.specs.LiveJobs.{IsAlone}
 use Rattle.interleaving.proofs.Moved.{alone_moved, done_moved, alone_as_child}
@@ -7,10 +7,10 @@ use Rattle.interleaving.proofs.world.World.get.Goals as goal
 
 pub forget-requires-clause-live : goal.forget-requires-clause-live
 forget-requires-clause-live c =
-    let view = c.args.self.now in
+    let view = c.args.self.now.view in
     let n = c.in_ok-number.number in
     let job = c.in_ok-job.job in
-    let jobs = ap (λ (v : View). v.jobs) c.self.view_is in
+    let jobs = ap (λ (w : WorldValue). w.view.jobs) c.self.view_is in
     let moved : c.move_actor.new.jobs.jobs ≡ moved_live_jobs c.args.actor (c.args.position + 1) view = c.move_actor.ensures.jobs view (sym jobs) in
     let there : live_job c.self.inside.jobs.jobs n ≡ Some job = search rules in
     let live : live_job view.jobs n ≡ Some job = sym (ap (λ js. live_job js n) jobs) ∙ there in
@@ -19,10 +19,10 @@ forget-requires-clause-live c =
 
 pub forget-requires-clause-alone : goal.forget-requires-clause-alone
 forget-requires-clause-alone c =
-    let view = c.args.self.now in
+    let view = c.args.self.now.view in
     let n = c.in_ok-number.number in
     let job = c.in_ok-job.job in
-    let jobs = ap (λ (v : View). v.jobs) c.self.view_is in
+    let jobs = ap (λ (w : WorldValue). w.view.jobs) c.self.view_is in
     let moved : c.move_actor.new.jobs.jobs ≡ moved_live_jobs c.args.actor (c.args.position + 1) view = c.move_actor.ensures.jobs view (sym jobs) in
     let there : live_job c.self.inside.jobs.jobs n ≡ Some job = search rules in
     let live : live_job view.jobs n ≡ Some job = sym (ap (λ js. live_job js n) jobs) ∙ there in

@@ -8,14 +8,14 @@ use Rattle.interleaving.proofs.world.World.queues_wait.Goals as goal
 
 pub leaves_none-requires : goal.leaves_none-requires
 leaves_none-requires c =
-    let same = as_many_pools c.args.plan.now c.args.self.now c.requires in
+    let same = as_many_pools c.args.plan.now c.args.self.now.view c.requires in
     let long = ap length c.pools-pools.ensures.value in
     omega (arith, same, long)
 
 pub returns-then-not-leaves_none-clause-value : goal.returns-then-not-leaves_none-clause-value
 returns-then-not-leaves_none-clause-value c =
     let plan = c.args.plan.now in
-    let view = c.args.self.now in
+    let view = c.args.self.now.view in
     let p = c.loop-pool.pool in
     let long = ap length c.pools-pools.ensures.value in
     let few = c.pools-pools.ensures.well_formed.few_pools in
@@ -26,7 +26,7 @@ returns-then-not-leaves_none-clause-value c =
 pub loop-pool-preserved : goal.loop-pool-preserved
 loop-pool-preserved c =
     let plan = c.args.plan.now in
-    let view = c.args.self.now in
+    let view = c.args.self.now.view in
     let p = c.loop-pool.pool in
     let long = ap length c.pools-pools.ensures.value in
     let few = c.pools-pools.ensures.well_formed.few_pools in

@@ -5,4 +5,4 @@ use Rattle.interleaving.proofs.world.World.queues_wait.Given as goal
 
 -- the pools before this one pass
 abbrev pub invariant-loop-pool : goal.invariant-loop-pool
-invariant-loop-pool l = (p : ℕ) → p < l.pool → has_queued l.plan l.self l.members p ≡ true → waits_in_queue_of l.plan l.self l.members p ≡ true
+invariant-loop-pool l = (p : ℕ) → p < l.pool → has_queued l.plan l.self.view l.members p ≡ true → waits_in_queue_of l.plan l.self.view l.members p ≡ true

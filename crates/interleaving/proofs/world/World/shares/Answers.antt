@@ -3,6 +3,7 @@ use Rattle.std.proofs.lemmas.List.{get_or-replicate, length-replicate, take_more
 use Rattle.written_machine.specs.State.{pool_of}
 use Rattle.written_machine.specs.Waiting.{is_member}
 use Rattle.live_views.specs.LiveView.{View}
+use Rattle.interleaving.specs.WorldValue.{WorldValue}
 use Rattle.live_views.specs.ViewStep.{live_job}
 use Rattle.interleaving.specs.declared.shares.Share.{Share}
 use Rattle.interleaving.specs.Shares.{no_share, share_at, share_of, share_with}
@@ -16,13 +17,13 @@ loop-place-init c = (
   length-replicate 64 no_share,
   λ p inside.
       let start = get_or-replicate 64 p no_share no_share inside in
-      (start ∙ sym (nobody c.args.plan.now c.args.self.now p), subst (λ (s : Share). s.at_work ≤ 0) (sym start) (le_refl 0)),
+      (start ∙ sym (nobody c.args.plan.now c.args.self.now.view p), subst (λ (s : Share). s.at_work ≤ 0) (sym start) (le_refl 0)),
 )
 
 pub loop-place-preserved : goal.loop-place-preserved
 loop-place-preserved c =
     let plan = c.args.plan.now in
-    let view : View = c.args.self.now in
+    let view : View = c.args.self.now.view in
     let members : List ℕ = c.args.members.now in
     let shares : List Share = c.loop-place.shares in
     let place : ℕ = c.loop-place.place in
@@ -31,7 +32,7 @@ loop-place-preserved c =
     let long = ap length c.numbers-number-items.ensures in
     let more : take (place + 1) members ≡ before ++ m ∷ [] = take_more members place 0 (omega (arith, long)) in
     let number : get_or c.numbers-number-items.result.now place 0 ≡ m = ap (λ (ns : List ℕ). get_or ns place 0) c.numbers-number-items.ensures in
-    let jobs : c.self.inside.jobs.jobs ≡ view.jobs = ap (λ (v : View). v.jobs) c.self.view_is in
+    let jobs : c.self.inside.jobs.jobs ≡ view.jobs = ap (λ (w : WorldValue). w.view.jobs) c.self.view_is in
     let seen : c.get.result ≡ live_job view.jobs m = c.get.ensures ∙ ap₂ live_job jobs number in
     elim c.match-get.branch [
       | in-Some w ↦

@@ -4,4 +4,4 @@ use Rattle.interleaving.proofs.world.World.shares.Given as goal
 
 -- what the members so far do in each pool; no more are at work than there are
 abbrev pub invariant-loop-place : goal.invariant-loop-place
-invariant-loop-place l = (length l.shares ≡ 64) × ((p : ℕ) → p < 64 → (share_at l.shares p ≡ share_of l.plan l.self (take l.place l.members) p) × ((share_at l.shares p).at_work ≤ l.place))
+invariant-loop-place l = (length l.shares ≡ 64) × ((p : ℕ) → p < 64 → (share_at l.shares p ≡ share_of l.plan l.self.view (take l.place l.members) p) × ((share_at l.shares p).at_work ≤ l.place))
