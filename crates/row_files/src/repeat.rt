@@ -34,12 +34,17 @@ fn push_repeated(alloc: Global, whole: &mut String, inner: &str) -> Result<(), A
 
 // Adds the piece with its number, counted from 0, in place of `^#`, and counted from 1 in place of `^+`.
 fn push_numbered(whole: &mut String, piece: &str, number: usize) -> Result<(), AllocError> {
-    if let Some((before, behind)) = piece.split_once("^#") {
-        write!(whole, "{before}{number}{behind}")
-    } else if let Some((before, behind)) = piece.split_once("^+") {
-        let number = number.saturating_add(1);
-        write!(whole, "{before}{number}{behind}")
-    } else {
-        whole.push_str(piece)
+    let next = number.saturating_add(1);
+    for (place, part) in piece.split("^#").enumerate() {
+        if place > 0 {
+            write!(whole, "{number}")?;
+        }
+        for (place, part) in part.split("^+").enumerate() {
+            if place > 0 {
+                write!(whole, "{next}")?;
+            }
+            whole.push_str(part)?;
+        }
     }
+    Ok(())
 }

@@ -14,7 +14,7 @@ const CLIENTS_SHOWN: usize = 4;
 /// the last, which no job has.
 #[tactic(auto, using(interleaving::proofs::OfPlan::as_many_pools))]
 pub fn facts(alloc: Global, plan: &Plan, world: &World) -> Result<Vec<String>, AllocError>
-    requires { IsOf plan.now world.now }
+    requires { IsOf plan.now world.now.view }
 {
     let mut facts = counts(alloc, world)?;
     for number in 0..plan.pools().len() {
@@ -33,11 +33,13 @@ pub fn facts(alloc: Global, plan: &Plan, world: &World) -> Result<Vec<String>, A
     Ok(facts)
 }
 
-fn counts(alloc: Global, world: &World) -> Result<Vec<String>, AllocError> {
+/// What the world counts: refusals, jobs and places.
+pub fn counts(alloc: Global, world: &World) -> Result<Vec<String>, AllocError> {
     let mut facts = Vec::new(alloc);
     facts.push(format!(in alloc; "refusals {}", world.refusals())?)?;
     facts.push(format!(in alloc; "made {}", world.made())?)?;
     facts.push(format!(in alloc; "unfinished {}", world.unfinished())?)?;
+    facts.push(format!(in alloc; "places {}", world.places())?)?;
     Ok(facts)
 }
 

@@ -2,7 +2,7 @@
 
 ghost use Rattle.interleaving.specs.OfPlan.{IsOf};
 
-use crate::facts::{facts, push_changed, push_job, push_number};
+use crate::facts::{counts, facts, push_changed, push_fact, push_job, push_number};
 use crate::sets::push_stuck_sets;
 use interleaving::{Event, Outcome, World};
 use job_bodies::Plan;
@@ -16,7 +16,7 @@ pub fn followed(
     world: &mut World,
     lines: &str,
 ) -> Result<String, AllocError>
-    requires { IsOf plan.now world.old }
+    requires { IsOf plan.now world.old.view }
 {
     let mut answer = String::new(alloc);
     let mut known = facts(alloc, plan, world)?;
@@ -29,10 +29,43 @@ pub fn followed(
     Ok(answer)
 }
 
+/// How many of the lines are events that happen, and what the world counts behind the last.
+pub fn counted(
+    alloc: Global,
+    plan: &Plan,
+    world: &mut World,
+    lines: &str,
+) -> Result<String, AllocError>
+    requires { IsOf plan.now world.old.view }
+{
+    let mut events = 0_u64;
+    for line in lines.lines() {
+        if happens(plan, world, line)? {
+            events = events.saturating_add(1);
+        }
+    }
+    let mut said = format!(in alloc; "events {events}")?;
+    for fact in counts(alloc, world)? {
+        push_fact(&mut said, &fact)?;
+    }
+    Ok(said)
+}
+
+// Whether the line is an event that is possible. It is made then.
+fn happens(plan: &Plan, world: &mut World, line: &str) -> Result<bool, AllocError>
+    requires { IsOf plan.now world.old.view }
+    ensures { IsOf plan.now world.new.view }
+{
+    match event(line) {
+        Some(event) => Ok(world.step(plan, event)?.is_some()),
+        None => Ok(false),
+    }
+}
+
 // What comes of the line where it is an event, and else what it asks for.
 fn said_to(alloc: Global, plan: &Plan, world: &mut World, line: &str) -> Result<String, AllocError>
-    requires { IsOf plan.now world.old }
-    ensures { IsOf plan.now world.new }
+    requires { IsOf plan.now world.old.view }
+    ensures { IsOf plan.now world.new.view }
 {
     if let Some(event) = event(line) {
         let outcome = world.step(plan, event)?;
@@ -50,7 +83,7 @@ fn push_view(
     world: &World,
     known: &mut Vec<String>,
 ) -> Result<(), AllocError>
-    requires { IsOf plan.now world.now }
+    requires { IsOf plan.now world.now.view }
 {
     if kind == "facts" {
         let now = facts(alloc, plan, world)?;
@@ -93,7 +126,7 @@ fn outcome_text(alloc: Global, outcome: Option<Outcome>) -> Result<String, Alloc
 
 // What the line asks for, which is no event.
 fn looked_up(alloc: Global, plan: &Plan, world: &World, line: &str) -> Result<String, AllocError>
-    requires { IsOf plan.now world.now }
+    requires { IsOf plan.now world.now.view }
 {
     let mut said = String::new(alloc);
     if let Some(members) = line.strip_prefix("stuck") {

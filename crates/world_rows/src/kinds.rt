@@ -1,6 +1,6 @@
 //! The kinds of inputs.
 
-use crate::follow::followed;
+use crate::follow::{counted, followed};
 use interleaving::World;
 use plan_text::read_plan;
 use row_files::Suite;
@@ -15,6 +15,8 @@ use std::alloc::{AllocError, Global};
 /// - `facts`: each thing that a look-up says otherwise than before;
 /// - `sets`: which sets of the first six jobs are stuck;
 /// - `outcomes`: nothing.
+///
+/// `counts` answers one line to all lines: how many events happened, and what the world counts behind the last.
 pub struct Worlds;
 
 impl Suite for Worlds {
@@ -24,7 +26,11 @@ impl Suite for Worlds {
         match read_plan(alloc, text.as_bytes()) {
             Ok(plan) => {
                 let mut world = World::start(alloc, &plan)?;
-                followed(alloc, kind, &plan, &mut world, lines)
+                if kind == "counts" {
+                    counted(alloc, &plan, &mut world, lines)
+                } else {
+                    followed(alloc, kind, &plan, &mut world, lines)
+                }
             }
             Err(fault) => fault.to_string(alloc),
         }

@@ -11,6 +11,8 @@ use row_files::run_files;
 use std::io;
 
 fn main(rt: HostRuntime) -> io::Result<()> {
-    let files = ["lookups", "absent", "children", "refused", "stuck"];
+    let files = [
+        "lookups", "absent", "children", "refused", "rounds", "stuck",
+    ];
     run_files(&rt, &Worlds, &files)
 }

@@ -17,7 +17,7 @@ pub fn push_stuck_sets(
     plan: &Plan,
     world: &World,
 ) -> Result<(), AllocError>
-    requires { IsOf plan.now world.now }
+    requires { IsOf plan.now world.now.view }
 {
     for set in 0..1_u32 << JOBS_SHOWN {
         let members = members_of(alloc, set)?;
