@@ -4,9 +4,10 @@ ghost use Rattle.std.specs.Prelude.{IsTrue};
 ghost use Rattle.job_bodies.specs.WellFormed.{IsWellFormed};
 ghost use Rattle.headline.specs.Accepted.{accepted};
 
+use crate::SeenWorld;
 use cert_check::Certified;
 use held_machines::Machine;
-use interleaving::{Event, World};
+use interleaving::Event;
 use std::alloc::{AllocError, Global};
 
 /// The machine of a certified plan: its states are worlds of the plan, which it borrows.
@@ -35,7 +36,7 @@ impl Machine for CertifiedWorld<'_> {
     ghost use Rattle.written_machine.specs.Reach.{start, state_after};
     ghost use Rattle.live_views.specs.LiveView.{live_view};
 
-    type State = World;
+    type State = SeenWorld;
 
     type Event = Event;
 
@@ -47,11 +48,11 @@ impl Machine for CertifiedWorld<'_> {
 
     ghost content = { λ machine s. live_view machine.certified.now.plan s };
 
-    fn start(&self, alloc: Global) -> Result<World, AllocError> {
-        World::start(alloc, self.certified.plan())
+    fn start(&self, alloc: Global) -> Result<SeenWorld, AllocError> {
+        SeenWorld::start(alloc, self.certified.plan())
     }
 
-    fn step(&self, world: &mut World, event: Event) -> Result<bool, AllocError> {
+    fn step(&self, world: &mut SeenWorld, event: Event) -> Result<bool, AllocError> {
         Ok(world.step(self.certified.plan(), event)?.is_some())
     }
 }

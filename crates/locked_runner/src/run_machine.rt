@@ -1,8 +1,9 @@
 //! The machine of a run.
 
 use cert_check::Certified;
+use certified_worlds::SeenWorld;
 use held_machines::Machine;
-use interleaving::{Event, Outcome, World};
+use interleaving::{Event, Outcome};
 use std::alloc::{AllocError, Global};
 
 /// The machine of a certified plan, which also tells what came of its last event: so who made the event knows which job it
@@ -15,7 +16,7 @@ pub(crate) struct RunMachine<'a> {
 /// A world, and what came of its last event.
 #[derive(Debug, Drop)]
 pub(crate) struct RunState {
-    pub(crate) world: World,
+    pub(crate) world: SeenWorld,
     /// None before the first event.
     pub(crate) outcome: Option<Outcome>,
 }
@@ -38,7 +39,7 @@ impl Machine for RunMachine<'_> {
 
     fn start(&self, alloc: Global) -> Result<RunState, AllocError> {
         Ok(RunState {
-            world: World::start(alloc, self.certified.plan())?,
+            world: SeenWorld::start(alloc, self.certified.plan())?,
             outcome: None,
         })
     }

@@ -174,7 +174,7 @@ impl<'a> Shared<'a> {
 
     /// Whether no client has an event left, and no job is unfinished.
     fn is_at_end<R: Wait>(&self, rt: &R, turn: &Turn<'a, '_>) -> bool {
-        self.progress.lock(rt).clients_are_through() && turn.state().world.unfinished() == 0
+        self.progress.lock(rt).clients_are_through() && turn.state().world.world().unfinished() == 0
     }
 
     /// Whom the last event lets on. A job that it has started lies on its pool's desk from now on.
@@ -213,7 +213,7 @@ impl<'a> Shared<'a> {
     }
 
     fn pool_of(&self, turn: &Turn<'a, '_>, job: usize) -> Option<usize> {
-        let class = turn.state().world.job(job)?.class;
+        let class = turn.state().world.world().job(job)?.class;
         Some(self.plan.class_at(class)?.pool)
     }
 
@@ -247,6 +247,6 @@ fn work_taken(turn: &Turn<'_, '_>, receipt: Receipt<Event>) -> Option<Work> {
 }
 
 fn work_on(turn: &Turn<'_, '_>, job: usize, taken: Option<Receipt<Event>>) -> Option<Work> {
-    let class = turn.state().world.job(job)?.class;
+    let class = turn.state().world.world().job(job)?.class;
     Some(Work { job, class, taken })
 }

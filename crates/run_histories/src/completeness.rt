@@ -19,7 +19,7 @@ pub(crate) fn is_complete(
     history: &[Event],
 ) -> bool
     requires { kinds.now ≡ kinds_of plan.now }
-    ensures { IsTrue result → (s : State) → live_view plan.now s ≡ world.now → spec.IsComplete plan.now rounds history.now s }
+    ensures { IsTrue result → (s : State) → live_view plan.now s ≡ world.now.view → spec.IsComplete plan.now rounds history.now s }
 {
     world.unfinished() == 0 && clients_are_through(plan, kinds, world, rounds, history)
 }
@@ -32,7 +32,7 @@ fn clients_are_through(
     rounds: u64,
     history: &[Event],
 ) -> bool
-    ensures { IsTrue result → (s : State) → live_view plan.now s ≡ world.now → (c kind : ℕ) → slice_get kinds.now c ≡ Some kind → spec.IsThrough rounds history.now s c (client_at plan.now kind) }
+    ensures { IsTrue result → (s : State) → live_view plan.now s ≡ world.now.view → (c kind : ℕ) → slice_get kinds.now c ≡ Some kind → spec.IsThrough rounds history.now s c (client_at plan.now kind) }
 {
     for number in 0..kinds.len() {
         let Some(client) = plan.client_at(kinds[number]) else {
@@ -47,7 +47,7 @@ fn clients_are_through(
 
 /// Whether the client of this number, which is of this kind, has made all its events and stands at its body's end.
 fn is_through(client: &Client, number: usize, world: &World, rounds: u64, history: &[Event]) -> bool
-    ensures { IsTrue result → (plan : Plan) (s : State) → live_view plan s ≡ world.now → spec.IsThrough rounds history.now s number client.now }
+    ensures { IsTrue result → (plan : Plan) (s : State) → live_view plan s ≡ world.now.view → spec.IsThrough rounds history.now s number client.now }
 {
     let Some(position) = world.client(number) else {
         return false;

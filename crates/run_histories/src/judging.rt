@@ -90,7 +90,7 @@ fn report(
     ensures none_refused { result.refused ≡ 0 }
 {
     held_worlds_refuse_nothing(&held);
-    let refused = held.state().refusals();
+    let refused = held.state().world().refusals();
     RunReport {
         jobs: numbers.jobs,
         units: numbers.units,
@@ -123,15 +123,16 @@ fn fault_of(
         return Ok(met.fault);
     }
     let history = replay.held.history();
+    let world = replay.held.state().world();
     let kinds = kinds_of(alloc, plan)?;
     let of_lists = lists_of(alloc, plan, &kinds)?;
     if !lists_fit(plan, history, &replay.owners, &of_lists, &met.receipts) {
         return Ok(Some(STRANGE));
     }
     if history.len() < met.history.len()
-        || !is_complete(plan, &kinds, replay.held.state(), rounds, history)
+        || !is_complete(plan, &kinds, world, rounds, history)
         || !each_once(alloc, history.len(), &met.receipts)?
-        || replay.held.state().made() as u64 != numbers.jobs
+        || world.made() as u64 != numbers.jobs
     {
         return Ok(Some(MIXED));
     }

@@ -21,7 +21,7 @@ pub enum Owner {
 /// not live.
 #[tactic(auto, using(crate::proofs::Owners::class_seen))]
 pub(crate) fn owner_of(plan: &Plan, world: &World, event: Event) -> Option<Owner>
-    ensures { (s : State) → live_view plan.now s ≡ world.now → IfSome result (λ owner. spec.owner_in plan.now s event ≡ Some owner) }
+    ensures { (s : State) → live_view plan.now s ≡ world.now.view → IfSome result (λ owner. spec.owner_in plan.now s event ≡ Some owner) }
 {
     match event {
         Event::Client(client) => Some(Owner::Client(client)),

@@ -31,8 +31,8 @@ pub fn transcript(alloc: Global, plan: &Plan, lines: &[EventLine]) -> Result<Ans
 
 /// Lets the event of the line happen, or answers its question.
 fn reply_to(world: &mut World, plan: &Plan, line: &EventLine) -> Result<Reply, AllocError>
-    requires { IsOf plan.now world.old }
-    ensures { IfOk result (λ reply. RepliesSo plan.now world.old world.new (line_seen line.now) reply) }
+    requires { IsOf plan.now world.old.view }
+    ensures { IfOk result (λ reply. RepliesSo plan.now world.old.view world.new.view (line_seen line.now) reply) }
 {
     match line {
         EventLine::Happens(event) => match world.step(plan, *event)? {
@@ -51,7 +51,7 @@ fn is_last(reply: Reply) -> bool
 
 /// Ends the answer with the numbers of refusals and unfinished jobs.
 fn ended(mut answer: Answer, world: &World) -> Result<Answer, AllocError>
-    ensures { IfOk result (λ whole. IsEnded world.now answer whole) }
+    ensures { IfOk result (λ whole. IsEnded world.now.view answer whole) }
 {
     push_summary(&mut answer.text, world.refusals(), world.unfinished())?;
     Ok(answer)

@@ -1,0 +1,68 @@
+//! A world by its view.
+
+ghost use Rattle.std.specs.Prelude.{◌≡◌, IfOk, OnErr};
+ghost use Rattle.job_bodies.specs.WellFormed.{IsWellFormed};
+ghost use Rattle.written_machine.specs.State.{State};
+ghost use Rattle.written_machine.specs.Reach.{start, IsReached};
+ghost use Rattle.live_views.specs.LiveView.{live_view};
+ghost use Rattle.live_views.specs.Answers.{AnswersAs};
+
+use interleaving::{Event, Outcome, World};
+use job_bodies::Plan;
+use std::alloc::{AllocError, Global};
+use std::marker::Model;
+
+/// A world, of which contracts see its view alone: the number of its places goes by no state of the written machine.
+#[derive(Debug, Drop)]
+pub struct SeenWorld {
+    world: World,
+}
+
+impl Model for SeenWorld {
+    ghost use Rattle.live_views.specs.LiveView.{View};
+
+    ghost Value = { View };
+
+    ghost view = { λ seen. seen.world.view };
+}
+
+impl SeenWorld {
+    ghost use Rattle.interleaving.specs.OfPlan.{IsOf};
+    ghost use Rattle.interleaving.specs.Answers.{AnswersIn};
+
+    /// The plan's world before its first event.
+    ///
+    /// # Errors
+    ///
+    /// `AllocError` where there is no memory for it.
+    pub fn start(alloc: Global, plan: &Plan) -> Result<SeenWorld, AllocError>
+        ensures { IfOk result (λ world. world ≡ live_view plan.now (start plan.now)) }
+    {
+        Ok(SeenWorld {
+            world: World::start(alloc, plan)?,
+        })
+    }
+
+    /// The world with all that it says of itself.
+    pub fn world(&self) -> &World
+        ensures { result.now.view ≡ self.now }
+    {
+        &self.world
+    }
+
+    /// Makes the event, as [`World::step`] does.
+    ///
+    /// # Errors
+    ///
+    /// `AllocError` where [`World::step`] finds no memory. The world is then unchanged.
+    pub fn step(&mut self, plan: &Plan, event: Event) -> Result<Option<Outcome>, AllocError>
+        requires { IsOf plan.now self.old }
+        ensures answered { IfOk result (λ answer. (s : State) → IsReached plan.now s → live_view plan.now s ≡ self.old → AnswersAs plan.now s event answer self.new) }
+        ensures in_view { IfOk result (λ answer. AnswersIn plan.now self.old event answer self.new) }
+        ensures of_plan { IsOf plan.now self.new }
+        ensures well_formed { IsWellFormed plan.now }
+        ensures error_unchanged { OnErr result (self.new ≡ self.old) }
+    {
+        self.world.step(plan, event)
+    }
+}
