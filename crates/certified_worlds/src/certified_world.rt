@@ -7,10 +7,10 @@ ghost use Rattle.headline.specs.Accepted.{accepted};
 use crate::SeenWorld;
 use cert_check::Certified;
 use held_machines::Machine;
-use interleaving::Event;
+use interleaving::{Event, Outcome};
 use std::alloc::{AllocError, Global};
 
-/// The machine of a certified plan: its states are worlds of the plan, which it borrows.
+/// The machine of a certified plan, which it borrows.
 #[derive(Clone, Copy, Debug, Drop)]
 pub struct CertifiedWorld<'a> {
     certified: &'a Certified,
@@ -30,29 +30,42 @@ impl<'a> CertifiedWorld<'a> {
     }
 }
 
-impl Machine for CertifiedWorld<'_> {
-    ghost use Rattle.written_machine.specs.State.{State};
-    ghost use Rattle.written_machine.specs.Step.{step};
-    ghost use Rattle.written_machine.specs.Reach.{start, state_after};
-    ghost use Rattle.live_views.specs.LiveView.{live_view};
+/// A world, and what came of its last event: so who made the event knows which job it started, queued or took.
+#[derive(Debug, Drop)]
+pub struct TracedWorld {
+    pub world: SeenWorld,
+    /// None before the first event.
+    pub outcome: Option<Outcome>,
+}
 
-    type State = SeenWorld;
+impl Machine for CertifiedWorld<'_> {
+    ghost use Rattle.live_views.specs.LiveView.{live_view};
+    ghost use Rattle.certified_worlds.specs.Trace.{Traced, start, next};
+
+    type State = TracedWorld;
 
     type Event = Event;
 
-    ghost Ideal = { State };
+    ghost Ideal = { Traced };
 
     ghost first = { λ machine. start machine.certified.now.plan };
 
-    ghost next = { λ machine s event. state_after (step machine.certified.now.plan s event) };
+    ghost next = { λ machine. next machine.certified.now.plan };
 
-    ghost content = { λ machine s. live_view machine.certified.now.plan s };
+    ghost content = { λ machine t. record { world = live_view machine.certified.now.plan t.state; outcome = t.outcome } };
 
-    fn start(&self, alloc: Global) -> Result<SeenWorld, AllocError> {
-        SeenWorld::start(alloc, self.certified.plan())
+    fn start(&self, alloc: Global) -> Result<TracedWorld, AllocError> {
+        Ok(TracedWorld {
+            world: SeenWorld::start(alloc, self.certified.plan())?,
+            outcome: None,
+        })
     }
 
-    fn step(&self, world: &mut SeenWorld, event: Event) -> Result<bool, AllocError> {
-        Ok(world.step(self.certified.plan(), event)?.is_some())
+    fn step(&self, state: &mut TracedWorld, event: Event) -> Result<bool, AllocError> {
+        let Some(outcome) = state.world.step(self.certified.plan(), event)? else {
+            return Ok(false);
+        };
+        state.outcome = Some(outcome);
+        Ok(true)
     }
 }

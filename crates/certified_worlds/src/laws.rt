@@ -9,8 +9,8 @@ use held_machines::Held;
 /// The world is the live view of the state that its history reaches, in which nothing was refused; and no event of that
 /// state is refused, so no act is.
 pub fn held_worlds_refuse_nothing(held: &Held<CertifiedWorld<'_>>)
-    ensures reached { IsReachedBy held.now.machine.certified.now.plan held.now.history held.now.state }
-    ensures none_refused { held.now.state.refusals ≡ 0 }
+    ensures reached { IsReachedBy held.now.machine.certified.now.plan held.now.history held.now.state.world }
+    ensures none_refused { held.now.state.world.refusals ≡ 0 }
     ensures refuses_nothing { RefusesNothing held.now.machine.certified.now.plan held.now.history }
 {
     let _history = held.history();

@@ -1,4 +1,3 @@
-mod Traces
 mod Starts
 mod Beyond
 mod Numbers

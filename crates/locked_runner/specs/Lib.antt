@@ -1,3 +1,2 @@
-pub mod RunMachine
 pub mod Limits
 pub mod Faults

@@ -7,13 +7,12 @@
 mod gate;
 mod limits;
 mod progress;
-mod run_machine;
 mod running;
 mod shared;
 mod starting;
 mod threads;
 
-pub use certified_worlds::{CertifiedWorld, held_worlds_refuse_nothing};
+pub use certified_worlds::{CertifiedWorld, TracedWorld, held_worlds_refuse_nothing};
 pub use gate::{Actor, Gate, GateFault};
 pub use held_machines::{Held, Locked, Machine, Receipt};
 pub use limits::{MOST_RUN_CARRIERS, MOST_RUN_CLIENTS, MOST_RUN_EVENTS};

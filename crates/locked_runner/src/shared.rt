@@ -4,7 +4,7 @@ ghost use Rattle.std.specs.Prelude.{IfSome};
 ghost use Rattle.locked_runner.specs.Faults.{IsThreadFault};
 
 use crate::progress::{Cause, Progress};
-use crate::run_machine::RunMachine;
+use certified_worlds::CertifiedWorld;
 use held_machines::{Held, Locked, Receipt};
 use interleaving::{Event, Outcome};
 use job_bodies::Plan;
@@ -21,7 +21,7 @@ use std::sync::{Condvar, Mutex, MutexGuard, Wait};
 #[derive(Drop)]
 pub(crate) struct Shared<'a> {
     pub(crate) plan: &'a Plan,
-    machine: Locked<RunMachine<'a>>,
+    machine: Locked<CertifiedWorld<'a>>,
     desks: Vec<Desk>,
     progress: Mutex<Progress>,
 }
@@ -34,7 +34,7 @@ struct Desk {
 }
 
 /// What a thread of a run has while it alone may change the machine.
-type Turn<'a, 'b> = MutexGuard<'b, Held<RunMachine<'a>>>;
+type Turn<'a, 'b> = MutexGuard<'b, Held<CertifiedWorld<'a>>>;
 
 /// Who may go on after an event.
 #[derive(Drop)]
@@ -64,7 +64,7 @@ impl<'a> Shared<'a> {
     pub(crate) fn new(
         alloc: Global,
         plan: &'a Plan,
-        held: Held<RunMachine<'a>>,
+        held: Held<CertifiedWorld<'a>>,
         clients: usize,
     ) -> Result<Shared<'a>, AllocError> {
         let mut desks = Vec::with_capacity(alloc, plan.pools().len())?;

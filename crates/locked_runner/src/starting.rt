@@ -5,10 +5,10 @@ ghost use Rattle.locked_runner.specs.Faults.{IsThreadFault};
 
 use crate::Gate;
 use crate::progress::Cause;
-use crate::run_machine::RunMachine;
 use crate::shared::Shared;
 use crate::threads::Runner;
 use cert_check::Certified;
+use certified_worlds::CertifiedWorld;
 use held_machines::{Held, Receipt};
 use interleaving::Event;
 use job_bodies::{Client, Plan};
@@ -36,7 +36,7 @@ pub(crate) fn on_threads<R: Threads + Wait + Sync, G: Gate>(
     let plan = certified.plan();
     let kinds = kinds_of(alloc, plan)?;
     let owners = lists_of(alloc, plan, &kinds)?;
-    let held = Held::new(alloc, RunMachine { certified })?;
+    let held = Held::new(alloc, CertifiedWorld::new(certified))?;
     let mut receipts = Vec::with_capacity(alloc, owners.len())?;
     let shared = Shared::new(alloc, plan, held, kinds.len())?;
     let lent = &shared;

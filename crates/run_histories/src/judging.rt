@@ -81,8 +81,8 @@ fn report(
     held: Held<CertifiedWorld<'_>>,
     receipts: Vec<Vec<Receipt<Event>>>,
 ) -> RunReport
-    requires made { length held.state.jobs ≡ numbers.jobs }
-    requires whole { IsWhole held.machine.certified.now.plan _rounds held.history held.state (map (λ list. list.items) receipts.items) }
+    requires made { length held.state.world.jobs ≡ numbers.jobs }
+    requires whole { IsWhole held.machine.certified.now.plan _rounds held.history held.state.world (map (λ list. list.items) receipts.items) }
     ensures run { IsRun held.entry.machine.certified.now.plan _rounds result.history result.receipts }
     ensures jobs { result.jobs ≡ numbers.jobs }
     ensures made { (s : State) → Reaches held.entry.machine.certified.now.plan result.history s → length s.jobs ≡ result.jobs }
@@ -90,7 +90,7 @@ fn report(
     ensures none_refused { result.refused ≡ 0 }
 {
     held_worlds_refuse_nothing(&held);
-    let refused = held.state().world().refusals();
+    let refused = held.state().world.world().refusals();
     RunReport {
         jobs: numbers.jobs,
         units: numbers.units,
@@ -111,8 +111,8 @@ fn fault_of(
     replay: &Replay<'_>,
 ) -> Result<Option<u8>, AllocError>
     requires { AreOwnersOf plan.now replay.now.held.history replay.now.owners.items }
-    ensures whole { IfOk result (λ found. IfNone found (IsWhole plan.now rounds replay.now.held.history replay.now.held.state (map (λ list. list.items) met.now.receipts.items))) }
-    ensures made { IfOk result (λ found. IfNone found (length replay.now.held.state.jobs ≡ numbers.jobs)) }
+    ensures whole { IfOk result (λ found. IfNone found (IsWhole plan.now rounds replay.now.held.history replay.now.held.state.world (map (λ list. list.items) met.now.receipts.items))) }
+    ensures made { IfOk result (λ found. IfNone found (length replay.now.held.state.world.jobs ≡ numbers.jobs)) }
     ensures met { IfOk result (λ found. IfNone found (IsNone met.now.fault)) }
     ensures fault { IfOk result (λ found. IfSome found (IsAnswerTo met.now.fault)) }
 {
@@ -123,16 +123,15 @@ fn fault_of(
         return Ok(met.fault);
     }
     let history = replay.held.history();
-    let world = replay.held.state().world();
     let kinds = kinds_of(alloc, plan)?;
     let of_lists = lists_of(alloc, plan, &kinds)?;
     if !lists_fit(plan, history, &replay.owners, &of_lists, &met.receipts) {
         return Ok(Some(STRANGE));
     }
     if history.len() < met.history.len()
-        || !is_complete(plan, &kinds, world, rounds, history)
+        || !is_complete(plan, &kinds, replay.held.state().world.world(), rounds, history)
         || !each_once(alloc, history.len(), &met.receipts)?
-        || world.made() as u64 != numbers.jobs
+        || replay.held.state().world.world().made() as u64 != numbers.jobs
     {
         return Ok(Some(MIXED));
     }

@@ -79,7 +79,7 @@ fn follow(
     ensures owners { AreOwnersOf plan.now held.new.history owners.new.items }
 {
     held_worlds_refuse_nothing(held);
-    let Some(owner) = owner_of(plan, held.state().world(), event) else {
+    let Some(owner) = owner_of(plan, held.state().world.world(), event) else {
         return Ok(false);
     };
     owners.reserve(1)?;

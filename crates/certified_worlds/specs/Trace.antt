@@ -1,4 +1,4 @@
--- The machine of a run: the machine of its plan, with what came of its last event.
+-- The machine of a plan, with what came of its last event.
 use Rattle.std.specs.Prelude.{Option, Some, None}
 use Rattle.job_bodies.specs.Plan.{Plan}
 use Rattle.written_machine.specs.declared.event.Event.{Event}
