@@ -4,7 +4,7 @@ use Rattle.std.specs.Prelude.{◌==◌}
 use Rattle.faults.specs.declared.number.TheConstants.{RUN_TOO_LARGE}
 use Rattle.run_histories.specs.declared.report.RunFault.{RunFault}
 use Rattle.locked_runner.specs.Faults.{IsFaultOf}
-use Rattle.sizing_cli.specs.ServeFault.{is_of_threads}
+use Rattle.sizing_cli.specs.ServeFault.{is_of_run}
 use Rattle.job_bodies.specs.Plan.{Plan}
 use Rattle.certificates.specs.Cert.{Cert}
 use Rattle.headline.specs.Accepted.{accepted}
@@ -27,13 +27,13 @@ too_large_where_told false fault (inr (inl mixed)) told = absurd (omega arith)
 too_large_where_told false fault (inr (inr (inl memory))) told = absurd (omega arith)
 too_large_where_told false fault (inr (inr (inr gate))) told = absurd (omega arith)
 
--- and every other number is one of threads
-pub of_threads_else : (large : Bool) (fault : RunFault) → IsFaultOf large fault → (fault.number == RUN_TOO_LARGE) ≡ false → is_of_threads fault.number ≡ true
-of_threads_else true fault (inl told, none) other =
+-- and every other number is one of a run
+pub of_run_else : (large : Bool) (fault : RunFault) → IsFaultOf large fault → (fault.number == RUN_TOO_LARGE) ≡ false → is_of_run fault.number ≡ true
+of_run_else true fault (inl told, none) other =
     let no : (RUN_TOO_LARGE == RUN_TOO_LARGE) ≡ false = subst (λ (n : ℕ). (n == RUN_TOO_LARGE) ≡ false) told other in
     absurd cc
-of_threads_else true fault (inr memory, none) other = rw memory refl
-of_threads_else false fault (inl strange) other = rw strange refl
-of_threads_else false fault (inr (inl mixed)) other = rw mixed refl
-of_threads_else false fault (inr (inr (inl memory))) other = rw memory refl
-of_threads_else false fault (inr (inr (inr gate))) other = rw gate refl
+of_run_else true fault (inr memory, none) other = rw memory refl
+of_run_else false fault (inl strange) other = rw strange refl
+of_run_else false fault (inr (inl mixed)) other = rw mixed refl
+of_run_else false fault (inr (inr (inl memory))) other = rw memory refl
+of_run_else false fault (inr (inr (inr gate))) other = rw gate refl

@@ -2,6 +2,10 @@
 use Rattle.std.specs.Prelude.{ℕ, Bool, ◌==◌, ◌||◌, if◌then◌else◌, Result, Ok, Err}
 use Rattle.byte_streams.specs.declared.reading.InputError.{InputError}
 use Rattle.byte_streams.specs.declared.reading.InputError.TheVariants.{Memory, Fault}
+use Rattle.cert_search.specs.declared.finding.SearchFault.{SearchFault}
+use Rattle.cert_search.specs.declared.finding.SearchFault.TheVariants as search
+use Rattle.command_line.specs.declared.command.Command.{Command}
+use Rattle.command_line.specs.declared.command.Command.TheVariants.{Replay, Check, Explain, Certify, Run}
 use Rattle.faults.specs.declared.number.TheConstants.{MEMORY, STRANGE, MIXED, GATE, READ_FAILED, WRITE_FAILED}
 use Rattle.sizing_cli.specs.declared.status.Status.{Status}
 use Rattle.sizing_cli.specs.declared.status.ServeFault.{ServeFault}
@@ -10,6 +14,12 @@ use Rattle.sizing_cli.specs.declared.status.ServeFault.{ServeFault}
 abbrev pub fault_of_input : InputError → ℕ
 fault_of_input Memory = MEMORY
 fault_of_input Fault = READ_FAILED
+
+-- the fault that a failed search ends with
+abbrev pub fault_of_search : SearchFault → ℕ
+fault_of_search search.Memory = MEMORY
+fault_of_search search.Mixed = MIXED
+fault_of_search search.Gate = GATE
 
 -- 1 where the call ended with the fault of this number, else 0
 abbrev pub count_of : ℕ → Result Status ServeFault → ℕ
@@ -20,10 +30,18 @@ count_of number (Err fault) = if fault.number == number then 1 else 0
 abbrev pub is_known : ℕ → Bool
 is_known number = number == MEMORY || number == READ_FAILED || number == WRITE_FAILED
 
--- a run, a search or a check on threads ends with no fault of another number
-abbrev pub is_of_threads : ℕ → Bool
-is_of_threads number = number == MEMORY || number == STRANGE || number == MIXED || number == GATE
+-- a search, or a check on threads, ends with no fault of another number
+abbrev pub is_of_search : ℕ → Bool
+is_of_search number = number == MEMORY || number == MIXED || number == GATE
 
--- nor does a call that serves any command
-abbrev pub is_known_on_threads : ℕ → Bool
-is_known_on_threads number = is_known number || is_of_threads number
+-- a run that is not too large ends with no fault of another number
+abbrev pub is_of_run : ℕ → Bool
+is_of_run number = number == STRANGE || is_of_search number
+
+-- a call that serves the command ends with no fault of another number
+abbrev pub is_known_of : Command → ℕ → Bool
+is_known_of Replay number = is_known number
+is_known_of Check number = is_known number
+is_known_of Explain number = is_known number
+is_known_of (Certify workers) number = is_known number || is_of_search number
+is_known_of (Run rounds) number = is_known number || is_of_run number

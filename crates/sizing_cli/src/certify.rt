@@ -3,7 +3,7 @@
 ghost use Rattle.std.specs.Prelude.{◌≡◌, ◌≤◌, IfOk, IfErr, IsTrue, length};
 ghost use Rattle.sizing_cli.specs.Certify as spec;
 ghost use Rattle.sizing_cli.specs.SplitAt.{IsSplitAt};
-ghost use Rattle.sizing_cli.specs.ServeFault.{is_of_threads};
+ghost use Rattle.sizing_cli.specs.ServeFault.{is_of_search};
 
 use crate::answer::{Answer, input_too_long, plan_fault};
 use crate::bundle::{Bundle, bundle_of};
@@ -53,7 +53,7 @@ pub fn certify<R: Threads + Wait + Sync>(
     requires some { 1 ≤ workers }
     requires most { workers ≤ 64 }
     ensures answer { IfOk result (spec.IsCertifyAnswer input.items) }
-    ensures fault { IfErr result (λ fault. IsTrue (is_of_threads fault.number)) }
+    ensures fault { IfErr result (λ fault. IsTrue (is_of_search fault.number)) }
 {
     if input.len() > MOST_INPUT_BYTES {
         return Ok(Output::of(input_too_long(alloc)?));
@@ -88,7 +88,7 @@ fn certify_plan<R: Threads + Wait + Sync>(
     requires some { 1 ≤ workers }
     requires most { workers ≤ 64 }
     ensures answer { IfOk result (spec.AnswersPlan text.items) }
-    ensures fault { IfErr result (λ fault. IsTrue (is_of_threads fault.number)) }
+    ensures fault { IfErr result (λ fault. IsTrue (is_of_search fault.number)) }
 {
     match found_text(rt, alloc, workers, plan)? {
         Found::Text(cert) => bundled(rt, alloc, workers, text, &cert),
@@ -105,7 +105,7 @@ fn found_text<R: Threads + Wait + Sync>(
 ) -> Result<Found, ServeFault>
     requires some { 1 ≤ workers }
     requires most { workers ≤ 64 }
-    ensures { IfErr result (λ fault. IsTrue (is_of_threads fault.number)) }
+    ensures { IfErr result (λ fault. IsTrue (is_of_search fault.number)) }
 {
     let Some(cert) = search(rt, alloc, plan, workers, &AtOnce)? else {
         return Ok(Found::Nothing);
@@ -129,7 +129,7 @@ fn bundled<R: Threads + Wait + Sync>(
     requires some { 1 ≤ workers }
     requires most { workers ≤ 64 }
     ensures answer { IfOk result (spec.AnswersPlan plan.items) }
-    ensures fault { IfErr result (λ fault. IsTrue (is_of_threads fault.number)) }
+    ensures fault { IfErr result (λ fault. IsTrue (is_of_search fault.number)) }
 {
     let plan_len = plan.len();
     let mut text = plan;
@@ -156,7 +156,7 @@ fn is_certified<R: Threads + Wait + Sync>(
     requires some { 1 ≤ workers }
     requires most { workers ≤ 64 }
     ensures yes { IfOk result (λ yes. IsTrue yes → IsSplitAt plan_len text.now) }
-    ensures fault { IfErr result (λ fault. IsTrue (is_of_threads fault.number)) }
+    ensures fault { IfErr result (λ fault. IsTrue (is_of_search fault.number)) }
 {
     match bundle_of(text) {
         Some(bundle) if bundle.plan.len() == plan_len => says_yes(rt, alloc, workers, bundle),
@@ -174,7 +174,7 @@ fn says_yes<R: Threads + Wait + Sync>(
     requires some { 1 ≤ workers }
     requires most { workers ≤ 64 }
     ensures yes { IfOk result (λ yes. IsTrue yes → spec.IsYes bundle.entry.plan.now bundle.entry.second.now) }
-    ensures fault { IfErr result (λ fault. IsTrue (is_of_threads fault.number)) }
+    ensures fault { IfErr result (λ fault. IsTrue (is_of_search fault.number)) }
 {
     match check_on(rt, alloc, workers, bundle.plan, bundle.second, &AtOnce) {
         Ok(verdict) => Ok(verdict.yes),

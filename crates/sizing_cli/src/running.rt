@@ -4,7 +4,7 @@ ghost use Rattle.std.specs.Prelude.{◌≡◌, IfOk, IfErr, IsTrue, Ok};
 ghost use Rattle.command_line.specs.declared.command.Command.TheVariants.{Run};
 ghost use Rattle.plan_text.specs.PlanOf.{plan_of};
 ghost use Rattle.sizing_cli.specs.Report as spec;
-ghost use Rattle.sizing_cli.specs.ServeFault.{is_of_threads};
+ghost use Rattle.sizing_cli.specs.ServeFault.{is_of_run};
 
 use crate::answer::{Answer, cert_fault, input_too_long, no_separator, plan_fault, too_large};
 use crate::bundle::bundle_of;
@@ -43,7 +43,7 @@ pub fn run_report<R: Threads + Wait + Sync>(
     input: &[u8],
 ) -> Result<Answer, ServeFault>
     ensures answer { IfOk result (λ answer. answer ≡ spec.report (Run rounds) input.now) }
-    ensures fault { IfErr result (λ fault. IsTrue (is_of_threads fault.number)) }
+    ensures fault { IfErr result (λ fault. IsTrue (is_of_run fault.number)) }
 {
     if input.len() > MOST_INPUT_BYTES {
         return Ok(input_too_long(alloc)?);
@@ -62,7 +62,7 @@ fn run_bundle<R: Threads + Wait + Sync>(
     cert: &[u8],
 ) -> Result<Answer, ServeFault>
     ensures answer { IfOk result (λ answer. answer ≡ spec.answer_of_plan (Run rounds) cert.now (plan_of plan.now)) }
-    ensures fault { IfErr result (λ fault. IsTrue (is_of_threads fault.number)) }
+    ensures fault { IfErr result (λ fault. IsTrue (is_of_run fault.number)) }
 {
     match read_plan(alloc, plan) {
         Ok(plan) => run_plan(rt, alloc, rounds, plan, cert),
@@ -79,7 +79,7 @@ fn run_plan<R: Threads + Wait + Sync>(
     cert: &[u8],
 ) -> Result<Answer, ServeFault>
     ensures answer { IfOk result (λ answer. answer ≡ spec.run plan rounds cert.now) }
-    ensures fault { IfErr result (λ fault. IsTrue (is_of_threads fault.number)) }
+    ensures fault { IfErr result (λ fault. IsTrue (is_of_run fault.number)) }
 {
     match read_cert(alloc, cert, &plan) {
         Ok(cert) => run_with(rt, alloc, rounds, plan, cert),
@@ -96,7 +96,7 @@ fn run_with<R: Threads + Wait + Sync>(
     cert: Cert,
 ) -> Result<Answer, ServeFault>
     ensures answer { IfOk result (λ answer. answer ≡ spec.run_of_cert plan rounds (Ok cert)) }
-    ensures fault { IfErr result (λ fault. IsTrue (is_of_threads fault.number)) }
+    ensures fault { IfErr result (λ fault. IsTrue (is_of_run fault.number)) }
 {
     match Certified::check(plan, cert) {
         Ok(certified) => run_certified(rt, alloc, rounds, &certified),
@@ -104,7 +104,7 @@ fn run_with<R: Threads + Wait + Sync>(
     }
 }
 
-#[tactic(auto, using(crate::proofs::Runs::too_large_where_told, crate::proofs::Runs::of_threads_else))]
+#[tactic(auto, using(crate::proofs::Runs::too_large_where_told, crate::proofs::Runs::of_run_else))]
 fn run_certified<R: Threads + Wait + Sync>(
     rt: &R,
     alloc: Global,
@@ -112,7 +112,7 @@ fn run_certified<R: Threads + Wait + Sync>(
     certified: &Certified,
 ) -> Result<Answer, ServeFault>
     ensures answer { IfOk result (λ answer. answer ≡ spec.run_of_accepted certified.now.plan certified.now.cert rounds) }
-    ensures fault { IfErr result (λ fault. IsTrue (is_of_threads fault.number)) }
+    ensures fault { IfErr result (λ fault. IsTrue (is_of_run fault.number)) }
 {
     match run(rt, alloc, certified, rounds, &AtOnce) {
         Ok(report) => Ok(run_through(alloc, report.jobs, report.units)?),

@@ -6,7 +6,7 @@ ghost use Rattle.byte_streams.specs.Reading.{ConsumesAtMost};
 ghost use Rattle.byte_streams.specs.Writing.{AppendsFront};
 ghost use Rattle.command_line.specs.Command.{IsInRange};
 ghost use Rattle.sizing_cli.specs.Report.{report};
-ghost use Rattle.sizing_cli.specs.ServeFault.{count_of, is_known_on_threads};
+ghost use Rattle.sizing_cli.specs.ServeFault.{count_of, is_known_of};
 ghost use Rattle.sizing_cli.specs.Served.{MeansSafe, WritesAnswer, WritesFront};
 
 use crate::alone::serve_alone;
@@ -29,9 +29,10 @@ use std::thread::Threads;
 ///
 /// # Errors
 ///
-/// Fault 20 where memory ran out or a thread could not be started, 42 and 43 of [`search`](cert_search::search), 41 to 43
-/// of [`run`](locked_runner::run), 60 where the source failed in this call, and 61 where the sink did. After 61 a front of the answer was written, and after any
-/// other nothing.
+/// Of any command fault 20 where memory ran out, 60 where the source failed in this call, and 61 where the sink did. Of
+/// [`Command::Certify`] also 20 where a thread could not be started, and 42 and 43 of [`search`](cert_search::search); of
+/// [`Command::Run`] also 20 where a thread could not be started, and 41, 42 and 43 of [`run`](locked_runner::run). After 61
+/// a front of the answer was written, and after any other nothing.
 pub fn serve<R: Threads + Wait + Sync, S: Source, K: Sink>(
     rt: &R,
     alloc: Global,
@@ -48,8 +49,9 @@ pub fn serve<R: Threads + Wait + Sync, S: Source, K: Sink>(
     // Where `check` answers yes, or a run went through, the plan is safe; and `check` answers yes to a bundle of `certify`.
     ensures safe { IfOk result (λ status. status ≡ Status.Done → IfSome (S.remaining source.old) (λ input. MeansSafe command input (K.written sink.old) (K.written sink.new))) }
 
-    // No other fault than 20, 41, 42, 43, 60 and 61 comes, and 60 and 61 just where the source and the sink failed.
-    ensures known { IfErr result (λ fault. IsTrue (is_known_on_threads fault.number)) }
+    // No fault comes but 20, 60 and 61, of `certify` 42 and 43 too, and of `run` 41, 42 and 43; and 60 and 61 just where the
+    // source and the sink failed.
+    ensures known { IfErr result (λ fault. IsTrue (is_known_of command fault.number)) }
     ensures read_failed { S.failures source.new ≡ S.failures source.old + count_of READ_FAILED result }
     ensures write_failed { K.failures sink.new ≡ K.failures sink.old + count_of WRITE_FAILED result }
 
@@ -76,7 +78,7 @@ fn serve_certify<R: Threads + Wait + Sync, S: Source, K: Sink>(
     ensures answered { IfOk result (λ status. IfSome (S.remaining source.old) (λ input. WritesAnswer (Command.Certify workers) input status (K.written sink.old) (K.written sink.new))) }
     ensures front { IfErr result (λ fault. fault.number ≡ WRITE_FAILED → IfSome (S.remaining source.old) (λ input. WritesFront (Command.Certify workers) input (K.written sink.old) (K.written sink.new))) }
     ensures nothing { IfErr result (λ fault. fault.number ≢ WRITE_FAILED → Keeps (K.written sink.old) (K.written sink.new)) }
-    ensures known { IfErr result (λ fault. IsTrue (is_known_on_threads fault.number)) }
+    ensures known { IfErr result (λ fault. IsTrue (is_known_of (Command.Certify workers) fault.number)) }
     ensures read_failed { S.failures source.new ≡ S.failures source.old + count_of READ_FAILED result }
     ensures write_failed { K.failures sink.new ≡ K.failures sink.old + count_of WRITE_FAILED result }
     ensures at_most { ConsumesAtMost (S.remaining source.old) (S.remaining source.new) (MOST_INPUT_BYTES + 1) }
@@ -99,7 +101,7 @@ fn serve_run<R: Threads + Wait + Sync, S: Source, K: Sink>(
     ensures front { IfErr result (λ fault. fault.number ≡ WRITE_FAILED → IfSome (S.remaining source.old) (λ input.
         AppendsFront (K.written sink.old) (K.written sink.new) (report (Command.Run rounds) input).text)) }
     ensures nothing { IfErr result (λ fault. fault.number ≢ WRITE_FAILED → Keeps (K.written sink.old) (K.written sink.new)) }
-    ensures known { IfErr result (λ fault. IsTrue (is_known_on_threads fault.number)) }
+    ensures known { IfErr result (λ fault. IsTrue (is_known_of (Command.Run rounds) fault.number)) }
     ensures read_failed { S.failures source.new ≡ S.failures source.old + count_of READ_FAILED result }
     ensures write_failed { K.failures sink.new ≡ K.failures sink.old + count_of WRITE_FAILED result }
     ensures at_most { ConsumesAtMost (S.remaining source.old) (S.remaining source.new) (MOST_INPUT_BYTES + 1) }

@@ -1,10 +1,10 @@
 //! How a call that serves ends.
 
-ghost use Rattle.std.specs.Prelude.{◌≡◌, IsTrue, Some};
+ghost use Rattle.std.specs.Prelude.{◌≡◌, Some};
 ghost use Rattle.faults.specs.Name.{head};
 ghost use Rattle.faults.specs.declared.number.TheConstants.{MEMORY, WRITE_FAILED};
 ghost use Rattle.sizing_cli.specs.Answer.{code, yes_or_no};
-ghost use Rattle.sizing_cli.specs.ServeFault.{fault_of_input, is_of_threads};
+ghost use Rattle.sizing_cli.specs.ServeFault.{fault_of_input, fault_of_search};
 
 use byte_streams::{InputError, IoFault};
 use cert_search::SearchFault;
@@ -45,7 +45,8 @@ impl Status {
     }
 }
 
-/// Why there is no answer: fault 20 Memory, 41 Strange, 42 Mixed or 43 Gate of threads, 60 ReadFailed or 61 WriteFailed.
+/// Why there is no answer: fault 20 Memory, 41 Strange of a run, 42 Mixed or 43 Gate of a run or a search, 60 ReadFailed or
+/// 61 WriteFailed.
 ///
 /// After 61 a front of the answer was written, and after any other nothing.
 #[derive(Clone, Copy, Debug, PartialEq, Eq)]
@@ -62,10 +63,10 @@ impl From<AllocError> for ServeFault {
 }
 
 impl From<SearchFault> for ServeFault {
-    ghost from_gives = { λ _ fault. IsTrue (is_of_threads fault.number) };
+    ghost from_gives = { λ error fault. fault.number ≡ fault_of_search error };
 
-    fn from(fault: SearchFault) -> ServeFault {
-        let number = match fault {
+    fn from(error: SearchFault) -> ServeFault {
+        let number = match error {
             SearchFault::Memory => MEMORY,
             SearchFault::Mixed => MIXED,
             SearchFault::Gate => GATE,
