@@ -87,20 +87,20 @@ report_front (Err fault) (Some input) old new command alone front = λ failed.
 certified_answer : (input : List ℕ) (answer : Answer) → IsCertifyAnswer input answer → answer.status ≡ Done → IsCertifiedBundle (whole_lines input) answer.text
 certified_answer input answer is done = by_length (nat_lt MOST_INPUT_BYTES (length input)) is
   where
-    by_answer : AnswersPlan (whole_lines input) answer → IsCertifiedBundle (whole_lines input) answer.text
-    by_answer (inl none) =
+    by_answer : (plan : Plan) → AnswersPlan (whole_lines input) plan answer → IsCertifiedBundle (whole_lines input) answer.text
+    by_answer plan (inl long) =
+        let no : Refused ≡ Done = sym (ap (λ (a : Answer). a.status) long.0) ∙ done in
+        absurd cc
+    by_answer plan (inr (inl none)) =
         let no : Refused ≡ Done = sym (ap (λ (a : Answer). a.status) none) ∙ done in
         absurd cc
-    by_answer (inr (inl long)) =
-        let no : Refused ≡ Done = sym (ap (λ (a : Answer). a.status) long) ∙ done in
-        absurd cc
-    by_answer (inr (inr certified)) = certified.bundle
+    by_answer plan (inr (inr certified)) = certified.bundle
 
     by_plan : (read : Result Plan PlanFault) → AnswersReading (whole_lines input) read answer → IsCertifiedBundle (whole_lines input) answer.text
     by_plan (Err fault) bad =
         let no : BadText ≡ Done = sym (ap (λ (a : Answer). a.status) bad) ∙ done in
         absurd cc
-    by_plan (Ok plan) answers = by_answer answers
+    by_plan (Ok plan) answers = by_answer plan answers
 
     by_length : (long : Bool) → ByLength input answer long → IsCertifiedBundle (whole_lines input) answer.text
     by_length true too_long =

@@ -1,10 +1,14 @@
 -- What `certify` may answer to an input: a relation, since nothing is said of which certificate is found, or that one is.
-use Rattle.std.specs.Prelude.{◌≡◌, ◌⊎◌, ℕ, nat_eq, nat_lt, ◌==◌, ◌||◌, List, [], ◌∷◌, ◌++◌, length, codes, if◌then◌else◌, Some, Result, Ok, Err, IsTrue, MatchBool}
+use Rattle.std.specs.Prelude.{◌≡◌, ◌⊎◌, ◌<◌, ℕ, nat_eq, nat_lt, ◌==◌, ◌||◌, List, [], ◌∷◌, ◌++◌, length, codes, if◌then◌else◌, Some, Result, Ok, Err, IsTrue, MatchBool}
 use Rattle.std.specs.List.{ends_with}
 use Rattle.job_bodies.specs.Plan.{Plan}
 use Rattle.job_bodies.specs.FaultText.{fault_line}
 use Rattle.job_bodies.specs.declared.fault.PlanFault.{PlanFault}
 use Rattle.plan_text.specs.PlanOf.{plan_of}
+use Rattle.certificates.specs.Cert.{Cert}
+use Rattle.cert_text.specs.declared.document.TheConstants.{MOST_TEXT_BYTES}
+use Rattle.cert_text.specs.CertText.{cert_text}
+use Rattle.headline.specs.Accepted.{accepted}
 use Rattle.cert_check.specs.Verdict.{Verdict}
 use Rattle.cert_check.specs.Check.{checked, IsSafeToRun}
 use Rattle.sizing_cli.specs.declared.limits.TheConstants.{MOST_INPUT_BYTES}
@@ -40,13 +44,23 @@ pub record IsCertified (plan : List ℕ) (answer : Answer) : Type 0 where
   pub bundle : IsCertifiedBundle plan answer.text
   pub status : answer.status ≡ Done
 
--- to the text of a plan: one of the two lines that say that there is no certificate, or a bundle with one
-abbrev pub AnswersPlan : List ℕ → Answer → Type 0
-AnswersPlan plan answer = (answer ≡ none_found) ⊎ ((answer ≡ text_too_long) ⊎ IsCertified plan answer)
+-- a certificate accepts the plan, and its text with its newline is too long to be read
+pub record IsTooLong (plan : Plan) : Type 0 where
+  pub cert : Cert
+  pub accepts : IsTrue (accepted plan cert)
+  pub long : MOST_TEXT_BYTES < length (cert_text cert ++ 10 ∷ [])
+
+-- to a text and what may have been found for it: the line that says that nothing was, or a bundle with a certificate
+abbrev pub AnswersFound : List ℕ → Answer → Type 0
+AnswersFound text answer = (answer ≡ none_found) ⊎ IsCertified text answer
+
+-- to the text of a plan: the line that says that a certificate is too long, where one is, or what was found
+abbrev pub AnswersPlan : List ℕ → Plan → Answer → Type 0
+AnswersPlan text plan answer = ((answer ≡ text_too_long) × IsTooLong plan) ⊎ AnswersFound text answer
 
 abbrev pub AnswersReading : List ℕ → Result Plan PlanFault → Answer → Type 0
-AnswersReading plan (Err f) answer = answer ≡ fault (fault_line f)
-AnswersReading plan (Ok read) answer = AnswersPlan plan answer
+AnswersReading text (Err f) answer = answer ≡ fault (fault_line f)
+AnswersReading text (Ok plan) answer = AnswersPlan text plan answer
 
 -- to an input
 abbrev pub IsCertifyAnswer : List ℕ → Answer → Type 0

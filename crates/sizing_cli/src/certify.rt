@@ -6,11 +6,12 @@ ghost use Rattle.sizing_cli.specs.SplitAt.{IsSplitAt};
 ghost use Rattle.sizing_cli.specs.ServeFault.{is_of_search};
 
 use crate::answer::{Answer, input_too_long, plan_fault};
+use crate::at_once::AtOnce;
 use crate::bundle::{Bundle, bundle_of};
 use crate::limits::MOST_INPUT_BYTES;
 use crate::output::Output;
 use crate::{ServeFault, Status};
-use cert_check::{CheckFault, PoolGate, check_on};
+use cert_check::{CheckFault, check_on};
 use cert_search::search;
 use cert_text::{MOST_TEXT_BYTES, write_cert};
 use faults::number::{GATE, MEMORY};
@@ -19,15 +20,6 @@ use plan_text::read_plan;
 use std::alloc::{AllocError, Global};
 use std::sync::Wait;
 use std::thread::Threads;
-
-/// A gate that answers at once: each pool may be looked at.
-struct AtOnce;
-
-impl PoolGate for AtOnce {
-    fn begin(&self, _pool: usize) -> bool {
-        true
-    }
-}
 
 /// What a search comes to.
 enum Found {
@@ -87,7 +79,7 @@ fn certify_plan<R: Threads + Wait + Sync>(
 ) -> Result<Output, ServeFault>
     requires some { 1 ≤ workers }
     requires most { workers ≤ 64 }
-    ensures answer { IfOk result (spec.AnswersPlan text.items) }
+    ensures answer { IfOk result (spec.AnswersPlan text.items plan.now) }
     ensures fault { IfErr result (λ fault. IsTrue (is_of_search fault.number)) }
 {
     match found_text(rt, alloc, workers, plan)? {
@@ -105,7 +97,8 @@ fn found_text<R: Threads + Wait + Sync>(
 ) -> Result<Found, ServeFault>
     requires some { 1 ≤ workers }
     requires most { workers ≤ 64 }
-    ensures { IfErr result (λ fault. IsTrue (is_of_search fault.number)) }
+    ensures too_long { IfOk result (λ found. found ≡ Found.TooLong → spec.IsTooLong plan.now) }
+    ensures fault { IfErr result (λ fault. IsTrue (is_of_search fault.number)) }
 {
     let Some(cert) = search(rt, alloc, plan, workers, &AtOnce)? else {
         return Ok(Found::Nothing);
@@ -128,7 +121,7 @@ fn bundled<R: Threads + Wait + Sync>(
 ) -> Result<Output, ServeFault>
     requires some { 1 ≤ workers }
     requires most { workers ≤ 64 }
-    ensures answer { IfOk result (spec.AnswersPlan plan.items) }
+    ensures answer { IfOk result (spec.AnswersFound plan.items) }
     ensures fault { IfErr result (λ fault. IsTrue (is_of_search fault.number)) }
 {
     let plan_len = plan.len();

@@ -3,6 +3,7 @@
 
 mod alone;
 mod answer;
+mod at_once;
 mod bundle;
 mod certify;
 mod judging;

@@ -7,6 +7,7 @@ ghost use Rattle.sizing_cli.specs.Report as spec;
 ghost use Rattle.sizing_cli.specs.ServeFault.{is_of_run};
 
 use crate::answer::{Answer, cert_fault, input_too_long, no_separator, plan_fault, too_large};
+use crate::at_once::AtOnce;
 use crate::bundle::bundle_of;
 use crate::limits::MOST_INPUT_BYTES;
 use crate::{ServeFault, Status};
@@ -15,20 +16,11 @@ use cert_text::read_cert;
 use certificates::Cert;
 use faults::number::{MEMORY, RUN_TOO_LARGE};
 use job_bodies::{Plan, PlanFault};
-use locked_runner::{Actor, Gate, GateFault, run};
+use locked_runner::run;
 use plan_text::read_plan;
 use std::alloc::{AllocError, Global};
 use std::sync::Wait;
 use std::thread::Threads;
-
-/// A gate that answers at once: the declared work takes no time.
-struct AtOnce;
-
-impl Gate for AtOnce {
-    fn work(&self, _actor: Actor, _units: u32) -> Result<(), GateFault> {
-        Ok(())
-    }
-}
 
 /// The answer to an input, which is a bundle: the numbers of a run of its plan, in which each repeating client goes
 /// through its body so many times, or why it is not run.

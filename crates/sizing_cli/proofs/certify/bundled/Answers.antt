@@ -14,4 +14,4 @@ returns-then-branch-clause-answer g c =
     let split : IsSplitAt c.len-plan_len.result c.deref.result.now = c.in_ok-is_certified.ensures.yes c.if-branch.true in
     let OfText : List ℕ → Type 0 = λ l. IsSplitAt c.len-plan_len.result l in
     let OfLength : ℕ → Type 0 = λ n. IsSplitAt n text in
-    inr (inr (record { bundle = certified plan cert text whole (subst OfLength len (subst OfText c.deref.ensures.value split)); status = refl }))
+    inr (record { bundle = certified plan cert text whole (subst OfLength len (subst OfText c.deref.ensures.value split)); status = refl })
