@@ -1,12 +1,13 @@
 -- What is known of the live jobs once a job finished.
-use Rattle.std.proofs.Common.{◌≡◌, ◌≢◌, ℕ, ◌-◌, ◌<◌, ◌&&◌, Bool, not, true, false, cond, if◌then◌else◌, List, length, map, set, count_by, Option, Some, None, refl, sym, ap, subst, ◌∙◌, arith}
+use Rattle.std.proofs.Common.{◌≡◌, ◌≢◌, ℕ, ◌-◌, ◌<◌, ◌&&◌, Bool, not, true, false, cond, if◌then◌else◌, List, length, map, set, count_by, Option, Some, None, IfSome, refl, sym, ap, subst, ◌∙◌, arith}
 use Rattle.std.proofs.Math.ListN.{get_or-map as get_or-map_at}
 use Rattle.std.proofs.lemmas.List.{length-map}
 use Rattle.numbered_lists.proofs.Sums.{count_by-set, count_by-map, count_by-agree}
 use Rattle.written_machine.specs.declared.parent.Parent.TheVariants as parent
 use Rattle.written_machine.specs.State.{same_parent}
+use Rattle.live_views.specs.declared.job_view.Phase.TheVariants as phase
 use Rattle.live_views.specs.declared.job_view.JobView.{JobView}
-use Rattle.live_views.specs.ViewStep.{live_job, is_live_child, is_done, is_unfinished_job, may_ask_for, unless_orphan, finished_or_gone}
+use Rattle.live_views.specs.ViewStep.{live_job, is_live_child, is_done, is_unfinished_job, may_ask_for, in_phase, unless_orphan, finished_or_gone}
 use Rattle.interleaving.specs.declared.places.Place.{Place}
 use Rattle.interleaving.specs.LatestList.{LatestList}
 use Rattle.interleaving.specs.LiveJobs.{AreFound, AreIndexed, AreOrphaned, ReachesStay, IsGone, jobs_in}
@@ -26,6 +27,14 @@ unless_orphan_unfinished n (Some v) = by_test (same_parent (parent.Job n) v.pare
     by_test true true e = sym (ap not e)
     by_test true false e = refl
     by_test false done e = refl
+
+-- a job that finished is as it was, but for its phase
+pub phased_finished : (job : JobView) (was : Option JobView) → was ≡ Some job → (b : Bool) (finished : Option JobView) → finished ≡ (if b then Some (record job { phase = phase.Done }) else None) → IfSome finished (λ x. in_phase x.phase was ≡ Some x)
+phased_finished job was e b finished same = subst (λ o. IfSome o (λ x. in_phase x.phase was ≡ Some x)) (sym same) (by_test b)
+  where
+    by_test : (c : Bool) → IfSome (if c then Some (record job { phase = phase.Done }) else None) (λ x. in_phase x.phase was ≡ Some x)
+    by_test true = ap (in_phase phase.Done) e
+    by_test false = tt
 
 -- a job that is not done is no orphan
 pub going_stays : (n : ℕ) (job : JobView) → is_done job.phase ≡ false → unless_orphan n (Some job) ≡ Some job

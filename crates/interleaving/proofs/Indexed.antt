@@ -1,5 +1,5 @@
 -- What is known of the live jobs once one of them changes.
-use Rattle.std.proofs.Common.{◌≡◌, ◌≢◌, ℕ, ◌+◌, ◌<◌, ◌≤◌, not, true, false, Bool, cond, ◌&&◌, is_some, if◌then◌else◌, List, [], ◌∷◌, ◌++◌, length, map, set, count_by, Option, Some, None, ⊎_elim, refl, sym, ap, subst, ◌∙◌, arith, length-set}
+use Rattle.std.proofs.Common.{◌≡◌, ◌≢◌, ℕ, ◌+◌, ◌<◌, ◌≤◌, not, true, false, Bool, cond, ◌&&◌, is_some, if◌then◌else◌, List, [], ◌∷◌, ◌++◌, length, map, set, count_by, IsSome, Option, Some, None, ⊎_elim, refl, sym, ap, subst, ◌∙◌, arith, length-set}
 use Rattle.std.proofs.Math.ListN.{get_or-map as get_or-map_at}
 use Rattle.std.proofs.lemmas.Bool.{cases_lt, cases_eq, cases_Bool}
 use Rattle.std.proofs.lemmas.List.{get_or-set_same, get_or-set_other, get_or_past, get_or_append_left, length_push, length-map, map-append, map-set}
@@ -13,12 +13,13 @@ use Rattle.live_views.specs.declared.job_view.Phase.{Phase}
 use Rattle.live_views.specs.declared.job_view.JobView.{JobView}
 use Rattle.live_views.specs.ViewStep.{live_job, is_live_child, is_done, is_unfinished_job, may_ask_for, in_phase, with_phase, unless_stale}
 use Rattle.interleaving.specs.declared.places.Place.{Place}
-use Rattle.interleaving.specs.PlaceList.{place_at}
+use Rattle.interleaving.specs.PlaceList.{place_at, place_in_phase}
 use Rattle.interleaving.specs.LatestList.{LatestList, found, is_call}
 use Rattle.interleaving.specs.LiveJobs.{IsAlone, AreFound, AreReached, AreIndexed, ReachesStay, ReachesTo, WasMade, jobs_in}
 use Rattle.interleaving.proofs.Fading.{Fades, AreFading, fading_set}
 use Rattle.interleaving.proofs.Found.{found_phased, found_got, reached_fading, made_if_child, child_itself, same_call}
 use Rattle.interleaving.proofs.Made.{with_new, other_child, found_made}
+use Rattle.interleaving.proofs.Placed.{some_place}
 use Rattle.interleaving.proofs.Orphaned.{stays_freed}
 
 -- the live job of a number stands in its place
@@ -73,6 +74,34 @@ going_unfinished to (Some job) going e = ap not going
 pub phased_jobs : (items : List (Option Place)) (n : ℕ) (place : Place) (to : Phase) → place_at items n ≡ Some place → jobs_in (set items n (Some (record place { job = record place.job { phase = to } }))) ≡ with_phase n to (jobs_in items)
 phased_jobs items n place to there =
     jobs_set items n (Some (record place { job = record place.job { phase = to } })) ∙ ap (λ o. set (jobs_in items) n (in_phase to o)) (sym (jobs_at items n ∙ ap (option_map (λ (p : Place). p.job)) there))
+
+in_its_place : (to : Phase) (o : Option Place) → option_map (λ (p : Place). p.job) (place_in_phase to o) ≡ in_phase to (option_map (λ (p : Place). p.job) o)
+in_its_place to None = refl
+in_its_place to (Some place) = refl
+
+pub jobs_phased : (items : List (Option Place)) (n : ℕ) (to : Phase) → jobs_in (set items n (place_in_phase to (place_at items n))) ≡ with_phase n to (jobs_in items)
+jobs_phased items n to =
+    jobs_set items n (place_in_phase to (place_at items n)) ∙ ap (set (jobs_in items) n) (in_its_place to (place_at items n) ∙ ap (in_phase to) (sym (jobs_at items n)))
+
+-- a live job has a place
+pub has_place : (items : List (Option Place)) (n : ℕ) → IsSome (live_job (jobs_in items) n) → (place : Place) × (place_at items n ≡ Some place)
+has_place items n live = some_place (place_at items n) (by_place (place_at items n) (subst IsSome (jobs_at items n) live))
+  where
+    by_place : (o : Option Place) → IsSome (option_map (λ (p : Place). p.job) o) → IsSome o
+    by_place None some = absurd cc
+    by_place (Some place) some = refl
+
+pub live_if_asks : (jobs : List (Option JobView)) (n : ℕ) → may_ask_for jobs (parent.Job n) ≡ true → IsSome (live_job jobs n)
+live_if_asks jobs n asks = by_job (live_job jobs n) asks
+  where
+    by_job : (o : Option JobView) → is_unfinished_job o ≡ true → IsSome o
+    by_job None e = absurd cc
+    by_job (Some job) e = refl
+
+pub stays_phased : (items : List (Option Place)) (n : ℕ) (to : Phase) → IsSome (live_job (jobs_in items) n) → ReachesStay items (set items n (place_in_phase to (place_at items n)))
+stays_phased items n to live =
+    let there = has_place items n live in
+    subst (λ o. ReachesStay items (set items n o)) (sym (ap (place_in_phase to) there.1)) (stays_set items n there.0 (record there.0 { job = record there.0.job { phase = to } }) there.1 (omega arith))
 
 pub indexed_phased : (items : List (Option Place)) (latest : LatestList) (m n : ℕ) (place : Place) (to : Phase) → AreIndexed items latest m → place_at items n ≡ Some place → may_ask_for (jobs_in items) (parent.Job n) ≡ true → is_done to ≡ false
     → AreIndexed (set items n (Some (record place { job = record place.job { phase = to } }))) latest m

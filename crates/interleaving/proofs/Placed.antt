@@ -85,6 +85,10 @@ made_if_some at made n below some = by_place (at n) (below n) some
     by_place None low some = absurd cc
     by_place (Some place) low some = low place refl
 
+pub some_place : (o : Option Place) → IsSome o → (place : Place) × (o ≡ Some place)
+some_place None some = absurd cc
+some_place (Some place) some = (place, refl)
+
 -- an entry that was there takes no more room
 pub same_length : {E : Type 0} (long was : ℕ) (at : Option Place) (r : Result (Option Place) E) → is_err r ≡ false → IfOk r (λ old. old ≡ at) → IfOk r (λ old. long ≡ was + (if is_some old then 0 else 1)) → IsSome at → long ≡ was
 same_length long was at (Ok None) ok old e some = absurd (let none : IsSome {T = Place} None = subst IsSome (sym old) some in cc)

@@ -1,5 +1,6 @@
 -- The places of a world's live jobs, as the rest of the world sees them.
-use Rattle.std.specs.Prelude.{ℕ, zero, suc, ◌+◌, List, [], ◌∷◌, ◌++◌, Option, None, count_by, is_some, slice_index_or, ◌==◌, if◌then◌else◌}
+use Rattle.std.specs.Prelude.{ℕ, zero, suc, ◌+◌, List, [], ◌∷◌, ◌++◌, Option, Some, None, count_by, is_some, slice_index_or, ◌==◌, if◌then◌else◌}
+use Rattle.live_views.specs.declared.job_view.Phase.{Phase}
 use Rattle.interleaving.specs.declared.places.Place.{Place}
 
 -- at each number that was given to a job what is kept of it, or None where it is not live any more; how many places there
@@ -12,6 +13,11 @@ pub record PlaceList : Type 0 where
 -- what is kept of the live job of this number
 abbrev pub place_at : List (Option Place) → ℕ → Option Place
 place_at items j = slice_index_or items j None
+
+-- the job in this phase from now on, in its place
+abbrev pub place_in_phase : Phase → Option Place → Option Place
+place_in_phase phase None = None
+place_in_phase phase (Some place) = Some (record place { job = record place.job { phase = phase } })
 
 -- what stands at the numbers below n
 abbrev pub items_below : (ℕ → Option Place) → ℕ → List (Option Place)

@@ -1,9 +1,9 @@
 //! The live jobs of a world: by number, and by who made them.
 
-ghost use Rattle.std.specs.Prelude.{◌≡◌, ◌≢◌, ℕ, ◌+◌, ◌<◌, ◌≤◌, ◌^◌, [], ◌∷◌, ◌++◌, length, map, count_by, is_some, slice_set, IsSome, true, false, None, Some, OnOk};
+ghost use Rattle.std.specs.Prelude.{◌≡◌, ◌≢◌, ℕ, ◌+◌, ◌<◌, ◌≤◌, ◌^◌, [], ◌∷◌, ◌++◌, length, map, count_by, is_some, slice_set, IsSome, IfSome, true, false, None, Some, OnOk};
 ghost use Rattle.written_machine.specs.declared.parent.Parent.TheVariants.{Job};
 ghost use Rattle.live_views.specs.declared.job_view.Phase.TheVariants.{At};
-ghost use Rattle.live_views.specs.ViewStep.{live_job, live_child, is_done, is_unfinished_job, may_ask_for, with_phase, unless_stale, unless_orphan, finished_or_gone};
+ghost use Rattle.live_views.specs.ViewStep.{live_job, live_child, is_done, is_unfinished_job, may_ask_for, with_phase, in_phase, unless_stale, unless_orphan, finished_or_gone};
 ghost use Rattle.interleaving.specs.LiveJobs.{WasMade, DoneAreLatest, NoOtherIsStale, IsAlone, places_made, jobs_in, AreReached, ReachesStay, ReachesTo, OrphansAreFound, AreOrphaned, AreFound, IsGone, ForgetsOrphan, is_done_job};
 
 use crate::latest::Latest;
@@ -91,13 +91,7 @@ impl LiveJobs {
         ensures places { self.new.places ≡ self.old.places }
         ensures room { self.new.room ≡ self.old.room }
     {
-        if let Some(place) = self.kept.get(number) {
-            let job = JobView {
-                phase: Phase::At(position),
-                ..place.job
-            };
-            self.kept.set(number, Place { job, ..place });
-        }
+        self.kept.set_phase(number, Phase::At(position));
     }
 
     /// The done job of this number is live no more: its maker gets it, and has no other from that position.
@@ -226,19 +220,16 @@ fn reach_to(kept: &mut Places, actor: Parent, reach: usize)
     }
 }
 
-// The live job of this number is done, or live no more.
+// The live job of this number is in another phase, or live no more.
 fn finish_in(kept: &mut Places, number: usize, finished: Option<JobView>)
-    requires { IsSome (live_job (jobs_in kept.old.items) number) }
+    requires live { IsSome (live_job (jobs_in kept.old.items) number) }
+    requires phased { IfSome finished (λ job. in_phase job.phase (live_job (jobs_in kept.old.items) number) ≡ Some job) }
     ensures jobs { jobs_in kept.new.items ≡ slice_set (jobs_in kept.old.items) number finished }
     ensures reaches { ReachesStay kept.old.items kept.new.items }
     ensures places { kept.new.places ≡ kept.old.places }
 {
     match finished {
-        Some(job) => {
-            if let Some(place) = kept.get(number) {
-                kept.set(number, Place { job, ..place });
-            }
-        }
+        Some(job) => kept.set_phase(number, job.phase),
         None => kept.free(number),
     }
 }

@@ -2,9 +2,10 @@
 
 ghost use Rattle.std.specs.Prelude.{◌≡◌, ◌+◌, ◌-◌, ◌<◌, ◌^◌, [], ◌∷◌, ◌++◌, length, count_by, is_some, IsSome, slice_set, ◌≤◌, nat_eq, None, Some, OnOk};
 ghost use Rattle.std.specs.HashMap.{get, spare, hash_map_len, Updates};
+ghost use Rattle.interleaving.specs.PlaceList.{place_in_phase};
 
 use indexmap::IndexMap;
-use live_views::JobView;
+use live_views::{JobView, Phase};
 use std::alloc::{AllocError, Global};
 use std::marker::Model;
 
@@ -44,7 +45,7 @@ impl Model for Places {
 }
 
 impl Places {
-    ghost use Rattle.interleaving.specs.PlaceList.{place_at, places_after};
+    ghost use Rattle.interleaving.specs.PlaceList.{place_at, place_in_phase, places_after};
 
     /// No jobs so far.
     pub(crate) fn new(alloc: Global) -> Places
@@ -88,6 +89,16 @@ impl Places {
         ensures room { self.new.room ≡ self.old.room }
     {
         put(&mut self.kept, number, place);
+    }
+
+    /// The live job of this number is in this phase, from now on.
+    pub(crate) fn set_phase(&mut self, number: usize, phase: Phase)
+        requires { IsSome (place_at self.old.items number) }
+        ensures items { self.new.items ≡ slice_set self.old.items number (place_in_phase phase (place_at self.old.items number)) }
+        ensures places { self.new.places ≡ self.old.places }
+        ensures room { self.new.room ≡ self.old.room }
+    {
+        put_phase(&mut self.kept, number, phase);
     }
 
     /// The job of this number is live no more, and its place is free.
@@ -136,5 +147,17 @@ fn put(kept: &mut IndexMap<usize, Place>, number: usize, place: Place)
 {
     if let Some(kept) = kept.get_mut(&number) {
         *kept = place;
+    }
+}
+
+// What stands at a number is in another phase.
+fn put_phase(kept: &mut IndexMap<usize, Place>, number: usize, phase: Phase)
+    requires { IsSome (get nat_eq kept.old number) }
+    ensures updates { Updates nat_eq kept.old kept.new number (place_in_phase phase (get nat_eq kept.old number)) }
+    ensures len { hash_map_len kept.new ≡ hash_map_len kept.old }
+    ensures spare { spare kept.new ≡ spare kept.old }
+{
+    if let Some(kept) = kept.get_mut(&number) {
+        kept.job.phase = phase;
     }
 }

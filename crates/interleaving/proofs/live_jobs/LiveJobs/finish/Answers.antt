@@ -4,7 +4,7 @@ use Rattle.live_views.specs.ViewStep.{live_job, unless_orphan, finished_or_gone}
 use Rattle.interleaving.specs.JobList.{JobList}
 use Rattle.interleaving.specs.LiveJobs.{DoneAreLatest, AreOrphaned, IsGone, jobs_in}
 use Rattle.interleaving.proofs.Finished.{orphans_found, after_is}
-use Rattle.interleaving.proofs.Ended.{asks_of, going_stays, indexed_finished}
+use Rattle.interleaving.proofs.Ended.{asks_of, going_stays, phased_finished, indexed_finished}
 use Rattle.interleaving.proofs.Orphaned.{stays_then}
 use Rattle.interleaving.proofs.live_jobs.LiveJobs.finish.Goals as goal
 
@@ -15,14 +15,25 @@ forget_orphans-requires-clause-orphans c =
     let live : live_job (jobs_in l.kept.items) c.args.number ≡ Some c.args.job = ap (λ js. live_job js c.args.number) jobs ∙ c.requires.live in
     orphans_found (jobs_in l.kept.items) l.latest c.args.number c.self.invariant.are_found (subst DoneAreLatest (sym jobs) c.requires.done) (asks_of (jobs_in l.kept.items) c.args.number c.args.job live c.requires.going)
 
-pub finish_in-requires : goal.finish_in-requires
-finish_in-requires c =
+pub finish_in-requires-clause-live : goal.finish_in-requires-clause-live
+finish_in-requires-clause-live c =
     let l = c.self.inside in
     let n = c.args.number in
     let live : live_job (jobs_in l.kept.items) n ≡ Some c.args.job = ap (λ (x : JobList). live_job x.jobs n) c.self.view_is ∙ c.requires.live in
     let stays : live_job (jobs_in c.forget_orphans.new.kept.items) n ≡ Some c.args.job =
     ap (λ js. live_job js n) c.forget_orphans.ensures.jobs ∙ get_or-map_at (unless_orphan n) (jobs_in l.kept.items) n None ∙ ap (unless_orphan n) live ∙ going_stays n c.args.job c.requires.going in
     subst IsSome (sym stays) refl
+
+pub finish_in-requires-clause-phased : goal.finish_in-requires-clause-phased
+finish_in-requires-clause-phased c =
+    let l = c.self.inside in
+    let n = c.args.number in
+    let job = c.args.job in
+    let jobs = ap (λ (x : JobList). x.jobs) c.self.view_is in
+    let live : live_job (jobs_in l.kept.items) n ≡ Some job = ap (λ js. live_job js n) jobs ∙ c.requires.live in
+    let stays : live_job (jobs_in c.forget_orphans.new.kept.items) n ≡ Some job =
+    ap (λ js. live_job js n) c.forget_orphans.ensures.jobs ∙ get_or-map_at (unless_orphan n) (jobs_in l.kept.items) n None ∙ ap (unless_orphan n) live ∙ going_stays n job c.requires.going in
+    phased_finished job (live_job (jobs_in c.forget_orphans.new.kept.items) n) stays _ c.finished_or_gone-finished.result c.finished_or_gone-finished.ensures
 
 pub invariant_of-self : goal.invariant_of-self
 invariant_of-self c =
