@@ -7,6 +7,8 @@ SEPARATOR = "%%\n"
 # are left for the inner jobs.
 WAVE = 4000
 THREADS = 5000
+# As many kinds of clients as a plan may have.
+KINDS = 256
 
 
 class Script:
@@ -107,3 +109,16 @@ def take_queued(script, jobs):
     for job in jobs:
         if script.machine.jobs[job].phase == "queued":
             script.do("take p")
+
+
+def one_event(count):
+    """A replay's input and its answer: one event on a plan with so many clients of each kind.
+
+    The model keeps each client, so it isn't asked.
+    """
+    plan = Plan(
+        pools=[Pool("p", 1, 1, 1)],
+        classes=[Class("a", "p", ["work 1"])],
+        clients=[Client(f"c{kind}", count, True, ["submit a as x", "get x"]) for kind in range(KINDS)],
+    )
+    return (plan.text() + SEPARATOR + "client 0\n").encode(), b"1: started job 0\nrefusals 0, unfinished 1\n"

@@ -1,8 +1,10 @@
+pub mod FirstPieces
 pub mod FirstSpace
-pub mod Members
+pub mod LineByLine
 pub mod Numbers
 pub mod Splits
-pub mod Texts
+pub mod Verbs
+pub mod WordByWord
 pub mod WrittenLines
 pub mod WrittenNumbers
 pub mod WrittenTexts

@@ -57,7 +57,7 @@ flat_map-map f g (x ∷ xs) = ap (λ (rest : List ℕ). f (g x) ++ rest) (flat_m
 
 -- ---- the last byte
 -- at no place stands the byte
-not_at : (c : ℕ) (text : List ℕ) (i : ℕ) → has_no c text ≡ true → i < length text → (get_or text i 0 == c) ≡ false
+pub not_at : (c : ℕ) (text : List ℕ) (i : ℕ) → has_no c text ≡ true → i < length text → (get_or text i 0 == c) ≡ false
 not_at c [] i none within = absurd (omega arith)
 not_at c (b ∷ text) zero none within = not_this b c (and_parts (not (b == c)) _ none).0
 not_at c (b ∷ text) (suc i) none within = not_at c text i (and_parts (not (b == c)) _ none).1 (omega arith)

@@ -14,13 +14,14 @@ use Rattle.written_machine.specs.declared.event.Event.{Event}
 use Rattle.written_machine.specs.declared.event.Event.TheVariants.{Client, Job, Take, Retire}
 use Rattle.event_lines.specs.Pieces.{is_space, split_space, words_of}
 use Rattle.event_lines.specs.Number.{number_of}
-use Rattle.event_lines.specs.EventLine.{Line, Happens, Stuck, pool_named, all_of, event_of, stuck_of, line_of_verb, line_of}
+use Rattle.event_lines.specs.EventLine.{Line, Happens, Stuck, pool_named, event_of, stuck_of, line_of_verb, line_of}
+use Rattle.event_lines.specs.Words.{all_of}
 use Rattle.event_lines.specs.LineText.{event_text, line_text, is_lawful_number, is_lawful_event, is_lawful_line}
 use Rattle.event_lines.proofs.Splits.{has_no, cut_at, cut_joined, joined_behind, flat_map-map, is_piece}
 use Rattle.event_lines.proofs.WrittenNumbers.{number_read, number_written, decimal_has_no}
 
 -- ---- what a partial reading gives
-map_some : {X Y : Type 0} (f : X → Y) (o : Option X) (y : Y) → option_map f o ≡ Some y → (x : X) × (o ≡ Some x) × (f x ≡ y)
+pub map_some : {X Y : Type 0} (f : X → Y) (o : Option X) (y : Y) → option_map f o ≡ Some y → (x : X) × (o ≡ Some x) × (f x ≡ y)
 map_some f None y e = absurd (none-some y e)
 map_some f (Some x) y e = (x, refl, same_Some (f x) y e)
 
@@ -46,7 +47,7 @@ splits front rest none =
     let after : after_first is_space text ≡ rest = ap (λ n. drop (n + 1) text) at ∙ ap (drop (length front + 1)) (sym (append_assoc front (32 ∷ []) rest)) ∙ drop_at (front ++ 32 ∷ []) rest (length front + 1) (length_push front 32) in
     ap (λ (o : Option ℕ). option_map (λ place. (take place text, drop (place + 1) text)) o) (cond-true _ _ _ within) ∙ ap₂ (λ (x y : List ℕ). Some (x, y)) before after
 
-split_parts : (text : List ℕ) (words : List ℕ × List ℕ) → split_space text ≡ Some words → text ≡ words.0 ++ 32 ∷ words.1
+pub split_parts : (text : List ℕ) (words : List ℕ × List ℕ) → split_space text ≡ Some words → text ≡ words.0 ++ 32 ∷ words.1
 unfolding split_space
 split_parts text words read =
     let found = map_some (λ place. (take place text, drop (place + 1) text)) (position is_space text) words read in
@@ -206,7 +207,7 @@ line_read plan text line read =
     let found = verb_read plan words.0 words.1 line verb in
     (found.0, split_parts text words split ∙ found.1))
 
-by_verb : (plan : Plan) (verb rest : List ℕ) → has_no 32 verb ≡ true → line_of plan (verb ++ 32 ∷ rest) ≡ line_of_verb plan verb rest
+pub by_verb : (plan : Plan) (verb rest : List ℕ) → has_no 32 verb ≡ true → line_of plan (verb ++ 32 ∷ rest) ≡ line_of_verb plan verb rest
 unfolding line_of
 by_verb plan verb rest none = ap (λ o. option_and_then (λ words. line_of_verb plan words.0 words.1) o) (splits verb rest none)
 

@@ -68,7 +68,7 @@ joined_is : (plan : Plan) (line : Line) (lines : List Line) → joined plan (lin
 joined_is plan line lines = joined_before 10 (line_text plan line) (map (line_text plan) lines) ∙ flat_map-map (λ x. x ++ 10 ∷ []) (line_text plan) (line ∷ lines)
 
 -- the text has the newline at its end, or none is cut off
-last_newline : (text : List ℕ) → 0 < length text → (text ≡ without_last_newline text ++ 10 ∷ []) ⊎ (text ≡ without_last_newline text)
+pub last_newline : (text : List ℕ) → 0 < length text → (text ≡ without_last_newline text ++ 10 ∷ []) ⊎ (text ≡ without_last_newline text)
 unfolding without_last_newline
 last_newline text some =
     elim (cases_Bool (get_or text (length text - 1) 0 == 10)) [
@@ -82,14 +82,14 @@ last_newline text some =
       | inr other ↦ inr (sym (cond-false _ _ _ other))
     ]
 
-cut_off : (text : List ℕ) → without_last_newline (text ++ 10 ∷ []) ≡ text
+pub cut_off : (text : List ℕ) → without_last_newline (text ++ 10 ∷ []) ≡ text
 unfolding without_last_newline
 cut_off text =
     let long : length (text ++ 10 ∷ []) - 1 ≡ length text = omega (arith, length_push text 10) in
     let last : get_or (text ++ 10 ∷ []) (length (text ++ 10 ∷ []) - 1) 0 ≡ 10 = ap (λ i. get_or (text ++ 10 ∷ []) i 0) (long ∙ omega arith) ∙ get_or-append-add text (10 ∷ []) 0 0 in
     cond-true _ _ _ (eq-eqb _ 10 last) ∙ ap (λ n. take n (text ++ 10 ∷ [])) long ∙ take_at text (10 ∷ []) (length text) refl
 
-stays : (text : List ℕ) → (get_or text (length text - 1) 0 == 10) ≡ false → without_last_newline text ≡ text
+pub stays : (text : List ℕ) → (get_or text (length text - 1) 0 == 10) ≡ false → without_last_newline text ≡ text
 unfolding without_last_newline
 stays text other = cond-false _ _ _ other
 
@@ -102,7 +102,7 @@ same_fronts (x ∷ xs) (y ∷ ys) c e =
     let tail : xs ++ c ∷ [] ≡ ys ++ c ∷ [] = cc in
     ap₂ (λ (z : ℕ) (zs : List ℕ). z ∷ zs) head (same_fronts xs ys c tail)
 
-lines_of_some : (text : List ℕ) → 0 < length text → lines_of text ≡ cut_at 10 (without_last_newline text)
+pub lines_of_some : (text : List ℕ) → 0 < length text → lines_of text ≡ cut_at 10 (without_last_newline text)
 unfolding lines_of
 lines_of_some text some = cond-false _ _ _ (ne_eqb (length text) 0 (λ e. omega arith))
 

@@ -1,5 +1,5 @@
 -- What a line of events says: an event, or a question whether some jobs wait for each other alone.
-use Rattle.std.specs.Prelude.{ℕ, ◌+◌, if◌then◌else◌, List, [], ◌∷◌, position, codes, Option, Some, None, Result, option_map, option_and_then}
+use Rattle.std.specs.Prelude.{ℕ, ◌+◌, if◌then◌else◌, List, position, codes, Option, None, Result, option_map, option_and_then}
 use Rattle.std.specs.Str.{bytes_eq}
 use Rattle.readings.specs.Reading.{some_or, read_each}
 use Rattle.job_bodies.specs.Plan.{Plan}
@@ -7,8 +7,9 @@ use Rattle.written_machine.specs.declared.event.Event.{Event}
 use Rattle.written_machine.specs.declared.event.Event.TheVariants as event
 use Rattle.event_lines.specs.declared.event_line.EventLine.{EventLine}
 use Rattle.event_lines.specs.declared.event_line.EventLine.TheVariants as code
-use Rattle.event_lines.specs.Pieces.{lines_of, split_space, words_of}
+use Rattle.event_lines.specs.Pieces.{lines_of, split_space, first_line, behind_line}
 use Rattle.event_lines.specs.Number.{number_of}
+use Rattle.event_lines.specs.Words.{all_of, members_in}
 
 pub data Line : Type 0 where
   Happens : Event → Line
@@ -17,16 +18,11 @@ pub data Line : Type 0 where
 -- a line as the program keeps it
 abbrev pub line_seen : EventLine → Line
 line_seen (code.Happens e) = Happens e
-line_seen (code.Stuck members) = Stuck members.items
+line_seen (code.Stuck members) = Stuck members
 
 -- the number of the pool of this name
 unfoldable pub pool_named : Plan → List ℕ → Option ℕ
 pool_named plan name = position (λ pool. bytes_eq pool.name name) plan.pools
-
--- what each element gives, or None where one gives nothing
-abbrev pub all_of : {X Y : Type 0} → (X → Option Y) → List X → Option (List Y)
-all_of f [] = Some []
-all_of f (x ∷ xs) = option_and_then (λ y. option_map (λ ys. y ∷ ys) (all_of f xs)) (f x)
 
 -- the event of a line's verb, and of what stands after the space behind it
 unfoldable pub event_of : Plan → List ℕ → List ℕ → Option Event
@@ -39,7 +35,7 @@ event_of plan verb rest =
 
 -- a question of jobs, which are named by their numbers
 unfoldable pub stuck_of : List ℕ → Option Line
-stuck_of rest = option_map Stuck (all_of number_of (words_of rest))
+stuck_of rest = option_map Stuck (members_in rest)
 
 -- the line of a verb, and of what stands after the space behind it
 unfoldable pub line_of_verb : Plan → List ℕ → List ℕ → Option Line
@@ -50,6 +46,10 @@ line_of_verb plan verb rest =
 unfoldable pub line_of : Plan → List ℕ → Option Line
 line_of plan text = option_and_then (λ words. line_of_verb plan words.0 words.1) (split_space text)
 
+-- the line that the first line of a text writes, and what stands behind it
+abbrev pub split_event_line : Plan → List ℕ → Option (Line × List ℕ)
+split_event_line plan text = option_map (λ line. (line, behind_line text)) (line_of plan (first_line text))
+
 -- the line at a place of a text, or its number, counted from 1
 abbrev pub line_at : Plan → ℕ → List ℕ → Result Line ℕ
 line_at plan place text = some_or (line_of plan text) (place + 1)
@@ -57,3 +57,7 @@ line_at plan place text = some_or (line_of plan text) (place + 1)
 -- the lines of a text, or the number of the first bad line, counted from 1
 unfoldable pub event_lines : Plan → List ℕ → Result (List Line) ℕ
 event_lines plan text = read_each (line_at plan) 0 (lines_of text)
+
+-- the lines of a text, or None where one is bad
+abbrev pub lines_in : Plan → List ℕ → Option (List Line)
+lines_in plan text = all_of (line_of plan) (lines_of text)

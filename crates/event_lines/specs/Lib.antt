@@ -1,5 +1,6 @@
 pub mod Pieces
 pub mod Number
+pub mod Words
 pub mod EventLine
 pub mod LineText
 pub mod Reply

@@ -1,6 +1,6 @@
 -- A text in pieces: its lines, and the words of a line.
 use Rattle.std.specs.Prelude.{ℕ, Bool, ◌-◌, ◌+◌, ◌==◌, if◌then◌else◌, List, [], length, take, drop, position, slice_index, Option, option_map}
-use Rattle.std.specs.List.{slice_split}
+use Rattle.std.specs.List.{slice_split, before_first, after_first}
 
 abbrev pub is_newline : ℕ → Bool
 is_newline b = b == 10
@@ -15,6 +15,14 @@ without_last_newline text = if slice_index text (length text - 1) == 10 then tak
 -- the lines of a text, each without its newline, which the last line may lack; an empty text has none
 unfoldable pub lines_of : List ℕ → List (List ℕ)
 lines_of text = if length text == 0 then [] else slice_split is_newline (without_last_newline text)
+
+-- the first line of a text, without its newline
+abbrev pub first_line : List ℕ → List ℕ
+first_line text = before_first is_newline text
+
+-- what stands behind the first line and its newline
+abbrev pub behind_line : List ℕ → List ℕ
+behind_line text = after_first is_newline text
 
 -- what stands before and after the first space
 unfoldable pub split_space : List ℕ → Option (List ℕ × List ℕ)

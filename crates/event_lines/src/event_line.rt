@@ -1,100 +1,73 @@
 //! What a line of events says.
 
-ghost use Rattle.std.specs.Prelude.{◌≡◌, ◌+◌, ◌-◌, ◌^◌, min, map, IfOk, option_map};
-ghost use Rattle.readings.specs.Reading.{some_or};
-ghost use Rattle.readings.specs.Given.{Gives};
+ghost use Rattle.std.specs.Prelude.{◌≡◌, ◌≢◌, ◌++◌, ℕ, List, codes, option_map};
+ghost use Rattle.event_lines.specs.Number.{split_number_line};
 ghost use Rattle.event_lines.specs.EventLine.{line_seen};
 ghost use Rattle.event_lines.specs.EventLine as spec;
 
-use crate::number::number_of;
-use crate::pieces::{lines_of, split_space, words_of};
+use crate::members::Members;
+use crate::number::leading_number;
+use crate::pieces::split_line;
 use job_bodies::Plan;
-use readings::{ReadError, read_each};
-use std::alloc::{AllocError, Global};
 use written_machine::Event;
 
 /// What a line of events says.
 #[derive(Debug, Drop)]
-pub enum EventLine {
+pub enum EventLine<'a> {
     /// This event is to happen.
     Happens(Event),
-    /// Do the jobs of these numbers wait for each other alone?
-    Stuck(Vec<usize>),
+    /// Do these jobs wait for each other alone?
+    Stuck(Members<'a>),
 }
 
-/// The lines of a text, each `client N`, `job N`, `take POOL`, `retire POOL` or `stuck N N ..`. A number is at most
-/// [`MOST_NUMBER`](crate::MOST_NUMBER), and has no leading zero; a pool is one of the plan's, by its name. The last
-/// newline may be missing.
+/// What the first line of a text says, and what stands behind that line; None where it says nothing.
 ///
-/// # Errors
-///
-/// [`ReadError::Fault`] with the number of the first line that is none of these forms, counted from 1, and
-/// [`ReadError::Memory`] where memory runs out.
-pub fn read_event_lines(
-    alloc: Global,
+/// The lines of an actor, which are most of them, end where their number does, so no newline is looked for.
+pub(crate) fn split_event_line<'a>(
     plan: &Plan,
-    text: &[u8],
-) -> Result<Vec<EventLine>, ReadError<usize>>
-    ensures { Gives (λ lines. map line_seen lines.items) result (spec.event_lines plan.now text.now) }
+    text: &'a [u8],
+) -> Option<(EventLine<'a>, &'a [u8])>
+    ensures { option_map (λ read. (line_seen read.0, read.1.now)) result ≡ spec.split_event_line plan.now text.now }
 {
-    let texts = lines_of(alloc, text)?;
-    read_each(
-        alloc,
-        &texts,
-        |place, text| line_at(alloc, plan, place, text),
-    )
-}
-
-/// The line at a place. A text has fewer lines than there are places, so each line has its number.
-fn line_at(
-    alloc: Global,
-    plan: &Plan,
-    place: usize,
-    text: &[u8],
-) -> Result<EventLine, ReadError<usize>>
-    ensures { Gives line_seen result (some_or (spec.line_of plan.now text.now) (min (place + 1) (2 ^ 64 - 1))) }
-{
-    event_line(alloc, plan, text)?.ok_or(ReadError::Fault(place.saturating_add(1)))
-}
-
-#[tactic(auto, unfolding(crate::specs::EventLine::line_of, crate::specs::EventLine::line_of_verb))]
-fn event_line(alloc: Global, plan: &Plan, text: &[u8]) -> Result<Option<EventLine>, AllocError>
-    ensures { IfOk result (λ line. option_map line_seen line ≡ spec.line_of plan.now text.now) }
-{
-    let Some((verb, rest)) = split_space(text) else {
-        return Ok(None);
-    };
-    if verb == b"stuck".as_slice() {
-        return stuck_line(alloc, rest);
+    if let Some(client) = text.strip_prefix(b"client ") {
+        let (client, behind) = split_number_line(client)?;
+        return Some((EventLine::Happens(Event::Client(client)), behind));
     }
-    Ok(event_of(plan, verb, rest).map(EventLine::Happens))
+    if let Some(job) = text.strip_prefix(b"job ") {
+        let (job, behind) = split_number_line(job)?;
+        return Some((EventLine::Happens(Event::Job(job)), behind));
+    }
+    let (line, behind) = split_line(text);
+    Some((line_of_others(plan, line)?, behind))
 }
 
-#[tactic(auto, unfolding(crate::specs::EventLine::event_of))]
-fn event_of(plan: &Plan, verb: &[u8], rest: &[u8]) -> Option<Event>
-    ensures { result ≡ spec.event_of plan.now verb.now rest.now }
+/// The number that the first line of a text writes, and what stands behind that line.
+fn split_number_line(text: &[u8]) -> Option<(usize, &[u8])>
+    ensures { option_map (λ read. (read.0, read.1.now)) result ≡ split_number_line text.now }
 {
-    match verb {
-        b"client" => number_of(rest).map(Event::Client),
-        b"job" => number_of(rest).map(Event::Job),
-        b"take" => pool_named(plan, rest).map(Event::Take),
-        b"retire" => pool_named(plan, rest).map(Event::Retire),
-        _ => None,
+    let (number, behind) = leading_number(text)?;
+    if behind.is_empty() {
+        return Some((number, behind));
     }
+    Some((number, behind.strip_prefix(b"\n")?))
 }
 
-fn stuck_line(alloc: Global, text: &[u8]) -> Result<Option<EventLine>, AllocError>
-    ensures { IfOk result (λ line. option_map line_seen line ≡ spec.stuck_of text.now) }
+/// What a line says that names no single client or job.
+fn line_of_others<'a>(plan: &Plan, line: &'a [u8]) -> Option<EventLine<'a>>
+    requires no_client { (number : List ℕ) → line.now ≢ codes "client " ++ number }
+    requires no_job { (number : List ℕ) → line.now ≢ codes "job " ++ number }
+    ensures { option_map line_seen result ≡ spec.line_of plan.now line.now }
 {
-    let mut members = Vec::new(alloc);
-    let words = words_of(alloc, text)?;
-    for word in &words {
-        match number_of(word) {
-            Some(number) => members.push(number)?,
-            None => return Ok(None),
-        }
+    if let Some(pool) = line.strip_prefix(b"take ") {
+        let pool = pool_named(plan, pool)?;
+        return Some(EventLine::Happens(Event::Take(pool)));
     }
-    Ok(Some(EventLine::Stuck(members)))
+    if let Some(pool) = line.strip_prefix(b"retire ") {
+        let pool = pool_named(plan, pool)?;
+        return Some(EventLine::Happens(Event::Retire(pool)));
+    }
+    let members = Members::read(line.strip_prefix(b"stuck ")?)?;
+    Some(EventLine::Stuck(members))
 }
 
 fn pool_named(plan: &Plan, name: &[u8]) -> Option<usize>

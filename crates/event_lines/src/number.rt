@@ -1,8 +1,6 @@
 //! Whole numbers of events.
 
-ghost use Rattle.std.specs.Prelude.{◌≡◌};
-ghost use Rattle.std.specs.Char.{is_ascii_digit};
-ghost use Rattle.std.specs.List.{list_all};
+ghost use Rattle.std.specs.Prelude.{◌≡◌, ◌==◌, ◌&&◌, not, length, option_map};
 ghost use Rattle.event_lines.specs.Number as spec;
 
 /// The greatest number that an event line may name.
@@ -12,34 +10,42 @@ pub const MOST_NUMBER: usize = 1_000_000_000;
 pub fn number_of(text: &[u8]) -> Option<usize>
     ensures { result ≡ spec.number_of text.now }
 {
-    if !is_whole_number(text) {
-        return None;
+    let (number, behind) = leading_number(text)?;
+    if behind.is_empty() {
+        Some(number)
+    } else {
+        None
     }
+}
+
+/// The number that the digits at the front of a text write, and what stands behind them.
+pub fn leading_number(text: &[u8]) -> Option<(usize, &[u8])>
+    ensures { option_map (λ found. (found.0, found.1.now)) result ≡ spec.leading_number text.now }
+{
     let mut value = 0;
-    for digit in text {
-        value = value * 10 + usize::from(*digit - b'0');
+    let mut count = 0;
+    while count < text.len() && text[count].is_ascii_digit() {
+        value = value * 10 + usize::from(text[count] - b'0');
         if value > MOST_NUMBER {
             return None;
         }
+        count += 1;
     }
-    Some(value)
+    let (digits, behind) = text.split_at(count);
+    if !begins_as_number(digits) {
+        return None;
+    }
+    Some((value, behind))
 }
 
-#[tactic(auto, unfolding(crate::specs::Number::is_whole_number))]
-fn is_whole_number(text: &[u8]) -> bool
-    ensures { result ≡ spec.is_whole_number text.now }
+fn begins_as_number(digits: &[u8]) -> bool
+    ensures { result ≡ (not (length digits.now == 0) && not (spec.has_leading_zero digits.now)) }
 {
-    !text.is_empty() && !has_leading_zero(text) && are_digits(text)
+    !digits.is_empty() && !has_leading_zero(digits)
 }
 
 fn has_leading_zero(text: &[u8]) -> bool
     ensures { result ≡ spec.has_leading_zero text.now }
 {
     text.len() > 1 && text[0] == b'0'
-}
-
-fn are_digits(text: &[u8]) -> bool
-    ensures { result ≡ list_all is_ascii_digit text.now }
-{
-    text.iter().all(|byte| byte.is_ascii_digit())
 }

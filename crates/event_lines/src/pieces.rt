@@ -1,28 +1,17 @@
 //! A text in pieces: its lines, and the words of a line.
 
-ghost use Rattle.std.specs.Prelude.{◌≡◌, map, IfOk, option_map};
+ghost use Rattle.std.specs.Prelude.{◌≡◌, option_map};
 ghost use Rattle.event_lines.specs.Pieces as spec;
 
-use std::alloc::{AllocError, Global};
-
-/// The lines of a text, each without its newline, which the last one may lack.
-#[tactic(auto, unfolding(crate::specs::Pieces::lines_of))]
-pub fn lines_of(alloc: Global, text: &[u8]) -> Result<Vec<&[u8]>, AllocError>
-    ensures { IfOk result (λ lines. map (λ line. line.now) lines.items ≡ spec.lines_of text.now) }
+/// The first line of a text, without its newline, and what stands behind it.
+pub fn split_line(text: &[u8]) -> (&[u8], &[u8])
+    ensures line { result.0.now ≡ spec.first_line text.now }
+    ensures behind { result.1.now ≡ spec.behind_line text.now }
 {
-    if text.is_empty() {
-        return Ok(Vec::new(alloc));
+    match text.iter().position(|byte| *byte == b'\n') {
+        Some(newline) => (&text[..newline], &text[newline + 1..]),
+        None => (text, &[]),
     }
-    without_last_newline(text)
-        .split(|byte| *byte == b'\n')
-        .collect(alloc)
-}
-
-#[tactic(auto, unfolding(crate::specs::Pieces::without_last_newline))]
-fn without_last_newline(text: &[u8]) -> &[u8]
-    ensures { result.now ≡ spec.without_last_newline text.now }
-{
-    text.strip_suffix(b"\n").unwrap_or(text)
 }
 
 /// What stands before and after the first space.
@@ -32,11 +21,4 @@ pub fn split_space(text: &[u8]) -> Option<(&[u8], &[u8])>
 {
     let place = text.iter().position(|byte| *byte == b' ')?;
     Some((&text[..place], &text[place + 1..]))
-}
-
-/// The words of a text, with a space between each two.
-pub fn words_of(alloc: Global, text: &[u8]) -> Result<Vec<&[u8]>, AllocError>
-    ensures { IfOk result (λ words. map (λ word. word.now) words.items ≡ spec.words_of text.now) }
-{
-    text.split(|byte| *byte == b' ').collect(alloc)
 }

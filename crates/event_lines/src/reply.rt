@@ -1,8 +1,9 @@
 //! What lines of events are answered.
 
-ghost use Rattle.std.specs.Prelude.{◌≡◌, ◌++◌, OnOk, string_bytes};
+ghost use Rattle.std.specs.Prelude.{◌≡◌, ◌++◌, OnOk, string_bytes, decimal};
 ghost use Rattle.event_lines.specs.Reply.{numbered, outcome_text, reply_text, summary};
 
+use decimals::push_number;
 use job_bodies::Plan;
 use std::alloc::AllocError;
 use written_machine::Outcome;
@@ -32,48 +33,56 @@ pub fn push_reply(
 ) -> Result<(), AllocError>
     ensures { OnOk result (string_bytes text.new ≡ string_bytes text.old ++ numbered number (reply_text plan.now reply)) }
 {
+    push_number(text, number as u64)?;
+    text.push_str(": ")?;
+    push_reply_text(text, plan, reply)?;
+    text.push('\n')
+}
+
+fn push_reply_text(text: &mut String, plan: &Plan, reply: Reply) -> Result<(), AllocError>
+    ensures { OnOk result (string_bytes text.new ≡ string_bytes text.old ++ reply_text plan.now reply) }
+{
     match reply {
-        Reply::Happened(outcome) => push_outcome(text, plan, number, outcome),
-        Reply::NotPossible => writeln!(text, "{number}: not possible"),
-        Reply::Stuck(true) => writeln!(text, "{number}: stuck yes"),
-        Reply::Stuck(false) => writeln!(text, "{number}: stuck no"),
+        Reply::Happened(outcome) => push_outcome(text, plan, outcome),
+        Reply::NotPossible => text.push_str("not possible"),
+        Reply::Stuck(true) => text.push_str("stuck yes"),
+        Reply::Stuck(false) => text.push_str("stuck no"),
     }
 }
 
-fn push_outcome(
-    text: &mut String,
-    plan: &Plan,
-    number: usize,
-    outcome: Outcome,
-) -> Result<(), AllocError>
-    ensures { OnOk result (string_bytes text.new ≡ string_bytes text.old ++ numbered number (outcome_text plan.now outcome)) }
+fn push_outcome(text: &mut String, plan: &Plan, outcome: Outcome) -> Result<(), AllocError>
+    ensures { OnOk result (string_bytes text.new ≡ string_bytes text.old ++ outcome_text plan.now outcome) }
 {
     match outcome {
-        Outcome::Started(job) => writeln!(text, "{number}: started job {job}"),
-        Outcome::Queued(job) => writeln!(text, "{number}: queued job {job}"),
-        Outcome::Refused(pool) => push_refused(text, plan, number, pool),
-        Outcome::Worked(units) => writeln!(text, "{number}: worked {units}"),
-        Outcome::Got(job) => writeln!(text, "{number}: got job {job}"),
-        Outcome::Looped => writeln!(text, "{number}: looped"),
-        Outcome::Finished(job) => writeln!(text, "{number}: finished job {job}"),
-        Outcome::Took(job) => writeln!(text, "{number}: took job {job}"),
-        Outcome::Retired => writeln!(text, "{number}: retired"),
+        Outcome::Started(job) => push_counted(text, "started job ", job as u64),
+        Outcome::Queued(job) => push_counted(text, "queued job ", job as u64),
+        Outcome::Refused(pool) => push_refused(text, plan, pool),
+        Outcome::Worked(units) => push_counted(text, "worked ", u64::from(units)),
+        Outcome::Got(job) => push_counted(text, "got job ", job as u64),
+        Outcome::Looped => text.push_str("looped"),
+        Outcome::Finished(job) => push_counted(text, "finished job ", job as u64),
+        Outcome::Took(job) => push_counted(text, "took job ", job as u64),
+        Outcome::Retired => text.push_str("retired"),
     }
 }
 
-fn push_refused(
-    text: &mut String,
-    plan: &Plan,
-    number: usize,
-    pool: usize,
-) -> Result<(), AllocError>
-    ensures { OnOk result (string_bytes text.new ≡ string_bytes text.old ++ numbered number (outcome_text plan.now (Outcome.Refused pool))) }
+/// Words, and a number behind them.
+fn push_counted(text: &mut String, words: &str, number: u64) -> Result<(), AllocError>
+    ensures { OnOk result (string_bytes text.new ≡ string_bytes text.old ++ (words.now ++ decimal number)) }
+{
+    text.push_str(words)?;
+    push_number(text, number)
+}
+
+fn push_refused(text: &mut String, plan: &Plan, pool: usize) -> Result<(), AllocError>
+    ensures { OnOk result (string_bytes text.new ≡ string_bytes text.old ++ outcome_text plan.now (Outcome.Refused pool)) }
 {
     let name = match plan.pool_at(pool) {
         Some(pool) => pool.name.as_str(),
         None => "",
     };
-    writeln!(text, "{number}: refused by {name}")
+    text.push_str("refused by ")?;
+    text.push_str(name)
 }
 
 /// Ends a replay: how many jobs were refused, and how many were not finished, as `refusals 0, unfinished 2`.

@@ -1,7 +1,5 @@
 -- An answer so far, line by line.
-use Rattle.std.proofs.Common.{◌≡◌, ℕ, ◌+◌, ◌<◌, ◌≤◌, Bool, true, false, cond, List, [], ◌∷◌, ◌++◌, length, map, drop, get_or, Option, Some, None, Result, Ok, Err, IfOk, refl, sym, ap, ap₂, ◌∙◌, add-one, append_assoc}
-use Rattle.std.proofs.Math.Seq.{drop-cons}
-use Rattle.std.proofs.lemmas.List.{drop_all}
+use Rattle.std.proofs.Common.{◌≡◌, ℕ, ◌+◌, ◌<◌, ◌^◌, Bool, true, false, cond, List, [], ◌∷◌, ◌++◌, length, Option, Some, None, Result, Ok, Err, IfOk, refl, sym, ap, ap₂, ◌∙◌, append_assoc, arith}
 use Rattle.job_bodies.specs.Plan.{Plan}
 use Rattle.written_machine.specs.declared.event.Event.{Event}
 use Rattle.written_machine.specs.declared.event.Outcome.{Outcome}
@@ -11,10 +9,9 @@ use Rattle.written_machine.specs.Reach.{start, replay, state_after, IsReached}
 use Rattle.live_views.specs.LiveView.{View, live_view}
 use Rattle.live_views.specs.Answers.{AnswersAs}
 use Rattle.interleaving.specs.OfPlan.{IsOf}
-use Rattle.event_lines.specs.declared.event_line.EventLine.{EventLine}
 use Rattle.event_lines.specs.declared.reply.Reply.{Reply}
 use Rattle.event_lines.specs.declared.reply.Reply.TheVariants as reply
-use Rattle.event_lines.specs.EventLine.{Line, line_seen}
+use Rattle.event_lines.specs.EventLine.{Line}
 use Rattle.sizing_cli.specs.declared.status.Status.{Status}
 use Rattle.sizing_cli.specs.declared.status.Status.TheVariants.{Done, Refused, BadText}
 use Rattle.sizing_cli.specs.Answer.{Answer, then_status, followed_by}
@@ -56,16 +53,18 @@ followed_by-assoc a b c = ap₂ (λ (t : List ℕ) (s : Status). record { text =
 
 -- ---- the lines so far
 
--- the world is a view of a state, and the rest of the lines from there, behind the answer so far, are the whole
-pub record IsSoFar (plan : Plan) (lines : List EventLine) (world : View) (answer : Answer) (index : ℕ) : Type 0 where
+-- so many lines are answered, the world is a view of a state, and the lines that are left, replayed from there behind the
+-- answer so far, are the whole
+pub record IsSoFar (plan : Plan) (lines : List Line) (world : View) (answer : Answer) (number : ℕ) (left : List Line) : Type 0 where
   pub state : State
   pub reached : IsReached plan state
   pub live : live_view plan state ≡ world
-  pub whole : followed_by answer (transcript plan state (index + 1) (map line_seen (drop index lines))) ≡ transcript plan (start plan) 1 (map line_seen lines)
+  pub whole : followed_by answer (transcript plan state (number + 1) left) ≡ transcript plan (start plan) 1 lines
+  pub count : number + length left ≡ length lines
 
 -- no line is read yet
-pub so_far_start : (plan : Plan) (lines : List EventLine) (world : View) → world ≡ live_view plan (start plan) → IsSoFar plan lines world (record { text = []; status = Done }) 0
-so_far_start plan lines world live = record { state = start plan; reached = ([], refl); live = sym live; whole = from_nothing (transcript plan (start plan) 1 (map line_seen lines)) }
+pub so_far_start : (plan : Plan) (lines : List Line) (world : View) → world ≡ live_view plan (start plan) → IsSoFar plan lines world (record { text = []; status = Done }) 0 lines
+so_far_start plan lines world live = record { state = start plan; reached = ([], refl); live = sym live; whole = from_nothing (transcript plan (start plan) 1 lines); count = omega arith }
   where
     nothing_before : (status : Status) → then_status Done status ≡ status
     nothing_before Done = refl
@@ -75,65 +74,62 @@ so_far_start plan lines world live = record { state = start plan; reached = ([],
     from_nothing : (rest : Answer) → followed_by (record { text = []; status = Done }) rest ≡ rest
     from_nothing rest = ap (λ (s : Status). record { text = rest.text; status = s }) (nothing_before rest.status)
 
--- the lines from a place on are the line there and the lines behind it
-lines-drop : (lines : List EventLine) (index : ℕ) (d line : EventLine) → index < length lines → line ≡ get_or lines index d → map line_seen (drop index lines) ≡ line_seen line ∷ map line_seen (drop (index + 1) lines)
-lines-drop lines index d line inside there = rw (drop-cons lines index d inside, there, add-one) refl
+-- there are no more lines than are counted
+pub so_far_fits : (plan : Plan) (lines left rest : List Line) (world : View) (answer : Answer) (number : ℕ) (line : Line) → length lines < 2 ^ 64 → left ≡ line ∷ rest → IsSoFar plan lines world answer number left → number + 1 < 2 ^ 64
+so_far_fits plan lines left rest world answer number line few next so_far = omega (arith, few, so_far.count, ap (λ (ls : List Line). length ls) next)
 
 -- one reply more: what is left behind it is the rest from the state there, or the end
-more_replied : (plan : Plan) (lines : List EventLine) (before after : View) (old new : Answer) (index : ℕ) (reply : Reply) (d line : EventLine)
-    → index < length lines → line ≡ get_or lines index d
-    → (so_far : IsSoFar plan lines before old index) → RepliesSo plan before after (line_seen line) reply → new ≡ followed_by old (replied plan (index + 1) reply)
-    → let x : State × Reply = reply_to plan so_far.state (line_seen line) in
-    followed_by new (cond (is_last reply) (ending x.0) (transcript plan x.0 (index + 1 + 1) (map line_seen (drop (index + 1) lines)))) ≡ transcript plan (start plan) 1 (map line_seen lines)
-more_replied plan lines before after old new index reply d line inside there so_far replies is =
-    let x : State × Reply = reply_to plan so_far.state (line_seen line) in
-    let rest : List Line = map line_seen (drop (index + 1) lines) in
+more_replied : (plan : Plan) (lines left rest : List Line) (before after : View) (old new : Answer) (number : ℕ) (reply : Reply) (line : Line) → left ≡ line ∷ rest
+    → (so_far : IsSoFar plan lines before old number left) → RepliesSo plan before after line reply → new ≡ followed_by old (replied plan (number + 1) reply)
+    → let x : State × Reply = reply_to plan so_far.state line in
+    followed_by new (cond (is_last reply) (ending x.0) (transcript plan x.0 (number + 1 + 1) rest)) ≡ transcript plan (start plan) 1 lines
+more_replied plan lines left rest before after old new number reply line next so_far replies is =
+    let x : State × Reply = reply_to plan so_far.state line in
     let same : x.1 ≡ reply = (replies so_far.state so_far.reached so_far.live).2 in
-    let left = λ (r : Reply). followed_by (replied plan (index + 1) r) (cond (is_last r) (ending x.0) (transcript plan x.0 (index + 1 + 1) rest)) in
-    ap (λ (a : Answer). followed_by a (cond (is_last reply) (ending x.0) (transcript plan x.0 (index + 1 + 1) rest))) is
-    ∙ followed_by-assoc old (replied plan (index + 1) reply) (cond (is_last reply) (ending x.0) (transcript plan x.0 (index + 1 + 1) rest))
-    ∙ ap (λ (r : Reply). followed_by old (left r)) (sym same)
-    ∙ sym (ap (λ (ls : List Line). followed_by old (transcript plan so_far.state (index + 1) ls)) (lines-drop lines index d line inside there))
+    let behind = λ (r : Reply). followed_by (replied plan (number + 1) r) (cond (is_last r) (ending x.0) (transcript plan x.0 (number + 1 + 1) rest)) in
+    ap (λ (a : Answer). followed_by a (cond (is_last reply) (ending x.0) (transcript plan x.0 (number + 1 + 1) rest))) is
+    ∙ followed_by-assoc old (replied plan (number + 1) reply) (cond (is_last reply) (ending x.0) (transcript plan x.0 (number + 1 + 1) rest))
+    ∙ ap (λ (r : Reply). followed_by old (behind r)) (sym same)
+    ∙ sym (ap (λ (ls : List Line). followed_by old (transcript plan so_far.state (number + 1) ls)) next)
     ∙ so_far.whole
 
 -- a reply that is not the last
-pub so_far_replied : (plan : Plan) (lines : List EventLine) (before after : View) (old new : Answer) (index : ℕ) (reply : Reply) (d line : EventLine)
-    → index < length lines → line ≡ get_or lines index d
-    → IsSoFar plan lines before old index → RepliesSo plan before after (line_seen line) reply → new ≡ followed_by old (replied plan (index + 1) reply) → is_last reply ≡ false
-    → IsSoFar plan lines after new (index + 1)
-so_far_replied plan lines before after old new index reply d line inside there so_far replies is more =
-    let x : State × Reply = reply_to plan so_far.state (line_seen line) in
+pub so_far_replied : (plan : Plan) (lines left rest : List Line) (before after : View) (old new : Answer) (number : ℕ) (reply : Reply) (line : Line) → left ≡ line ∷ rest
+    → IsSoFar plan lines before old number left → RepliesSo plan before after line reply → new ≡ followed_by old (replied plan (number + 1) reply) → is_last reply ≡ false
+    → IsSoFar plan lines after new (number + 1) rest
+so_far_replied plan lines left rest before after old new number reply line next so_far replies is more =
+    let x : State × Reply = reply_to plan so_far.state line in
     let here = replies so_far.state so_far.reached so_far.live in
     record {
       state = x.0;
       reached = here.0;
       live = here.1;
-      whole = sym (ap (λ (b : Bool). followed_by new (cond b (ending x.0) (transcript plan x.0 (index + 1 + 1) (map line_seen (drop (index + 1) lines))))) more)
-          ∙ more_replied plan lines before after old new index reply d line inside there so_far replies is;
+      whole = sym (ap (λ (b : Bool). followed_by new (cond b (ending x.0) (transcript plan x.0 (number + 1 + 1) rest))) more)
+          ∙ more_replied plan lines left rest before after old new number reply line next so_far replies is;
+      count = omega (arith, so_far.count, ap (λ (ls : List Line). length ls) next);
     }
 
 -- the last reply ends the answer
-pub so_far_last : (plan : Plan) (lines : List EventLine) (before after : View) (old new whole : Answer) (index : ℕ) (reply : Reply) (d line : EventLine)
-    → index < length lines → line ≡ get_or lines index d
-    → IsSoFar plan lines before old index → RepliesSo plan before after (line_seen line) reply → new ≡ followed_by old (replied plan (index + 1) reply) → is_last reply ≡ true
-    → IsEnded after new whole → whole ≡ transcript plan (start plan) 1 (map line_seen lines)
-so_far_last plan lines before after old new whole index reply d line inside there so_far replies is last ended =
-    let x : State × Reply = reply_to plan so_far.state (line_seen line) in
+pub so_far_last : (plan : Plan) (lines left rest : List Line) (before after : View) (old new whole : Answer) (number : ℕ) (reply : Reply) (line : Line) → left ≡ line ∷ rest
+    → IsSoFar plan lines before old number left → RepliesSo plan before after line reply → new ≡ followed_by old (replied plan (number + 1) reply) → is_last reply ≡ true
+    → IsEnded after new whole → whole ≡ transcript plan (start plan) 1 lines
+so_far_last plan lines left rest before after old new whole number reply line next so_far replies is last ended =
+    let x : State × Reply = reply_to plan so_far.state line in
     let here = replies so_far.state so_far.reached so_far.live in
     ended plan x.0 here.0 here.1
-    ∙ sym (ap (λ (b : Bool). followed_by new (cond b (ending x.0) (transcript plan x.0 (index + 1 + 1) (map line_seen (drop (index + 1) lines))))) last)
-    ∙ more_replied plan lines before after old new index reply d line inside there so_far replies is
+    ∙ sym (ap (λ (b : Bool). followed_by new (cond b (ending x.0) (transcript plan x.0 (number + 1 + 1) rest))) last)
+    ∙ more_replied plan lines left rest before after old new number reply line next so_far replies is
 
 -- no line is left
-pub so_far_ended : (plan : Plan) (lines : List EventLine) (world : View) (answer whole : Answer) (index : ℕ) → length lines ≤ index
-    → IsSoFar plan lines world answer index → IsEnded world answer whole → whole ≡ transcript plan (start plan) 1 (map line_seen lines)
-so_far_ended plan lines world answer whole index all so_far ended =
+pub so_far_ended : (plan : Plan) (lines left : List Line) (world : View) (answer whole : Answer) (number : ℕ) → left ≡ []
+    → IsSoFar plan lines world answer number left → IsEnded world answer whole → whole ≡ transcript plan (start plan) 1 lines
+so_far_ended plan lines left world answer whole number none so_far ended =
     ended plan so_far.state so_far.reached so_far.live
-    ∙ (sym (ap (λ (x : List EventLine). followed_by answer (transcript plan so_far.state (index + 1) (map line_seen x))) (drop_all index lines all)) ∙ so_far.whole)
+    ∙ (sym (ap (λ (ls : List Line). followed_by answer (transcript plan so_far.state (number + 1) ls)) none) ∙ so_far.whole)
 
 -- the world that a transcript goes on from is a view of the plan
-pub so_far_of : (plan : Plan) (lines : List EventLine) (world : View) (answer : Answer) (index : ℕ) → IsSoFar plan lines world answer index → IsOf plan world
-so_far_of plan lines world answer index so_far = (so_far.state, so_far.reached, so_far.live)
+pub so_far_of : (plan : Plan) (lines left : List Line) (world : View) (answer : Answer) (number : ℕ) → IsSoFar plan lines world answer number left → IsOf plan world
+so_far_of plan lines left world answer number so_far = (so_far.state, so_far.reached, so_far.live)
 
 pub if_ok_map : {T E : Type 0} (result : Result T E) (P Q : T → Type 0) → ((x : T) → P x → Q x) → IfOk result P → IfOk result Q
 if_ok_map (Ok x) P Q f h = f x h

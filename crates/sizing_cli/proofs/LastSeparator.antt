@@ -53,7 +53,7 @@ first_line_is text = by_rows (lines text) (some_lines text) (join_with_byte-slic
     by_rows (row ∷ next ∷ rows) some same = inr (join_with_byte 10 (next ∷ rows), sym same)
 
 -- ---- a separator at the beginning
-starts : (text : List ℕ) → starts_with nat_eq text (37 ∷ 37 ∷ 10 ∷ []) ≡ true → text ≡ 37 ∷ 37 ∷ 10 ∷ drop 3 text
+pub starts : (text : List ℕ) → starts_with nat_eq text (37 ∷ 37 ∷ 10 ∷ []) ≡ true → text ≡ 37 ∷ 37 ∷ 10 ∷ drop 3 text
 starts text h =
     let front : take 3 text ≡ 37 ∷ 37 ∷ 10 ∷ [] = sym ((bytes_eq-Decides (37 ∷ 37 ∷ 10 ∷ []) (take 3 text)).0 h) in
     sym (take-append-drop 3 text) ∙ ap (λ (t : List ℕ). t ++ drop 3 text) front

@@ -1,15 +1,25 @@
 -- A split found line by line from the end of an input is the split at its last line `%%`.
-use Rattle.std.proofs.Common.{◌≡◌, ◌≢◌, ◌==◌, inl, inr, ⊎_elim, ℕ, zero, suc, ◌+◌, ◌-◌, ◌<◌, ◌≤◌, Bool, true, false, List, [], ◌∷◌, ◌++◌, length, take, drop, get_or, Option, Some, None, refl, sym, ap, ap₂, subst, ◌∙◌, arith, append_assoc, take-append-drop, length-drop}
-use Rattle.std.specs.List.{IsAfterLastMatch, HoldsAt, All}
+use Rattle.std.proofs.Common.{◌≡◌, ◌≢◌, ◌==◌, inl, inr, ⊎_elim, ℕ, zero, suc, ◌+◌, ◌-◌, ◌<◌, ◌≤◌, Bool, true, false, List, [], ◌∷◌, ◌++◌, length, take, drop, get_or, slice_index, nat_eq, bytes_eq, Option, Some, None, refl, sym, ap, ap₂, subst, ◌∙◌, arith, append_assoc, append-nil, take-append-drop, length-drop}
+use Rattle.std.specs.List.{IsAfterLastMatch, HoldsAt, All, starts_with}
+use Rattle.memchr.specs.Find.{IsLastByte, is_byte}
 use Rattle.std.proofs.Math.Seq.{take-suc}
-use Rattle.std.proofs.lemmas.Bool.{eqb-true}
-use Rattle.std.proofs.lemmas.List.{take-append-le, drop-append-le, get_or-drop}
+use Rattle.std.proofs.Math.Seq.{drop-cons}
+use Rattle.std.proofs.lemmas.Bool.{cases_Bool, eqb-true, eq-eqb, cond-false, true≢false, false_from_ne_true}
+use Rattle.std.proofs.lemmas.Slice.Eq.{bytes_eq-Decides}
+use Rattle.std.proofs.lemmas.List.{get_or_default, take-append-le, drop-append-le, get_or-drop}
 use Rattle.std.proofs.lemmas.List.Elements.{All-head, All-tail}
 use Rattle.std.proofs.lemmas.Option.{none-some}
 use Rattle.sizing_cli.specs.Bundle.{Bundle, split_from, split_here, bundle_here, later_or, bundle_of, after_separator}
 use Rattle.sizing_cli.specs.Laws.{IsWholeLines}
+use Rattle.sizing_cli.proofs.LastSeparator.{starts}
 
--- none of the lines that begin behind this front of the input is `%%`
+-- none of the lines that begin behind this front of the input is `%%`, whichever place of a line it ends at
+pub record AreSeenBehind (input front : List ℕ) : Type 0 where
+  pub behind : List ℕ
+  pub whole : input ≡ front ++ behind
+  pub none : (at_line : Bool) → split_from at_line behind ≡ None
+
+-- none of the lines that begin behind this front of the input, which ends within a line, is `%%`
 pub record IsSeenBehind (input front : List ℕ) : Type 0 where
   pub behind : List ℕ
   pub whole : input ≡ front ++ behind
@@ -24,6 +34,61 @@ pub record IsCutAtLine (input plan rest : List ℕ) : Type 0 where
 abbrev EndsNoLine : ℕ → Type 0
 EndsNoLine b = (b == 10) ≡ false
 
+-- ---- lines without a `%`
+-- a line that begins with another byte is not `%%`
+none_here : (at_line : Bool) (b : ℕ) (text : List ℕ) → (b == 37) ≡ false → split_here at_line (b ∷ text) ≡ None
+none_here false b text other = refl
+none_here true b text other =
+    elim (cases_Bool (starts_with nat_eq (b ∷ text) (37 ∷ 37 ∷ 10 ∷ []))) [
+      | inl like ↦ absurd (other_byte b text (37 ∷ 10 ∷ drop 3 (b ∷ text)) other (starts (b ∷ text) like))
+      | inr unlike ↦
+          elim (cases_Bool (bytes_eq (b ∷ text) (37 ∷ 37 ∷ []))) [
+            | inl same ↦ absurd (other_byte b text (37 ∷ []) other ((bytes_eq-Decides (b ∷ text) (37 ∷ 37 ∷ [])).0 same))
+            | inr unequal ↦ ap bundle_here (cond-false _ _ _ unlike ∙ cond-false _ _ _ unequal)
+          ]
+    ]
+  where
+    other_byte : (b : ℕ) (text rest : List ℕ) → (b == 37) ≡ false → b ∷ text ≡ 37 ∷ rest → ⊥
+    other_byte b text rest other same = true≢false (sym (eq-eqb b 37 (cc same)) ∙ other)
+
+none_without : (at_line : Bool) (front behind : List ℕ) → All (λ b. (b == 37) ≡ false) front → ((at_line : Bool) → split_from at_line behind ≡ None) → split_from at_line (front ++ behind) ≡ None
+none_without at_line [] behind other none = none at_line
+none_without at_line (b ∷ front) behind other none =
+    ap₂ (later_or b) (none_without (b == 10) front behind (All-tail (λ b. (b == 37) ≡ false) b front other) none) (none_here at_line b (front ++ behind) (All-head (λ b. (b == 37) ≡ false) b front other))
+
+-- nothing is seen yet
+pub seen_nothing : (input : List ℕ) → AreSeenBehind input input
+seen_nothing input = record { behind = []; whole = sym (append-nil input); none = λ at_line. none_of_nothing at_line }
+  where
+    none_of_nothing : (at_line : Bool) → split_from at_line [] ≡ None
+    none_of_nothing true = refl
+    none_of_nothing false = refl
+
+-- the bytes behind a place are no `%`
+others_behind : (front : List ℕ) (start : ℕ) → ((k : ℕ) → start ≤ k → k < length front → ¬ ((slice_index front k == 37) ≡ true)) → All (λ b. (b == 37) ≡ false) (drop start front)
+others_behind front start none = λ k d inside.
+    let within : start + k < length front = omega (arith, length-drop start front) in
+    false_from_ne_true _ (λ same. none (start + k) (omega arith) within (ap (λ b. b == 37) (get_or_default front (start + k) 0 d within ∙ sym (get_or-drop start front k d)) ∙ same))
+
+-- there is no `%` in the front
+pub none_in_front : (input front : List ℕ) → IsLastByte (is_byte 37) front None → AreSeenBehind input front → None ≡ bundle_of input
+none_in_front input front last seen = sym (ap bundle_of seen.whole ∙ none_without true front seen.behind (others_behind front 0 last) seen.none)
+
+-- the front before its last `%`
+pub seen_behind_last : (input front : List ℕ) (place : ℕ) → IsLastByte (is_byte 37) front (Some place) → AreSeenBehind input front → IsSeenBehind input (take place front)
+seen_behind_last input front place last seen =
+    let rest : List ℕ = drop (place + 1) front in
+    let here : slice_index front place ≡ 37 = eqb-true _ 37 last.1 in
+    let next : suc place ≡ place + 1 = omega arith in
+    let from_there : drop place front ≡ 37 ∷ rest = drop-cons front place 0 last.0.high ∙ ap₂ (λ (x : ℕ) (xs : List ℕ). x ∷ xs) here (ap (λ n. drop n front) next) in
+    let cut : front ≡ take place front ++ 37 ∷ rest = sym (take-append-drop place front) ∙ ap (λ l. take place front ++ l) from_there in
+    record {
+      behind = 37 ∷ (rest ++ seen.behind);
+      whole = seen.whole ∙ ap (λ l. l ++ seen.behind) cut ∙ append_assoc (take place front) (37 ∷ rest) seen.behind;
+      none = ap (λ later. later_or 37 later None) (none_without false rest seen.behind (others_behind front (place + 1) last.0.after) seen.none);
+    }
+
+-- ---- lines
 -- no line begins within a line
 none_over : (line behind : List ℕ) → All EndsNoLine line → split_from false behind ≡ None → split_from false (line ++ behind) ≡ None
 none_over [] behind unbroken none = none
@@ -88,9 +153,9 @@ module _ (input plan rest : List ℕ) (cut : IsCutAtLine input plan rest) where
       sym (ap bundle_of cut.whole ∙ ap (λ l. bundle_of (l ++ rest)) empty ∙ split_at_line rest cut.none ∙ ap bundle_here (sym none))
 
   -- the line is not `%%`, and stands behind this front and its newline
-  pub seen_further : (front : List ℕ) → None ≡ after_separator rest → plan ≡ front ++ 10 ∷ [] → IsSeenBehind input front
+  pub seen_further : (front : List ℕ) → None ≡ after_separator rest → plan ≡ front ++ 10 ∷ [] → AreSeenBehind input front
   seen_further front none plan_is = record {
     behind = 10 ∷ rest;
     whole = cut.whole ∙ ap (λ l. l ++ rest) plan_is ∙ append_assoc front (10 ∷ []) rest;
-    none = ap (λ later. later_or 10 later None) (split_at_line rest cut.none ∙ ap bundle_here (sym none));
+    none = λ at_line. ap₂ (later_or 10) (split_at_line rest cut.none ∙ ap bundle_here (sym none)) (none_here at_line 10 rest refl);
   }

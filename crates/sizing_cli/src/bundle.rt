@@ -4,6 +4,8 @@ ghost use Rattle.std.specs.Prelude.{◌≡◌, ◌≤◌, ◌==◌, length, opti
 ghost use Rattle.std.specs.List.{IsAfterLastMatch};
 ghost use Rattle.sizing_cli.specs.Bundle as spec;
 
+use memchr::memrchr;
+
 /// A plan text, and what stands behind the last line `%%`.
 #[derive(Clone, Copy, Debug)]
 pub struct Bundle<'a> {
@@ -12,14 +14,17 @@ pub struct Bundle<'a> {
 }
 
 /// Splits an input at its last line `%%`, for which the input's end may stand in place of a newline.
-/// It looks at each line once, the last one first.
+///
+/// It looks at each line with a `%` once, the last one first.
 pub fn bundle_of(input: &[u8]) -> Option<Bundle<'_>>
     ensures { option_map (λ bundle. record { plan = bundle.plan.now; second = bundle.second.now }) result ≡ spec.bundle_of input.now }
 {
-    // The lines behind this front are looked at, and none of them is `%%`.
+    // No line that begins behind this front is `%%`.
     let mut front = input;
     loop {
-        let (plan, rest) = input.split_at(last_line_start(front));
+        // Nor is one that begins behind its last `%`.
+        let percent = memrchr(b'%', front)?;
+        let (plan, rest) = input.split_at(last_line_start(&front[..percent]));
         if let Some(second) = after_separator(rest) {
             return Some(Bundle { plan, second });
         }

@@ -6,9 +6,8 @@ ghost use Rattle.sizing_cli.specs.Report as spec;
 use crate::answer::{Answer, bad_event, input_too_long};
 use crate::limits::MOST_EVENT_BYTES;
 use crate::transcript::transcript;
-use event_lines::read_event_lines;
+use event_lines::EventLines;
 use job_bodies::Plan;
-use readings::ReadError;
 use std::alloc::{AllocError, Global};
 
 /// Replays event lines on a plan. All lines are read before the first event happens.
@@ -18,9 +17,8 @@ pub fn replay(alloc: Global, plan: &Plan, lines: &[u8]) -> Result<Answer, AllocE
     if lines.len() > MOST_EVENT_BYTES {
         return input_too_long(alloc);
     }
-    match read_event_lines(alloc, plan, lines) {
-        Ok(lines) => transcript(alloc, plan, &lines),
-        Err(ReadError::Memory) => Err(AllocError),
-        Err(ReadError::Fault(line)) => bad_event(alloc, line),
+    match EventLines::read(plan, lines) {
+        Ok(lines) => transcript(alloc, plan, lines),
+        Err(line) => bad_event(alloc, line),
     }
 }

@@ -1,6 +1,6 @@
 //! The replay of event lines on a plan.
 
-ghost use Rattle.std.specs.Prelude.{◌≡◌, map, IfOk};
+ghost use Rattle.std.specs.Prelude.{◌≡◌, ◌<◌, ◌^◌, length, IfOk};
 ghost use Rattle.event_lines.specs.EventLine.{line_seen};
 ghost use Rattle.interleaving.specs.OfPlan.{IsOf};
 ghost use Rattle.written_machine.specs.Reach.{start};
@@ -8,20 +8,27 @@ ghost use Rattle.sizing_cli.specs.Transcript as spec;
 ghost use Rattle.sizing_cli.specs.SoFar.{IsEnded, RepliesSo};
 
 use crate::answer::Answer;
-use event_lines::{EventLine, Reply, push_summary};
+use event_lines::{EventLine, EventLines, Reply, push_summary};
 use interleaving::World;
 use job_bodies::Plan;
 use std::alloc::{AllocError, Global};
 
 /// Replays the lines from the plan's start, up to the first event that is not possible.
-pub fn transcript(alloc: Global, plan: &Plan, lines: &[EventLine]) -> Result<Answer, AllocError>
-    ensures { IfOk result (λ answer. answer ≡ spec.transcript plan.now (start plan.now) 1 (map line_seen lines.now)) }
+pub fn transcript(
+    alloc: Global,
+    plan: &Plan,
+    mut lines: EventLines<'_>,
+) -> Result<Answer, AllocError>
+    requires { length lines < 2 ^ 64 }
+    ensures { IfOk result (λ answer. answer ≡ spec.transcript plan.now (start plan.now) 1 lines.entry) }
 {
     let mut world = World::start(alloc, plan)?;
     let mut answer = Answer::empty(alloc);
-    for (index, line) in lines.iter().enumerate() {
-        let reply = reply_to(&mut world, plan, line)?;
-        answer.push_reply(plan, index + 1, reply)?;
+    let mut number = 0;
+    while let Some(line) = lines.next() {
+        number += 1;
+        let reply = reply_to(alloc, &mut world, plan, line)?;
+        answer.push_reply(plan, number, reply)?;
         if is_last(reply) {
             return ended(answer, &world);
         }
@@ -30,16 +37,24 @@ pub fn transcript(alloc: Global, plan: &Plan, lines: &[EventLine]) -> Result<Ans
 }
 
 /// Lets the event of the line happen, or answers its question.
-fn reply_to(world: &mut World, plan: &Plan, line: &EventLine) -> Result<Reply, AllocError>
+fn reply_to(
+    alloc: Global,
+    world: &mut World,
+    plan: &Plan,
+    line: EventLine<'_>,
+) -> Result<Reply, AllocError>
     requires { IsOf plan.now world.old.view }
-    ensures { IfOk result (λ reply. RepliesSo plan.now world.old.view world.new.view (line_seen line.now) reply) }
+    ensures { IfOk result (λ reply. RepliesSo plan.now world.old.view world.new.view (line_seen line.entry) reply) }
 {
     match line {
-        EventLine::Happens(event) => match world.step(plan, *event)? {
+        EventLine::Happens(event) => match world.step(plan, event)? {
             Some(outcome) => Ok(Reply::Happened(outcome)),
             None => Ok(Reply::NotPossible),
         },
-        EventLine::Stuck(members) => Ok(Reply::Stuck(world.stuck(plan, members))),
+        EventLine::Stuck(members) => {
+            let members = members.to_vec(alloc)?;
+            Ok(Reply::Stuck(world.stuck(plan, &members)))
+        }
     }
 }
 

@@ -1,8 +1,7 @@
 //! Texts of events, and the lines that answer them.
 
-use event_lines::{EventLine, Reply, push_reply, push_summary, read_event_lines};
+use event_lines::{EventLine, EventLines, Reply, push_reply, push_summary};
 use job_bodies::{Plan, Pool};
-use readings::ReadError;
 use std::alloc::Global;
 use std::test::Fail;
 use written_machine::{Event, Outcome};
@@ -26,25 +25,25 @@ fn plan_of_p_and_q(alloc: Global) -> Result<Plan, Fail> {
 fn lines_that_are_read(rt: HostRuntime) -> Result<(), Fail> {
     let plan = plan_of_p_and_q(rt.alloc())?;
     let text = b"client 0\njob 1000000000\ntake q\nretire p\nstuck 0 1";
-    let lines = read_event_lines(rt.alloc(), &plan, text)?;
-    assert!(rt;
-        matches!(
-            lines.as_slice(),
-            [
-                EventLine::Happens(Event::Client(0)),
-                EventLine::Happens(Event::Job(1_000_000_000)),
-                EventLine::Happens(Event::Take(1)),
-                EventLine::Happens(Event::Retire(0)),
-                EventLine::Stuck(_),
-            ]
-        )
-    );
-    for line in &lines {
-        if let EventLine::Stuck(members) = line {
-            assert_eq!(rt; members.as_slice(), [0, 1].as_slice());
-        }
+    let Ok(mut lines) = EventLines::read(&plan, text) else {
+        return Err(Fail::from("a line is bad"));
+    };
+    let events = [
+        Event::Client(0),
+        Event::Job(1_000_000_000),
+        Event::Take(1),
+        Event::Retire(0),
+    ];
+    for event in events {
+        let line = lines.next();
+        assert!(rt; matches!(line, Some(EventLine::Happens(happens)) if happens == event));
     }
-    assert!(rt; read_event_lines(rt.alloc(), &plan, b"")?.is_empty());
+    let Some(EventLine::Stuck(members)) = lines.next() else {
+        return Err(Fail::from("the line asks nothing"));
+    };
+    assert_eq!(rt; members.to_vec(rt.alloc())?.as_slice(), [0, 1].as_slice());
+    assert!(rt; lines.next().is_none());
+    assert!(rt; matches!(EventLines::read(&plan, b""), Ok(_)));
     let bad_lines = [
         "",
         "client",
@@ -63,8 +62,8 @@ fn lines_that_are_read(rt: HostRuntime) -> Result<(), Fail> {
     ];
     for line in bad_lines {
         let text = format!(in rt.alloc(); "client 0\n{line}\nclient 0\n")?;
-        let answer = read_event_lines(rt.alloc(), &plan, text.as_bytes());
-        assert!(rt; matches!(answer, Err(ReadError::Fault(2))), "{line}");
+        let answer = EventLines::read(&plan, text.as_bytes());
+        assert!(rt; matches!(answer, Err(2)), "{line}");
     }
     Ok(())
 }

@@ -13,8 +13,3 @@ pub returns-in-None : goal.returns-in-None
 returns-in-None c = λ s reached live.
     rw c.in-Happens.is
     (replies_not_possible c.args.plan.now s _ c.step.new.self.view reached ((rw c.in-None.is at c.in_ok-outcome-in-Happens.ensures.answered) s reached live))
-
-pub returns-in-Stuck : goal.returns-in-Stuck
-returns-in-Stuck c = λ s reached live.
-    rw c.in-Stuck.is
-    (reached, live, ap reply.Stuck (sym (c.stuck.ensures.value s reached live ∙ ap (λ (members : List ℕ). is_waiting_set c.args.plan.now s members) c.deref.ensures.value)))

@@ -1,0 +1,18 @@
+-- The numbers that the words of a text write.
+use Rattle.std.specs.Prelude.{ℕ, List, [], ◌∷◌, Option, Some, None, option_map, option_and_then}
+use Rattle.event_lines.specs.Pieces.{words_of}
+use Rattle.event_lines.specs.Number.{number_of}
+
+-- what each element gives, or None where one gives nothing
+abbrev pub all_of : {X Y : Type 0} → (X → Option Y) → List X → Option (List Y)
+all_of f [] = Some []
+all_of f (x ∷ xs) = option_and_then (λ y. option_map (λ ys. y ∷ ys) (all_of f xs)) (f x)
+
+-- the list, or an empty one
+abbrev pub or_nothing : {X : Type 0} → Option (List X) → List X
+or_nothing (Some xs) = xs
+or_nothing None = []
+
+-- the numbers that the words of a text write, or None where one writes no number
+abbrev pub members_in : List ℕ → Option (List ℕ)
+members_in text = all_of number_of (words_of text)
