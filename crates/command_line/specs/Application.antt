@@ -1,9 +1,9 @@
 -- The application that `clap` reads the words by, as its definitions write one.
-use Rattle.std.specs.Prelude.{ℕ, [], ◌∷◌, true, Some, codes}
+use Rattle.std.specs.Prelude.{ℕ, [], ◌∷◌, true, Some, codes, decimal}
 use Rattle.clap.specs.Words.{App, Rule, Shape, Text, new_app, new_rule, with_rule, with_subcommand}
-use Rattle.clap.specs.declared.builder.action.ArgAction.TheVariants.{Set}
+use Rattle.clap.specs.declared.builder.action.ArgAction.TheVariants.{Set, SetTrue}
 use Rattle.clap.specs.declared.builder.value_parser.ValueParser.TheVariants as parser
-use Rattle.command_line.specs.declared.command.TheConstants.{MOST_ROUNDS, MOST_WORKERS}
+use Rattle.command_line.specs.declared.command.TheConstants.{DEFAULT_WORKERS, MOST_ROUNDS, MOST_WORKERS}
 
 -- the subcommands that have no option
 abbrev pub replay_shape : Shape
@@ -19,12 +19,19 @@ explain_shape = (new_app (codes "explain")).top
 abbrev pub number_option : Text → ℕ → ℕ → Rule
 number_option id low high = record (new_rule id) { long = Some id; action = Some Set; parser = Some (parser.Unsigned low high); value_names = 1 }
 
--- how many threads may search, 4 where it is not said
+-- how many threads may search
 abbrev pub workers_option : Rule
-workers_option = record (number_option (codes "workers") 1 MOST_WORKERS) { defaults = codes "4" ∷ [] }
+workers_option = record (number_option (codes "workers") 1 MOST_WORKERS) { defaults = decimal DEFAULT_WORKERS ∷ [] }
 
 abbrev pub certify_shape : Shape
 certify_shape = (with_rule (new_app (codes "certify")) workers_option).top
+
+-- whether to write a bundle
+abbrev pub bundle_option : Rule
+bundle_option = record (new_rule (codes "bundle")) { long = Some (codes "bundle"); action = Some SetTrue }
+
+abbrev pub fit_shape : Shape
+fit_shape = (with_rule (new_app (codes "fit")) bundle_option).top
 
 -- how often each repeating client goes through its body, which must be said
 abbrev pub rounds_option : Rule
@@ -38,6 +45,8 @@ abbrev pub sizing : App
 sizing =
     with_subcommand
     (with_subcommand
+    (with_subcommand
     (with_subcommand (with_subcommand (with_subcommand (new_app (codes "sizing")) replay_shape) check_shape) explain_shape)
     certify_shape)
+    fit_shape)
     run_shape

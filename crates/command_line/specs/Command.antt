@@ -1,5 +1,6 @@
 -- The command that the words of a command line name.
 use Rattle.std.specs.Prelude.{ℕ, ◌≤◌, List, [], ◌∷◌, Bool, false, not, ◌&&◌, Option, Some, None, is_some, codes, if◌then◌else◌, option_and_then, option_map}
+use Rattle.std.specs.Option.{option_map_or}
 use Rattle.std.specs.Str.{bytes_eq}
 use Rattle.std.specs.Str.Parse.{digits_value, without_leading_plus}
 use Rattle.clap.specs.Words.{Row, Text, fault_of, first_of, subcommand_of}
@@ -10,7 +11,8 @@ use Rattle.clap.specs.declared.error.kind.ErrorKind.TheVariants.{ValueValidation
 use Rattle.command_line.specs.Application.{sizing}
 use Rattle.command_line.specs.declared.command.TheConstants.{MOST_ROUNDS, MOST_WORKERS}
 use Rattle.command_line.specs.declared.command.Command.{Command}
-use Rattle.command_line.specs.declared.command.Command.TheVariants.{Replay, Check, Explain, Certify, Run}
+use Rattle.command_line.specs.declared.command.Command.TheVariants.{Replay, Check, Explain, Certify, Fit, Run}
+use Rattle.command_line.specs.declared.command.Wanted.TheVariants.{Sizes, Bundle}
 
 -- the whole number that a text is, where it lies in the range
 abbrev pub number_in : ℕ → ℕ → Text → Option ℕ
@@ -20,8 +22,15 @@ number_in low high text = if accepts false (parser.Unsigned low high) text then 
 abbrev pub number_of : Text → ℕ → ℕ → List Row → Option ℕ
 number_of id low high rows = option_and_then (number_in low high) (first_of id rows)
 
+-- the option of this name was given, as `clap` writes it down
+abbrev pub is_set : Text → List Row → Bool
+is_set id rows = option_map_or (λ text. bytes_eq text (codes "true")) (first_of id rows) false
+
 abbrev pub certify_with : Option ℕ → Option Command
 certify_with = option_map (λ workers. Certify workers)
+
+abbrev pub fit_with : Bool → Command
+fit_with bundle = Fit (if bundle then Bundle else Sizes)
 
 abbrev pub run_with : Option ℕ → Option Command
 run_with = option_map (λ rounds. Run rounds)
@@ -33,7 +42,8 @@ command_named (name, rows) =
     else (if bytes_eq name (codes "check") then Some Check
     else (if bytes_eq name (codes "explain") then Some Explain
     else (if bytes_eq name (codes "certify") then certify_with (number_of (codes "workers") 1 MOST_WORKERS rows)
-    else (if bytes_eq name (codes "run") then run_with (number_of (codes "rounds") 1 MOST_ROUNDS rows) else None))))
+    else (if bytes_eq name (codes "fit") then Some (fit_with (is_set (codes "bundle") rows))
+    else (if bytes_eq name (codes "run") then run_with (number_of (codes "rounds") 1 MOST_ROUNDS rows) else None)))))
 
 -- the command of the subcommand that was entered, if one was
 abbrev pub command_among : Option (Text × List Row) → Option Command

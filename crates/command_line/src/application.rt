@@ -2,7 +2,7 @@
 ghost use Rattle.std.specs.Prelude.{◌≡◌, IfOk, false};
 ghost use Rattle.clap.specs.Words.{app_of, new_app, rule_of, shape_of};
 ghost use Rattle.clap.specs.declared.builder.command.Command.TheViews.{out-Command as fields_of};
-ghost use Rattle.command_line.specs.Application.{certify_shape, check_shape, explain_shape, number_option, replay_shape, rounds_option, run_shape, sizing, workers_option};
+ghost use Rattle.command_line.specs.Application.{bundle_option, certify_shape, check_shape, explain_shape, fit_shape, number_option, replay_shape, rounds_option, run_shape, sizing, workers_option};
 
 use crate::command::{MOST_ROUNDS, MOST_WORKERS};
 use crate::help;
@@ -22,6 +22,7 @@ pub(crate) fn application<'a>(alloc: Global) -> Result<Command<'a>, AllocError>
         .subcommand(check(alloc))?
         .subcommand(explain(alloc))?
         .subcommand(certify(alloc)?)?
+        .subcommand(fit(alloc)?)?
         .subcommand(run(alloc)?)
 }
 
@@ -85,6 +86,30 @@ fn workers<'a>(alloc: Global) -> Arg<'a>
     number(alloc, "workers", 1, MOST_WORKERS)
         .default_value("4")
         .help("In how many threads to search and to check, 1 to 64")
+}
+
+fn fit<'a>(alloc: Global) -> Result<Command<'a>, AllocError>
+    ensures shape { IfOk result (λ made. shape_of made ≡ fit_shape) }
+    ensures local { IfOk result (λ made. (fields_of made).has_globals ≡ false) }
+{
+    subcommand(
+        alloc,
+        "fit",
+        help::FIT_ABOUT,
+        help::FIT_USAGE,
+        help::FIT_NOTES,
+    )
+    .arg(bundle(alloc))
+}
+
+fn bundle<'a>(alloc: Global) -> Arg<'a>
+    ensures rule { rule_of result ≡ bundle_option }
+    ensures local { result.global ≡ false }
+{
+    Arg::new(alloc, "bundle")
+        .long("bundle")
+        .action(ArgAction::SetTrue)
+        .help("Write the plan with those sizes, and its certificate behind it")
 }
 
 fn run<'a>(alloc: Global) -> Result<Command<'a>, AllocError>

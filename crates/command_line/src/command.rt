@@ -4,6 +4,7 @@ ghost use Rattle.clap.specs.Words.{FailsBy, found_of, rows_of, subcommand_rows_o
 ghost use Rattle.command_line.specs.Command as spec;
 
 use crate::application::application;
+use crate::flag::is_set;
 use crate::number::number_of;
 use clap::error::ErrorKind;
 use clap::{ArgMatches, Error};
@@ -11,6 +12,9 @@ use std::alloc::Global;
 
 /// The most threads that a search may have.
 pub const MOST_WORKERS: u64 = 64;
+
+/// How many threads a search has where it is not said.
+pub const DEFAULT_WORKERS: u64 = 4;
 
 /// The most rounds that a run may have.
 pub const MOST_ROUNDS: u64 = 1_000_000;
@@ -29,11 +33,25 @@ pub enum Command {
         /// In how many threads, 1 to 64.
         workers: usize,
     },
+    /// Looks for sizes with which there is a certificate.
+    Fit {
+        /// What is written of the sizes.
+        wanted: Wanted,
+    },
     /// Runs a certified plan on threads, and counts its jobs and their units of work.
     Run {
         /// How often each repeating client goes through its body, 1 to 1,000,000.
         rounds: u64,
     },
+}
+
+/// What is written of sizes that were found.
+#[derive(Clone, Copy, Debug, PartialEq, Eq)]
+pub enum Wanted {
+    /// A line for each pool, which tells what changes.
+    Sizes,
+    /// The plan with those sizes, and its certificate.
+    Bundle,
 }
 
 /// Reads the words of a command line, of which the first is the program's name.
@@ -74,6 +92,7 @@ fn command_among(matches: &ArgMatches<'_>) -> Option<Command>
         ("check", _) => Some(Command::Check),
         ("explain", _) => Some(Command::Explain),
         ("certify", options) => certify(options),
+        ("fit", options) => Some(fit(options)),
         ("run", options) => run(options),
         _ => None,
     }
@@ -87,6 +106,17 @@ fn certify(options: &ArgMatches<'_>) -> Option<Command>
     Some(Command::Certify {
         workers: workers as usize,
     })
+}
+
+fn fit(options: &ArgMatches<'_>) -> Command
+    ensures { result ≡ spec.fit_with (spec.is_set (codes "bundle") (rows_of (found_of options.now))) }
+{
+    let wanted = if is_set(options, "bundle") {
+        Wanted::Bundle
+    } else {
+        Wanted::Sizes
+    };
+    Command::Fit { wanted }
 }
 
 fn run(options: &ArgMatches<'_>) -> Option<Command>

@@ -10,7 +10,7 @@ pub(crate) const SIZING_USAGE: &str = "sizing <COMMAND>";
 
 /// What the program reads, where to begin, and what the exit status says.
 pub(crate) const SIZING_NOTES: &str = "\
-sizing reads standard input. For `certify` it is a plan. For the others it is a plan, and
+sizing reads standard input. For `certify` and `fit` it is a plan. For the others it is a plan, and
 behind it a line that is exactly `%%`, and then
   for `replay`                      one event a line
   for `check`, `explain` and `run`  a certificate
@@ -18,8 +18,8 @@ It answers on standard output. To begin, paste the example of `sizing certify --
 
 Exit status:
   0  yes, or done
-  1  no: a condition fails, a job is refused or stuck, an event is not possible, or no certificate
-     was found
+  1  no: a condition fails, a job is refused or stuck, an event is not possible, no certificate was
+     found, or sizes change
   2  bad text in the input, a run that is too large, or bad arguments
   3  memory ran out, or reading, writing or running failed";
 
@@ -260,6 +260,69 @@ It answers, with status 0:
 
 yes
 pool pages: standing 2 of 2, blocked 0 of 0";
+
+/// What `fit` does, in the list of commands and at the top of its own help.
+pub(crate) const FIT_ABOUT: &str = "Says which sizes to change so that there is a certificate";
+
+/// How `fit` is called.
+pub(crate) const FIT_USAGE: &str = "sizing fit [--bundle] < PLAN";
+
+/// What `fit` reads and answers, with an example.
+pub(crate) const FIT_NOTES: &str = "\
+PLAN is a plan in TOML, and nothing behind it.
+
+The answer has a line for each pool, as
+  pool NAME: core C, max M, queue Q
+with ` (now X)` behind each number that changes, where X is what PLAN says. The last line is
+`changes N`, where N is how many numbers change. With `--bundle` it is the plan of those sizes, a
+line that is exactly `%%`, and a certificate in JSON, to which `sizing check` answers yes.
+
+No number falls. For the certificate that was found no smaller core or queue would do; another
+certificate may need less.
+
+Or the answer is the line `no fitting sizes found`, and one that says why:
+  class NAME submits itself
+  client NAME action I: submits for ever, never got
+  class NAME action I: submits for ever, never got
+  pool NAME: core above 1000000
+  pool NAME: queue above 1000000
+  no cause was found
+That there is no certificate does not say that the plan is unsafe. Actions are numbered from 0. With
+`--bundle` it may also be the line
+  no bundle: text too long
+
+Exit status:
+  0  no number changes, or a bundle was written
+  1  numbers change, or there is a line that says why nothing was found or written
+  2  bad text in PLAN, or bad arguments
+  3  memory ran out, or reading or writing failed
+
+Example, to be pasted into a shell. Both clients can submit while the pool's worker is idle and has
+taken neither job, and the queue has room for one.
+
+sizing fit <<'END'
+[[pool]]
+name = \"pages\"
+core = 1
+max = 1
+queue = 1
+
+[[class]]
+name = \"render\"
+pool = \"pages\"
+body = [\"work 1\"]
+
+[[client]]
+name = \"browser\"
+count = 2
+repeat = true
+body = [\"submit render as page\", \"get page\"]
+END
+
+It answers, with status 1:
+
+pool pages: core 1, max 1, queue 2 (now 1)
+changes 1";
 
 /// What `run` does, in the list of commands and at the top of its own help.
 pub(crate) const RUN_ABOUT: &str =

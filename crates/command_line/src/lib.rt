@@ -7,7 +7,8 @@
 
 mod application;
 mod command;
+mod flag;
 mod help;
 mod number;
 
-pub use command::{Command, MOST_ROUNDS, MOST_WORKERS, read_words};
+pub use command::{Command, DEFAULT_WORKERS, MOST_ROUNDS, MOST_WORKERS, Wanted, read_words};

@@ -4,5 +4,6 @@ pub mod PastTheLimit
 pub mod LastSeparator
 pub mod SafeInputs
 pub mod Certified
+pub mod FittedAnswers
 pub mod ServedAnswers
 mod Runs

@@ -20,7 +20,7 @@ use Rattle.sizing_cli.specs.Report.{check_of_cert, run_of_cert, run_of_accepted,
 use Rattle.sizing_cli.specs.SafeInput.{IsSafeInput, YesMeansSafe}
 
 -- a question that ends as done is answered yes
-yes_from_done : (answer : Bool) → yes_or_no answer ≡ Done → answer ≡ true
+pub yes_from_done : (answer : Bool) → yes_or_no answer ≡ Done → answer ≡ true
 yes_from_done true done = refl
 yes_from_done false done = absurd cc
 

@@ -10,7 +10,8 @@ use Rattle.job_bodies.specs.Plan.{Plan}
 use Rattle.job_bodies.specs.declared.fault.PlanFault.{PlanFault}
 use Rattle.plan_text.specs.PlanOf.{plan_of}
 use Rattle.command_line.specs.declared.command.Command.{Command}
-use Rattle.command_line.specs.declared.command.Command.TheVariants.{Replay, Check, Explain, Certify, Run}
+use Rattle.command_line.specs.declared.command.Command.TheVariants.{Replay, Check, Explain, Certify, Fit, Run}
+use Rattle.command_line.specs.declared.command.Wanted.TheVariants.{Sizes, Bundle}
 use Rattle.sizing_cli.specs.declared.limits.TheConstants.{MOST_INPUT_BYTES}
 use Rattle.sizing_cli.specs.declared.status.Status.{Status}
 use Rattle.sizing_cli.specs.declared.status.Status.TheVariants.{Done, Refused, BadText}
@@ -20,41 +21,45 @@ use Rattle.sizing_cli.specs.Report.{report, has_report}
 use Rattle.sizing_cli.specs.Certify.{IsCertifyAnswer, IsCertifiedBundle, AnswersReading, AnswersPlan, whole_lines}
 use Rattle.sizing_cli.specs.Served.{IsAnswer, WritesAnswer, WritesFront, MeansSafe}
 use Rattle.sizing_cli.proofs.SafeInputs.{yes_means_safe, run_means_safe}
+use Rattle.sizing_cli.proofs.FittedAnswers.{sizes_mean_safe, bundle_means_fitted}
 
 -- ---- an answer to what was read is one to the whole input
 
-abbrev ByLength : List ℕ → Answer → Bool → Type 0
-ByLength input answer long = MatchBool long (answer ≡ input_too_long) (AnswersReading (whole_lines input) (plan_of (whole_lines input)) answer)
+abbrev ByLength : List ℕ → Answer → Type 0 → Bool → Type 0
+ByLength input answer Answers long = MatchBool long (answer ≡ input_too_long) Answers
 
-pub certify_whole : (remaining : Option (List ℕ)) (items : List ℕ) (answer : Answer) → IfSome remaining (λ input. items ≡ take (MOST_INPUT_BYTES + 1) input) → IsCertifyAnswer items answer
-    → IfSome remaining (λ input. IsCertifyAnswer input answer)
-certify_whole None items answer front is = tt
-certify_whole (Some input) items answer front is =
+-- by its length first
+abbrev IsByLength : (List ℕ → Type 0) → Answer → List ℕ → Type 0
+IsByLength Answers answer input = ByLength input answer (Answers input) (nat_lt MOST_INPUT_BYTES (length input))
+
+pub answered_by_length : (Answers : List ℕ → Type 0) (remaining : Option (List ℕ)) (items slice : List ℕ) (answer : Answer) → IfSome remaining (λ input. items ≡ take (MOST_INPUT_BYTES + 1) input) → slice ≡ items
+    → IsByLength Answers answer slice → IfSome remaining (IsByLength Answers answer)
+answered_by_length Answers None items slice answer front same is = tt
+answered_by_length Answers (Some input) items slice answer front same is =
+    let is_front : slice ≡ take (MOST_INPUT_BYTES + 1) input = same ∙ front in
     elim (cases_lt (MOST_INPUT_BYTES + 1) (length input)) [
       | inl long ↦
-          let cut : length items ≡ MOST_INPUT_BYTES + 1 = ap (λ (l : List ℕ). length l) front ∙ length-take-le (MOST_INPUT_BYTES + 1) input (omega arith) in
-          let too_long : answer ≡ input_too_long = subst (ByLength items answer) (lt-ltb MOST_INPUT_BYTES (length items) (omega arith)) is in
-          subst (ByLength input answer) (sym (lt-ltb MOST_INPUT_BYTES (length input) (omega arith))) too_long
-      | inr short ↦
-          let OfInput : List ℕ → Type 0 = λ l. IsCertifyAnswer l answer in
-          subst OfInput (front ∙ take_all (MOST_INPUT_BYTES + 1) input short) is
+          let cut : length slice ≡ MOST_INPUT_BYTES + 1 = ap (λ (l : List ℕ). length l) is_front ∙ length-take-le (MOST_INPUT_BYTES + 1) input (omega arith) in
+          let too_long : answer ≡ input_too_long = subst (ByLength slice answer (Answers slice)) (lt-ltb MOST_INPUT_BYTES (length slice) (omega arith)) is in
+          subst (ByLength input answer (Answers input)) (sym (lt-ltb MOST_INPUT_BYTES (length input) (omega arith))) too_long
+      | inr short ↦ subst (IsByLength Answers answer) (is_front ∙ take_all (MOST_INPUT_BYTES + 1) input short) is
     ]
 
 -- ---- what is written of it
 
-pub certify_wrote_all : (remaining old new : Option (List ℕ)) (workers : ℕ) (answer : Answer) (bytes : List ℕ) (status : Status)
-    → IfSome remaining (λ input. IsCertifyAnswer input answer) → bytes ≡ answer.text → status ≡ answer.status → Appends old new bytes
-    → IfSome remaining (λ input. WritesAnswer (Certify workers) input status old new)
-certify_wrote_all None old new workers answer bytes status is text same written = tt
-certify_wrote_all (Some input) old new workers answer bytes status is text same written =
+pub wrote_answer : (remaining old new : Option (List ℕ)) (command : Command) (answer : Answer) (bytes : List ℕ) (status : Status)
+    → IfSome remaining (λ input. IsAnswer command input answer) → bytes ≡ answer.text → status ≡ answer.status → Appends old new bytes
+    → IfSome remaining (λ input. WritesAnswer command input status old new)
+wrote_answer None old new command answer bytes status is text same written = tt
+wrote_answer (Some input) old new command answer bytes status is text same written =
     let Written : List ℕ → Type 0 = λ t. Appends old new t in
     record { answer = answer; is_answer = is; written = subst Written text written; status_is = same }
 
-pub certify_wrote_front : (remaining old new : Option (List ℕ)) (workers : ℕ) (answer : Answer) (bytes : List ℕ)
-    → IfSome remaining (λ input. IsCertifyAnswer input answer) → bytes ≡ answer.text → AppendsFront old new bytes
-    → IfSome remaining (λ input. WritesFront (Certify workers) input old new)
-certify_wrote_front None old new workers answer bytes is text written = tt
-certify_wrote_front (Some input) old new workers answer bytes is text written =
+pub wrote_answer_front : (remaining old new : Option (List ℕ)) (command : Command) (answer : Answer) (bytes : List ℕ)
+    → IfSome remaining (λ input. IsAnswer command input answer) → bytes ≡ answer.text → AppendsFront old new bytes
+    → IfSome remaining (λ input. WritesFront command input old new)
+wrote_answer_front None old new command answer bytes is text written = tt
+wrote_answer_front (Some input) old new command answer bytes is text written =
     let Written : List ℕ → Type 0 = λ t. AppendsFront old new t in
     record { answer = answer; is_answer = is; written = subst Written text written }
 
@@ -64,6 +69,7 @@ report_is_answer Replay alone input = refl
 report_is_answer Check alone input = refl
 report_is_answer Explain alone input = refl
 report_is_answer (Certify workers) alone input = absurd cc
+report_is_answer (Fit wanted) alone input = absurd cc
 report_is_answer (Run rounds) alone input = refl
 
 pub report_answered : (result : Result Status ServeFault) (remaining old new : Option (List ℕ)) (command : Command) → has_report command ≡ true
@@ -102,7 +108,7 @@ certified_answer input answer is done = by_length (nat_lt MOST_INPUT_BYTES (leng
         absurd cc
     by_plan (Ok plan) answers = by_answer plan answers
 
-    by_length : (long : Bool) → ByLength input answer long → IsCertifiedBundle (whole_lines input) answer.text
+    by_length : (long : Bool) → ByLength input answer (AnswersReading (whole_lines input) (plan_of (whole_lines input)) answer) long → IsCertifiedBundle (whole_lines input) answer.text
     by_length true too_long =
         let no : BadText ≡ Done = sym (ap (λ (a : Answer). a.status) too_long) ∙ done in
         absurd cc
@@ -112,6 +118,10 @@ means_safe : (command : Command) (input : List ℕ) (status : Status) (old new :
 means_safe Replay input status old new writes done = tt
 means_safe Check input status old new writes done = yes_means_safe input (sym (ap (λ (a : Answer). a.status) writes.is_answer) ∙ (sym writes.status_is ∙ done))
 means_safe Explain input status old new writes done = tt
+means_safe (Fit Sizes) input status old new writes done = sizes_mean_safe input writes.answer writes.is_answer (sym writes.status_is ∙ done)
+means_safe (Fit Bundle) input status old new writes done =
+    let fitted = bundle_means_fitted input writes.answer writes.is_answer (sym writes.status_is ∙ done) in
+    record { plan = fitted.plan; is_plan = fitted.is_plan; text = writes.answer.text; fitted = fitted.bundle; written = writes.written }
 means_safe (Run rounds) input status old new writes done = run_means_safe rounds input (sym (ap (λ (a : Answer). a.status) writes.is_answer) ∙ (sym writes.status_is ∙ done))
 means_safe (Certify workers) input status old new writes done =
     record { text = writes.answer.text; certified = certified_answer input writes.answer writes.is_answer (sym writes.status_is ∙ done); written = writes.written }

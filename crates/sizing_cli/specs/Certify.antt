@@ -33,12 +33,16 @@ pub record IsYes (plan cert : List ℕ) : Type 0 where
   pub yes : IsTrue verdict.yes
   pub safe : IsSafeToRun plan cert
 
--- the text is the plan's, a line `%%` and a certificate's, it splits into just these two, and `check` says yes to them
-pub record IsCertifiedBundle (plan text : List ℕ) : Type 0 where
-  pub cert : List ℕ
+-- the text is these two with a line `%%` between them, it splits into just these two, and `check` says yes to them
+pub record IsBundleWith (plan cert text : List ℕ) : Type 0 where
   pub whole : text ≡ plan ++ (codes "%%" ++ 10 ∷ cert)
   pub splits : bundle_of text ≡ Some (record { plan = plan; second = cert })
   pub says_yes : IsYes plan cert
+
+-- the text is such a bundle of the plan's text and of a certificate's
+pub record IsCertifiedBundle (plan text : List ℕ) : Type 0 where
+  pub cert : List ℕ
+  pub bundle : IsBundleWith plan cert text
 
 pub record IsCertified (plan : List ℕ) (answer : Answer) : Type 0 where
   pub bundle : IsCertifiedBundle plan answer.text

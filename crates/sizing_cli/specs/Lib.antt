@@ -4,6 +4,7 @@ pub mod Transcript
 pub mod Report
 pub mod SafeInput
 pub mod Certify
+pub mod Fit
 pub mod SplitAt
 pub mod Served
 pub mod ServeFault

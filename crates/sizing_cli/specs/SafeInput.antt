@@ -1,5 +1,9 @@
--- Inputs of which a yes of `check` is true.
-use Rattle.std.specs.Prelude.{◌≡◌, ℕ, List, Some}
+-- Inputs of which a yes is true.
+use Rattle.std.specs.Prelude.{◌≡◌, ℕ, List, Some, Ok}
+use Rattle.job_bodies.specs.Plan.{Plan}
+use Rattle.plan_text.specs.PlanOf.{plan_of}
+use Rattle.certificates.specs.Cert.{Cert}
+use Rattle.headline.specs.Headline.{Promises}
 use Rattle.command_line.specs.declared.command.Command.TheVariants.{Check}
 use Rattle.cert_check.specs.Check.{IsSafeToRun}
 use Rattle.sizing_cli.specs.declared.status.Status.TheVariants.{Done}
@@ -11,6 +15,13 @@ pub record IsSafeInput (input : List ℕ) : Type 0 where
   pub bundle : Bundle
   pub is_bundle : bundle_of input ≡ Some bundle
   pub safe : IsSafeToRun bundle.plan bundle.second
+
+-- the input is the text of a plan, and what some certificate promises of it holds
+pub record IsSafePlan (input : List ℕ) : Type 0 where
+  pub plan : Plan
+  pub is_plan : plan_of input ≡ Ok plan
+  pub cert : Cert
+  pub promises : Promises plan cert
 
 -- where check answers yes, the input is such a one
 abbrev pub YesMeansSafe : Type 0

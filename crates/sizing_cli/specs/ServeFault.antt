@@ -5,7 +5,7 @@ use Rattle.byte_streams.specs.declared.reading.InputError.TheVariants.{Memory, F
 use Rattle.cert_search.specs.declared.finding.SearchFault.{SearchFault}
 use Rattle.cert_search.specs.declared.finding.SearchFault.TheVariants as search
 use Rattle.command_line.specs.declared.command.Command.{Command}
-use Rattle.command_line.specs.declared.command.Command.TheVariants.{Replay, Check, Explain, Certify, Run}
+use Rattle.command_line.specs.declared.command.Command.TheVariants.{Replay, Check, Explain, Certify, Fit, Run}
 use Rattle.faults.specs.declared.number.TheConstants.{MEMORY, STRANGE, MIXED, GATE, READ_FAILED, WRITE_FAILED}
 use Rattle.sizing_cli.specs.declared.status.Status.{Status}
 use Rattle.sizing_cli.specs.declared.status.ServeFault.{ServeFault}
@@ -44,4 +44,5 @@ is_known_of Replay number = is_known number
 is_known_of Check number = is_known number
 is_known_of Explain number = is_known number
 is_known_of (Certify workers) number = is_known number || is_of_search number
+is_known_of (Fit wanted) number = is_known number || is_of_search number
 is_known_of (Run rounds) number = is_known number || is_of_run number

@@ -1,14 +1,18 @@
 -- What is written for a command, and what it means.
-use Rattle.std.specs.Prelude.{◌≡◌, ℕ, List, Option}
+use Rattle.std.specs.Prelude.{◌≡◌, ℕ, List, Option, Ok}
 use Rattle.std.specs.Io.KnownBytes.{Appends}
 use Rattle.byte_streams.specs.Writing.{AppendsFront}
+use Rattle.job_bodies.specs.Plan.{Plan}
+use Rattle.plan_text.specs.PlanOf.{plan_of}
 use Rattle.command_line.specs.declared.command.Command.{Command}
-use Rattle.command_line.specs.declared.command.Command.TheVariants.{Replay, Check, Explain, Certify, Run}
+use Rattle.command_line.specs.declared.command.Command.TheVariants.{Replay, Check, Explain, Certify, Fit, Run}
+use Rattle.command_line.specs.declared.command.Wanted.TheVariants.{Sizes, Bundle}
 use Rattle.sizing_cli.specs.declared.status.Status.{Status}
 use Rattle.sizing_cli.specs.Answer.{Answer}
 use Rattle.sizing_cli.specs.Report.{report}
-use Rattle.sizing_cli.specs.SafeInput.{IsSafeInput}
+use Rattle.sizing_cli.specs.SafeInput.{IsSafeInput, IsSafePlan}
 use Rattle.sizing_cli.specs.Certify.{IsCertifyAnswer, IsCertifiedBundle, whole_lines}
+use Rattle.sizing_cli.specs.Fit.{IsFitAnswer, IsFittedBundle}
 
 -- the answer is one that the command may give to the input
 abbrev pub IsAnswer : Command → List ℕ → Answer → Type 0
@@ -16,6 +20,7 @@ IsAnswer Replay input answer = answer ≡ report Replay input
 IsAnswer Check input answer = answer ≡ report Check input
 IsAnswer Explain input answer = answer ≡ report Explain input
 IsAnswer (Certify workers) input answer = IsCertifyAnswer input answer
+IsAnswer (Fit wanted) input answer = IsFitAnswer wanted input answer
 IsAnswer (Run rounds) input answer = answer ≡ report (Run rounds) input
 
 -- such an answer was written, and the status is its
@@ -37,11 +42,22 @@ pub record WritesCertified (input : List ℕ) (old new : Option (List ℕ)) : Ty
   pub certified : IsCertifiedBundle (whole_lines input) text
   pub written : Appends old new text
 
--- what status 0 means: of `check` and `run`, that the input's plan is safe; of `certify`, that what was written is a plan
--- that is
+-- a bundle was written of a plan that differs from the input's in larger sizes alone, and of a certificate to which `check`
+-- says yes
+pub record WritesFitted (input : List ℕ) (old new : Option (List ℕ)) : Type 0 where
+  pub plan : Plan
+  pub is_plan : plan_of input ≡ Ok plan
+  pub text : List ℕ
+  pub fitted : IsFittedBundle plan text
+  pub written : Appends old new text
+
+-- what status 0 means: of `check`, `run` and the sizes of `fit`, that the input's plan is safe; of `certify` and the bundle of
+-- `fit`, that what was written is a plan that is
 abbrev pub MeansSafe : Command → List ℕ → Option (List ℕ) → Option (List ℕ) → Type 0
 MeansSafe Replay input old new = Unit {0}
 MeansSafe Check input old new = IsSafeInput input
 MeansSafe Explain input old new = Unit {0}
 MeansSafe (Certify workers) input old new = WritesCertified input old new
+MeansSafe (Fit Sizes) input old new = IsSafePlan input
+MeansSafe (Fit Bundle) input old new = WritesFitted input old new
 MeansSafe (Run rounds) input old new = IsSafeInput input

@@ -2,19 +2,17 @@
 
 ghost use Rattle.std.specs.Prelude.{◌≡◌, ◌≤◌, IfOk, IfErr, IsTrue, length};
 ghost use Rattle.sizing_cli.specs.Certify as spec;
-ghost use Rattle.sizing_cli.specs.SplitAt.{IsSplitAt};
 ghost use Rattle.sizing_cli.specs.ServeFault.{is_of_search};
 
 use crate::answer::{Answer, input_too_long, plan_fault};
 use crate::at_once::AtOnce;
-use crate::bundle::{Bundle, bundle_of};
+use crate::certified_bundle::certified_bundle;
 use crate::limits::MOST_INPUT_BYTES;
 use crate::output::Output;
 use crate::{ServeFault, Status};
-use cert_check::{CheckFault, check_on};
 use cert_search::search;
 use cert_text::{MOST_TEXT_BYTES, write_cert};
-use faults::number::{GATE, MEMORY};
+use faults::number::MEMORY;
 use job_bodies::{Plan, PlanFault};
 use plan_text::read_plan;
 use std::alloc::{AllocError, Global};
@@ -111,7 +109,7 @@ fn found_text<R: Threads + Wait + Sync>(
     Ok(Found::Text(text))
 }
 
-/// The bundle of the two texts, where it splits into them again and `check` says yes to them.
+/// The bundle of the two texts, where `check` says yes to it.
 fn bundled<R: Threads + Wait + Sync>(
     rt: &R,
     alloc: Global,
@@ -124,56 +122,12 @@ fn bundled<R: Threads + Wait + Sync>(
     ensures answer { IfOk result (spec.AnswersFound plan.items) }
     ensures fault { IfErr result (λ fault. IsTrue (is_of_search fault.number)) }
 {
-    let plan_len = plan.len();
-    let mut text = plan;
-    text.extend_from_slice(b"%%\n")?;
-    text.extend_from_slice(cert)?;
-    if is_certified(rt, alloc, workers, &text, plan_len)? {
-        Ok(Output {
-            bytes: text,
+    match certified_bundle(rt, alloc, workers, plan, cert)? {
+        Some(bytes) => Ok(Output {
+            bytes,
             status: Status::Done,
-        })
-    } else {
-        Ok(Output::of(none_found(alloc)?))
-    }
-}
-
-/// Whether the text is a bundle whose plan has so many bytes, and `check` says yes to its parts.
-fn is_certified<R: Threads + Wait + Sync>(
-    rt: &R,
-    alloc: Global,
-    workers: usize,
-    text: &[u8],
-    plan_len: usize,
-) -> Result<bool, ServeFault>
-    requires some { 1 ≤ workers }
-    requires most { workers ≤ 64 }
-    ensures yes { IfOk result (λ yes. IsTrue yes → IsSplitAt plan_len text.now) }
-    ensures fault { IfErr result (λ fault. IsTrue (is_of_search fault.number)) }
-{
-    match bundle_of(text) {
-        Some(bundle) if bundle.plan.len() == plan_len => says_yes(rt, alloc, workers, bundle),
-        _ => Ok(false),
-    }
-}
-
-/// Whether `check` says yes to the two parts. A fault of either is no yes.
-fn says_yes<R: Threads + Wait + Sync>(
-    rt: &R,
-    alloc: Global,
-    workers: usize,
-    bundle: Bundle<'_>,
-) -> Result<bool, ServeFault>
-    requires some { 1 ≤ workers }
-    requires most { workers ≤ 64 }
-    ensures yes { IfOk result (λ yes. IsTrue yes → spec.IsYes bundle.entry.plan.now bundle.entry.second.now) }
-    ensures fault { IfErr result (λ fault. IsTrue (is_of_search fault.number)) }
-{
-    match check_on(rt, alloc, workers, bundle.plan, bundle.second, &AtOnce) {
-        Ok(verdict) => Ok(verdict.yes),
-        Err(CheckFault::Plan(_) | CheckFault::Cert(_)) => Ok(false),
-        Err(CheckFault::Memory) => Err(ServeFault { number: MEMORY }),
-        Err(CheckFault::Gate) => Err(ServeFault { number: GATE }),
+        }),
+        None => Ok(Output::of(none_found(alloc)?)),
     }
 }
 

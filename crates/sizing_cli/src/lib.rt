@@ -5,7 +5,9 @@ mod alone;
 mod answer;
 mod at_once;
 mod bundle;
+mod certified_bundle;
 mod certify;
+mod fitting;
 mod judging;
 mod laws;
 mod limits;
@@ -19,7 +21,7 @@ mod transcript;
 
 pub use alone::serve_alone;
 pub use byte_streams::{IoFault, MemorySink, MemorySource, Sink, Source, StdSink, StdSource};
-pub use command_line::{Command, read_words};
+pub use command_line::{Command, Wanted, read_words};
 pub use laws::{
     a_yes_means_safe, inputs_split_at_the_last_separator, no_bundle_without_a_separator,
 };

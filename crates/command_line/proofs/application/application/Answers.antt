@@ -1,7 +1,7 @@
 use Rattle.std.proofs.Common.{◌≡◌, ◌∙◌, ap₂, codes, rules}
 use Rattle.std.proofs.lemmas.Result.{IfOk-weaker}
 use Rattle.clap.specs.Words.{app_of, new_app, with_subcommand}
-use Rattle.command_line.specs.Application.{replay_shape, check_shape, explain_shape, certify_shape}
+use Rattle.command_line.specs.Application.{replay_shape, check_shape, explain_shape, certify_shape, fit_shape}
 use Rattle.command_line.proofs.application.application.Goals as goal
 
 pub returns : goal.returns
@@ -15,4 +15,6 @@ returns c =
     c.in_ok-subcommand-3.ensures.shape c.explain.ensures.local ∙ ap₂ with_subcommand two c.explain.ensures.shape in
     let four : app_of c.in_ok-subcommand-4.field-0 ≡ with_subcommand (with_subcommand (with_subcommand (with_subcommand (new_app (codes "sizing")) replay_shape) check_shape) explain_shape) certify_shape =
     c.in_ok-subcommand-4.ensures.shape c.in_ok-certify.ensures.local ∙ ap₂ with_subcommand three c.in_ok-certify.ensures.shape in
-    IfOk-weaker c.subcommand-5.result _ _ (λ made adds. adds.shape c.in_ok-run.ensures.local ∙ ap₂ with_subcommand four c.in_ok-run.ensures.shape) c.subcommand-5.ensures
+    let five : app_of c.in_ok-subcommand-5.field-0 ≡ with_subcommand (with_subcommand (with_subcommand (with_subcommand (with_subcommand (new_app (codes "sizing")) replay_shape) check_shape) explain_shape) certify_shape) fit_shape =
+    c.in_ok-subcommand-5.ensures.shape c.in_ok-fit.ensures.local ∙ ap₂ with_subcommand four c.in_ok-fit.ensures.shape in
+    IfOk-weaker c.subcommand-6.result _ _ (λ made adds. adds.shape c.in_ok-run.ensures.local ∙ ap₂ with_subcommand five c.in_ok-run.ensures.shape) c.subcommand-6.ensures

@@ -1,21 +1,24 @@
-use Rattle.std.proofs.Common.{◌∙◌, ap}
+use Rattle.std.proofs.Common.{◌∙◌, ap, refl}
+use Rattle.command_line.specs.declared.command.Command.TheVariants.{Certify}
+use Rattle.plan_text.specs.PlanOf.{plan_of}
 use Rattle.sizing_cli.specs.Answer.{Answer}
+use Rattle.sizing_cli.specs.Certify.{AnswersReading, whole_lines}
 use Rattle.sizing_cli.proofs.PastTheLimit.{if_err}
-use Rattle.sizing_cli.proofs.ServedAnswers.{certify_whole, certify_wrote_all, certify_wrote_front}
+use Rattle.sizing_cli.proofs.ServedAnswers.{answered_by_length, wrote_answer, wrote_answer_front}
 use Rattle.sizing_cli.proofs.serving.serve_certify.Goals as goal
 
 pub returns-in_err-write_all-clause-front : goal.returns-in_err-write_all-clause-front
 returns-in_err-write_all-clause-front g c =
     if_err c.from_residual-in_err-write_all.result _ _
-    (certify_wrote_front (g.S.Source.remaining c.args.source.now) (g.K.Sink.written c.args.sink.now) (g.K.Sink.written c.write_all.new.sink) c.args.workers c.in_ok-output.output c.deref.result.now
-    (certify_whole (g.S.Source.remaining c.args.source.now) c.in_ok-input.input.items c.in_ok-output.output c.in_ok-input.ensures.front c.in_ok-output.ensures.answer)
+    (wrote_answer_front (g.S.Source.remaining c.args.source.now) (g.K.Sink.written c.args.sink.now) (g.K.Sink.written c.write_all.new.sink) (Certify c.args.workers) c.in_ok-output.output c.deref.result.now
+    (answered_by_length (λ bytes. AnswersReading (whole_lines bytes) (plan_of (whole_lines bytes)) c.in_ok-output.output) (g.S.Source.remaining c.args.source.now) c.in_ok-input.input.items _ c.in_ok-output.output c.in_ok-input.ensures.front refl c.in_ok-output.ensures.answer)
     (c.deref.ensures.value ∙ ap (λ (a : Answer). a.text) c.output.view_is)
     c.in_err-write_all.ensures.err)
 
 pub returns-clause-answered : goal.returns-clause-answered
 returns-clause-answered g c =
-    certify_wrote_all (g.S.Source.remaining c.args.source.now) (g.K.Sink.written c.args.sink.now) (g.K.Sink.written c.write_all.new.sink) c.args.workers c.in_ok-output.output c.deref.result.now _
-    (certify_whole (g.S.Source.remaining c.args.source.now) c.in_ok-input.input.items c.in_ok-output.output c.in_ok-input.ensures.front c.in_ok-output.ensures.answer)
+    wrote_answer (g.S.Source.remaining c.args.source.now) (g.K.Sink.written c.args.sink.now) (g.K.Sink.written c.write_all.new.sink) (Certify c.args.workers) c.in_ok-output.output c.deref.result.now _
+    (answered_by_length (λ bytes. AnswersReading (whole_lines bytes) (plan_of (whole_lines bytes)) c.in_ok-output.output) (g.S.Source.remaining c.args.source.now) c.in_ok-input.input.items _ c.in_ok-output.output c.in_ok-input.ensures.front refl c.in_ok-output.ensures.answer)
     (c.deref.ensures.value ∙ ap (λ (a : Answer). a.text) c.output.view_is)
     (ap (λ (a : Answer). a.status) c.output.view_is)
     c.in_ok-write_all.ensures.ok

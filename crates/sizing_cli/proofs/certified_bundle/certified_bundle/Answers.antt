@@ -1,10 +1,10 @@
-use Rattle.std.proofs.Common.{◌≡◌, inr, List, ℕ, ◌∷◌, ◌++◌, [], codes, length, refl, subst, ap, ◌∙◌, append_assoc}
+use Rattle.std.proofs.Common.{◌≡◌, List, ℕ, ◌∷◌, ◌++◌, [], codes, length, subst, ap, ◌∙◌, append_assoc}
 use Rattle.sizing_cli.specs.SplitAt.{IsSplitAt}
 use Rattle.sizing_cli.proofs.Certified.{certified}
-use Rattle.sizing_cli.proofs.certify.bundled.Goals as goal
+use Rattle.sizing_cli.proofs.certified_bundle.certified_bundle.Goals as goal
 
-pub returns-then-branch-clause-answer : goal.returns-then-branch-clause-answer
-returns-then-branch-clause-answer g c =
+pub returns-then-branch-clause-bundle : goal.returns-then-branch-clause-bundle
+returns-then-branch-clause-bundle g c =
     let plan = c.args.plan.items in
     let cert = c.args.cert.now in
     let text : List ℕ = c.extend_from_slice-2.new.self.items in
@@ -14,4 +14,4 @@ returns-then-branch-clause-answer g c =
     let split : IsSplitAt c.len-plan_len.result c.deref.result.now = c.in_ok-is_certified.ensures.yes c.if-branch.true in
     let OfText : List ℕ → Type 0 = λ l. IsSplitAt c.len-plan_len.result l in
     let OfLength : ℕ → Type 0 = λ n. IsSplitAt n text in
-    inr (record { bundle = certified plan cert text whole (subst OfLength len (subst OfText c.deref.ensures.value split)); status = refl })
+    certified plan cert text whole (subst OfLength len (subst OfText c.deref.ensures.value split))

@@ -1,0 +1,11 @@
+-- The pools so far are told, and their changes counted.
+use Rattle.std.proofs.Common.{length}
+use Rattle.std.specs.Prelude.{string_bytes}
+use Rattle.size_lines.proofs.Telling.{IsToldOf}
+use Rattle.size_lines.proofs.sizes.push_sizes.Given as goal
+
+abbrev pub invariant-loop-pool : goal.invariant-loop-pool
+invariant-loop-pool l =
+    (goal.iterator-loop-pool).can_next l.pool-iterator ×
+    (goal.iterator-loop-pool).is_finite l.pool-iterator ×
+    IsToldOf l.declared l.fit (string_bytes l.fn.text) (length l.yielded) (string_bytes l.text) l.changes

@@ -1,0 +1,58 @@
+//! The sizes of a plan that was fitted, each beside what is declared.
+
+ghost use Rattle.std.specs.Prelude.{◌≡◌, ◌++◌, OnOk, IfOk, string_bytes};
+ghost use Rattle.size_lines.specs.Sizes as spec;
+
+use job_bodies::{Plan, Pool};
+use std::alloc::AllocError;
+
+/// Tells the sizes of a fitted plan, a line for each pool, as `pool pages: core 1, max 1, queue 2 (now 1)` where the
+/// declared queue is 1, and then how many of them change, as `changes 1`. Answers that number.
+///
+/// # Errors
+///
+/// [`AllocError`] where memory runs out.
+pub fn push_sizes(text: &mut String, declared: &Plan, fit: &Plan) -> Result<u64, AllocError>
+    ensures text { OnOk result (string_bytes text.new ≡ string_bytes text.old ++ spec.sizes_text declared.now fit.now) }
+    ensures changes { IfOk result (λ changes. changes ≡ spec.changes declared.now fit.now) }
+{
+    let mut changes = 0;
+    for (pool, fitted) in declared.pools().iter().zip(fit.pools()) {
+        push_pool(text, pool, fitted)?;
+        changes += pool_changes(pool, fitted);
+    }
+    writeln!(text, "changes {changes}")?;
+    Ok(changes)
+}
+
+fn push_pool(text: &mut String, declared: &Pool, fit: &Pool) -> Result<(), AllocError>
+    ensures { OnOk result (string_bytes text.new ≡ string_bytes text.old ++ spec.pool_text declared.now fit.now) }
+{
+    let name = &fit.name;
+    write!(text, "pool {name}: core ")?;
+    push_size(text, declared.core, fit.core)?;
+    text.push_str(", max ")?;
+    push_size(text, declared.max, fit.max)?;
+    text.push_str(", queue ")?;
+    push_size(text, declared.queue, fit.queue)?;
+    text.push('\n')
+}
+
+fn push_size(text: &mut String, declared: u64, fit: u64) -> Result<(), AllocError>
+    ensures { OnOk result (string_bytes text.new ≡ string_bytes text.old ++ spec.size_text declared fit) }
+{
+    if declared == fit {
+        write!(text, "{fit}")
+    } else {
+        write!(text, "{fit} (now {declared})")
+    }
+}
+
+/// How many sizes of the pool change.
+fn pool_changes(declared: &Pool, fit: &Pool) -> u64
+    ensures { result ≡ spec.pool_changes declared.now fit.now }
+{
+    u64::from(declared.core != fit.core)
+        + u64::from(declared.max != fit.max)
+        + u64::from(declared.queue != fit.queue)
+}

@@ -1,0 +1,82 @@
+-- What status 0 means of an answer of `fit`.
+use Rattle.std.proofs.Common.{◌≡◌, ℕ, inl, inr, Bool, true, false, List, length, Result, Ok, Err, IsTrue, refl, sym, ap, subst, ◌∙◌}
+use Rattle.std.specs.Prelude.{MatchBool, nat_lt, ◌==◌}
+use Rattle.std.proofs.lemmas.Bool.{eqb-true}
+use Rattle.job_bodies.specs.Plan.{Plan}
+use Rattle.job_bodies.specs.declared.fault.PlanFault.{PlanFault}
+use Rattle.plan_text.specs.PlanOf.{plan_of}
+use Rattle.certificates.specs.Cert.{Cert}
+use Rattle.headline.specs.Accepted.{accepted}
+use Rattle.headline.proofs.Theorem.{promises}
+use Rattle.cert_check.proofs.Yes.{plans_read_are_well_formed}
+use Rattle.size_search.specs.Sized.{IsSized}
+use Rattle.size_lines.specs.Sizes.{changes}
+use Rattle.size_lines.proofs.Unchanged.{unchanged}
+use Rattle.command_line.specs.declared.command.Wanted.TheVariants.{Sizes, Bundle}
+use Rattle.sizing_cli.specs.declared.limits.TheConstants.{MOST_INPUT_BYTES}
+use Rattle.sizing_cli.specs.declared.status.Status.TheVariants.{Done, Refused, BadText}
+use Rattle.sizing_cli.specs.Answer.{Answer, yes_or_no, input_too_long}
+use Rattle.sizing_cli.specs.SafeInput.{IsSafePlan}
+use Rattle.sizing_cli.specs.Fit.{no_sizes_answer, text_too_long, IsFittedBundle, AnswersPlan, AnswersReading, IsFitAnswer}
+use Rattle.sizing_cli.proofs.SafeInputs.{yes_from_done}
+
+-- an answer with another status is none
+refused_is_not_done : (answer other : Answer) → answer ≡ other → other.status ≡ Refused → answer.status ≡ Done → ⊥
+refused_is_not_done answer other same refused done =
+    let no : Refused ≡ Done = sym refused ∙ (sym (ap (λ (a : Answer). a.status) same) ∙ done) in
+    absurd cc
+
+bad_text_is_not_done : (answer other : Answer) → answer ≡ other → other.status ≡ BadText → answer.status ≡ Done → ⊥
+bad_text_is_not_done answer other same bad done =
+    let no : BadText ≡ Done = sym bad ∙ (sym (ap (λ (a : Answer). a.status) same) ∙ done) in
+    absurd cc
+
+-- where no size changes, the plan is accepted as it is
+sized_as_it_is : (plan fit : Plan) (cert : Cert) → IsSized plan cert fit → changes plan fit ≡ 0 → IsTrue (accepted plan cert)
+sized_as_it_is plan fit cert sized none =
+    subst (λ (p : Plan). IsTrue (accepted p cert)) (unchanged plan fit sized.fits.same_outline none) sized.fits.accepts
+
+pub sizes_mean_safe : (input : List ℕ) (answer : Answer) → IsFitAnswer Sizes input answer → answer.status ≡ Done → IsSafePlan input
+sizes_mean_safe input answer is done = by_length (nat_lt MOST_INPUT_BYTES (length input)) is
+  where
+    by_answer : (plan : Plan) → plan_of input ≡ Ok plan → AnswersPlan Sizes plan answer → IsSafePlan input
+    by_answer plan is_plan (inl told) = absurd (refused_is_not_done answer (no_sizes_answer plan told.cause) told.answer_is refl done)
+    by_answer plan is_plan (inr told) =
+        let yes : yes_or_no (changes plan told.fit == 0) ≡ Done = sym (ap (λ (a : Answer). a.status) told.answer_is) ∙ done in
+        let none : changes plan told.fit ≡ 0 = eqb-true (changes plan told.fit) 0 (yes_from_done (changes plan told.fit == 0) yes) in
+        record {
+          plan = plan;
+          is_plan = is_plan;
+          cert = told.cert;
+          promises = promises plan told.cert (plans_read_are_well_formed input plan is_plan) (sized_as_it_is plan told.fit told.cert told.is_sized none);
+        }
+
+    by_plan : (read : Result Plan PlanFault) → plan_of input ≡ read → AnswersReading Sizes read answer → IsSafePlan input
+    by_plan (Err fault) is_fault bad = absurd (bad_text_is_not_done answer _ bad refl done)
+    by_plan (Ok plan) is_plan answers = by_answer plan is_plan answers
+
+    by_length : (long : Bool) → MatchBool long (answer ≡ input_too_long) (AnswersReading Sizes (plan_of input) answer) → IsSafePlan input
+    by_length true too_long = absurd (bad_text_is_not_done answer input_too_long too_long refl done)
+    by_length false answers = by_plan (plan_of input) refl answers
+
+-- the input's plan, and the bundle that was fitted to it
+pub record IsFittedTo (input text : List ℕ) : Type 0 where
+  pub plan : Plan
+  pub is_plan : plan_of input ≡ Ok plan
+  pub bundle : IsFittedBundle plan text
+
+pub bundle_means_fitted : (input : List ℕ) (answer : Answer) → IsFitAnswer Bundle input answer → answer.status ≡ Done → IsFittedTo input answer.text
+bundle_means_fitted input answer is done = by_length (nat_lt MOST_INPUT_BYTES (length input)) is
+  where
+    by_answer : (plan : Plan) → plan_of input ≡ Ok plan → AnswersPlan Bundle plan answer → IsFittedTo input answer.text
+    by_answer plan is_plan (inl told) = absurd (refused_is_not_done answer (no_sizes_answer plan told.cause) told.answer_is refl done)
+    by_answer plan is_plan (inr (inl too_long)) = absurd (refused_is_not_done answer text_too_long too_long refl done)
+    by_answer plan is_plan (inr (inr fitted)) = record { plan = plan; is_plan = is_plan; bundle = fitted.bundle }
+
+    by_plan : (read : Result Plan PlanFault) → plan_of input ≡ read → AnswersReading Bundle read answer → IsFittedTo input answer.text
+    by_plan (Err fault) is_fault bad = absurd (bad_text_is_not_done answer _ bad refl done)
+    by_plan (Ok plan) is_plan answers = by_answer plan is_plan answers
+
+    by_length : (long : Bool) → MatchBool long (answer ≡ input_too_long) (AnswersReading Bundle (plan_of input) answer) → IsFittedTo input answer.text
+    by_length true too_long = absurd (bad_text_is_not_done answer input_too_long too_long refl done)
+    by_length false answers = by_plan (plan_of input) refl answers

@@ -1,0 +1,68 @@
+-- What `fit` may answer to an input: a relation, since nothing is said of which sizes are found, or that some are.
+use Rattle.std.specs.Prelude.{◌≡◌, ◌⊎◌, ℕ, nat_lt, ◌==◌, List, [], ◌∷◌, ◌++◌, length, codes, Result, Ok, Err, MatchBool}
+use Rattle.job_bodies.specs.Plan.{Plan}
+use Rattle.job_bodies.specs.FaultText.{fault_line}
+use Rattle.job_bodies.specs.declared.fault.PlanFault.{PlanFault}
+use Rattle.plan_text.specs.PlanOf.{plan_of}
+use Rattle.certificates.specs.Cert.{Cert}
+use Rattle.cert_text.specs.CertText.{cert_text}
+use Rattle.size_search.specs.declared.found.NoSizes.{NoSizes}
+use Rattle.size_search.specs.Submitted.{IsCause}
+use Rattle.size_search.specs.Sized.{IsSized}
+use Rattle.size_lines.specs.Sizes.{changes, sizes_text}
+use Rattle.size_lines.specs.Cause.{no_sizes_text}
+use Rattle.command_line.specs.declared.command.Wanted.{Wanted}
+use Rattle.command_line.specs.declared.command.Wanted.TheVariants.{Sizes, Bundle}
+use Rattle.sizing_cli.specs.declared.limits.TheConstants.{MOST_INPUT_BYTES}
+use Rattle.sizing_cli.specs.declared.status.Status.TheVariants.{Done, Refused}
+use Rattle.sizing_cli.specs.Answer.{Answer, fault, input_too_long, yes_or_no}
+use Rattle.sizing_cli.specs.Certify.{IsBundleWith}
+
+-- the sizes of the fitted plan, which are a no where one changes
+abbrev pub sizes_answer : Plan → Plan → Answer
+sizes_answer plan fit = record { text = sizes_text plan fit; status = yes_or_no (changes plan fit == 0) }
+
+abbrev pub no_sizes_answer : Plan → NoSizes → Answer
+no_sizes_answer plan cause = record { text = no_sizes_text plan cause; status = Refused }
+
+abbrev pub text_too_long : Answer
+text_too_long = record { text = codes "no bundle: text too long" ++ 10 ∷ []; status = Refused }
+
+-- none are found, and what the answer says of the plan holds
+pub record TellsCause (plan : Plan) (answer : Answer) : Type 0 where
+  pub cause : NoSizes
+  pub is_cause : IsCause plan cause
+  pub answer_is : answer ≡ no_sizes_answer plan cause
+
+-- a certificate accepts the plan of these sizes, and they are the least for it
+pub record TellsSizes (plan : Plan) (answer : Answer) : Type 0 where
+  pub cert : Cert
+  pub fit : Plan
+  pub is_sized : IsSized plan cert fit
+  pub answer_is : answer ≡ sizes_answer plan fit
+
+-- the bundle of a text of the plan of such sizes, and of the certificate for which they are the least: `check` says yes to it
+pub record IsFittedBundle (plan : Plan) (text : List ℕ) : Type 0 where
+  pub cert : Cert
+  pub fit : Plan
+  pub is_sized : IsSized plan cert fit
+  pub fit_text : List ℕ
+  pub is_fit : plan_of fit_text ≡ Ok fit
+  pub bundle : IsBundleWith fit_text (cert_text cert ++ 10 ∷ []) text
+
+pub record IsFitted (plan : Plan) (answer : Answer) : Type 0 where
+  pub bundle : IsFittedBundle plan answer.text
+  pub status : answer.status ≡ Done
+
+-- to a plan
+abbrev pub AnswersPlan : Wanted → Plan → Answer → Type 0
+AnswersPlan Sizes plan answer = TellsCause plan answer ⊎ TellsSizes plan answer
+AnswersPlan Bundle plan answer = TellsCause plan answer ⊎ ((answer ≡ text_too_long) ⊎ IsFitted plan answer)
+
+abbrev pub AnswersReading : Wanted → Result Plan PlanFault → Answer → Type 0
+AnswersReading wanted (Err f) answer = answer ≡ fault (fault_line f)
+AnswersReading wanted (Ok plan) answer = AnswersPlan wanted plan answer
+
+-- to an input
+abbrev pub IsFitAnswer : Wanted → List ℕ → Answer → Type 0
+IsFitAnswer wanted input answer = MatchBool (nat_lt MOST_INPUT_BYTES (length input)) (answer ≡ input_too_long) (AnswersReading wanted (plan_of input) answer)

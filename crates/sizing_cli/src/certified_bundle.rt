@@ -1,0 +1,78 @@
+//! Bundles to which `check` says yes.
+
+ghost use Rattle.std.specs.Prelude.{◌≤◌, IfOk, IfErr, IfSome, IsTrue};
+ghost use Rattle.sizing_cli.specs.Certify.{IsBundleWith, IsYes};
+ghost use Rattle.sizing_cli.specs.SplitAt.{IsSplitAt};
+ghost use Rattle.sizing_cli.specs.ServeFault.{is_of_search};
+
+use crate::ServeFault;
+use crate::at_once::AtOnce;
+use crate::bundle::{Bundle, bundle_of};
+use cert_check::{CheckFault, check_on};
+use faults::number::{GATE, MEMORY};
+use std::alloc::Global;
+use std::sync::Wait;
+use std::thread::Threads;
+
+/// The bundle of the two texts, where it splits into them again and `check` says yes to them, on its very bytes.
+pub fn certified_bundle<R: Threads + Wait + Sync>(
+    rt: &R,
+    alloc: Global,
+    workers: usize,
+    plan: Vec<u8>,
+    cert: &[u8],
+) -> Result<Option<Vec<u8>>, ServeFault>
+    requires some { 1 ≤ workers }
+    requires most { workers ≤ 64 }
+    ensures bundle { IfOk result (λ found. IfSome found (λ text. IsBundleWith plan.items cert.now text.items)) }
+    ensures fault { IfErr result (λ fault. IsTrue (is_of_search fault.number)) }
+{
+    let plan_len = plan.len();
+    let mut text = plan;
+    text.extend_from_slice(b"%%\n")?;
+    text.extend_from_slice(cert)?;
+    if is_certified(rt, alloc, workers, &text, plan_len)? {
+        Ok(Some(text))
+    } else {
+        Ok(None)
+    }
+}
+
+/// Whether the text is a bundle whose plan has so many bytes, and `check` says yes to its parts.
+fn is_certified<R: Threads + Wait + Sync>(
+    rt: &R,
+    alloc: Global,
+    workers: usize,
+    text: &[u8],
+    plan_len: usize,
+) -> Result<bool, ServeFault>
+    requires some { 1 ≤ workers }
+    requires most { workers ≤ 64 }
+    ensures yes { IfOk result (λ yes. IsTrue yes → IsSplitAt plan_len text.now) }
+    ensures fault { IfErr result (λ fault. IsTrue (is_of_search fault.number)) }
+{
+    match bundle_of(text) {
+        Some(bundle) if bundle.plan.len() == plan_len => says_yes(rt, alloc, workers, bundle),
+        _ => Ok(false),
+    }
+}
+
+/// Whether `check` says yes to the two parts. A fault of either is no yes.
+fn says_yes<R: Threads + Wait + Sync>(
+    rt: &R,
+    alloc: Global,
+    workers: usize,
+    bundle: Bundle<'_>,
+) -> Result<bool, ServeFault>
+    requires some { 1 ≤ workers }
+    requires most { workers ≤ 64 }
+    ensures yes { IfOk result (λ yes. IsTrue yes → IsYes bundle.entry.plan.now bundle.entry.second.now) }
+    ensures fault { IfErr result (λ fault. IsTrue (is_of_search fault.number)) }
+{
+    match check_on(rt, alloc, workers, bundle.plan, bundle.second, &AtOnce) {
+        Ok(verdict) => Ok(verdict.yes),
+        Err(CheckFault::Plan(_) | CheckFault::Cert(_)) => Ok(false),
+        Err(CheckFault::Memory) => Err(ServeFault { number: MEMORY }),
+        Err(CheckFault::Gate) => Err(ServeFault { number: GATE }),
+    }
+}

@@ -1,0 +1,149 @@
+//! The search for sizes, from the bytes of a plan to the lines of its sizes or to a bundle.
+
+ghost use Rattle.std.specs.Prelude.{◌≡◌, IfOk, IfErr, IsTrue};
+ghost use Rattle.size_search.specs.Sized.{IsSized};
+ghost use Rattle.size_search.specs.Submitted.{IsCause};
+ghost use Rattle.sizing_cli.specs.Fit as spec;
+ghost use Rattle.sizing_cli.specs.ServeFault.{is_of_search};
+
+use crate::answer::{Answer, input_too_long, plan_fault};
+use crate::at_once::AtOnce;
+use crate::certified_bundle::certified_bundle;
+use crate::limits::MOST_INPUT_BYTES;
+use crate::output::Output;
+use crate::{ServeFault, Status};
+use cert_search::search;
+use cert_text::write_cert;
+use certificates::Cert;
+use command_line::{DEFAULT_WORKERS, Wanted};
+use faults::number::MEMORY;
+use job_bodies::{Plan, PlanFault};
+use plan_text::read_plan;
+use plan_writer::write_plan;
+use size_lines::{push_no_sizes, push_sizes};
+use size_search::{NoSizes, SizesFound, search_sizes};
+use std::alloc::{AllocError, Global};
+use std::sync::Wait;
+use std::thread::Threads;
+
+/// In how many threads to search and to check.
+const WORKERS: usize = DEFAULT_WORKERS as usize;
+
+/// The answer to an input, which is a plan's text: the sizes with which there is a certificate, or the bundle of that plan
+/// and of the certificate, or why there are none.
+///
+/// # Errors
+///
+/// Fault 20 where memory ran out or a thread could not be started, and 42 and 43 of the search and the check.
+pub fn fit<R: Threads + Wait + Sync>(
+    rt: &R,
+    alloc: Global,
+    wanted: Wanted,
+    input: &[u8],
+) -> Result<Output, ServeFault>
+    ensures answer { IfOk result (spec.IsFitAnswer wanted input.now) }
+    ensures fault { IfErr result (λ fault. IsTrue (is_of_search fault.number)) }
+{
+    if input.len() > MOST_INPUT_BYTES {
+        return Ok(Output::of(input_too_long(alloc)?));
+    }
+    match read_plan(alloc, input) {
+        Ok(plan) => fit_plan(rt, alloc, wanted, &plan),
+        Err(fault) if fault == PlanFault::at_text(MEMORY) => Err(ServeFault::from(AllocError)),
+        Err(fault) => Ok(Output::of(plan_fault(alloc, fault)?)),
+    }
+}
+
+fn fit_plan<R: Threads + Wait + Sync>(
+    rt: &R,
+    alloc: Global,
+    wanted: Wanted,
+    plan: &Plan,
+) -> Result<Output, ServeFault>
+    ensures answer { IfOk result (spec.AnswersPlan wanted plan.now) }
+    ensures fault { IfErr result (λ fault. IsTrue (is_of_search fault.number)) }
+{
+    let first = search(rt, alloc, plan, WORKERS, &AtOnce)?;
+    match search_sizes(alloc, plan, first)? {
+        SizesFound::Found { plan: fit, cert } => found(rt, alloc, wanted, plan, &fit, &cert),
+        SizesFound::NotFound(cause) => Ok(Output::of(not_found(alloc, plan, cause)?)),
+    }
+}
+
+/// What is wanted of the sizes that were found.
+fn found<R: Threads + Wait + Sync>(
+    rt: &R,
+    alloc: Global,
+    wanted: Wanted,
+    plan: &Plan,
+    fit: &Plan,
+    cert: &Cert,
+) -> Result<Output, ServeFault>
+    requires { IsSized plan.now cert.now fit.now }
+    ensures answer { IfOk result (spec.AnswersPlan wanted plan.now) }
+    ensures fault { IfErr result (λ fault. IsTrue (is_of_search fault.number)) }
+{
+    match wanted {
+        Wanted::Sizes => Ok(Output::of(sizes(alloc, plan, fit)?)),
+        Wanted::Bundle => bundle(rt, alloc, plan, fit, cert),
+    }
+}
+
+/// The sizes of the fitted plan, which are a no where they are not those of the plan.
+fn sizes(alloc: Global, plan: &Plan, fit: &Plan) -> Result<Answer, AllocError>
+    ensures { IfOk result (λ answer. answer ≡ spec.sizes_answer plan.now fit.now) }
+{
+    let mut text = String::new(alloc);
+    let changes = push_sizes(&mut text, plan, fit)?;
+    Ok(Answer {
+        text,
+        status: Status::of_question(changes == 0),
+    })
+}
+
+/// The bundle of the fitted plan and of the certificate.
+fn bundle<R: Threads + Wait + Sync>(
+    rt: &R,
+    alloc: Global,
+    plan: &Plan,
+    fit: &Plan,
+    cert: &Cert,
+) -> Result<Output, ServeFault>
+    requires { IsSized plan.now cert.now fit.now }
+    ensures answer { IfOk result (spec.AnswersPlan Wanted.Bundle plan.now) }
+    ensures fault { IfErr result (λ fault. IsTrue (is_of_search fault.number)) }
+{
+    let fit_text = write_plan(alloc, fit)?;
+    let mut cert_text = write_cert(alloc, cert)?;
+    if fit_text.len() > plan_text::MOST_TEXT_BYTES
+        || cert_text.len() >= cert_text::MOST_TEXT_BYTES
+    {
+        return Ok(Output::of(text_too_long(alloc)?));
+    }
+    cert_text.extend_from_slice(b"\n")?;
+    match certified_bundle(rt, alloc, WORKERS, fit_text.into_bytes(), &cert_text)? {
+        Some(bytes) => Ok(Output {
+            bytes,
+            status: Status::Done,
+        }),
+        None => Ok(Output::of(not_found(alloc, plan, NoSizes::Unknown)?)),
+    }
+}
+
+/// The lines that say that no sizes were found, and why.
+fn not_found(alloc: Global, plan: &Plan, cause: NoSizes) -> Result<Answer, AllocError>
+    ensures { IfOk result (λ answer. answer ≡ spec.no_sizes_answer plan.now cause) }
+{
+    let mut text = String::new(alloc);
+    push_no_sizes(&mut text, plan, cause)?;
+    Ok(Answer {
+        text,
+        status: Status::Refused,
+    })
+}
+
+fn text_too_long(alloc: Global) -> Result<Answer, AllocError>
+    ensures { IfOk result (λ answer. answer ≡ spec.text_too_long) }
+{
+    Answer::no(alloc, "no bundle: text too long\n")
+}
