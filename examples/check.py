@@ -3,9 +3,9 @@
 
 An example is a plan NAME.toml with events NAME.events, a certificate NAME.json, or both. NAME.replay is what `sizing
 replay` must answer to the plan, a line `%%` and the events; NAME.check and NAME.explain are what those commands must
-answer to the plan, a line `%%` and the certificate, and NAME.run is what `sizing run --rounds 3` must. The last line of
-each tells the exit status. The program is crates/sizing/out/sizing, or the one that the environment variable SIZING
-names.
+answer to the plan, a line `%%` and the certificate, and NAME.run is what `sizing run --rounds 3` must. NAME.fit is what
+`sizing fit` must answer to the plan alone. The last line of each tells the exit status. The program is
+crates/sizing/out/sizing, or the one that the environment variable SIZING names.
 
 Exit status: 0 where all examples agree, 1 where one differs, 2 where the program isn't there.
 """
@@ -18,7 +18,8 @@ from pathlib import Path
 
 HERE = Path(__file__).resolve().parent
 BUILT = HERE.parent / "crates" / "sizing" / "out" / "sizing"
-SECOND_PARTS = {"replay": "events", "check": "json", "explain": "json", "run": "json"}
+# What stands behind the line `%%`, by its file; None where the plan is all.
+SECOND_PARTS = {"replay": "events", "check": "json", "explain": "json", "run": "json", "fit": None}
 # The words behind the command.
 OPTIONS = {"run": ["--rounds", "3"]}
 SECONDS = 60
@@ -43,14 +44,15 @@ def compare(program, answer):
     """What is wrong with the program's answer to an example; None where it agrees."""
     command = answer.suffix[1:]
     try:
-        plan = answer.with_suffix(".toml").read_bytes()
-        second = answer.with_suffix("." + SECOND_PARTS[command]).read_bytes()
+        given = answer.with_suffix(".toml").read_bytes()
+        if SECOND_PARTS[command]:
+            given += b"%%\n" + answer.with_suffix("." + SECOND_PARTS[command]).read_bytes()
         wanted = answer.read_bytes()
     except OSError as error:
         return f"the example can't be read: {error}"
     try:
         words = [program, command, *OPTIONS.get(command, [])]
-        ended = subprocess.run(words, input=plan + b"%%\n" + second, capture_output=True, timeout=SECONDS)
+        ended = subprocess.run(words, input=given, capture_output=True, timeout=SECONDS)
     except subprocess.TimeoutExpired:
         return f"no answer within {SECONDS} seconds"
     except OSError as error:
