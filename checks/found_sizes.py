@@ -3,7 +3,8 @@
 
 Of each plan:
 
-- A circle of submits, or a submit of a body that a client runs for ever and that no get of the body names, gets that answer.
+- A circle of submits, or a submit of a body that a client runs for ever and that no get of the body names, gets that answer,
+  with the place of one.
 - Every other plan gets sizes. None is smaller than the plan's.
 - A plan that the second search finds a certificate for stays as it is.
 
@@ -24,7 +25,11 @@ import subprocess
 import sys
 from pathlib import Path
 
-from found_certs import NONE, Plan, Pool, answer, levels_of, plan_by_chance, text
+sys.dont_write_bytecode = True
+
+from found_certs import NONE, Plan, Pool, answer, plan_by_chance, text
+from no_sizes import causes
+from read_plans import read_plan
 
 HERE = Path(__file__).resolve().parent
 BUILT = HERE.parent / "crates" / "found_sizes" / "out" / "found_sizes"
@@ -45,7 +50,7 @@ def main():
     plans = [plan_by_chance(chance) for _ in range(count)]
     small = [small_plan(chance) for _ in range(small_count)]
     wrong = 0
-    kinds = {"circle": 0, "never got": 0, "as it is": 0, "sizes change": 0}
+    kinds = {"no sizes help": 0, "as it is": 0, "sizes change": 0}
     for plan, told in zip(plans, answers(program, plans)):
         kind, fault = fault_of(plan, told)
         kinds[kind] += 1
@@ -56,7 +61,7 @@ def main():
         if sizes is None or growth(plan, sizes) > MOST_GROWTH[len(plan.pools)]:
             continue
         tried += 1
-        cheaper = cheaper_sizes(plan, growth(plan, sizes))
+        cheaper = cheaper_sizes(plan, growth(plan, sizes), lambda other: answer(other) != NONE)
         wrong += report(plan, told, cheaper and f"less would do: {cheaper}")
     print(f"{count} plans: " + ", ".join(f"{kind} {number}" for kind, number in kinds.items()))
     print(f"{small_count} small plans, {tried} compared with all sizes; {wrong} of all are wrong")
@@ -79,10 +84,8 @@ def answers(program, plans):
 
 def fault_of(plan, told):
     """Of which kind the plan is, and what is wrong with the answer."""
-    if levels_of(plan) is None:
-        return "circle", "" if told.endswith("submits itself") else "a circle"
-    if never_got(plan):
-        return "never got", "" if told.endswith("submits for ever, never got") else "a submit that is never got"
+    if wanted := causes(read_plan(text(plan))):
+        return "no sizes help", "" if told in wanted else f"wanted one of {sorted(wanted)}"
     sizes = sizes_told(told)
     if sizes is None:
         return "sizes change", "no sizes"
@@ -91,22 +94,6 @@ def fault_of(plan, told):
     if answer(plan) == NONE:
         return "sizes change", ""
     return "as it is", "a change" if growth(plan, sizes) else ""
-
-
-def never_got(plan):
-    """Whether a body that begins again and again, as clients or jobs of theirs, submits what it never gets."""
-    bodies = [client.body for client in plan.clients if client.repeat]
-    seen = set()
-    while bodies:
-        body = bodies.pop()
-        for place, (word, what) in enumerate(body):
-            if word == "submit":
-                if ("get", place) not in body:
-                    return True
-                if what not in seen:
-                    seen.add(what)
-                    bodies.append(plan.classes[what].body)
-    return False
 
 
 # ---- sizes
@@ -129,14 +116,14 @@ def growth(plan, sizes):
     return sum(sum(found) - sum(sizes_of(pool)) for pool, found in zip(plan.pools, sizes))
 
 
-def cheaper_sizes(plan, limit):
-    """Sizes that grow by less than this, all together, and get a certificate; None where there are none."""
+def cheaper_sizes(plan, limit, is_certified):
+    """The cheapest sizes that grow by less than this, all together, and get a certificate; None where there are none."""
     declared = [size for pool in plan.pools for size in sizes_of(pool)]
     for total in range(limit):
         for added in shares(len(declared), total):
             numbers = [size + more for size, more in zip(declared, added)]
             sizes = list(zip(numbers[0::3], numbers[1::3], numbers[2::3]))
-            if all(core <= most for core, most, _ in sizes) and answer(with_sizes(plan, sizes)) != NONE:
+            if all(core <= most for core, most, _ in sizes) and is_certified(with_sizes(plan, sizes)):
                 return sizes
     return None
 
@@ -158,7 +145,7 @@ def small_plan(chance):
         for client in plan.clients:
             client.count = 1
         plan.pools = [small_pool(pool) for pool in plan.pools]
-        if len(plan.pools) <= 2 and levels_of(plan) is not None and not never_got(plan) and answer(plan) == NONE:
+        if len(plan.pools) <= 2 and not causes(read_plan(text(plan))) and answer(plan) == NONE:
             return plan
 
 

@@ -291,8 +291,9 @@ def body_text(plan, body):
 # ---- the program
 
 
-def run(program, command, text):
-    done = subprocess.run([program, command], input=text.encode(), capture_output=True, timeout=SECONDS, check=False)
+def run(program, command, text, *options):
+    words = [program, command, *options]
+    done = subprocess.run(words, input=text.encode(), capture_output=True, timeout=SECONDS, check=False)
     return done.returncode, done.stdout.decode()
 
 

@@ -1,0 +1,38 @@
+"""Reads the text of a plan by Python's own TOML, with none of the crates: names become numbers, and slots the submits that fill
+them."""
+
+import tomllib
+
+from small_plans import Class, Client, Plan, Pool
+
+
+def read_plan(text):
+    tables = tomllib.loads(text)
+    pools = [
+        Pool(pool["name"], pool["core"], pool["max"], pool["queue"], pool.get("prestart", False))
+        for pool in tables.get("pool", [])
+    ]
+    pool_numbers = {pool.name: number for number, pool in enumerate(pools)}
+    class_numbers = {entry["name"]: number for number, entry in enumerate(tables.get("class", []))}
+    classes = [
+        Class(entry["name"], pool_numbers[entry["pool"]], read_body(entry["body"], class_numbers))
+        for entry in tables.get("class", [])
+    ]
+    clients = [
+        Client(entry["name"], entry["count"], entry.get("repeat", False), read_body(entry["body"], class_numbers))
+        for entry in tables.get("client", [])
+    ]
+    return Plan(pools, classes, clients)
+
+
+def read_body(actions, class_numbers):
+    body, filled = [], {}
+    for place, action in enumerate(actions):
+        word, what, *slot = action.split()
+        if word == "submit":
+            if slot:
+                filled[slot[-1]] = place
+            body.append((word, class_numbers[what]))
+        else:
+            body.append((word, filled[what] if word == "get" else int(what)))
+    return body
