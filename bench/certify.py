@@ -18,7 +18,7 @@ sys.dont_write_bytecode = True
 
 from machine import Class, Client, Plan, Pool
 from plan_texts import MOST_ACTIONS, MOST_CLASSES, filled, largest
-from timing import Program, Table, Wrong, built, compiled, costs, has_callgrind, in_folder, instructions
+from timing import Bars, Program, Table, Wrong, built, compiled, costs, in_folder, instruction_cells, tell_if_uncounted
 
 RUNS = 10
 SIZE = 1024 * 1024
@@ -43,20 +43,17 @@ class Bench:
         self.sizing = built("sizing")
         self.reader = built("plan_reader")
         self.measure = compiled(folder, "measure")
-        self.is_counted = has_callgrind()
-        self.exceeded = []
+        self.bars = Bars()
         self.table = Table(
             ("plan", 22), ("bytes", 9), ("certify ms", 10), ("read_plan", 9), ("ratio", 5), ("bar", 4),
             ("M instr", 8), ("beside", 7), ("ratio", 5), ("MiB", 5), ("check", 5), ("ratio", 5), ("bar", 4),
         )
 
     def run(self):
-        self.measured("2 pools, long bodies", two_pools(SIZE), TIME_BAR)
+        self.measured("2 pools, long bodies", filled(two_pools(SIZE).text(), SIZE), TIME_BAR)
         self.measured("64 pools that lend", pools_that_lend(), None)
-        if not self.is_counted:
-            print("no instructions are counted: valgrind is missing (`apt-get install valgrind`)")
-        if self.exceeded:
-            raise Wrong("\n".join(self.exceeded))
+        tell_if_uncounted()
+        self.bars.end()
 
     def measured(self, name, text, bar):
         """Prints a row of the plan of this text, and holds its ratios to their bars."""
@@ -78,15 +75,15 @@ class Bench:
             f"{second.milliseconds:.1f}",
             f"{time:.2f}",
             "-" if bar is None else f"{bar:.1f}",
-            *self.counted([certify, reader]),
+            *instruction_cells(self.folder, [certify, reader]),
             f"{first.mebibytes:.1f}",
             f"{third.mebibytes:.1f}",
             f"{memory:.2f}",
             f"{MEMORY_BAR:.1f}",
         )
         if bar is not None:
-            self.hold(f"{name}: ratio of the times", time, bar)
-            self.hold(f"{name}: ratio of the peaks", memory, MEMORY_BAR)
+            self.bars.hold(f"{name}: ratio of the times", time, bar)
+            self.bars.hold(f"{name}: ratio of the peaks", memory, MEMORY_BAR)
 
     def certified(self, name, text):
         bundle = self.asked("certify", text.encode())
@@ -97,20 +94,9 @@ class Bench:
     def asked(self, command, given):
         return subprocess.run([self.sizing, command], input=given, stdout=subprocess.PIPE, check=False).stdout
 
-    def counted(self, programs):
-        """The cells of the instructions of two programs."""
-        if not self.is_counted:
-            return ["-"] * 3
-        first, second = [instructions(self.folder, program) for program in programs]
-        return [f"{first:.1f}", f"{second:.1f}", f"{first / second:.2f}"]
-
-    def hold(self, what, found, bar):
-        if found > bar:
-            self.exceeded.append(f"{what} is {found:.2f}, and is not to be above {bar:.2f}")
-
 
 def two_pools(size):
-    """256 classes: those of the front submit and get one job of the back after another. The text is filled."""
+    """256 classes: those of the front submit and get one job of the back after another. The text is nearly of this size."""
     slots = [f"slot_{number:027}" for number in range(MOST_ACTIONS // 2)]
     names = [f"class_{number:026}" for number in range(MOST_CLASSES)]
     inner = names[-1]
@@ -121,7 +107,7 @@ def two_pools(size):
         client = Client("client", CLIENTS, True, [f"submit {names[0]} as {slots[0]}", f"get {slots[0]}"])
         return Plan([Pool("front", 4, 4, CLIENTS), Pool("back", 2, 2, 4)], classes, [client])
 
-    return filled(largest(plan, len(slots), size).text(), size)
+    return largest(plan, len(slots), size)
 
 
 def pools_that_lend():

@@ -19,7 +19,7 @@ sys.dont_write_bytecode = True
 
 from bundles import FEW_CLIENTS, MOST_SIZE, every_condition_fails, full_bodies, long_names, long_rows, short_rows
 from certificates import checked, explained
-from timing import Program, Table, Wrong, built, compiled, costs, has_callgrind, in_folder, instructions, run
+from timing import Bars, Program, Table, built, compiled, costs, in_folder, instruction_cells, run, tell_if_uncounted
 
 RUNS = 40
 SIZE = 1024 * 1024
@@ -43,8 +43,7 @@ class Bench:
         self.sizing = built("sizing")
         self.reader = built("plan_reader")
         self.measure = compiled(folder, "measure")
-        self.is_counted = has_callgrind()
-        self.exceeded = []
+        self.bars = Bars()
         self.table = Table(
             ("sizing", 29), ("beside", 20), ("bytes", 9), ("ms", 7), ("beside", 7), ("ratio", 5), ("bar", 4),
             ("M instr", 8), ("beside", 7), ("ratio", 5), ("MiB", 5), ("beside", 6),
@@ -55,10 +54,8 @@ class Bench:
             self.check(make(SIZE))
         self.explain(every_condition_fails(SIZE))
         self.counts(long_rows(SIZE, MOST_SIZE), long_rows(SIZE, FEW_CLIENTS))
-        if not self.is_counted:
-            print("no instructions are counted: valgrind is missing (`apt-get install valgrind`)")
-        if self.exceeded:
-            raise Wrong("\n".join(self.exceeded))
+        tell_if_uncounted()
+        self.bars.end()
 
     def check(self, bundle):
         """Measures a check beside the reading of its texts alone; its peak memory in MiB."""
@@ -75,7 +72,7 @@ class Bench:
         lines, size = explain.answer.count(b"\n"), len(explain.answer) / 2**20
         most = 2 * size + of_check
         print(f"  its answer: {lines} lines, {size:.1f} MiB; its peak: {peak:.1f} MiB, and {most:.1f} MiB at most")
-        self.hold(f"explain, {bundle.name}: MiB", peak, most)
+        self.bars.hold(f"explain, {bundle.name}: MiB", peak, most)
 
     def counts(self, many, few):
         """Measures a check of many clients beside that of few."""
@@ -102,23 +99,12 @@ class Bench:
             f"{second.milliseconds:.2f}",
             f"{ratio:.2f}",
             f"{bar:.1f}",
-            *self.counted(programs),
+            *instruction_cells(self.folder, programs),
             f"{first.mebibytes:.1f}",
             f"{second.mebibytes:.1f}",
         )
-        self.hold(f"{name}: ratio", ratio, bar)
+        self.bars.hold(f"{name}: ratio", ratio, bar)
         return first.mebibytes
-
-    def counted(self, programs):
-        """The cells of the instructions of two programs."""
-        if not self.is_counted:
-            return ["-"] * 3
-        first, second = [instructions(self.folder, program) for program in programs]
-        return [f"{first:.1f}", f"{second:.1f}", f"{first / second:.2f}"]
-
-    def hold(self, what, found, bar):
-        if found > bar:
-            self.exceeded.append(f"{what} is {found:.2f}, and is not to be above {bar:.2f}")
 
 
 if __name__ == "__main__":

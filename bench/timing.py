@@ -115,8 +115,37 @@ def difference(printed, wanted):
     return f"it printed {len(printed) - 1} lines, wanted {len(wanted) - 1}"
 
 
+class Bars:
+    """The bars that are exceeded so far."""
+
+    def __init__(self):
+        self.exceeded = []
+
+    def hold(self, what, found, bar):
+        if found > bar:
+            self.exceeded.append(f"{what} is {found:.2f}, and is not to be above {bar:.2f}")
+
+    def end(self):
+        """Says at the end of the benchmark which they are."""
+        if self.exceeded:
+            raise Wrong("\n".join(self.exceeded))
+
+
 def has_callgrind():
     return shutil.which("valgrind") is not None
+
+
+def tell_if_uncounted():
+    if not has_callgrind():
+        print("no instructions are counted: valgrind is missing (`apt-get install valgrind`)")
+
+
+def instruction_cells(folder, programs):
+    """The cells of the instructions of two programs, and of their ratio."""
+    if not has_callgrind():
+        return ["-"] * 3
+    first, second = [instructions(folder, program) for program in programs]
+    return [f"{first:.1f}", f"{second:.1f}", f"{first / second:.2f}"]
 
 
 def instructions(folder, program):
