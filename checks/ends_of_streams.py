@@ -24,6 +24,8 @@ COMMANDS = [
     (["check"], ["two-clients.toml", "two-clients.json"]),
     (["explain"], ["two-clients.toml", "two-clients.json"]),
     (["certify"], ["two-clients.toml"]),
+    (["fit"], ["two-clients.toml"]),
+    (["fit", "--bundle"], ["two-clients.toml"]),
     (["run", "--rounds", "3"], ["two-clients-queue-of-two.toml", "two-clients-queue-of-two.json"]),
 ]
 BAD_ROUNDS = [[], ["--rounds"], *(["--rounds", word] for word in ("0", "1000001", "-1", "three", "18446744073709551617"))]
@@ -49,17 +51,18 @@ def main():
 
 def cases(program, folder):
     """Each case's name, its run, and how it must end: in this very way, or, without one, as where the words are bad."""
-    for (command, *options), parts in COMMANDS:
-        given = folder / command
+    for command, parts in COMMANDS:
+        title = " ".join(command)
+        given = folder / command[0]
         given.write_bytes(b"%%\n".join((EXAMPLES / part).read_bytes() for part in parts))
-        words = [program, command, *options]
-        yield f"{command}, a full device as standard output", lambda: full_device(words, given), NOT_WRITTEN
-        yield f"{command}, a closed standard output", lambda: ends(words, given, close=1), NOT_WRITTEN
-        yield f"{command}, a pipe that nobody reads", lambda: broken_pipe(words, given), NOT_WRITTEN
-        yield f"{command}, a directory as standard input", lambda: ends(words, folder), NOT_READ
-        yield f"{command}, a closed standard input", lambda: ends(words, given, close=0), NOT_READ
-        yield f"{command}, a word too many", lambda: ends([*words, "now"], given), None
-        yield f"help of {command}", lambda: ends([*words, "--help"], given), None
+        words = [program, *command]
+        yield f"{title}, a full device as standard output", lambda: full_device(words, given), NOT_WRITTEN
+        yield f"{title}, a closed standard output", lambda: ends(words, given, close=1), NOT_WRITTEN
+        yield f"{title}, a pipe that nobody reads", lambda: broken_pipe(words, given), NOT_WRITTEN
+        yield f"{title}, a directory as standard input", lambda: ends(words, folder), NOT_READ
+        yield f"{title}, a closed standard input", lambda: ends(words, given, close=0), NOT_READ
+        yield f"{title}, a word too many", lambda: ends([*words, "now"], given), None
+        yield f"help of {title}", lambda: ends([*words, "--help"], given), None
     for options in BAD_ROUNDS:
         yield " ".join(["run", *options]), lambda: ends([program, "run", *options], folder / "run"), None
     given = folder / "check"

@@ -26,14 +26,19 @@ BUILT = HERE.parent / "crates" / "sizing" / "out" / "sizing"
 EXAMPLES = HERE.parent / "examples"
 # What stands behind the line `%%`, by its file.
 SECOND_PARTS = {"replay": "events", "check": "json", "explain": "json", "run": "json"}
+# The commands that write a bundle, which no file has.
+BUNDLING = ("certify", "fit --bundle")
 # The words behind the command.
 OPTIONS = {"run": ["--rounds", "3"]}
 JUDGED = ["two-clients-queue-of-two", "nested-two-workers", "web-and-database-sized", "cross-pools-two-threads"]
+FITTED = ["two-clients-queue-of-two", "web-and-database-sized", "two-clients", "there-and-back", "prestarted"]
 CASES = [
     *[("replay", name) for name in ("two-clients", "cross-pools", "there-and-back")],
     *[("check", name) for name in [*JUDGED, "front-and-back", "there-and-back"]],
     *[("explain", name) for name in [*JUDGED, "front-and-back", "two-clients", "cross-pools", "there-and-back"]],
     *[("certify", name) for name in [*JUDGED, "front-and-back", "two-clients", "there-and-back"]],
+    *[("fit", name) for name in [*FITTED, "web-and-database"]],
+    *[("fit --bundle", name) for name in FITTED],
     *[("run", name) for name in [*JUDGED, "there-and-back", "front-and-back"]],
 ]
 SHARED_OBJECT = "refuse_growth.so"
@@ -91,7 +96,7 @@ def compile_object(folder, name):
 def sweep(folder, program, command, name):
     """Refuses each growth of a command on an example in turn, and prints what it finds; how many runs end wrongly."""
     given = given_to(command, name)
-    right = certified_end(program, given) if command == "certify" else right_end(command, name)
+    right = bundle_end(program, command, given) if command in BUNDLING else right_end(command, name)
     title = f"{command} {name}"
     ended, _ = run(folder, program, command, given, 0)
     if ended != right:
@@ -118,9 +123,8 @@ def sweep(folder, program, command, name):
 
 def given_to(command, name):
     """What a command reads of an example."""
-    if command == "certify":
-        return contents(f"{name}.toml")
-    return contents(f"{name}.toml") + b"%%\n" + contents(f"{name}.{SECOND_PARTS[command]}")
+    plan = contents(f"{name}.toml")
+    return plan + b"%%\n" + contents(f"{name}.{SECOND_PARTS[command]}") if command in SECOND_PARTS else plan
 
 
 def right_end(command, name):
@@ -139,15 +143,21 @@ def right_end(command, name):
         raise Unable(f"the last line of {name}.{command} tells no status")
 
 
-def certified_end(program, plan):
-    """How `certify` ends where nothing is refused: with a bundle of the plan to which `check` says yes, or with none found."""
-    done = subprocess.run([program, "certify"], input=plan, capture_output=True, timeout=SECONDS, check=False)
-    if done.stdout == b"no certificate found\n":
+def bundle_end(program, command, plan):
+    """How a command that writes a bundle ends where nothing is refused: with one to which `check` says yes, or, of `certify`,
+    with none found. The plan of the latter's bundle is the given one."""
+    done = subprocess.run(words_of(program, command), input=plan, capture_output=True, timeout=SECONDS, check=False)
+    if command == "certify" and done.stdout == b"no certificate found\n":
         return Ended(1, done.stdout, b"")
     check = subprocess.run([program, "check"], input=done.stdout, capture_output=True, timeout=SECONDS, check=False)
-    if not done.stdout.startswith(plan) or not check.stdout.startswith(b"yes\n"):
-        raise Unable(f"certify answers {done.stdout!r}")
+    is_of_plan = command != "certify" or done.stdout.startswith(plan)
+    if not is_of_plan or not check.stdout.startswith(b"yes\n"):
+        raise Unable(f"{command} answers {done.stdout!r}")
     return Ended(0, done.stdout, b"")
+
+
+def words_of(program, command):
+    return [program, *command.split(), *OPTIONS.get(command, [])]
 
 
 def contents(name):
@@ -164,8 +174,7 @@ def run(folder, program, command, given, number):
     settings = {"LD_PRELOAD": f"./{SHARED_OBJECT}", "REFUSE_AT": str(number), "REFUSE_TOLD": str(told)}
     try:
         done = subprocess.run(
-            [program, command, *OPTIONS.get(command, [])],
-            input=given, capture_output=True, cwd=folder, env=settings, timeout=SECONDS,
+            words_of(program, command), input=given, capture_output=True, cwd=folder, env=settings, timeout=SECONDS,
         )
         ended = Ended(done.returncode, done.stdout, done.stderr)
     except subprocess.TimeoutExpired as late:
