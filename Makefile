@@ -26,22 +26,26 @@ test:
 examples: program
 	python3 examples/check.py
 
-# What no contract says of the built program: a refused growth of memory, the ends of its streams, and that runs end.
+# What no contract says of the built program: a refused growth of memory, the ends of its streams, that runs end, and how
+# cheap the sizes are that it finds.
 checks: program
 	python3 checks/refused_growths.py
 	python3 checks/ends_of_streams.py
 	python3 checks/small_plans.py
 	python3 checks/runs.py
+	python3 checks/fit.py
 
 # Times a replay beside a plain program that only splits and counts the same lines, the reading of a plan beside the
 # reading of its TOML alone, check and explain beside the reading of their two texts alone, certify beside the reading of
-# its plan, and a run beside a plain program that passes as many events through one lock.
+# its plan, fit beside certify on the sizes that it finds, and a run beside a plain program that passes as many events
+# through one lock.
 bench: program plan_reader
 	@command -v valgrind > /dev/null || apt-get install -y valgrind || echo "no valgrind: no instructions are counted"
 	python3 bench/replay.py
 	python3 bench/read.py
 	python3 bench/check.py
 	python3 bench/certify.py
+	python3 bench/fit.py
 	python3 bench/run.py
 
 # Proves and builds the program that reads the texts alone.

@@ -1,0 +1,225 @@
+#!/usr/bin/env python3
+"""Holds what `sizing fit` answers to the plan, to the program's own `check` and `certify`, and to all cheaper sizes.
+
+    python3 checks/fit.py [PLANS [SMALL_PLANS [SEED]]]     # 300 plans, 50 small ones and seed 1 where nothing is said
+
+Of each plan of examples/, of plans made by chance, and of some larger ones:
+
+- Where a circle of submits, or a submit that is made for ever and never got, lets no sizes help, that is told, of a class or
+  a submit for which it is so. For every other plan sizes are found.
+- To what `fit --bundle` writes `check` says yes. Its plan differs from the given one in sizes alone, none of them smaller,
+  and the lines of `fit` tell these sizes, and those of the given plan where they differ.
+- With the same certificate, one less of any core or queue that is changed is a no.
+- Where `certify` finds a certificate nothing is changed.
+
+Of small plans, with one or two pools and single clients, that get sizes up to 6: all sizes that grow by less, all together,
+are given to `certify`. Where it finds a certificate for some of them that is printed, and it is no fault. Nor is it where
+`certify` finds none for the sizes that `fit` found, or where `fit` changes these again: that is counted.
+
+The program is crates/sizing/out/sizing, or the one that the environment variable SIZING names.
+
+Exit status: 0 where all is so, 1 where something is not, 2 where there is no program.
+"""
+
+import os
+import random
+import sys
+from collections import Counter
+from concurrent.futures import ThreadPoolExecutor
+from math import comb
+from pathlib import Path
+
+sys.dont_write_bytecode = True
+
+from found_certs import Class, Client, Plan, Pool, plan_by_chance, text
+from found_sizes import cheaper_sizes, growth, small_plan
+from no_sizes import causes
+from read_plans import read_plan
+from refused_growths import Unable, built
+from small_plans import run, text_of
+
+NOTHING_FOUND = "no fitting sizes found"
+EXAMPLES = Path(__file__).resolve().parent.parent / "examples"
+MOST_SMALL_SIZE = 6
+# Small plans with more cheaper sizes than these are not compared with them, so more plans are drawn than are wanted.
+MOST_CHEAPER = 3000
+DRAWN_FOR_ONE = 3
+# For so many plans there is a larger one.
+PLANS_FOR_LARGER = 10
+
+
+def main():
+    words = [int(word) for word in sys.argv[1:]]
+    count, small_count, seed = (words + [300, 50, 1][len(words):])[:3]
+    try:
+        program = built()
+    except Unable as why:
+        print(why, file=sys.stderr)
+        return 2
+    os.nice(10)
+    chance = random.Random(seed)
+    given = [path.read_text() for path in sorted(EXAMPLES.glob("*.toml"))]
+    given += [text(plan_by_chance(chance)) for _ in range(count)]
+    larger = [text(larger_plan(chance)) for _ in range(count // PLANS_FOR_LARGER)]
+    small = [small_plan(chance) for _ in range(DRAWN_FOR_ONE * small_count)]
+    with ThreadPoolExecutor(len(os.sched_getaffinity(0))) as threads:
+        fits = list(threads.map(lambda plan: Fit(program, plan), given))
+        of_larger = list(threads.map(lambda plan: Fit(program, plan), larger))
+        of_small = list(threads.map(lambda plan: Fit(program, text(plan)), small))
+        compared = [pair for pair in zip(small, of_small) if is_comparable(*pair)][:small_count]
+        savings = list(threads.map(lambda pair: saving(program, *pair), compared))
+    wrong = told("examples and plans", fits) + told("larger plans", of_larger) + told("small plans", of_small)
+    dearer = [saved for saved, _ in savings if saved]
+    print(f"{len(compared)} small plans compared with {sum(tries for _, tries in savings)} cheaper sizes: "
+          f"{len(dearer)} could do with less, by {sum(dearer)} together")
+    return 1 if wrong else 0
+
+
+def told(name, fits):
+    """Prints what came of some plans, and those that are answered wrongly; how many these are."""
+    wrong = sum(map(Fit.is_reported, fits))
+    number = sum((fit.count for fit in fits), Counter())
+    print(f"{len(fits)} {name}, {wrong} answered wrongly: {number['certified']} have a certificate, {number['sized']} get "
+          f"other sizes, {number['helpless']} no sizes help; {number['grown']} cores and queues grow; with the new sizes "
+          f"{number['uncertified']} get no certificate of certify, and {number['changed again']} are changed again")
+    return wrong
+
+
+class Fit:
+    """What `fit` answers to a plan, of which kind that is, and what is wrong with it."""
+
+    def __init__(self, program, given):
+        self.program, self.given = program, given
+        self.plan = read_plan(given)
+        self.status, self.told = run(program, "fit", given)
+        self.bundle_status, self.bundle = run(program, "fit", given, "--bundle")
+        self.sizes, self.count = [], Counter()
+        self.fault = self.judged()
+
+    def judged(self):
+        """What is wrong with the answer; nothing where it is right."""
+        wanted = causes(self.plan)
+        if wanted:
+            self.count["helpless"] += 1
+            return self.fault_of_cause(wanted)
+        is_certified = run(self.program, "certify", self.given)[0] == 0
+        self.count["certified" if is_certified else "sized"] += 1
+        return self.fault_of_sizes(is_certified)
+
+    def fault_of_cause(self, wanted):
+        head, _, cause = self.told.partition("\n")
+        if self.status != 1 or head != NOTHING_FOUND or cause.removesuffix("\n") not in wanted:
+            return f"wanted one of {sorted(wanted)}"
+        return "" if (self.bundle_status, self.bundle) == (1, self.told) else f"with --bundle otherwise:\n{self.bundle}"
+
+    def fault_of_sizes(self, is_certified):
+        if self.bundle_status != 0:
+            return f"no bundle is written, but\n{self.bundle}"
+        fitted_text, _, cert = self.bundle.rpartition("%%\n")
+        fitted = read_plan(fitted_text)
+        if without_sizes(fitted) != without_sizes(self.plan):
+            return f"the bundle has another plan:\n{fitted_text}"
+        self.sizes = [sizes_of(pool) for pool in fitted.pools]
+        lines, changes = wanted_lines(self.plan, fitted)
+        if (self.status, self.told) != (int(changes > 0), lines):
+            return f"the bundle has these sizes:\n{lines}"
+        if is_certified and changes:
+            return "a plan is changed that has a certificate"
+        if not run(self.program, "check", self.bundle)[1].startswith("yes\n"):
+            return "check does not say yes"
+        self.count["uncertified"] += run(self.program, "certify", fitted_text)[0] != 0
+        self.count["changed again"] += run(self.program, "fit", fitted_text)[0] != 0
+        return self.fault_of_less(fitted, cert)
+
+    def fault_of_less(self, fitted, cert):
+        """A size that falls, or a core or queue that is changed and could do with one less."""
+        for number, (now, found) in enumerate(zip(self.plan.pools, fitted.pools)):
+            if any(new < old for new, old in zip(sizes_of(found), sizes_of(now))):
+                return f"a size of {now.name} falls"
+            for less in lessened(now, found):
+                self.count["grown"] += 1
+                pools = [*fitted.pools[:number], less, *fitted.pools[number + 1:]]
+                status, verdict = run(self.program, "check", f"{text_of(fitted._replace(pools=pools))}%%\n{cert}")
+                if status != 1 or not verdict.startswith("no\n"):
+                    return f"less would do: {less}"
+        return ""
+
+    def is_reported(self):
+        if self.fault:
+            print(f"{self.given}is answered, with status {self.status},\n{self.told}{self.fault}\n")
+        return bool(self.fault)
+
+
+def sizes_of(pool):
+    return pool.core, pool.max, pool.queue
+
+
+def without_sizes(plan):
+    return plan._replace(pools=[pool._replace(core=0, max=0, queue=0) for pool in plan.pools])
+
+
+def lessened(now, found):
+    """The pool that was found with one less core, and with one less queue, where these have grown."""
+    if found.core > now.core:
+        yield found._replace(core=found.core - 1)
+    if found.queue > now.queue:
+        yield found._replace(queue=found.queue - 1)
+
+
+def wanted_lines(plan, fitted):
+    """What `fit` must answer to the plan where it finds the sizes of the other, and how many of them are changed."""
+    lines, changes = [], 0
+    for now, found in zip(plan.pools, fitted.pools):
+        numbers = []
+        for word, old, new in zip(("core", "max", "queue"), sizes_of(now), sizes_of(found)):
+            numbers.append(f"{word} {new}" + (f" (now {old})" if new != old else ""))
+            changes += new != old
+        lines.append(f"pool {now.name}: {', '.join(numbers)}\n")
+    return "".join(lines) + f"changes {changes}\n", changes
+
+
+# ---- larger plans
+
+def larger_plan(chance):
+    """A plan of many pools, with the smallest sizes, whose jobs get jobs of each other's."""
+    pools = [Pool(1, 1, 1, False) for _ in range(chance.randint(8, 20))]
+    classes = []
+    for number in range(2 * len(pools)):
+        submits = [("submit", chance.randrange(number)) for _ in range(chance.randint(0, 3))] if number else []
+        classes.append(Class(chance.randrange(len(pools)), submits + [("get", place) for place in range(len(submits))]))
+    clients = [Client(3, True, [("submit", chance.randrange(len(classes))), ("get", 0)]) for _ in pools]
+    return Plan(pools, classes, clients)
+
+
+# ---- cheaper sizes
+
+def is_comparable(plan, fit):
+    """Whether a small plan got small sizes, and there are not too many cheaper ones."""
+    is_small = not fit.fault and max(map(max, fit.sizes)) <= MOST_SMALL_SIZE
+    return is_small and cheaper_ones(plan, growth(plan, fit.sizes)) <= MOST_CHEAPER
+
+
+def cheaper_ones(plan, limit):
+    """In how many ways the plan's sizes can grow by less than this, all together."""
+    sizes = 3 * len(plan.pools)
+    return comb(limit - 1 + sizes, sizes)
+
+
+def saving(program, plan, fit):
+    """By how much less the cheapest sizes grow that `certify` finds a certificate for, and how many were tried."""
+    tried = []
+
+    def is_certified(other):
+        tried.append(other)
+        return run(program, "certify", text(other))[0] == 0
+
+    limit = growth(plan, fit.sizes)
+    cheaper = cheaper_sizes(plan, limit, is_certified)
+    if cheaper is None:
+        return 0, len(tried)
+    print(f"{fit.given}is answered\n{fit.told}and could do with (core, max, queue) {cheaper}\n", flush=True)
+    return limit - growth(plan, cheaper), len(tried)
+
+
+if __name__ == "__main__":
+    sys.exit(main())
