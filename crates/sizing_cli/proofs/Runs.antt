@@ -1,5 +1,5 @@
 -- What a run comes to: the answer to a plan with a certificate that accepts it, and the fault where there is none.
-use Rattle.std.proofs.Common.{◌≡◌, ℕ, Bool, true, false, cond, inl, inr, Result, Ok, Err, IfOk, refl, subst, ap, ◌∙◌, arith}
+use Rattle.std.proofs.Common.{◌≡◌, ℕ, Bool, true, false, inl, inr, Result, Ok, Err, IfOk, refl, subst, ap, ◌∙◌, arith}
 use Rattle.std.specs.Prelude.{◌==◌}
 use Rattle.faults.specs.declared.number.TheConstants.{RUN_TOO_LARGE}
 use Rattle.run_histories.specs.declared.report.RunFault.{RunFault}
@@ -11,7 +11,7 @@ use Rattle.headline.specs.Accepted.{accepted}
 use Rattle.cert_check.specs.Certified.{Certified}
 use Rattle.sizing_cli.specs.declared.status.ServeFault.{ServeFault}
 use Rattle.sizing_cli.specs.Answer.{Answer}
-use Rattle.sizing_cli.specs.Report.{run_of_cert, run_of_accepted, not_run}
+use Rattle.sizing_cli.specs.Report.{run_of_cert, run_of_accepted}
 
 pub run_of_certified : (plan : Plan) (cert : Cert) (rounds : ℕ) (certified : Certified) (result : Result Answer ServeFault) → certified ≡ record { plan = plan; cert = cert } → accepted plan cert ≡ true
     → IfOk result (λ answer. answer ≡ run_of_accepted certified.plan certified.cert rounds) → IfOk result (λ answer. answer ≡ run_of_cert plan rounds (Ok cert))

@@ -1,6 +1,3 @@
-use Rattle.std.proofs.Common.{ℕ, List, sym, ap, ◌∙◌}
-use Rattle.written_machine.specs.Waiting.{is_waiting_set}
-use Rattle.event_lines.specs.declared.reply.Reply.TheVariants as reply
 use Rattle.sizing_cli.proofs.Answering.{replies_to_event, replies_not_possible}
 use Rattle.sizing_cli.proofs.transcript.reply_to.Goals as goal
 

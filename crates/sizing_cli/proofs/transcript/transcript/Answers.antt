@@ -1,6 +1,6 @@
-use Rattle.std.proofs.Common.{sym, ap, length, arith, ◌∙◌}
+use Rattle.std.proofs.Common.{sym, ◌∙◌}
 use Rattle.event_lines.specs.EventLine.{line_seen}
-use Rattle.sizing_cli.proofs.Answering.{so_far_start, so_far_fits, so_far_replied, so_far_last, so_far_ended, so_far_of, if_ok_map}
+use Rattle.sizing_cli.proofs.Answering.{so_far_start, so_far_replied, so_far_last, so_far_ended, so_far_of, if_ok_map}
 use Rattle.sizing_cli.proofs.transcript.transcript.Goals as goal
 
 pub loop-line-init : goal.loop-line-init
