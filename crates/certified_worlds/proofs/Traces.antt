@@ -1,5 +1,5 @@
 -- The machine that tells what came of its last event goes where the machine of its plan goes.
-use Rattle.std.proofs.Common.{◌≡◌, List, [], ◌∷◌, ◌++◌, Option, Some, None, is_some, true, false, refl, sym, ap, ◌∙◌}
+use Rattle.std.proofs.Common.{◌≡◌, ◌≢◌, List, [], ◌∷◌, ◌++◌, Option, Some, None, is_some, true, false, refl, sym, ap, subst, ◌∙◌}
 use Rattle.std.specs.Option.{option_map}
 use Rattle.job_bodies.specs.Plan.{Plan}
 use Rattle.written_machine.specs.declared.event.Event.{Event}
@@ -8,7 +8,7 @@ use Rattle.written_machine.specs.State.{State}
 use Rattle.written_machine.specs.Step.{step}
 use Rattle.written_machine.specs.Reach as reach
 use Rattle.written_machine.specs.Reach.{state_after}
-use Rattle.std.proofs.lemmas.Option.{none-some}
+use Rattle.std.proofs.lemmas.Option.{none-some, same_Some}
 use Rattle.live_views.specs.LiveView.{View, live_view}
 use Rattle.live_views.specs.Answers.{AnswersAs}
 use Rattle.held_machines.specs.Replay.{replay, Leads, Reaches}
@@ -20,7 +20,7 @@ use Rattle.certified_worlds.specs.HeldWorld.{IsReachedBy}
 abbrev state_of : Traced → State
 state_of t = t.state
 
-abbrev content : Plan → Traced → TracedWorld
+abbrev pub content : Plan → Traced → TracedWorld
 content plan t = record { world = live_view plan t.state; outcome = t.outcome }
 
 state_of_traced : (x : Option (State × Outcome)) → option_map state_of (traced x) ≡ state_after x
@@ -82,3 +82,12 @@ pub goes_on_nowhere : (plan : Plan) (history : List Event) (event : Event) (held
     → ((t : Traced) → Leads (next plan) (start plan) history t → false ≡ is_some (next plan t event)) → (s : State) → ¬ (reach.Reaches plan (history ++ event ∷ []) s)
 goes_on_nowhere plan history event held led stops s reached =
     none-some s (sym (no_state_after (step plan led.0.state event) (stops led.0 led.1)) ∙ (sym (reaches_more plan history event led.0.state (state_reached plan history led.0 led.1)) ∙ reached))
+
+-- where the machine has a next state, the event is possible
+pub goes_on : (plan : Plan) (history : List Event) (event : Event) (held : TracedWorld) → IsReplayOf (next plan) (start plan) (content plan) history held
+    → ((t : Traced) → Leads (next plan) (start plan) history t → true ≡ is_some (next plan t event)) → (s : State) → reach.Reaches plan history s → step plan s event ≢ None
+goes_on plan history event held led goes s reached none =
+    let same : led.0.state ≡ s = same_Some led.0.state s (sym (state_reached plan history led.0 led.1) ∙ reached) in
+    let stops : next plan led.0 event ≡ None = ap traced (subst (λ (x : State). step plan x event ≡ None) (sym same) none) in
+    let no_more : true ≡ false = goes led.0 led.1 ∙ ap (λ (x : Option Traced). is_some x) stops in
+    absurd cc
