@@ -1,17 +1,27 @@
--- What is answered where threads meet only what threads meet.
-use Rattle.std.proofs.Common.{◌≡◌, ℕ, Bool, Option, Some, None, inl, inr, refl, subst, sym, true, false}
-use Rattle.std.specs.Prelude.{IfSome}
-use Rattle.faults.specs.declared.number.TheConstants.{RUN_TOO_LARGE}
+-- What is answered to what threads hand back.
+use Rattle.std.proofs.Common.{◌≡◌, ◌≢◌, ℕ, Bool, List, Option, Some, None, inl, inr, refl, subst, sym, true, false}
+use Rattle.std.proofs.lemmas.Bool.{cases_eq}
+use Rattle.faults.specs.declared.number.TheConstants.{MEMORY, RUN_TOO_LARGE}
+use Rattle.job_bodies.specs.Plan.{Plan}
+use Rattle.written_machine.specs.declared.event.Event.{Event}
+use Rattle.held_machines.specs.declared.held.Receipt.{Receipt}
 use Rattle.run_histories.specs.Run.{IsAnswerTo}
+use Rattle.run_histories.specs.declared.report.Cause.{Cause}
+use Rattle.run_histories.specs.declared.report.Cause.TheVariants as cause
 use Rattle.run_histories.specs.declared.report.RunFault.{RunFault}
-use Rattle.locked_runner.specs.Faults.{IsThreadFault, IsFaultOf}
+use Rattle.locked_runner.specs.Faults.{IsFaultOf}
 
-pub answered : (met : Option ℕ) (fault : RunFault) → IfSome met IsThreadFault → IsAnswerTo met fault.number → IsFaultOf false fault
-answered None fault is (inl strange) = inl strange
-answered None fault is (inr (inl mixed)) = inr (inl mixed)
-answered None fault is (inr (inr memory)) = inr (inr (inl memory))
-answered (Some n) fault is (inl same) = inr (inr (subst IsThreadFault (sym same) is))
-answered (Some n) fault is (inr memory) = inr (inr (inl memory))
+answer_of : (plan : Plan) (rounds jobs : ℕ) (history : List Event) (lists : List (List (Receipt Event))) (met : Option Cause) (fault : RunFault) → IsAnswerTo plan rounds jobs history lists met fault → IsFaultOf false fault
+answer_of plan rounds jobs history lists (Some cause.Memory) fault is = inr (inr (inl is))
+answer_of plan rounds jobs history lists (Some cause.Gate) fault is = inr (inr (inr is))
+answer_of plan rounds jobs history lists None fault (inl strange) = inl strange.number
+answer_of plan rounds jobs history lists None fault (inr mixed) = inr (inl mixed.number)
+
+pub answered : (plan : Plan) (rounds jobs : ℕ) (history : List Event) (lists : List (List (Receipt Event))) (met : Option Cause) (fault : RunFault) → (fault.number ≢ MEMORY → IsAnswerTo plan rounds jobs history lists met fault) → IsFaultOf false fault
+answered plan rounds jobs history lists met fault is = elim (cases_eq fault.number MEMORY) [
+  | inl memory ↦ inr (inr (inl memory))
+  | inr other ↦ answer_of plan rounds jobs history lists met fault (is other)
+]
 
 -- what is answered where nothing was started
 pub too_large : (large : Bool) (fault : RunFault) → large ≡ true → fault ≡ record { number = RUN_TOO_LARGE; events = 0 } → IsFaultOf large fault

@@ -1,4 +1,4 @@
-mod Starts
 mod Beyond
 mod Numbers
 mod Faults
+mod Reports

@@ -1,24 +1,16 @@
 //! How far a run is.
 
-ghost use Rattle.std.specs.Prelude.{IfSome};
-ghost use Rattle.locked_runner.specs.Faults.{IsThreadFault};
-
-use faults::number::{GATE, MEMORY};
-
-/// Why a run ends before all is done.
-#[derive(Clone, Copy, Debug, PartialEq, Eq)]
-pub(crate) enum Cause {
-    Memory,
-    Gate,
-}
+use run_histories::Cause;
 
 /// How far a run is.
 #[derive(Drop)]
 pub(crate) struct Progress {
     /// How many clients have an event left.
     clients_left: usize,
-    /// Why no thread is to make another event, where a thread has met a fault.
-    cause: Option<Cause>,
+    /// Whether no thread is to make another event, before all is done.
+    is_over: bool,
+    /// The fault that a thread has met, of several the one with the least number.
+    fault: Option<Cause>,
 }
 
 impl Progress {
@@ -26,7 +18,8 @@ impl Progress {
     pub(crate) fn new(clients: usize) -> Progress {
         Progress {
             clients_left: clients,
-            cause: None,
+            is_over: false,
+            fault: None,
         }
     }
 
@@ -35,9 +28,9 @@ impl Progress {
         self.clients_left == 0
     }
 
-    /// Whether a thread has met a fault.
+    /// Whether no thread is to make another event, before all is done.
     pub(crate) fn is_over(&self) -> bool {
-        self.cause.is_some()
+        self.is_over
     }
 
     /// Notes that a client has no event left.
@@ -45,20 +38,21 @@ impl Progress {
         self.clients_left = self.clients_left.saturating_sub(1);
     }
 
-    /// Notes a fault. Of several the one with the least number is kept, which is that of memory.
+    /// Ends the run before all is done. What it hands back is then not complete, which is found afterwards.
+    pub(crate) fn end(&mut self) {
+        self.is_over = true;
+    }
+
+    /// Ends the run for a fault. Of several the one with the least number is kept, which is that of memory.
     pub(crate) fn note(&mut self, cause: Cause) {
-        if self.cause != Some(Cause::Memory) {
-            self.cause = Some(cause);
+        self.end();
+        if self.fault != Some(Cause::Memory) {
+            self.fault = Some(cause);
         }
     }
 
-    /// The number of the fault that was met.
-    pub(crate) fn fault(&self) -> Option<u8>
-        ensures { IfSome result IsThreadFault }
-    {
-        match self.cause? {
-            Cause::Memory => Some(MEMORY),
-            Cause::Gate => Some(GATE),
-        }
+    /// The fault that was met.
+    pub(crate) fn fault(&self) -> Option<Cause> {
+        self.fault
     }
 }

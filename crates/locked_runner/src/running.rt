@@ -1,10 +1,7 @@
 //! A run of a certified plan on threads.
 
-ghost use Rattle.std.specs.Prelude.{◌≡◌, IfOk, IfErr, false, length};
-ghost use Rattle.job_bodies.specs.Plan as spec;
-ghost use Rattle.written_machine.specs.State.{State};
-ghost use Rattle.written_machine.specs.Reach.{Reaches};
-ghost use Rattle.run_histories.specs.Run.{IsRun, IsLengthOfLegal};
+ghost use Rattle.std.specs.Prelude.{◌≡◌, IfOk, IfErr, false};
+ghost use Rattle.run_histories.specs.Run.{IsRun, Makes, IsLengthOfLegal};
 ghost use Rattle.run_histories.specs.RunNumbers.{jobs, units};
 ghost use Rattle.locked_runner.specs.Limits.{is_too_large};
 ghost use Rattle.locked_runner.specs.Faults.{IsFaultOf};
@@ -24,7 +21,9 @@ use std::thread::Threads;
 /// Runs a certified plan: a thread for each client, and as many for each pool as its maximum, make the events of its
 /// machine, and the gate stands for the declared work.
 ///
-/// A client of a kind that repeats goes through its body `rounds` times, which is at least 1, and another once.
+/// A client of a kind that repeats goes through its body `rounds` times, and another once. `rounds` is at least 1: with 0 a
+/// client that repeats makes no event, and where its body has an action it does not stand at its end, so that the run is not
+/// complete and the answer is 42.
 ///
 /// # Errors
 ///
@@ -40,7 +39,7 @@ pub fn run<R: Threads + Wait + Sync, G: Gate>(
 ) -> Result<RunReport, RunFault>
     ensures run { IfOk result (λ report. IsRun certified.now.plan rounds report.history report.receipts) }
     ensures jobs { IfOk result (λ report. report.jobs ≡ jobs certified.now.plan certified.now.cert.ranks rounds) }
-    ensures made { IfOk result (λ report. (s : State) → Reaches certified.now.plan report.history s → length s.jobs ≡ report.jobs) }
+    ensures made { IfOk result (λ report. Makes certified.now.plan report.history report.jobs) }
     ensures units { IfOk result (λ report. report.units ≡ units certified.now.plan certified.now.cert.ranks rounds) }
     ensures none_refused { IfOk result (λ report. report.refused ≡ 0) }
     ensures within { IfOk result (λ _. is_too_large certified.now.plan certified.now.cert.ranks rounds ≡ false) }
@@ -49,7 +48,7 @@ pub fn run<R: Threads + Wait + Sync, G: Gate>(
 {
     let numbers = numbers_within(alloc, certified.plan(), &certified.cert().ranks, rounds)?;
     let Ok(met) = on_threads(rt, alloc, certified, rounds, gate) else {
-        return Err(at_start(MEMORY));
+        return Err(RunFault::at_start(MEMORY));
     };
     judge(alloc, certified, rounds, numbers, met)
 }
@@ -72,19 +71,10 @@ fn numbers_within(
     ensures events { IfErr result (λ fault. IsLengthOfLegal plan.now fault.events) }
 {
     let Ok(numbers) = run_numbers(alloc, plan, ranks, rounds) else {
-        return Err(at_start(MEMORY));
+        return Err(RunFault::at_start(MEMORY));
     };
     if is_beyond(plan, numbers.events) {
-        return Err(at_start(RUN_TOO_LARGE));
+        return Err(RunFault::at_start(RUN_TOO_LARGE));
     }
     Ok(numbers)
-}
-
-/// A fault before the first event.
-#[tactic(auto, using(crate::proofs::Starts::nothing_is_legal))]
-fn at_start(number: u8) -> RunFault
-    ensures value { result ≡ record { number = number; events = 0 } }
-    ensures legal { (plan : spec.Plan) → IsLengthOfLegal plan result.events }
-{
-    RunFault { number, events: 0 }
 }

@@ -1,13 +1,11 @@
 //! What the threads of a run share.
 
-ghost use Rattle.std.specs.Prelude.{IfSome};
-ghost use Rattle.locked_runner.specs.Faults.{IsThreadFault};
-
-use crate::progress::{Cause, Progress};
+use crate::progress::Progress;
 use certified_worlds::CertifiedWorld;
 use held_machines::{Held, Locked, Receipt};
 use interleaving::{Event, Outcome};
 use job_bodies::Plan;
+use run_histories::Cause;
 use std::alloc::{AllocError, Global};
 use std::collections::VecDeque;
 use std::sync::{Condvar, Mutex, MutexGuard, Wait};
@@ -83,9 +81,7 @@ impl<'a> Shared<'a> {
     }
 
     /// The history that was made, and the least fault that a thread met.
-    pub(crate) fn into_history(self) -> (Vec<Event>, Option<u8>)
-        ensures { IfSome result.1 IsThreadFault }
-    {
+    pub(crate) fn into_history(self) -> (Vec<Event>, Option<Cause>) {
         let Shared {
             machine,
             progress,
@@ -125,7 +121,10 @@ impl<'a> Shared<'a> {
     /// The next job of the pool to be carried out: one that a submit has started, else the head of the queue. Waits until
     /// there is one. None where the run is to end.
     pub(crate) fn next_job<R: Wait>(&self, rt: &R, pool: usize) -> Option<Work> {
-        let desk = self.desks.get(pool)?;
+        let Some(desk) = self.desks.get(pool) else {
+            self.end(rt);
+            return None;
+        };
         let mut turn = self.machine.lock(rt);
         for _ in rt.forever() {
             if self.is_over(rt) || self.is_at_end(rt, &turn) {
@@ -133,10 +132,14 @@ impl<'a> Shared<'a> {
             }
             let started = desk.started.lock(rt).pop_front();
             if let Some(job) = started {
-                return work_on(&turn, job, None);
+                let work = work_on(&turn, job, None);
+                return self.found(rt, turn, work);
             }
             match turn.act(Event::Take(pool)) {
-                Ok(Some(receipt)) => return work_taken(&turn, receipt),
+                Ok(Some(receipt)) => {
+                    let work = work_taken(&turn, receipt);
+                    return self.found(rt, turn, work);
+                }
                 Ok(None) => turn = desk.called.wait(rt, turn),
                 Err(AllocError) => {
                     drop(turn);
@@ -146,6 +149,15 @@ impl<'a> Shared<'a> {
             }
         }
         None
+    }
+
+    /// The work of a carrier. Where its job is not found the run ends.
+    fn found<R: Wait>(&self, rt: &R, turn: Turn<'a, '_>, work: Option<Work>) -> Option<Work> {
+        drop(turn);
+        if work.is_none() {
+            self.end(rt);
+        }
+        work
     }
 
     /// Notes that a client has no event left.
@@ -167,7 +179,15 @@ impl<'a> Shared<'a> {
         self.wake_all();
     }
 
-    /// Whether a thread has met a fault.
+    /// Lets every thread end before all is done, where what a thread needs is not found.
+    pub(crate) fn end<R: Wait>(&self, rt: &R) {
+        let turn = self.machine.lock(rt);
+        self.progress.lock(rt).end();
+        drop(turn);
+        self.wake_all();
+    }
+
+    /// Whether no thread is to make another event, before all is done.
     fn is_over<R: Wait>(&self, rt: &R) -> bool {
         self.progress.lock(rt).is_over()
     }
@@ -183,7 +203,7 @@ impl<'a> Shared<'a> {
             Some(Outcome::Started(job)) => self.give_out(rt, turn, job),
             Some(Outcome::Queued(job)) => match self.pool_of(turn, job) {
                 Some(pool) => Whom::Carrier(pool),
-                None => Whom::Nobody,
+                None => self.nobody_known(rt),
             },
             Some(Outcome::Finished(_)) => {
                 if self.is_at_end(rt, turn) {
@@ -199,10 +219,10 @@ impl<'a> Shared<'a> {
     /// Lays the job that was started on its pool's desk.
     fn give_out<R: Wait>(&self, rt: &R, turn: &Turn<'a, '_>, job: usize) -> Whom {
         let Some(pool) = self.pool_of(turn, job) else {
-            return Whom::Nobody;
+            return self.nobody_known(rt);
         };
         let Some(desk) = self.desks.get(pool) else {
-            return Whom::Nobody;
+            return self.nobody_known(rt);
         };
         // A desk has room for as many jobs as its pool may have threads, so none is lost.
         if desk.started.lock(rt).push_back(job).is_err() {
@@ -210,6 +230,12 @@ impl<'a> Shared<'a> {
             return Whom::All;
         }
         Whom::Carrier(pool)
+    }
+
+    /// Ends the run, where nobody is known who may carry the job out.
+    fn nobody_known<R: Wait>(&self, rt: &R) -> Whom {
+        self.progress.lock(rt).end();
+        Whom::All
     }
 
     fn pool_of(&self, turn: &Turn<'a, '_>, job: usize) -> Option<usize> {

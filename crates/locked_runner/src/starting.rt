@@ -1,10 +1,6 @@
 //! The threads of a run.
 
-ghost use Rattle.std.specs.Prelude.{IfOk, IfSome};
-ghost use Rattle.locked_runner.specs.Faults.{IsThreadFault};
-
 use crate::Gate;
-use crate::progress::Cause;
 use crate::shared::Shared;
 use crate::threads::Runner;
 use cert_check::Certified;
@@ -12,7 +8,7 @@ use certified_worlds::CertifiedWorld;
 use held_machines::{Held, Receipt};
 use interleaving::Event;
 use job_bodies::{Client, Plan};
-use run_histories::{Met, Owner, kinds_of, lists_of};
+use run_histories::{Cause, Met, Owner, kinds_of, lists_of, rounds_of_client};
 use std::alloc::{AllocError, Global};
 use std::sync::Wait;
 use std::thread;
@@ -30,9 +26,7 @@ pub(crate) fn on_threads<R: Threads + Wait + Sync, G: Gate>(
     certified: &Certified,
     rounds: u64,
     gate: &G,
-) -> Result<Met, AllocError>
-    ensures { IfOk result (λ met. IfSome met.fault IsThreadFault) }
-{
+) -> Result<Met, AllocError> {
     let plan = certified.plan();
     let kinds = kinds_of(alloc, plan)?;
     let owners = lists_of(alloc, plan, &kinds)?;
@@ -90,11 +84,11 @@ fn run_one<R: Wait, G: Gate>(
     let runner = Runner::new(alloc, rt, shared, gate);
     match owner {
         Owner::Client(number) => match client_of(shared.plan, kinds, number) {
-            Some(client) => {
-                let rounds = if client.repeat { rounds } else { 1 };
-                runner.run_client(client, number, rounds)
+            Some(client) => runner.run_client(client, number, rounds_of_client(client, rounds)),
+            None => {
+                shared.end(rt);
+                runner.receipts
             }
-            None => runner.receipts,
         },
         Owner::Pool(pool) => runner.run_carrier(pool),
     }

@@ -1,11 +1,11 @@
 //! What each thread of a run does.
 
-use crate::progress::Cause;
 use crate::shared::Shared;
 use crate::{Actor, Gate};
 use held_machines::Receipt;
 use interleaving::Event;
 use job_bodies::{Action, Client};
+use run_histories::Cause;
 use std::alloc::Global;
 use std::sync::Wait;
 
@@ -72,10 +72,11 @@ impl<'a, 'b, R: Wait, G: Gate> Runner<'a, 'b, R, G> {
 
     /// Carries one job out to its finish. False where the run is to end.
     fn carry_out(&mut self, job: usize, class: usize) -> bool {
-        match self.shared.plan.class_at(class) {
-            Some(class) => self.follow(&class.body, Actor::Job(job)) && self.act(Event::Job(job)),
-            None => false,
-        }
+        let Some(class) = self.shared.plan.class_at(class) else {
+            self.shared.end(self.rt);
+            return false;
+        };
+        self.follow(&class.body, Actor::Job(job)) && self.act(Event::Job(job))
     }
 
     /// Makes the events of a body's actions. False where the run is to end.

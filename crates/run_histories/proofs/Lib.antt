@@ -1,6 +1,8 @@
 mod Owners
-mod Histories
+mod Fronts
+mod Received
+pub mod Histories
+mod KindsOfClients
 mod Through
 mod Capped
 mod Generations
-mod Faults

@@ -6,26 +6,26 @@ use Rattle.job_bodies.specs.Plan.{Plan, client_at}
 use Rattle.written_machine.specs.declared.event.Event.{Event}
 use Rattle.written_machine.specs.State.{State}
 use Rattle.live_views.specs.LiveView.{View, live_view}
-use Rattle.run_histories.specs.Complete.{IsThrough}
+use Rattle.run_histories.specs.Complete.{IsThrough, AreMadeIn}
 
--- of the clients of these kinds, those below n are through
-abbrev pub AreThrough : Plan → List ℕ → ℕ → List Event → View → ℕ → Type 0
-AreThrough plan kinds rounds history view n =
-    (s : State) → live_view plan s ≡ view → (c kind : ℕ) → c < n → slice_get kinds c ≡ Some kind → IsThrough rounds history s c (client_at plan kind)
+-- of the clients of these kinds, which made so many events, those below n are through
+abbrev pub AreThrough : Plan → List ℕ → ℕ → List ℕ → View → ℕ → Type 0
+AreThrough plan kinds rounds made view n =
+    (history : List Event) (s : State) → AreMadeIn history made → live_view plan s ≡ view → (c kind : ℕ) → c < n → slice_get kinds c ≡ Some kind → IsThrough rounds history s c (client_at plan kind)
 
-pub through_more : (plan : Plan) (kinds : List ℕ) (rounds : ℕ) (history : List Event) (view : View) (n : ℕ) → AreThrough plan kinds rounds history view n
-    → ((s : State) → live_view plan s ≡ view → IsThrough rounds history s n (client_at plan (get_or kinds n 0))) → AreThrough plan kinds rounds history view (n + 1)
-through_more plan kinds rounds history view n below here s seen c kind inside at = elim (cases_lt c n) [
-  | inl earlier ↦ below s seen c kind earlier at
+pub through_more : (plan : Plan) (kinds : List ℕ) (rounds : ℕ) (made : List ℕ) (view : View) (n : ℕ) → AreThrough plan kinds rounds made view n
+    → ((history : List Event) (s : State) → AreMadeIn history made → live_view plan s ≡ view → IsThrough rounds history s n (client_at plan (get_or kinds n 0))) → AreThrough plan kinds rounds made view (n + 1)
+through_more plan kinds rounds made view n below here history s are seen c kind inside at = elim (cases_lt c n) [
+  | inl earlier ↦ below history s are seen c kind earlier at
   | inr past ↦
       let same : c ≡ n = omega arith in
       let kind_at : get_or kinds n 0 ≡ kind = get_or_from_slice_get kinds n kind 0 (subst (λ (i : ℕ). slice_get kinds i ≡ Some kind) same at) in
-      subst (λ (i : ℕ). IsThrough rounds history s i (client_at plan kind)) (sym same) (subst (λ (k : ℕ). IsThrough rounds history s n (client_at plan k)) kind_at (here s seen))
+      subst (λ (i : ℕ). IsThrough rounds history s i (client_at plan kind)) (sym same) (subst (λ (k : ℕ). IsThrough rounds history s n (client_at plan k)) kind_at (here history s are seen))
 ]
 
 -- below their number are all
-pub through_all : (plan : Plan) (kinds : List ℕ) (rounds : ℕ) (history : List Event) (view : View) (n : ℕ) → length kinds ≡ n → AreThrough plan kinds rounds history view n
-    → (s : State) → live_view plan s ≡ view → (c kind : ℕ) → slice_get kinds c ≡ Some kind → IsThrough rounds history s c (client_at plan kind)
-through_all plan kinds rounds history view n all below s seen c kind at =
+pub through_all : (plan : Plan) (kinds : List ℕ) (rounds : ℕ) (made : List ℕ) (view : View) (n : ℕ) → length kinds ≡ n → AreThrough plan kinds rounds made view n
+    → (history : List Event) (s : State) → AreMadeIn history made → live_view plan s ≡ view → (c kind : ℕ) → slice_get kinds c ≡ Some kind → IsThrough rounds history s c (client_at plan kind)
+through_all plan kinds rounds made view n all below history s are seen c kind at =
     let inside : c < length kinds = slice_get_within kinds c kind at in
-    below s seen c kind (omega arith) at
+    below history s are seen c kind (omega arith) at

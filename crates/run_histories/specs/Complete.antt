@@ -1,5 +1,5 @@
 -- Complete histories.
-use Rattle.std.specs.Prelude.{◌≡◌, ◌+◌, ◌-◌, ◌*◌, ◌==◌, ℕ, Bool, false, List, length, count_by, slice_get, Some, if◌then◌else◌}
+use Rattle.std.specs.Prelude.{◌≡◌, ◌<◌, ◌+◌, ◌-◌, ◌*◌, ◌==◌, ℕ, Bool, false, List, length, count_by, slice_get, slice_index, Some, if◌then◌else◌}
 use Rattle.std.specs.Option.{option_map}
 use Rattle.job_bodies.specs.Plan.{Plan, Client, client_at}
 use Rattle.written_machine.specs.declared.event.Event.{Event}
@@ -18,6 +18,10 @@ events_of_client rounds client = rounds_of rounds client * length client.body + 
 abbrev pub is_of_client : ℕ → Event → Bool
 is_of_client c (event.Client d) = c == d
 is_of_client c _ = false
+
+-- for each of so many clients how many events of the history are its own
+abbrev pub AreMadeIn : List Event → List ℕ → Type 0
+AreMadeIn history made = (c : ℕ) → c < length made → slice_index made c ≡ count_by (is_of_client c) history
 
 -- client c has made all events of its rounds, and stands at the end of its body
 pub record IsThrough (rounds : ℕ) (history : List Event) (s : State) (c : ℕ) (client : Client) : Type 0 where

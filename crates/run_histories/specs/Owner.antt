@@ -34,7 +34,7 @@ pool_lists entry = replicate entry.1.max (owner.Pool entry.0)
 abbrev pub lists_of : Plan → List Owner
 lists_of plan = map client_list (enumerate_from 0 (kinds_of plan)) ++ flat_map pool_lists (enumerate_from 0 plan.pools)
 
--- so many owners as events, each that of the event at its number
-pub record AreOwnersOf (plan : Plan) (history : List Event) (owners : List Owner) : Type 0 where
+-- so many owners as events, each whose the event at its number is
+pub record AreOwnersOf (plan : Plan) (history : List Event) (owners : List (Option Owner)) : Type 0 where
   pub as_many : length owners ≡ length history
-  pub each : (n : ℕ) (s : State) (e : Event) (o : Owner) → slice_get history n ≡ Some e → slice_get owners n ≡ Some o → Reaches plan (take n history) s → owner_in plan s e ≡ Some o
+  pub each : (n : ℕ) (s : State) (e : Event) (o : Option Owner) → slice_get history n ≡ Some e → slice_get owners n ≡ Some o → Reaches plan (take n history) s → owner_in plan s e ≡ o

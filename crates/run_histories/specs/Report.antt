@@ -1,7 +1,13 @@
--- What a run answers, with lists in place of vectors.
-use Rattle.std.specs.Prelude.{ℕ, List}
+-- What the threads of a run hand back, and what a run answers, with lists in place of vectors.
+use Rattle.std.specs.Prelude.{ℕ, List, Option}
 use Rattle.written_machine.specs.declared.event.Event.{Event}
 use Rattle.held_machines.specs.declared.held.Receipt.{Receipt}
+use Rattle.run_histories.specs.declared.report.Cause.{Cause}
+
+pub record Met : Type 0 where
+  pub history : List Event
+  pub receipts : List (List (Receipt Event))
+  pub fault : Option Cause
 
 pub record RunReport : Type 0 where
   pub jobs : ℕ

@@ -1,24 +1,25 @@
--- Whole runs of a plan.
-use Rattle.std.specs.Prelude.{◌≡◌, ◌⊎◌, ℕ, List, length, Option, Some, None}
-use Rattle.faults.specs.declared.number.TheConstants.{MEMORY, STRANGE, MIXED}
+-- Whole runs of a plan, and what else is answered to what threads hand back.
+use Rattle.std.specs.Prelude.{◌≡◌, ◌<◌, ◌≤◌, ◌+◌, ◌⊎◌, ℕ, List, length, take, Option, Some, None}
+use Rattle.faults.specs.declared.number.TheConstants.{MEMORY, STRANGE, MIXED, GATE}
 use Rattle.job_bodies.specs.Plan.{Plan}
 use Rattle.written_machine.specs.declared.event.Event.{Event}
 use Rattle.written_machine.specs.State.{State}
 use Rattle.written_machine.specs.Reach.{Reaches}
 use Rattle.held_machines.specs.declared.held.Receipt.{Receipt}
-use Rattle.live_views.specs.LiveView.{View, live_view}
-use Rattle.run_histories.specs.Receipts.{AreReceipts}
+use Rattle.run_histories.specs.declared.report.Cause.{Cause}
+use Rattle.run_histories.specs.declared.report.Cause.TheVariants as cause
+use Rattle.run_histories.specs.declared.report.RunFault.{RunFault}
+use Rattle.run_histories.specs.Owner.{lists_of}
+use Rattle.run_histories.specs.Receipts.{AreReceipts, AreListsOf}
 use Rattle.run_histories.specs.Complete.{IsComplete}
 
 -- a history is legal where it leads to a state
 abbrev pub IsLegal : Plan → List Event → Type 0
 IsLegal plan history = (s : State) × Reaches plan history s
 
--- in each state that is seen so the history is complete; each list has the receipts of its own client or pool, and each
--- event of the history stands in one place of the lists
-pub record IsWhole (plan : Plan) (rounds : ℕ) (history : List Event) (view : View) (lists : List (List (Receipt Event))) : Type 0 where
-  pub complete : (s : State) → live_view plan s ≡ view → IsComplete plan rounds history s
-  pub received : AreReceipts plan history lists
+-- where the history leads so many jobs were made
+abbrev pub Makes : Plan → List Event → ℕ → Type 0
+Makes plan history jobs = (s : State) → Reaches plan history s → length s.jobs ≡ jobs
 
 -- the history is legal, and complete for so many rounds, and these are its receipts
 pub record IsRun (plan : Plan) (rounds : ℕ) (history : List Event) (lists : List (List (Receipt Event))) : Type 0 where
@@ -31,7 +32,32 @@ pub record IsRun (plan : Plan) (rounds : ℕ) (history : List Event) (lists : Li
 abbrev pub IsLengthOfLegal : Plan → ℕ → Type 0
 IsLengthOfLegal plan n = (history : List Event) × IsLegal plan history × (length history ≡ n)
 
--- what may be answered: the fault that was met, or 41 or 42 where none was; and 20, the least of all, where memory runs out
-abbrev pub IsAnswerTo : Option ℕ → ℕ → Type 0
-IsAnswerTo (Some met) number = (number ≡ met) ⊎ (number ≡ MEMORY)
-IsAnswerTo None number = (number ≡ STRANGE) ⊎ (number ≡ MIXED) ⊎ (number ≡ MEMORY)
+-- so many events from the front of the history are legal
+pub record IsLegalFront (plan : Plan) (history : List Event) (n : ℕ) : Type 0 where
+  pub within : n ≤ length history
+  pub legal : IsLegal plan (take n history)
+
+-- and no more: the next one, where there is one, is not possible
+pub record IsLegalPart (plan : Plan) (history : List Event) (n : ℕ) : Type 0 where
+  pub front : IsLegalFront plan history n
+  pub ends : n < length history → ¬ IsLegal plan (take (n + 1) history)
+
+abbrev pub number_of : Cause → ℕ
+number_of cause.Memory = MEMORY
+number_of cause.Gate = GATE
+
+-- 41: in some list not all are receipts of its owner's events, of the legal ones, in rising order
+pub record IsStrange (plan : Plan) (history : List Event) (lists : List (List (Receipt Event))) (fault : RunFault) : Type 0 where
+  pub number : fault.number ≡ STRANGE
+  pub strange : ¬ AreListsOf plan (take fault.events history) (lists_of plan) lists
+
+-- 42: in each list all are, and yet it is no run, or one of another number of jobs
+pub record IsMixed (plan : Plan) (rounds jobs : ℕ) (history : List Event) (lists : List (List (Receipt Event))) (fault : RunFault) : Type 0 where
+  pub number : fault.number ≡ MIXED
+  pub theirs : AreListsOf plan (take fault.events history) (lists_of plan) lists
+  pub mixed : ¬ (IsRun plan rounds history lists × Makes plan history jobs)
+
+-- what is answered where there is memory: the fault that a thread met, and 41 or 42 only where none did
+abbrev pub IsAnswerTo : Plan → ℕ → ℕ → List Event → List (List (Receipt Event)) → Option Cause → RunFault → Type 0
+IsAnswerTo plan rounds jobs history lists (Some cause) fault = fault.number ≡ number_of cause
+IsAnswerTo plan rounds jobs history lists None fault = IsStrange plan history lists fault ⊎ IsMixed plan rounds jobs history lists fault

@@ -1,53 +1,68 @@
 //! Whether a history is complete.
 
-ghost use Rattle.std.specs.Prelude.{◌≡◌, ℕ, IsTrue, IfSome, Some, count_by, slice_get};
+ghost use Rattle.std.specs.Prelude.{◌≡◌, ◌<◌, ◌+◌, ◌-◌, ◌^◌, ◌↔◌, ℕ, List, IsTrue, IfOk, Some, length, min, count_by, slice_get, slice_index, if◌then◌else◌};
 ghost use Rattle.job_bodies.specs.Plan.{Plan, client_at};
+ghost use Rattle.written_machine.specs.declared.event.Event.{Event};
 ghost use Rattle.written_machine.specs.State.{State};
 ghost use Rattle.live_views.specs.LiveView.{live_view};
 ghost use Rattle.run_histories.specs.Complete as spec;
 ghost use Rattle.run_histories.specs.Owner.{kinds_of};
 
+use crate::rounds::events_of_client;
 use interleaving::{Event, World};
 use job_bodies::{Client, Plan};
+use std::alloc::{AllocError, Global};
 
 /// Whether each client has made all events of its rounds and stands at its body's end, and no job is unfinished.
+///
+/// # Errors
+///
+/// `AllocError` where there is no memory for a count of each client's events.
 pub(crate) fn is_complete(
+    alloc: Global,
     plan: &Plan,
     kinds: &[usize],
     world: &World,
     rounds: u64,
     history: &[Event],
-) -> bool
+) -> Result<bool, AllocError>
     requires { kinds.now ≡ kinds_of plan.now }
-    ensures { IsTrue result → (s : State) → live_view plan.now s ≡ world.now.view → spec.IsComplete plan.now rounds history.now s }
+    ensures { IfOk result (λ complete. (s : State) → live_view plan.now s ≡ world.now.view → (IsTrue complete ↔ spec.IsComplete plan.now rounds history.now s)) }
 {
-    world.unfinished() == 0 && clients_are_through(plan, kinds, world, rounds, history)
+    if world.unfinished() != 0 {
+        return Ok(false);
+    }
+    let made = events_made(alloc, kinds.len(), history)?;
+    Ok(clients_are_through(plan, kinds, world, rounds, &made))
 }
 
-/// Whether each client is through, of these kinds.
+/// Whether each client is through, of these kinds, which made so many events.
 fn clients_are_through(
     plan: &Plan,
     kinds: &[usize],
     world: &World,
     rounds: u64,
-    history: &[Event],
+    made: &[u64],
 ) -> bool
-    ensures { IsTrue result → (s : State) → live_view plan.now s ≡ world.now.view → (c kind : ℕ) → slice_get kinds.now c ≡ Some kind → spec.IsThrough rounds history.now s c (client_at plan.now kind) }
+    requires kinds { kinds.now ≡ kinds_of plan.now }
+    requires as_many { length kinds.now ≡ length made.now }
+    ensures { (history : List Event) (s : State) → spec.AreMadeIn history made.now → live_view plan.now s ≡ world.now.view → (IsTrue result ↔ ((c kind : ℕ) → slice_get kinds.now c ≡ Some kind → spec.IsThrough rounds history s c (client_at plan.now kind))) }
 {
     for number in 0..kinds.len() {
         let Some(client) = plan.client_at(kinds[number]) else {
             return false;
         };
-        if !is_through(client, number, world, rounds, history) {
+        if !is_through(client, number, world, rounds, made[number]) {
             return false;
         }
     }
     true
 }
 
-/// Whether the client of this number, which is of this kind, has made all its events and stands at its body's end.
-fn is_through(client: &Client, number: usize, world: &World, rounds: u64, history: &[Event]) -> bool
-    ensures { IsTrue result → (plan : Plan) (s : State) → live_view plan s ≡ world.now.view → spec.IsThrough rounds history.now s number client.now }
+/// Whether the client of this number, of this kind, has made all its events, which are so many, and stands at its body's
+/// end.
+fn is_through(client: &Client, number: usize, world: &World, rounds: u64, made: u64) -> bool
+    ensures { (plan : Plan) (history : List Event) (s : State) → made ≡ count_by (spec.is_of_client number) history → live_view plan s ≡ world.now.view → (IsTrue result ↔ spec.IsThrough rounds history s number client.now) }
 {
     let Some(position) = world.client(number) else {
         return false;
@@ -55,39 +70,33 @@ fn is_through(client: &Client, number: usize, world: &World, rounds: u64, histor
     let Some(events) = events_of_client(client, rounds) else {
         return false;
     };
-    position == client.body.len() && events_made(number, history) == events
+    position == client.body.len() && made == events
 }
 
-/// How many events a client of this kind makes; None where that is no u64.
-fn events_of_client(client: &Client, rounds: u64) -> Option<u64>
-    ensures { IfSome result (λ events. events ≡ spec.events_of_client rounds client.now) }
+/// How many events of the history each of so many clients has made.
+///
+/// # Errors
+///
+/// `AllocError` where there is no memory for the list.
+fn events_made(alloc: Global, clients: usize, history: &[Event]) -> Result<Vec<u64>, AllocError>
+    ensures as_many { IfOk result (λ made. length made.items ≡ clients) }
+    ensures made { IfOk result (λ made. spec.AreMadeIn history.now made.items) }
 {
-    let rounds = if client.repeat { rounds } else { 1 };
-    let length = client.body.len() as u64;
-    rounds
-        .checked_mul(length)?
-        .checked_add(rounds)?
-        .checked_sub(1)
-}
-
-/// How many events of the history are this client's.
-fn events_made(client: usize, history: &[Event]) -> u64
-    ensures { result ≡ count_by (spec.is_of_client client) history.now }
-{
-    let mut count = 0;
+    let mut made = vec![in alloc; 0u64; clients]?;
     for event in history {
-        if is_of_client(client, *event) {
-            count += 1;
-        }
+        count_event(&mut made, *event);
     }
-    count
+    Ok(made)
 }
 
-fn is_of_client(client: usize, event: Event) -> bool
-    ensures { result ≡ spec.is_of_client client event }
+/// Counts the event for its client.
+fn count_event(made: &mut [u64], event: Event)
+    ensures as_many { length made.new ≡ length made.old }
+    ensures made { (c : ℕ) → c < length made.old → slice_index made.new c ≡ min (slice_index made.old c + (if spec.is_of_client c event then 1 else 0)) (2 ^ 64 - 1) }
 {
-    match event {
-        Event::Client(number) => client == number,
-        _ => false,
+    if let Event::Client(client) = event {
+        if client < made.len() {
+            made[client] = made[client].saturating_add(1);
+        }
     }
 }

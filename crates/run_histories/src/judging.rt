@@ -1,11 +1,11 @@
 //! Whether what came back from a run's threads is a whole run.
 
-ghost use Rattle.std.specs.Prelude.{◌≡◌, IfOk, IfErr, IfSome, IsSome, IsNone, IsErr, length, map};
+ghost use Rattle.std.specs.Prelude.{◌≡◌, ◌≢◌, ◌↔◌, IfOk, IfErr, IfSome, IsTrue, None, false, length, map, take};
 ghost use Rattle.std.specs.Option.{IfNone};
-ghost use Rattle.written_machine.specs.State.{State};
-ghost use Rattle.written_machine.specs.Reach.{Reaches};
 ghost use Rattle.run_histories.specs.Owner.{AreOwnersOf};
-ghost use Rattle.run_histories.specs.Run.{IsWhole, IsRun, IsLengthOfLegal, IsAnswerTo};
+ghost use Rattle.run_histories.specs.Owner as owner;
+ghost use Rattle.run_histories.specs.Receipts.{AreListsOf};
+ghost use Rattle.run_histories.specs.Run.{IsRun, Makes, IsLegalFront, IsLegalPart, IsAnswerTo};
 
 use crate::completeness::is_complete;
 use crate::numbers::RunNumbers;
@@ -22,13 +22,13 @@ use job_bodies::Plan;
 use std::alloc::{AllocError, Global};
 
 /// The report of what the threads of a run hand back, where it is a whole run of the plan in so many rounds and with that
-/// number of jobs, and else why it is not. Its history is the replayed one.
+/// number of jobs, and else why it is not.
 ///
 /// # Errors
 ///
-/// The least fault that a thread met, 20 where memory runs out here; only where there is neither, 41 and then 42, as
-/// [`RunFault`] says. Its `events` is how many events of the history could be replayed.
-#[tactic(auto, using(crate::proofs::Histories::nothing_is_legal, crate::proofs::Faults::memory_answers))]
+/// The fault that a thread met; only where none did, 41 where a receipt is strange, and else 42, as [`RunFault`] says. In
+/// place of each, 20 where memory runs out here. Its `events` is how many events of the history could be replayed: with
+/// another fault than 20, all up to the first that is not possible.
 pub fn judge(
     alloc: Global,
     certified: &Certified,
@@ -36,58 +36,35 @@ pub fn judge(
     numbers: RunNumbers,
     met: Met,
 ) -> Result<RunReport, RunFault>
-    ensures run { IfOk result (λ report. IsRun certified.now.plan rounds report.history report.receipts) }
-    ensures jobs { IfOk result (λ report. report.jobs ≡ numbers.jobs) }
-    ensures made { IfOk result (λ report. (s : State) → Reaches certified.now.plan report.history s → length s.jobs ≡ report.jobs) }
-    ensures units { IfOk result (λ report. report.units ≡ numbers.units) }
-    ensures none_refused { IfOk result (λ report. report.refused ≡ 0) }
-    ensures met { IsSome met.fault → IsErr result }
-    ensures fault { IfErr result (λ fault. IsAnswerTo met.fault fault.number) }
-    ensures events { IfErr result (λ fault. IsLengthOfLegal certified.now.plan fault.events) }
+    ensures run { IfOk result (λ _. IsRun certified.now.plan rounds met.history met.receipts) }
+    ensures made { IfOk result (λ _. Makes certified.now.plan met.history numbers.jobs) }
+    ensures report { IfOk result (λ report. report ≡ record { jobs = numbers.jobs; units = numbers.units; refused = 0; history = met.history; receipts = met.receipts }) }
+    ensures none_met { IfOk result (λ _. met.fault ≡ None) }
+    ensures events { IfErr result (λ fault. IsLegalFront certified.now.plan met.history fault.events) }
+    ensures replayed { IfErr result (λ fault. fault.number ≢ MEMORY → IsLegalPart certified.now.plan met.history fault.events) }
+    ensures fault { IfErr result (λ fault. fault.number ≢ MEMORY → IsAnswerTo certified.now.plan rounds numbers.jobs met.history met.receipts met.fault fault) }
 {
     let Ok(replay) = replay_history(alloc, certified, &met.history) else {
-        return Err(RunFault {
-            number: MEMORY,
-            events: 0,
-        });
+        return Err(RunFault::at_start(MEMORY));
     };
-    let found = match fault_of(alloc, certified.plan(), rounds, numbers, &met, &replay) {
-        Ok(found) => found,
-        Err(AllocError) => Some(MEMORY),
-    };
+    let found = fault_of(alloc, certified.plan(), rounds, numbers.jobs, &met, &replay);
     let Replay { held, .. } = replay;
     match found {
-        Some(number) => Err(RunFault {
-            number,
-            events: events_of(&held),
+        Ok(None) => Ok(report(numbers, held, met.receipts)),
+        Ok(Some(fault)) => Err(fault),
+        Err(AllocError) => Err(RunFault {
+            number: MEMORY,
+            events: held.history().len() as u64,
         }),
-        None => Ok(report(rounds, numbers, held, met.receipts)),
     }
 }
 
-/// How many events the held world has made.
-#[tactic(auto, using(crate::proofs::Histories::length_of))]
-fn events_of(held: &Held<CertifiedWorld<'_>>) -> u64
-    ensures { IsLengthOfLegal held.now.machine.certified.now.plan result }
-{
-    held_worlds_refuse_nothing(held);
-    held.history().len() as u64
-}
-
-#[tactic(auto, using(crate::proofs::Histories::run_of))]
 fn report(
-    _rounds: u64,
     numbers: RunNumbers,
     held: Held<CertifiedWorld<'_>>,
     receipts: Vec<Vec<Receipt<Event>>>,
 ) -> RunReport
-    requires made { length held.state.world.jobs ≡ numbers.jobs }
-    requires whole { IsWhole held.machine.certified.now.plan _rounds held.history held.state.world (map (λ list. list.items) receipts.items) }
-    ensures run { IsRun held.entry.machine.certified.now.plan _rounds result.history result.receipts }
-    ensures jobs { result.jobs ≡ numbers.jobs }
-    ensures made { (s : State) → Reaches held.entry.machine.certified.now.plan result.history s → length s.jobs ≡ result.jobs }
-    ensures units { result.units ≡ numbers.units }
-    ensures none_refused { result.refused ≡ 0 }
+    ensures { result ≡ record { jobs = numbers.jobs; units = numbers.units; refused = 0; history = held.entry.history; receipts = map (λ list. list.items) receipts.items } }
 {
     held_worlds_refuse_nothing(&held);
     let refused = held.state().world.world().refusals();
@@ -100,40 +77,93 @@ fn report(
     }
 }
 
-/// What is wrong with a history that was replayed as far as that goes, and its receipts.
-#[tactic(auto, using(crate::proofs::Faults::memory_answers, crate::proofs::Faults::met_answers, crate::proofs::Faults::others_answer))]
+/// What is wrong with what came back, of whose history the legal part was replayed.
+///
+/// # Errors
+///
+/// `AllocError` where memory ran out in the replay or runs out here.
 fn fault_of(
     alloc: Global,
     plan: &Plan,
     rounds: u64,
-    numbers: RunNumbers,
+    jobs: u64,
     met: &Met,
     replay: &Replay<'_>,
-) -> Result<Option<u8>, AllocError>
-    requires { AreOwnersOf plan.now replay.now.held.history replay.now.owners.items }
-    ensures whole { IfOk result (λ found. IfNone found (IsWhole plan.now rounds replay.now.held.history replay.now.held.state.world (map (λ list. list.items) met.now.receipts.items))) }
-    ensures made { IfOk result (λ found. IfNone found (length replay.now.held.state.world.jobs ≡ numbers.jobs)) }
-    ensures met { IfOk result (λ found. IfNone found (IsNone met.now.fault)) }
-    ensures fault { IfOk result (λ found. IfSome found (IsAnswerTo met.now.fault)) }
+) -> Result<Option<RunFault>, AllocError>
+    requires plan { replay.now.held.machine.certified.now.plan ≡ plan.now }
+    requires history { replay.now.held.history ≡ take (length replay.now.held.history) met.now.history }
+    requires part { replay.now.ended_for_memory ≡ false → IsLegalPart plan.now met.now.history (length replay.now.held.history) }
+    requires owners { AreOwnersOf plan.now replay.now.held.history replay.now.owners.items }
+    ensures all { IfOk result (λ found. IfNone found (replay.now.held.history ≡ met.now.history)) }
+    ensures run { IfOk result (λ found. IfNone found (IsRun plan.now rounds met.now.history met.now.receipts)) }
+    ensures made { IfOk result (λ found. IfNone found (Makes plan.now met.now.history jobs)) }
+    ensures none_met { IfOk result (λ found. IfNone found (met.now.fault ≡ None)) }
+    ensures part { IfOk result (λ found. IfSome found (λ fault. IsLegalPart plan.now met.now.history fault.events)) }
+    ensures fault { IfOk result (λ found. IfSome found (IsAnswerTo plan.now rounds jobs met.now.history met.now.receipts met.now.fault)) }
 {
     if replay.ended_for_memory {
-        return Ok(Some(MEMORY));
+        return Err(AllocError);
     }
-    if met.fault.is_some() {
-        return Ok(met.fault);
-    }
+    held_worlds_refuse_nothing(&replay.held);
     let history = replay.held.history();
+    let events = history.len() as u64;
+    if let Some(cause) = met.fault {
+        return Ok(Some(RunFault {
+            number: cause.number(),
+            events,
+        }));
+    }
     let kinds = kinds_of(alloc, plan)?;
     let of_lists = lists_of(alloc, plan, &kinds)?;
     if !lists_fit(plan, history, &replay.owners, &of_lists, &met.receipts) {
-        return Ok(Some(STRANGE));
+        return Ok(Some(RunFault {
+            number: STRANGE,
+            events,
+        }));
     }
-    if history.len() < met.history.len()
-        || !is_complete(plan, &kinds, replay.held.state().world.world(), rounds, history)
-        || !each_once(alloc, history.len(), &met.receipts)?
-        || replay.held.state().world.world().made() as u64 != numbers.jobs
-    {
-        return Ok(Some(MIXED));
+    if !is_run(alloc, plan, &kinds, rounds, jobs, met, &replay.held)? {
+        return Ok(Some(RunFault {
+            number: MIXED,
+            events,
+        }));
     }
     Ok(None)
+}
+
+/// Whether the history that came back was replayed to its end, made so many jobs and is complete, and each of its events
+/// stands in one place of the lists; each list has its own client's or pool's receipts.
+///
+/// # Errors
+///
+/// `AllocError` where memory runs out.
+fn is_run(
+    alloc: Global,
+    plan: &Plan,
+    kinds: &[usize],
+    rounds: u64,
+    jobs: u64,
+    met: &Met,
+    held: &Held<CertifiedWorld<'_>>,
+) -> Result<bool, AllocError>
+    requires plan { held.now.machine.certified.now.plan ≡ plan.now }
+    requires kinds { kinds.now ≡ owner.kinds_of plan.now }
+    requires history { held.now.history ≡ take (length held.now.history) met.now.history }
+    requires part { IsLegalPart plan.now met.now.history (length held.now.history) }
+    requires theirs { AreListsOf plan.now held.now.history (owner.lists_of plan.now) met.now.receipts }
+    ensures all { IfOk result (λ is_run. IsTrue is_run → held.now.history ≡ met.now.history) }
+    ensures run { IfOk result (λ is_run. IsTrue is_run ↔ (IsRun plan.now rounds met.now.history met.now.receipts × Makes plan.now met.now.history jobs)) }
+{
+    held_worlds_refuse_nothing(held);
+    let history = held.history();
+    let world = held.state().world.world();
+    if history.len() < met.history.len() {
+        return Ok(false);
+    }
+    if world.made() as u64 != jobs {
+        return Ok(false);
+    }
+    if !is_complete(alloc, plan, kinds, world, rounds, history)? {
+        return Ok(false);
+    }
+    each_once(alloc, history.len(), &met.receipts)
 }

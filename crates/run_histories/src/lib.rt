@@ -13,8 +13,10 @@ mod owner;
 mod receipts;
 mod replay;
 mod report;
+mod rounds;
 
 pub use judging::judge;
 pub use numbers::{RunNumbers, run_numbers};
 pub use owner::{Owner, kinds_of, lists_of};
-pub use report::{Met, RunFault, RunReport};
+pub use report::{Cause, Met, RunFault, RunReport};
+pub use rounds::rounds_of_client;

@@ -5,6 +5,7 @@ ghost use Rattle.run_histories.specs.Complete as complete;
 ghost use Rattle.run_histories.specs.RunNumbers as spec;
 ghost use Rattle.run_histories.specs.RunNumbers.{capped};
 
+use crate::rounds::{events_of_client, rounds_of_client};
 use job_bodies::{Action, Class, Client, Plan};
 use pool_ranks::Ranks;
 use std::alloc::{AllocError, Global};
@@ -119,11 +120,7 @@ fn events_of_all(plan: &Plan, rounds: u64) -> u64
 {
     let mut total = 0u64;
     for client in plan.clients() {
-        total = total.saturating_add(
-            client
-                .count
-                .saturating_mul(events_of_client(client, rounds)),
-        );
+        total = total.saturating_add(client.count.saturating_mul(events_within(client, rounds)));
     }
     total
 }
@@ -136,21 +133,11 @@ fn in_all_rounds(client: &Client, rounds: u64, in_one: u64) -> u64
     client.count.saturating_mul(of_one)
 }
 
-/// How often the client goes through its body.
-fn rounds_of_client(client: &Client, rounds: u64) -> u64
-    ensures { result ≡ complete.rounds_of rounds client.now }
-{
-    if client.repeat { rounds } else { 1 }
-}
-
-/// How many events a client makes: those of its rounds, and a loop between each two of them.
-fn events_of_client(client: &Client, rounds: u64) -> u64
+/// How many events a client of this kind makes.
+fn events_within(client: &Client, rounds: u64) -> u64
     ensures { result ≡ capped (complete.events_of_client rounds client.now) }
 {
-    let rounds = rounds_of_client(client, rounds);
-    rounds
-        .saturating_mul(client.body.len() as u64)
-        .saturating_add(rounds.saturating_sub(1))
+    events_of_client(client, rounds).unwrap_or(u64::MAX)
 }
 
 /// The units of work that the body declares.

@@ -1,7 +1,9 @@
 //! Whose an event is, and the lists of receipts that a run has.
 
-ghost use Rattle.std.specs.Prelude.{◌≡◌, Some, IfSome, IfOk, map};
+ghost use Rattle.std.specs.Prelude.{◌≡◌, ◌≢◌, None, IfOk, map};
 ghost use Rattle.written_machine.specs.State.{State};
+ghost use Rattle.written_machine.specs.Step.{step};
+ghost use Rattle.written_machine.specs.Reach.{IsReached};
 ghost use Rattle.live_views.specs.LiveView.{live_view};
 ghost use Rattle.std.specs.List.{enumerate_from};
 ghost use Rattle.run_histories.specs.Owner as spec;
@@ -17,18 +19,17 @@ pub enum Owner {
     Pool(usize),
 }
 
-/// Whose the event is, in the world before it. None of a retirement, which no thread of a run makes, and of a job that is
-/// not live.
-#[tactic(auto, using(crate::proofs::Owners::class_seen))]
+/// Whose the event is, in the world before it, where it is possible there. None of a retirement, which no thread of a run
+/// makes.
 pub(crate) fn owner_of(plan: &Plan, world: &World, event: Event) -> Option<Owner>
-    ensures { (s : State) → live_view plan.now s ≡ world.now.view → IfSome result (λ owner. spec.owner_in plan.now s event ≡ Some owner) }
+    ensures { (s : State) → IsReached plan.now s → live_view plan.now s ≡ world.now.view → step plan.now s event ≢ None → result ≡ spec.owner_in plan.now s event }
 {
     match event {
         Event::Client(client) => Some(Owner::Client(client)),
         Event::Take(pool) => Some(Owner::Pool(pool)),
         Event::Job(number) => {
             let job = world.job(number)?;
-            Some(Owner::Pool(plan.class_at(job.class)?.pool))
+            Some(Owner::Pool(plan.classes().get(job.class)?.pool))
         }
         Event::Retire(_) => None,
     }

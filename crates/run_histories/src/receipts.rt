@@ -1,7 +1,8 @@
 //! Whether the receipts of all threads are the events of a history, each once and each where it belongs.
 
-ghost use Rattle.std.specs.Prelude.{◌≡◌, ◌<◌, ◌+◌, ◌==◌, ℕ, IsTrue, IfOk, length, map, min, slice_index, count_by, if◌then◌else◌};
+ghost use Rattle.std.specs.Prelude.{◌≡◌, ◌<◌, ◌+◌, ◌==◌, ◌↔◌, ℕ, IsTrue, IfOk, Some, length, map, min, slice_index, count_by, if◌then◌else◌};
 ghost use Rattle.run_histories.specs.Owner.{AreOwnersOf};
+ghost use Rattle.run_histories.specs.Run.{IsLegal};
 ghost use Rattle.run_histories.specs.Receipts.{IsReceiptOf, AreReceiptsOf, AreListsOf, places_of};
 
 use crate::owner::Owner;
@@ -14,12 +15,13 @@ use std::alloc::{AllocError, Global};
 pub(crate) fn lists_fit(
     plan: &Plan,
     history: &[Event],
-    owners: &[Owner],
+    owners: &[Option<Owner>],
     of_lists: &[Owner],
     lists: &[Vec<Receipt<Event>>],
 ) -> bool
-    requires { AreOwnersOf plan.now history.now owners.now }
-    ensures { IsTrue result → AreListsOf plan.now history.now of_lists.now (map (λ list. list.items) lists.now) }
+    requires legal { IsLegal plan.now history.now }
+    requires owners { AreOwnersOf plan.now history.now owners.now }
+    ensures { IsTrue result ↔ AreListsOf plan.now history.now of_lists.now (map (λ list. list.items) lists.now) }
 {
     if of_lists.len() != lists.len() {
         return false;
@@ -35,12 +37,13 @@ pub(crate) fn lists_fit(
 fn list_fits(
     plan: &Plan,
     history: &[Event],
-    owners: &[Owner],
+    owners: &[Option<Owner>],
     owner: Owner,
     list: &[Receipt<Event>],
 ) -> bool
-    requires { AreOwnersOf plan.now history.now owners.now }
-    ensures { IsTrue result → AreReceiptsOf plan.now history.now owner 0 list.now }
+    requires legal { IsLegal plan.now history.now }
+    requires owners { AreOwnersOf plan.now history.now owners.now }
+    ensures { IsTrue result ↔ AreReceiptsOf plan.now history.now owner 0 list.now }
 {
     let mut low = 0;
     for receipt in list {
@@ -56,13 +59,14 @@ fn list_fits(
 fn receipt_fits(
     _plan: &Plan,
     history: &[Event],
-    owners: &[Owner],
+    owners: &[Option<Owner>],
     owner: Owner,
     receipt: Receipt<Event>,
 ) -> bool
-    requires { AreOwnersOf _plan.now history.now owners.now }
+    requires legal { IsLegal _plan.now history.now }
+    requires owners { AreOwnersOf _plan.now history.now owners.now }
     ensures inside { IsTrue result → receipt.number < length history.now }
-    ensures fits { IsTrue result → IsReceiptOf _plan.now history.now owner receipt }
+    ensures fits { IsTrue result ↔ IsReceiptOf _plan.now history.now owner receipt }
 {
     let number = receipt.number as usize;
     let Some(event) = history.get(number) else {
@@ -71,11 +75,11 @@ fn receipt_fits(
     let Some(found) = owners.get(number) else {
         return false;
     };
-    is_same_event(*event, receipt.event) && is_same_owner(*found, owner)
+    is_same_event(*event, receipt.event) && is_owned_by(*found, owner)
 }
 
 fn is_same_event(a: Event, b: Event) -> bool
-    ensures { IsTrue result → a ≡ b }
+    ensures { IsTrue result ↔ (a ≡ b) }
 {
     match (a, b) {
         (Event::Client(a), Event::Client(b)) => a == b,
@@ -86,12 +90,13 @@ fn is_same_event(a: Event, b: Event) -> bool
     }
 }
 
-fn is_same_owner(a: Owner, b: Owner) -> bool
-    ensures { IsTrue result → a ≡ b }
+/// Whether what has this owner, where it has one, is this owner's.
+fn is_owned_by(found: Option<Owner>, owner: Owner) -> bool
+    ensures { IsTrue result ↔ (found ≡ Some owner) }
 {
-    match (a, b) {
-        (Owner::Client(a), Owner::Client(b)) => a == b,
-        (Owner::Pool(a), Owner::Pool(b)) => a == b,
+    match (found, owner) {
+        (Some(Owner::Client(a)), Owner::Client(b)) => a == b,
+        (Some(Owner::Pool(a)), Owner::Pool(b)) => a == b,
         _ => false,
     }
 }
@@ -106,7 +111,7 @@ pub(crate) fn each_once(
     length: usize,
     lists: &[Vec<Receipt<Event>>],
 ) -> Result<bool, AllocError>
-    ensures { IfOk result (λ once. IsTrue once → (k : ℕ) → k < length → places_of k (map (λ list. list.items) lists.now) ≡ 1) }
+    ensures { IfOk result (λ once. IsTrue once ↔ ((k : ℕ) → k < length → places_of k (map (λ list. list.items) lists.now) ≡ 1)) }
 {
     let mut marks = vec![in alloc; 0u8; length]?;
     for list in lists {
@@ -135,7 +140,7 @@ fn mark(marks: &mut [u8], number: usize)
 }
 
 fn all_are_one(marks: &[u8]) -> bool
-    ensures { IsTrue result → (k : ℕ) → k < length marks.now → slice_index marks.now k ≡ 1 }
+    ensures { IsTrue result ↔ ((k : ℕ) → k < length marks.now → slice_index marks.now k ≡ 1) }
 {
     for at in 0..marks.len() {
         if marks[at] != 1 {

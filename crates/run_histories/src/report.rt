@@ -1,5 +1,10 @@
 //! What a run answers.
 
+ghost use Rattle.std.specs.Prelude.{◌≡◌};
+ghost use Rattle.job_bodies.specs.Plan as spec;
+ghost use Rattle.run_histories.specs.Run.{IsLengthOfLegal, number_of};
+
+use faults::number::{GATE, MEMORY};
 use held_machines::Receipt;
 use interleaving::Event;
 use std::marker::Model;
@@ -41,10 +46,52 @@ pub struct RunFault {
     pub events: u64,
 }
 
-/// What the threads of a run hand back: its history, the receipts of each thread, and the least fault that a thread met.
+impl RunFault {
+    /// A fault before the first event.
+    #[tactic(auto, using(crate::proofs::Histories::nothing_is_legal))]
+    pub fn at_start(number: u8) -> RunFault
+        ensures value { result ≡ record { number = number; events = 0 } }
+        ensures legal { (plan : spec.Plan) → IsLengthOfLegal plan result.events }
+    {
+        RunFault { number, events: 0 }
+    }
+}
+
+/// Why the threads of a run end before all is done.
+#[derive(Clone, Copy, Debug, PartialEq, Eq)]
+pub enum Cause {
+    /// Memory ran out, or a thread could not be started.
+    Memory,
+    /// The gate failed.
+    Gate,
+}
+
+impl Cause {
+    /// Its number of `faults`.
+    pub fn number(self) -> u8
+        ensures { result ≡ number_of self }
+    {
+        match self {
+            Cause::Memory => MEMORY,
+            Cause::Gate => GATE,
+        }
+    }
+}
+
+/// What the threads of a run hand back: its history, the receipts of each thread, and the fault that a thread met, of
+/// several the one with the least number.
 #[derive(Debug, Drop)]
 pub struct Met {
     pub history: Vec<Event>,
     pub receipts: Vec<Vec<Receipt<Event>>>,
-    pub fault: Option<u8>,
+    pub fault: Option<Cause>,
+}
+
+impl Model for Met {
+    ghost use Rattle.std.specs.Prelude.{map};
+    ghost use Rattle.run_histories.specs.Report.{Met};
+
+    ghost Value = { Met };
+
+    ghost view = { λ met. record { history = met.history.items; receipts = map (λ list. list.items) met.receipts.items; fault = met.fault } };
 }

@@ -1,8 +1,15 @@
-use Rattle.std.proofs.Common.{◌≡◌, ℕ, List, Some, slice_get, subst, sym, ◌∙◌}
+use Rattle.std.proofs.Common.{◌≡◌, ℕ, Some, slice_get, List, subst, sym, ◌∙◌}
+use Rattle.run_histories.specs.Complete.{IsThrough, AreMadeIn}
+use Rattle.job_bodies.specs.Plan.{client_at}
 use Rattle.run_histories.proofs.completeness.is_complete.Goals as goal
 
-pub returns-then-unfinished-eq0 : goal.returns-then-unfinished-eq0
-returns-then-unfinished-eq0 c = λ through s seen. record {
-  clients = λ number kind at. c.clients_are_through.ensures through s seen number kind (subst (λ (kinds : List ℕ). slice_get kinds number ≡ Some kind) (sym c.requires) at);
-  finished = sym (c.unfinished.ensures.value c.args.plan.now s seen) ∙ c.if-unfinished-eq0.true;
-}
+pub returns : goal.returns
+returns c = λ s seen.
+    let made : AreMadeIn c.args.history.now c.deref.result.now = rw (c.deref.ensures.value) c.in_ok-made.ensures.made in
+    let through = c.clients_are_through.ensures c.args.history.now s made seen in (
+      λ so. record {
+        clients = λ number kind at. through.0 so number kind (subst (λ (kinds : List ℕ). slice_get kinds number ≡ Some kind) (sym c.requires) at);
+        finished = sym (c.unfinished.ensures.value c.args.plan.now s seen) ∙ c.if-unfinished-ne0.false;
+      },
+      λ complete. through.1 (λ number kind at. complete.clients number kind (subst (λ (kinds : List ℕ). slice_get kinds number ≡ Some kind) c.requires at)),
+    )

@@ -1,7 +1,7 @@
--- Where the receipts that are left fit, all do.
-use Rattle.std.proofs.Common.{drop}
+-- All receipts fit where those that are left do.
+use Rattle.std.proofs.Common.{◌↔◌, drop}
 use Rattle.run_histories.specs.Receipts.{AreReceiptsOf}
 use Rattle.run_histories.proofs.receipts.list_fits.Given as goal
 
 abbrev pub invariant-loop-receipt : goal.invariant-loop-receipt
-invariant-loop-receipt l = AreReceiptsOf l.plan l.history l.owner l.low (drop l.receipt-index l.list) → AreReceiptsOf l.plan l.history l.owner 0 l.list
+invariant-loop-receipt l = AreReceiptsOf l.plan l.history l.owner l.low (drop l.receipt-index l.list) ↔ AreReceiptsOf l.plan l.history l.owner 0 l.list

@@ -1,0 +1,42 @@
+-- Receipts of a legal history, by whose each of its events is.
+use Rattle.std.proofs.Common.{◌≡◌, ◌+◌, ◌↔◌, ℕ, suc, Bool, false, IsTrue, List, [], ◌∷◌, length, slice_get, Option, Some, refl, sym, ap, ◌∙◌}
+use Rattle.std.proofs.lemmas.Option.{same_Some}
+use Rattle.job_bodies.specs.Plan.{Plan}
+use Rattle.written_machine.specs.declared.event.Event.{Event}
+use Rattle.held_machines.specs.declared.held.Receipt.{Receipt}
+use Rattle.run_histories.specs.declared.owner.Owner.{Owner}
+use Rattle.run_histories.specs.Owner.{AreOwnersOf}
+use Rattle.run_histories.specs.Receipts.{IsReceiptOf, AreListsOf}
+use Rattle.run_histories.specs.Run.{IsLegal}
+use Rattle.run_histories.proofs.Fronts.{front_is_legal}
+
+-- a receipt of an owner's event has it at its number
+owner_at : (plan : Plan) (history : List Event) (owners : List (Option Owner)) (owner : Owner) (r : Receipt Event) (found : Option Owner) → IsLegal plan history → AreOwnersOf plan history owners → slice_get owners r.number ≡ Some found
+    → IsReceiptOf plan history owner r → found ≡ Some owner
+owner_at plan history owners owner r found legal are at receipt =
+    let before = front_is_legal plan history legal.0 r.number legal.1 in
+    sym (are.each r.number before.0 r.event found receipt.event at before.1) ∙ receipt.owned before.0 before.1
+
+-- with the event at its number a receipt is the owner's whose that event is
+pub owned_where : (plan : Plan) (history : List Event) (owners : List (Option Owner)) (owner : Owner) (r : Receipt Event) (event : Event) (found : Option Owner) (same owned : Bool) → IsLegal plan history → AreOwnersOf plan history owners
+    → slice_get history r.number ≡ Some event → slice_get owners r.number ≡ Some found → (IsTrue same ↔ (event ≡ r.event)) → IsTrue same → (IsTrue owned ↔ (found ≡ Some owner)) → IsTrue owned ↔ IsReceiptOf plan history owner r
+owned_where plan history owners owner r event found same owned legal are event_at found_at is_same so is_owned = (
+  λ its. record {
+    event = event_at ∙ ap Some (is_same.0 so);
+    owned = λ s reached. are.each r.number s r.event (Some owner) (event_at ∙ ap Some (is_same.0 so)) (found_at ∙ ap Some (is_owned.0 its)) reached;
+  },
+  λ receipt. is_owned.1 (owner_at plan history owners owner r found legal are found_at receipt),
+)
+
+-- with another event it is nobody's
+pub other_event : (plan : Plan) (history : List Event) (owner : Owner) (r : Receipt Event) (event : Event) (same : Bool) → slice_get history r.number ≡ Some event → (IsTrue same ↔ (event ≡ r.event)) → same ≡ false → IsTrue same ↔ IsReceiptOf plan history owner r
+other_event plan history owner r event same event_at is_same differs = (
+  λ so. absurd cc,
+  λ receipt. is_same.1 (same_Some event r.event (sym event_at ∙ receipt.event)),
+)
+
+pub as_many : (plan : Plan) (history : List Event) (owners : List Owner) (lists : List (List (Receipt Event))) → AreListsOf plan history owners lists → length owners ≡ length lists
+as_many plan history [] [] fit = refl
+as_many plan history [] (list ∷ lists) fit = absurd fit
+as_many plan history (owner ∷ owners) [] fit = absurd fit
+as_many plan history (owner ∷ owners) (list ∷ lists) fit = ap suc (as_many plan history owners lists fit.1)

@@ -1,0 +1,18 @@
+use Rattle.std.proofs.Common.{refl}
+use Rattle.std.proofs.lemmas.Option.{slice_get_read}
+use Rattle.run_histories.proofs.Received.{owned_where, other_event}
+use Rattle.run_histories.proofs.receipts.receipt_fits.Goals as goal
+
+pub returns-then-is_same_event-clause-fits : goal.returns-then-is_same_event-clause-fits
+returns-then-is_same_event-clause-fits c =
+    let event = c.in-Some.ensures.lookup in
+    let owner = c.in-Some-get.ensures.lookup in
+    owned_where c.args._plan.now c.args.history.now c.args.owners.now c.args.owner c.args.receipt c.in-Some.event.now c.in-Some-get.found.now c.is_same_event.result c.is_owned_by.result c.requires.legal c.requires.owners
+    (slice_get_read c.args.history.now _ c.args.receipt.number _ refl event.3.0 event.1) (slice_get_read c.args.owners.now _ c.args.receipt.number _ refl owner.3.0 owner.1)
+    c.is_same_event.ensures c.if-is_same_event.true c.is_owned_by.ensures
+
+pub returns-else-is_same_event-clause-fits : goal.returns-else-is_same_event-clause-fits
+returns-else-is_same_event-clause-fits c =
+    let event = c.in-Some.ensures.lookup in
+    other_event c.args._plan.now c.args.history.now c.args.owner c.args.receipt c.in-Some.event.now c.is_same_event.result
+    (slice_get_read c.args.history.now _ c.args.receipt.number _ refl event.3.0 event.1) c.is_same_event.ensures c.if-is_same_event.false
