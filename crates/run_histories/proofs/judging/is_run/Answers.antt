@@ -1,6 +1,7 @@
 use Rattle.std.proofs.Common.{◌≡◌, ◌<◌, ◌≤◌, ◌↔◌, ◌∙◌, ℕ, Bool, IsTrue, List, length, map, sym, ap, subst, refl, arith}
 use Rattle.std.proofs.lemmas.Bool.{false≢true}
 use Rattle.std.proofs.lemmas.Result.{IfOk-weaker}
+use Rattle.live_views.specs.LiveView.{View}
 use Rattle.job_bodies.specs.Plan.{Plan}
 use Rattle.written_machine.specs.declared.event.Event.{Event}
 use Rattle.written_machine.specs.State.{State}
@@ -30,7 +31,7 @@ returns-then-made-jobs-clause-run c =
     let met = ap (λ (m : Met). length m.history) c.met.view_is in
     let all = all_of c.args.met.now.history held.history c.requires.history (omega (arith, shown, met, c.met.inside.history.ok.0)) in
     let led = subst (λ (p : Plan). IsReachedBy p held.history held.state.world) c.requires.plan c.held_worlds_refuse_nothing.ensures.reached in
-    let seen = ap (λ (x : TracedWorld). length x.world.jobs) c.state.ensures.value in (
+    let seen = ap (λ (v : View). length v.jobs) c.world-world.ensures ∙ ap (λ (x : TracedWorld). length x.world.jobs) c.state.ensures.value in (
       λ so. absurd (false≢true so),
       λ both. absurd (c.if-made-jobs.true (c.made.ensures ∙ (seen ∙ jobs_of c.args.plan.now held.history held.state.world c.args.jobs led (subst (λ (h : List Event). Makes c.args.plan.now h c.args.jobs) (sym all) both.1)))),
     )
@@ -43,7 +44,7 @@ returns-clause-run c =
     let met = ap (λ (m : Met). length m.history) c.met.view_is in
     let all = all_of c.args.met.now.history held.history c.requires.history (omega (arith, shown, met, c.met.inside.history.ok.0)) in
     let led = subst (λ (p : Plan). IsReachedBy p held.history held.state.world) c.requires.plan c.held_worlds_refuse_nothing.ensures.reached in
-    let seen = ap (λ (x : TracedWorld). length x.world.jobs) c.state.ensures.value in
+    let seen = ap (λ (v : View). length v.jobs) c.world-world.ensures ∙ ap (λ (x : TracedWorld). length x.world.jobs) c.state.ensures.value in
     let jobs : length held.state.world.jobs ≡ c.args.jobs = omega (arith, seen, c.made.ensures, c.if-made-jobs.false) in
     let lists = ap (λ vecs. map (λ list. list.items) vecs) c.deref.ensures.value ∙ ap (λ (m : Met). m.receipts) c.met.view_is in
     IfOk-weaker c.each_once.result
@@ -51,6 +52,6 @@ returns-clause-run c =
     (λ once. IsTrue once ↔ (IsRun plan c.args.rounds c.args.met.now.history c.args.met.now.receipts × Makes plan c.args.met.now.history c.args.jobs))
     (λ once counted. run_of plan c.args.rounds c.args.jobs (length c.history-history.result.now) c.args.met.now.history held.history held.state.world c.args.met.now.receipts (map (λ list. list.items) c.deref.result.now) c.in_ok-is_complete.field-0 once
     led all c.requires.theirs jobs
-    (λ s same. subst (λ (h : List Event). IsTrue c.in_ok-is_complete.field-0 ↔ IsComplete plan c.args.rounds h s) c.history-history.ensures.value (c.in_ok-is_complete.ensures s (same ∙ ap (λ (x : TracedWorld). x.world) (sym c.state.ensures.value))))
+    (λ s same. subst (λ (h : List Event). IsTrue c.in_ok-is_complete.field-0 ↔ IsComplete plan c.args.rounds h s) c.history-history.ensures.value (c.in_ok-is_complete.ensures s (same ∙ (ap (λ (x : TracedWorld). x.world) (sym c.state.ensures.value) ∙ sym c.world-world.ensures))))
     c.if-not-branch.false shown lists counted)
     c.each_once.ensures
