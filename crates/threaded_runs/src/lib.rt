@@ -1,4 +1,5 @@
-//! Tests of runs on threads, of what no clause says: that a run ends, on more threads than one, and which fault it tells.
+//! Tests of runs on threads, of what no clause says: that a run ends, on more threads than one, and which fault it tells;
+//! and of what is answered to what threads hand back.
 #![tactic(auto)]
 
 #[cfg(test)]
@@ -7,6 +8,8 @@ mod endings;
 mod gates;
 #[cfg(test)]
 mod hostile;
+#[cfg(test)]
+mod judged;
 #[cfg(test)]
 mod meetings;
 #[cfg(test)]

@@ -1,0 +1,161 @@
+//! What is answered to what no run's threads hand back: histories and receipts by hand.
+
+use crate::plans::certified;
+use held_machines::Receipt;
+use interleaving::Event;
+use run_histories::{Cause, Met, RunFault, RunNumbers, judge};
+use std::alloc::{AllocError, Global};
+use std::test::Fail;
+
+// A client that submits a piece of work and waits for it.
+const ONE_CLIENT: &str = "
+    pool = [{ name = 'p', core = 1, max = 1, queue = 1 }]
+    class = [{ name = 'a', pool = 'p', body = ['work 1'] }]
+    client = [{ name = 'c', count = 1, body = ['submit a as x', 'get x'] }]
+";
+
+// Its submit starts job 0; the job's work and its end; its get.
+const WHOLE: &[Event] = &[
+    Event::Client(0),
+    Event::Job(0),
+    Event::Job(0),
+    Event::Client(0),
+];
+
+const NUMBERS: RunNumbers = RunNumbers {
+    jobs: 1,
+    units: 1,
+    events: 6,
+};
+
+// The receipts of these events at these numbers.
+fn receipts(alloc: Global, list: &[(u64, Event)]) -> Result<Vec<Receipt<Event>>, AllocError> {
+    let mut receipts = Vec::new(alloc);
+    for (number, event) in list {
+        receipts.push(Receipt {
+            number: *number,
+            event: *event,
+        })?;
+    }
+    Ok(receipts)
+}
+
+// What a client's and a carrier's thread hand back.
+fn met(
+    alloc: Global,
+    history: &[Event],
+    client: &[(u64, Event)],
+    carrier: &[(u64, Event)],
+    fault: Option<Cause>,
+) -> Result<Met, AllocError> {
+    let mut events = Vec::new(alloc);
+    events.extend_from_slice(history)?;
+    let mut lists = Vec::new(alloc);
+    lists.push(receipts(alloc, client)?)?;
+    lists.push(receipts(alloc, carrier)?)?;
+    Ok(Met {
+        history: events,
+        receipts: lists,
+        fault,
+    })
+}
+
+const CLIENT: &[(u64, Event)] = &[(0, Event::Client(0)), (3, Event::Client(0))];
+
+const CARRIER: &[(u64, Event)] = &[(1, Event::Job(0)), (2, Event::Job(0))];
+
+#[test]
+fn a_whole_run_is_reported(rt: HostRuntime) -> Result<(), Fail> {
+    let alloc = rt.alloc();
+    let certified = certified(&rt, alloc, ONE_CLIENT).expect(&rt, "a certificate is found");
+    let met = met(alloc, WHOLE, CLIENT, CARRIER, None)?;
+    match judge(alloc, &certified, 1, NUMBERS, met) {
+        Ok(report) => {
+            assert_eq!(rt; (report.jobs, report.units, report.refused), (1, 1, 0));
+            assert_eq!(rt; report.history.as_slice(), WHOLE);
+            assert_eq!(rt; report.receipts.len(), 2);
+        }
+        Err(fault) => assert_eq!(rt; Some(fault), None),
+    }
+    Ok(())
+}
+
+// 41 where a receipt is strange, whatever else is wrong; 42 where each fits and it is no run; before both what a thread met.
+#[test]
+fn what_is_no_run_has_its_fault(rt: HostRuntime) -> Result<(), Fail> {
+    let alloc = rt.alloc();
+    let certified = certified(&rt, alloc, ONE_CLIENT).expect(&rt, "a certificate is found");
+    let taken: &[(u64, Event)] = &[(1, Event::Take(0)), (2, Event::Job(0))];
+    let past: &[(u64, Event)] = &[(1, Event::Job(0)), (2, Event::Job(0)), (4, Event::Job(0))];
+    let falling: &[(u64, Event)] = &[(3, Event::Client(0)), (0, Event::Client(0))];
+    let anothers: &[(u64, Event)] = &[(0, Event::Client(0)), (1, Event::Job(0))];
+    let one: &[(u64, Event)] = &[(1, Event::Job(0))];
+    let first: &[(u64, Event)] = &[(0, Event::Client(0))];
+    let none: &[(u64, Event)] = &[];
+    let again: &[Event] = &[
+        Event::Client(0),
+        Event::Job(0),
+        Event::Job(0),
+        Event::Job(0),
+        Event::Client(0),
+    ];
+    for (name, history, client, carrier, fault, number, events) in [
+        ("another event", WHOLE, CLIENT, taken, None, 41, 4),
+        ("past the end", WHOLE, CLIENT, past, None, 41, 4),
+        ("falling numbers", WHOLE, falling, CARRIER, None, 41, 4),
+        ("another's event", WHOLE, anothers, CARRIER, None, 41, 4),
+        (
+            "another event of a history that is cut",
+            &WHOLE[..3],
+            first,
+            taken,
+            None,
+            41,
+            3,
+        ),
+        ("past what is possible", again, CLIENT, CARRIER, None, 41, 3),
+        ("a receipt too few", WHOLE, CLIENT, one, None, 42, 4),
+        (
+            "a history that is cut",
+            &WHOLE[..3],
+            first,
+            CARRIER,
+            None,
+            42,
+            3,
+        ),
+        (
+            "an event that is not possible",
+            again,
+            first,
+            CARRIER,
+            None,
+            42,
+            3,
+        ),
+        ("nothing", &WHOLE[..0], none, none, None, 42, 0),
+        (
+            "a strange receipt and a gate",
+            WHOLE,
+            CLIENT,
+            taken,
+            Some(Cause::Gate),
+            43,
+            4,
+        ),
+        (
+            "a whole run and no memory",
+            WHOLE,
+            CLIENT,
+            CARRIER,
+            Some(Cause::Memory),
+            20,
+            4,
+        ),
+    ] {
+        let met = met(alloc, history, client, carrier, fault)?;
+        let answered = judge(alloc, &certified, 1, NUMBERS, met).err();
+        assert_eq!(rt; answered, Some(RunFault { number, events }), "{name}");
+    }
+    Ok(())
+}
