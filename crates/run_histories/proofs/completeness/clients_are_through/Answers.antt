@@ -1,7 +1,7 @@
-use Rattle.std.proofs.Common.{◌≡◌, ◌<◌, ℕ, List, IsTrue, false, length, get_or, slice_get, Some, sym, ap, ◌∙◌, subst, refl, arith, rules}
+use Rattle.std.proofs.Common.{◌≡◌, ℕ, List, length, get_or, slice_get, Some, sym, ◌∙◌, subst, refl, arith}
 use Rattle.std.proofs.lemmas.Bool.{false≢true}
 use Rattle.std.proofs.lemmas.Option.{slice_get-get_or}
-use Rattle.job_bodies.specs.Plan.{Client, client_at}
+use Rattle.job_bodies.specs.Plan.{Client}
 use Rattle.run_histories.specs.Complete.{IsThrough}
 use Rattle.run_histories.proofs.KindsOfClients.{kind_exists}
 use Rattle.run_histories.proofs.Through.{through_more, through_all}

@@ -1,6 +1,5 @@
 use Rattle.std.proofs.Common.{◌≡◌, ℕ, Some, slice_get, List, subst, sym, ◌∙◌}
-use Rattle.run_histories.specs.Complete.{IsThrough, AreMadeIn}
-use Rattle.job_bodies.specs.Plan.{client_at}
+use Rattle.run_histories.specs.Complete.{AreMadeIn}
 use Rattle.run_histories.proofs.completeness.is_complete.Goals as goal
 
 pub returns : goal.returns

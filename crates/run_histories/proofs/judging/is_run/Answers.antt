@@ -1,11 +1,9 @@
-use Rattle.std.proofs.Common.{◌≡◌, ◌<◌, ◌≤◌, ◌↔◌, ◌∙◌, ℕ, Bool, IsTrue, List, length, map, sym, ap, subst, refl, arith}
+use Rattle.std.proofs.Common.{◌≡◌, ◌<◌, ◌↔◌, ◌∙◌, ℕ, IsTrue, List, length, map, sym, ap, subst, arith}
 use Rattle.std.proofs.lemmas.Bool.{false≢true}
 use Rattle.std.proofs.lemmas.Result.{IfOk-weaker}
 use Rattle.live_views.specs.LiveView.{View}
 use Rattle.job_bodies.specs.Plan.{Plan}
 use Rattle.written_machine.specs.declared.event.Event.{Event}
-use Rattle.written_machine.specs.State.{State}
-use Rattle.live_views.specs.LiveView.{live_view}
 use Rattle.certified_worlds.specs.declared.certified_world.TracedWorld.{TracedWorld}
 use Rattle.certified_worlds.specs.HeldWorld.{IsReachedBy}
 use Rattle.run_histories.specs.Complete.{IsComplete}

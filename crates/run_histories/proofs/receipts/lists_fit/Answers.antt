@@ -1,4 +1,4 @@
-use Rattle.std.proofs.Common.{map, List, arith}
+use Rattle.std.proofs.Common.{map, arith}
 use Rattle.std.proofs.lemmas.Bool.{false≢true}
 use Rattle.std.proofs.lemmas.List.{length-map}
 use Rattle.run_histories.proofs.Received.{as_many}

@@ -1,4 +1,4 @@
-use Rattle.std.proofs.Common.{◌≡◌, ◌≢◌, None, ◌++◌, ◌∷◌, [], List, sym, ap, ◌∙◌, subst}
+use Rattle.std.proofs.Common.{◌≡◌, ◌≢◌, None, ◌++◌, ◌∷◌, [], sym, ap, ◌∙◌, subst}
 use Rattle.job_bodies.specs.Plan.{Plan}
 use Rattle.certified_worlds.specs.declared.certified_world.TracedWorld.{TracedWorld}
 use Rattle.certified_worlds.proofs.Traces.{goes_on_nowhere}
