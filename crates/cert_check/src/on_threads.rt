@@ -6,7 +6,7 @@ ghost use Rattle.headline.specs.Headline.{Promises};
 ghost use Rattle.cert_check.specs.declared.from_bytes.CheckFault.TheVariants.{Memory, Gate};
 ghost use Rattle.cert_check.specs.Check as check_spec;
 ghost use Rattle.cert_check.specs.Verdict.{verdict};
-ghost use Rattle.cert_check.specs.OnThreads.{AreChecked, pool_check};
+ghost use Rattle.cert_check.specs.OnThreads.{AreChecked, IsRead, IsReadWith, pool_check};
 
 use crate::acceptance::pool_holds;
 use crate::judge::pool_line;
@@ -35,7 +35,8 @@ pub(crate) struct PoolCheck {
 ///
 /// # Errors
 ///
-/// Those of [`check`](crate::check), and [`CheckFault::Gate`] where the gate said no of a pool.
+/// Those of [`check`](crate::check), and [`CheckFault::Gate`] where the gate said no of a pool, which it is asked once both
+/// texts are read.
 pub fn check_on<R: Threads + Sync, G: PoolGate>(
     rt: &R,
     alloc: Global,
@@ -48,6 +49,8 @@ pub fn check_on<R: Threads + Sync, G: PoolGate>(
     requires most { workers ≤ 64 }
     ensures verdict { IfOk result (λ verdict. check_spec.checked plan_text.now cert_text.now ≡ Ok verdict) }
     ensures fault { IfErr result (λ fault. fault ≢ Memory → fault ≢ Gate → check_spec.checked plan_text.now cert_text.now ≡ Err fault) }
+    // Gate comes only where there is a pool to look at.
+    ensures gate { IfErr result (λ fault. fault ≡ Gate → IsRead plan_text.now cert_text.now) }
     // What a yes means.
     ensures safe { IfOk result (λ verdict. IsTrue verdict.yes → check_spec.IsSafeToRun plan_text.now cert_text.now) }
 {
@@ -69,6 +72,7 @@ fn check_plan_on<R: Threads + Sync, G: PoolGate>(
     requires { 1 ≤ workers }
     ensures verdict { IfOk result (λ verdict. check_spec.checked_plan cert_text.now (Ok plan.now) ≡ Ok verdict) }
     ensures fault { IfErr result (λ fault. fault ≢ Memory → fault ≢ Gate → check_spec.checked_plan cert_text.now (Ok plan.now) ≡ Err fault) }
+    ensures gate { IfErr result (λ fault. fault ≡ Gate → IsReadWith plan.now cert_text.now) }
     ensures safe { IfOk result (λ verdict. IsTrue verdict.yes → check_spec.IsSafeWith plan.now cert_text.now) }
 {
     match read_cert(alloc, cert_text, plan) {
@@ -90,6 +94,7 @@ fn verdict_on<R: Threads + Sync, G: PoolGate>(
     requires fits { IsTrue (cert_fits plan.now cert.now) }
     ensures verdict { IfOk result (λ made. made ≡ verdict plan.now cert.now) }
     ensures fault { IfErr result (λ fault. fault ≢ Memory → fault ≡ Gate) }
+    ensures gate { IfErr result (λ fault. fault ≡ Gate → 0 < length plan.now.pools) }
     ensures promises { IfOk result (λ made. IsTrue made.yes → Promises plan.now cert.now) }
 {
     let found = check_pools(rt, alloc, workers, plan, cert, gate)?;
@@ -177,6 +182,7 @@ fn verdict_of(
     requires fits { IsTrue (cert_fits plan.now cert.now) }
     requires checked { AreChecked plan.now cert.now found.now }
     ensures verdict { IfOk result (λ made. IfSome made (λ made. made ≡ verdict plan.now cert.now)) }
+    ensures none { IfOk result (λ made. made ≡ None → 0 < length plan.now.pools) }
     ensures promises { IfOk result (λ made. IfSome made (λ made. IsTrue made.yes → Promises plan.now cert.now)) }
 {
     let mut yes = cert.ranks.fault(plan).is_none();
