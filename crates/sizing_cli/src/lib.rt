@@ -8,6 +8,7 @@ mod bundle;
 mod certified_bundle;
 mod certify;
 mod fitting;
+mod input;
 mod judging;
 mod laws;
 mod limits;

@@ -2,22 +2,20 @@
 
 ghost use Rattle.std.specs.Prelude.{◌≡◌, IfOk, IfErr, IsTrue, Ok};
 ghost use Rattle.command_line.specs.declared.command.Command.TheVariants.{Run};
-ghost use Rattle.plan_text.specs.PlanOf.{plan_of};
 ghost use Rattle.sizing_cli.specs.Report as spec;
 ghost use Rattle.sizing_cli.specs.ServeFault.{is_of_run};
 
-use crate::answer::{Answer, cert_fault, input_too_long, no_separator, plan_fault, too_large};
+use crate::answer::{Answer, cert_fault, too_large};
 use crate::at_once::AtOnce;
-use crate::bundle::bundle_of;
-use crate::limits::MOST_INPUT_BYTES;
+use crate::input::read_input;
 use crate::{ServeFault, Status};
 use cert_check::Certified;
 use cert_text::read_cert;
 use certificates::Cert;
 use faults::number::{MEMORY, RUN_TOO_LARGE};
-use job_bodies::{Plan, PlanFault};
+use job_bodies::Plan;
 use locked_runner::run;
-use plan_text::read_plan;
+use readings::ReadError;
 use std::alloc::{AllocError, Global};
 use std::sync::Wait;
 use std::thread::Threads;
@@ -37,29 +35,10 @@ pub fn run_report<R: Threads + Wait + Sync>(
     ensures answer { IfOk result (λ answer. answer ≡ spec.report (Run rounds) input.now) }
     ensures fault { IfErr result (λ fault. IsTrue (is_of_run fault.number)) }
 {
-    if input.len() > MOST_INPUT_BYTES {
-        return Ok(input_too_long(alloc)?);
-    }
-    match bundle_of(input) {
-        Some(bundle) => run_bundle(rt, alloc, rounds, bundle.plan, bundle.second),
-        None => Ok(no_separator(alloc)?),
-    }
-}
-
-fn run_bundle<R: Threads + Wait + Sync>(
-    rt: &R,
-    alloc: Global,
-    rounds: u64,
-    plan: &[u8],
-    cert: &[u8],
-) -> Result<Answer, ServeFault>
-    ensures answer { IfOk result (λ answer. answer ≡ spec.answer_of_plan (Run rounds) cert.now (plan_of plan.now)) }
-    ensures fault { IfErr result (λ fault. IsTrue (is_of_run fault.number)) }
-{
-    match read_plan(alloc, plan) {
-        Ok(plan) => run_plan(rt, alloc, rounds, plan, cert),
-        Err(fault) if fault == PlanFault::at_text(MEMORY) => Err(ServeFault::from(AllocError)),
-        Err(fault) => Ok(plan_fault(alloc, fault)?),
+    match read_input(alloc, input) {
+        Ok(read) => run_plan(rt, alloc, rounds, read.plan, read.second),
+        Err(ReadError::Memory) => Err(ServeFault::from(AllocError)),
+        Err(ReadError::Fault(answer)) => Ok(answer),
     }
 }
 
