@@ -4,7 +4,6 @@ use Rattle.std.specs.Prelude.{◌==◌}
 use Rattle.std.proofs.lemmas.Bool.{eqb-true}
 use Rattle.std.proofs.lemmas.List.Sums.{sum_by-cons}
 use Rattle.job_bodies.specs.Plan.{Pool, Class, Client, Plan}
-use Rattle.fitted_sizes.specs.Widened.{outline}
 use Rattle.size_lines.specs.Sizes.{changed, pool_changes, both_changes, UnchangedSizesAreTheDeclaredPlan}
 
 -- a size that does not change is the declared one
