@@ -22,7 +22,8 @@ pub struct RunNumbers {
     pub events: u64,
 }
 
-/// The numbers of a run of the plan in which each repeating client goes through its body so many times.
+/// The numbers of a run of the plan in which each repeating client goes through its body so many times: with 0 rounds it
+/// has none.
 ///
 /// # Errors
 ///
