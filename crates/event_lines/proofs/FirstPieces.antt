@@ -64,8 +64,7 @@ first_behind (b ∷ front) rest none =
     let parts = and_parts (not (b == 10)) (has_no 10 front) none in
     let further = first_behind front rest parts.1 in
     let one : place 10 (b ∷ (front ++ rest)) ≡ suc (place 10 (front ++ rest)) = cond-true _ _ _ parts.0 ∙ omega arith in
-    let one_more : suc (place 10 (front ++ rest)) + 1 ≡ suc (place 10 (front ++ rest) + 1) = omega arith in
-    (
+    let one_more : suc (place 10 (front ++ rest)) + 1 ≡ suc (place 10 (front ++ rest) + 1) = omega arith in (
       ap (λ n. take n (b ∷ (front ++ rest))) one ∙ ap (λ (t : List ℕ). b ∷ t) further.0,
       ap (λ n. drop (n + 1) (b ∷ (front ++ rest))) one ∙ ap (λ n. drop n (b ∷ (front ++ rest))) one_more ∙ further.1,
     )

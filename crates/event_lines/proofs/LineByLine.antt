@@ -1,11 +1,11 @@
 -- Lines that a loop reads one after another.
-use Rattle.std.proofs.Common.{◌≡◌, ℕ, ◌+◌, ◌<◌, ◌≤◌, Bool, true, false, List, [], ◌∷◌, length, Result, Ok, Err, Option, Some, None, is_some, option_map, option_and_then, refl, sym, ap, ap₂, ◌∙◌, arith}
-use Rattle.std.proofs.lemmas.Bool.{true≢false}
+use Rattle.std.proofs.Common.{◌≡◌, inl, inr, ℕ, ◌+◌, ◌<◌, ◌≤◌, Bool, true, false, List, [], ◌∷◌, length, Result, Ok, Err, Option, Some, None, is_some, option_map, option_and_then, refl, sym, ap, ap₂, ◌∙◌, arith}
+use Rattle.std.proofs.lemmas.Bool.{cases_lt, true≢false}
 use Rattle.std.proofs.lemmas.List.{nil_from_length}
 use Rattle.std.proofs.lemmas.Option.{none-some, same_Some}
 use Rattle.readings.specs.Reading.{read_each}
 use Rattle.job_bodies.specs.Plan.{Plan}
-use Rattle.event_lines.specs.Pieces.{lines_of, first_line, behind_line}
+use Rattle.event_lines.specs.Pieces.{split_space, lines_of, first_line, behind_line}
 use Rattle.event_lines.specs.Words.{all_of, or_nothing}
 use Rattle.event_lines.specs.EventLine.{Line, line_of, line_at, event_lines, split_event_line, lines_in}
 use Rattle.event_lines.proofs.FirstPieces.{no_lines, lines_first, behind_shorter}
@@ -112,18 +112,32 @@ no_more_than_bytes plan text number rest none so_far =
     omega (arith, how_many (line_of plan) (lines_of text), so_far.lines, so_far.bytes)
 
 -- ---- one line after another
-pub none_left : (plan : Plan) (rest : List ℕ) → length rest ≡ 0 → or_nothing (lines_in plan rest) ≡ []
+none_left : (plan : Plan) (rest : List ℕ) → length rest ≡ 0 → or_nothing (lines_in plan rest) ≡ []
 none_left plan rest none = ap (λ (t : List ℕ). or_nothing (lines_in plan t)) (nil_from_length rest none) ∙ ap (λ (ls : List (List ℕ)). or_nothing (all_of (line_of plan) ls)) no_lines
 
-pub next_good : (plan : Plan) (text rest : List ℕ) (line : Line) → 0 < length text → Some (line, rest) ≡ split_event_line plan text → is_some (lines_in plan text) ≡ true
+no_line : (plan : Plan) → line_of plan [] ≡ None
+unfolding line_of split_space
+no_line plan = refl
+
+-- a text whose first line says something is not empty
+some_text : (plan : Plan) (text rest : List ℕ) (line : Line) → Some (line, rest) ≡ split_event_line plan text → 0 < length text
+some_text plan [] rest line read = absurd (none-some line (sym (no_line plan) ∙ (first_read plan [] rest line read).0))
+some_text plan (b ∷ text) rest line read = omega arith
+
+pub next_good : (plan : Plan) (text rest : List ℕ) (line : Line) → Some (line, rest) ≡ split_event_line plan text → is_some (lines_in plan text) ≡ true
     → (is_some (lines_in plan rest) ≡ true) × (or_nothing (lines_in plan text) ≡ line ∷ or_nothing (lines_in plan rest))
-next_good plan text rest line some read good =
-    let more = lines_more plan text rest line some read in
+next_good plan text rest line read good =
+    let more = lines_more plan text rest line (some_text plan text rest line read) read in
     by_rest (lines_in plan rest) more
   where
     by_rest : (o : Option (List Line)) → lines_in plan text ≡ option_map (λ ls. line ∷ ls) o → (is_some o ≡ true) × (or_nothing (lines_in plan text) ≡ line ∷ or_nothing o)
     by_rest None more = absurd (true≢false (sym good ∙ ap is_some more))
     by_rest (Some lines) more = (refl, ap or_nothing more)
 
-pub next_bad : (plan : Plan) (text : List ℕ) → 0 < length text → None ≡ split_event_line plan text → is_some (lines_in plan text) ≡ true → ⊥
-next_bad plan text some read good = true≢false (sym good ∙ ap is_some (lines_bad plan text some read))
+-- all lines say something, so that the first one says nothing where there is none
+pub next_none : (plan : Plan) (text : List ℕ) → None ≡ split_event_line plan text → is_some (lines_in plan text) ≡ true → or_nothing (lines_in plan text) ≡ []
+next_none plan text read good =
+    elim (cases_lt 0 (length text)) [
+      | inl some ↦ absurd (true≢false (sym good ∙ ap is_some (lines_bad plan text some read)))
+      | inr none ↦ none_left plan text (omega arith)
+    ]

@@ -20,8 +20,7 @@ space_there : (text word rest : List ℕ) → Some (word, rest) ≡ split_space 
 unfolding split_space
 space_there text word rest read =
     let found = map_some (λ p. (take p text, drop (p + 1) text)) (position is_space text) (word, rest) (sym read) in
-    let at = cond_some (nat_lt (place text) (length text)) _ _ found.1 in
-    (
+    let at = cond_some (nat_lt (place text) (length text)) _ _ found.1 in (
       ltb-true _ _ at.0,
       ap (λ p. take p text) at.1 ∙ ap (λ (x : List ℕ × List ℕ). x.0) found.2,
       ap (λ p. drop (p + 1) text) at.1 ∙ ap (λ (x : List ℕ × List ℕ). x.1) found.2,

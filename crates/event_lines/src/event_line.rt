@@ -22,20 +22,18 @@ pub enum EventLine<'a> {
 
 /// What the first line of a text says, and what stands behind that line; None where it says nothing.
 ///
-/// The lines of an actor, which are most of them, end where their number does, so no newline is looked for.
-pub(crate) fn split_event_line<'a>(
-    plan: &Plan,
-    text: &'a [u8],
-) -> Option<(EventLine<'a>, &'a [u8])>
+/// Most lines are of a job or a client. They end where their number does, so no newline is looked for.
+#[inline(always)]
+pub(crate) fn split_event_line<'a>(plan: &Plan, text: &'a [u8]) -> Option<(EventLine<'a>, &'a [u8])>
     ensures { option_map (λ read. (line_seen read.0, read.1.now)) result ≡ spec.split_event_line plan.now text.now }
 {
-    if let Some(client) = text.strip_prefix(b"client ") {
-        let (client, behind) = split_number_line(client)?;
-        return Some((EventLine::Happens(Event::Client(client)), behind));
-    }
     if let Some(job) = text.strip_prefix(b"job ") {
         let (job, behind) = split_number_line(job)?;
         return Some((EventLine::Happens(Event::Job(job)), behind));
+    }
+    if let Some(client) = text.strip_prefix(b"client ") {
+        let (client, behind) = split_number_line(client)?;
+        return Some((EventLine::Happens(Event::Client(client)), behind));
     }
     let (line, behind) = split_line(text);
     Some((line_of_others(plan, line)?, behind))

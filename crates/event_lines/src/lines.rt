@@ -56,9 +56,6 @@ impl<'a> EventLines<'a> {
     pub fn next(&mut self) -> Option<EventLine<'a>>
         ensures { MatchOption result ((self.old ≡ []) × (self.new ≡ [])) (λ line. self.old ≡ line_seen line ∷ self.new) }
     {
-        if self.rest.is_empty() {
-            return None;
-        }
         let (line, behind) = split_event_line(self.plan, self.rest)?;
         self.rest = behind;
         Some(line)

@@ -1,6 +1,7 @@
 //! What lines of events are answered.
 
-ghost use Rattle.std.specs.Prelude.{◌≡◌, ◌++◌, OnOk, string_bytes, decimal};
+ghost use Rattle.std.specs.Prelude.{◌≡◌, ◌++◌, OnOk, string_bytes, codes, decimal};
+ghost use Rattle.job_bodies.specs.Plan.{pool_at};
 ghost use Rattle.event_lines.specs.Reply.{numbered, outcome_text, reply_text, summary};
 
 use decimals::push_number;
@@ -34,35 +35,35 @@ pub fn push_reply(
     ensures { OnOk result (string_bytes text.new ≡ string_bytes text.old ++ numbered number (reply_text plan.now reply)) }
 {
     push_number(text, number as u64)?;
-    text.push_str(": ")?;
     push_reply_text(text, plan, reply)?;
     text.push('\n')
 }
 
+/// What stands behind the number of a line, with the colon: a piece for each number and name, and no more.
 fn push_reply_text(text: &mut String, plan: &Plan, reply: Reply) -> Result<(), AllocError>
-    ensures { OnOk result (string_bytes text.new ≡ string_bytes text.old ++ reply_text plan.now reply) }
+    ensures { OnOk result (string_bytes text.new ≡ string_bytes text.old ++ (codes ": " ++ reply_text plan.now reply)) }
 {
     match reply {
         Reply::Happened(outcome) => push_outcome(text, plan, outcome),
-        Reply::NotPossible => text.push_str("not possible"),
-        Reply::Stuck(true) => text.push_str("stuck yes"),
-        Reply::Stuck(false) => text.push_str("stuck no"),
+        Reply::NotPossible => text.push_str(": not possible"),
+        Reply::Stuck(true) => text.push_str(": stuck yes"),
+        Reply::Stuck(false) => text.push_str(": stuck no"),
     }
 }
 
 fn push_outcome(text: &mut String, plan: &Plan, outcome: Outcome) -> Result<(), AllocError>
-    ensures { OnOk result (string_bytes text.new ≡ string_bytes text.old ++ outcome_text plan.now outcome) }
+    ensures { OnOk result (string_bytes text.new ≡ string_bytes text.old ++ (codes ": " ++ outcome_text plan.now outcome)) }
 {
     match outcome {
-        Outcome::Started(job) => push_counted(text, "started job ", job as u64),
-        Outcome::Queued(job) => push_counted(text, "queued job ", job as u64),
-        Outcome::Refused(pool) => push_refused(text, plan, pool),
-        Outcome::Worked(units) => push_counted(text, "worked ", u64::from(units)),
-        Outcome::Got(job) => push_counted(text, "got job ", job as u64),
-        Outcome::Looped => text.push_str("looped"),
-        Outcome::Finished(job) => push_counted(text, "finished job ", job as u64),
-        Outcome::Took(job) => push_counted(text, "took job ", job as u64),
-        Outcome::Retired => text.push_str("retired"),
+        Outcome::Started(job) => push_counted(text, ": started job ", job as u64),
+        Outcome::Queued(job) => push_counted(text, ": queued job ", job as u64),
+        Outcome::Refused(pool) => push_named(text, ": refused by ", pool_name(plan, pool)),
+        Outcome::Worked(units) => push_counted(text, ": worked ", u64::from(units)),
+        Outcome::Got(job) => push_counted(text, ": got job ", job as u64),
+        Outcome::Looped => text.push_str(": looped"),
+        Outcome::Finished(job) => push_counted(text, ": finished job ", job as u64),
+        Outcome::Took(job) => push_counted(text, ": took job ", job as u64),
+        Outcome::Retired => text.push_str(": retired"),
     }
 }
 
@@ -74,15 +75,22 @@ fn push_counted(text: &mut String, words: &str, number: u64) -> Result<(), Alloc
     push_number(text, number)
 }
 
-fn push_refused(text: &mut String, plan: &Plan, pool: usize) -> Result<(), AllocError>
-    ensures { OnOk result (string_bytes text.new ≡ string_bytes text.old ++ outcome_text plan.now (Outcome.Refused pool)) }
+/// Words, and a name behind them.
+fn push_named(text: &mut String, words: &str, name: &str) -> Result<(), AllocError>
+    ensures { OnOk result (string_bytes text.new ≡ string_bytes text.old ++ (words.now ++ name.now)) }
 {
-    let name = match plan.pool_at(pool) {
+    text.push_str(words)?;
+    text.push_str(name)
+}
+
+/// The name of the pool, which is empty where there is no such pool.
+fn pool_name(plan: &Plan, pool: usize) -> &str
+    ensures { result.now ≡ (pool_at plan.now pool).name }
+{
+    match plan.pool_at(pool) {
         Some(pool) => pool.name.as_str(),
         None => "",
-    };
-    text.push_str("refused by ")?;
-    text.push_str(name)
+    }
 }
 
 /// Ends a replay: how many jobs were refused, and how many were not finished, as `refusals 0, unfinished 2`.
