@@ -6,7 +6,7 @@ use std::test::*;
 /// What help prints says where to begin, and the help of each command has an example with its answer.
 #[test]
 fn words_that_ask_for_help(rt: HostRuntime) -> Result<(), Fail> {
-    let table: [(&[&str], [&str; 6]); 6] = [
+    let table: [(&[&str], [&str; 6]); 7] = [
         (
             &["sizing", "--help"],
             [
@@ -60,6 +60,17 @@ fn words_that_ask_for_help(rt: HostRuntime) -> Result<(), Fail> {
                 "\nsizing certify <<'END' | sizing check\n[[pool]]\n",
                 "\nEND\n\nIt answers, with status 0:\n",
                 "\nyes\npool pages: standing 2 of 2, blocked 0 of 0\n",
+            ],
+        ),
+        (
+            &["sizing", "fit", "--help"],
+            [
+                "\nUsage: sizing fit [--bundle] < PLAN\n",
+                "--bundle",
+                "\nsizing fit <<'END'\n[[pool]]\n",
+                "\nqueue = 1\n",
+                "\nEND\n\nIt answers, with status 1:\n",
+                "\npool pages: core 1, max 1, queue 2 (now 1)\nchanges 1\n",
             ],
         ),
         (
