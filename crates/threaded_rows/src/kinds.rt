@@ -2,6 +2,7 @@
 
 use crate::certify::{certified, certified_and_checked};
 use crate::check::checked;
+use crate::fit::{fitted, fitted_and_checked, fitted_bundle};
 use crate::run::ran_for;
 use std::alloc::{AllocError, Global};
 use std::sync::Wait;
@@ -14,6 +15,11 @@ use std::thread::Threads;
 /// - `certify and check` is the same, but in place of a bundle stands what `check` answers to it: its first line and its
 ///   status.
 /// - `check` is a bundle. Its answer is the verdict or the fault of the check on threads, with each number of workers.
+/// - `fit` and `fit bundle` are a plan's text. Their answer is what the command writes for the sizes and for a bundle, with
+///   the status on a last line. It is asked a byte at a time too, and where the text is short with a source and a sink that
+///   fail.
+/// - `fit and check` is the same for a bundle, but in its place stands what `check` answers to it, its first line and its
+///   status, and then what `fit` answers to the plan in it.
 /// - `run` is a line with a number of rounds, and a bundle, which is run for so many. Its answer is what the command
 ///   writes, with the status on a last line. Where the rounds are few it is asked for a byte at a time too, and with a
 ///   source and a sink that fail.
@@ -27,6 +33,9 @@ pub fn answered<R: Threads + Wait + Sync>(
         "certify" => certified(rt, alloc, input),
         "certify and check" => certified_and_checked(rt, alloc, input),
         "check" => checked(rt, alloc, input),
+        "fit" => fitted(rt, alloc, input),
+        "fit bundle" => fitted_bundle(rt, alloc, input),
+        "fit and check" => fitted_and_checked(rt, alloc, input),
         "run" => ran_for(rt, alloc, input),
         _ => String::from_str(alloc, "no such kind of input"),
     }

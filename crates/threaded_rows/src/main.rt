@@ -5,6 +5,7 @@ mod certify;
 mod check;
 mod ended;
 mod failing;
+mod fit;
 mod kinds;
 mod run;
 mod suite;
@@ -18,5 +19,5 @@ use suite::OnThreads;
 fn main(rt: HostRuntime) -> io::Result<()> {
     let answer = move |alloc: Global, kind: &str, input: &[u8]| answered(&rt, alloc, kind, input);
     let suite = OnThreads::new(Box::new(rt.alloc(), answer)?);
-    run_files(&rt, &suite, &["certify", "checks", "runs"])
+    run_files(&rt, &suite, &["certify", "checks", "fits", "runs"])
 }
