@@ -65,7 +65,7 @@ fn nested(alloc: Global, sizes: Sizes) -> Result<String, AllocError> {
     Ok(text)
 }
 
-fn plan_of(rt: &impl Abort, alloc: Global, text: Result<String, AllocError>) -> Plan {
+pub(crate) fn plan_of(rt: &impl Abort, alloc: Global, text: Result<String, AllocError>) -> Plan {
     let text = text.expect(rt, "there is memory");
     read_plan(alloc, text.as_bytes()).expect(rt, "the plan is read")
 }

@@ -5,6 +5,8 @@
 mod answers;
 #[cfg(test)]
 mod fits;
+#[cfg(test)]
+mod stairs;
 
 use answers::answer;
 use std::io;

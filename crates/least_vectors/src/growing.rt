@@ -17,6 +17,9 @@ use weights::Vector;
 pub struct Weighed {
     /// What the workers of each pool weigh.
     pub workers: Vec<u64>,
+    /// The pools that lent on the way to it. The way is the same where these have the same maximums, and the others no smaller
+    /// ones.
+    pub lenders: Vec<usize>,
     /// What the start of the plan weighs.
     pub total: u64,
 }
@@ -63,12 +66,17 @@ impl Growing<'_> {
         enough: u64,
     ) -> Result<Option<Weighed>, AllocError> {
         let wanted = self.wanted(pool, kind, enough);
-        let Loans { workers, sketch } = lent(alloc, self.plan, self.levels, &wanted)?;
+        let Loans {
+            workers,
+            lenders,
+            sketch,
+        } = lent(alloc, self.plan, self.levels, &wanted)?;
         if sketch.total == TOO_HEAVY {
             return Ok(None);
         }
         Ok(Some(Weighed {
             workers,
+            lenders,
             total: sketch.total,
         }))
     }

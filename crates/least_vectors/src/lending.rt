@@ -27,6 +27,8 @@ struct Loan {
 #[derive(Debug, Drop)]
 pub(crate) struct Loans {
     pub(crate) workers: Vec<u64>,
+    /// The pools that lent, also those whose workers weigh nothing again.
+    pub(crate) lenders: Vec<usize>,
     pub(crate) sketch: Sketch,
 }
 
@@ -42,6 +44,7 @@ pub(crate) fn lent(
     wanted: &Wanted,
 ) -> Result<Loans, AllocError> {
     let mut workers = vec![in alloc; 0; plan.pools().len()]?;
+    let mut lenders = Vec::new(alloc);
     let mut sketch = Sketch::of(alloc, plan, levels, wanted, &workers)?;
     for _ in 0..MOST_LOANS {
         if sketch.total <= wanted.limit {
@@ -51,9 +54,16 @@ pub(crate) fn lent(
             break;
         };
         put_at(&mut workers, loan.pool, loan.weight);
+        if !lenders.contains(&loan.pool) {
+            lenders.push(loan.pool)?;
+        }
         sketch = loan.sketch;
     }
-    Ok(Loans { workers, sketch })
+    Ok(Loans {
+        workers,
+        lenders,
+        sketch,
+    })
 }
 
 /// The least vector that is wanted, or None where none is found whose total is within its limit.
@@ -65,7 +75,11 @@ pub(crate) fn least_vector(
 ) -> Result<Option<Vector>, AllocError>
     ensures { IfOk result (λ found. IfSome found (λ vector. IsTrue (vector_fits plan.now vector))) }
 {
-    let Loans { workers, sketch } = lent(alloc, plan, levels, wanted)?;
+    let Loans {
+        workers,
+        sketch,
+        ..
+    } = lent(alloc, plan, levels, wanted)?;
     if sketch.total > wanted.limit {
         return Ok(None);
     }

@@ -11,7 +11,8 @@ use pool_ranks::Ranks;
 use std::alloc::{AllocError, Global};
 use weights::Vector;
 
-/// The certificate, for sizes that are at least as large as those of the placing.
+/// The certificate. Which sizes it needs is found out behind it, from those of the plan on: they may be smaller than the
+/// placing's.
 pub(crate) fn cert_of(
     alloc: Global,
     known: &mut Remembered,

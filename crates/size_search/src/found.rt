@@ -16,8 +16,8 @@ pub enum SizesFound {
     NotFound(NoSizes),
 }
 
-/// Why no sizes were found. The first three say of the plan why no sizes help, and that they hold of it is proved. They say no
-/// more: a plan may be safe for which there is no certificate.
+/// Why no sizes were found. That the first three hold of the plan is proved. They say no more: a plan may be safe for which
+/// there is no certificate. Of the others nothing is proved.
 #[derive(Clone, Copy, Debug, PartialEq, Eq)]
 pub enum NoSizes {
     /// The class of this number submits itself, at whatever remove.
@@ -27,11 +27,13 @@ pub enum NoSizes {
     /// Jobs of this class never get the job that they submit at this action of their body, and clients that repeat submit
     /// such jobs, at whatever remove.
     ClassNeverGets(usize, usize),
-    /// All cores of the pool of this number that were found to do are above 1,000,000.
+    /// The first attempt did not get past the core of the pool of this number: it would pass 1,000,000, or a weight its limit.
+    /// Other sizes may do.
     Core(usize),
-    /// All queues of the pool of this number that were found to do are above 1,000,000.
+    /// The first attempt did not get past the queue of the pool of this number, in the same way. Other sizes may do.
     Queue(usize),
-    /// No certificate was found that other sizes could make accepted. No plan is known that gets this answer.
+    /// No certificate was found that other sizes could make accepted, or too many vectors were looked for. No plan is known
+    /// that gets this answer.
     Unknown,
 }
 

@@ -1,7 +1,8 @@
 //! Looks for sizes with which a certificate accepts a plan: which numbers to change, and how large they have to be.
 //!
-//! Nothing that was looked for is trusted: what [`search_sizes`] finds went through [`fitted_sizes::fitted`], so that the
-//! certificate accepts the plan of those sizes, and no smaller core or queue would do for it.
+//! Nothing that was looked for is trusted: what [`search_sizes`] finds went through [`fitted_sizes::fitted`], or through
+//! [`cert_check::accepts`] where the plan stays as it is. So the certificate accepts the plan of those sizes and, of those that
+//! are no smaller than declared and with these maximums, no smaller core or queue would do for it.
 #![tactic(auto)]
 
 mod attempt;

@@ -1,9 +1,13 @@
 //! Vectors that were looked for before. Most attempts ask again for what an earlier one asked for.
 
+use crate::found::{Halt, Limit};
 use job_bodies::{Action, Plan};
 use least_vectors::{Growing, Kind, Levels, Weighed};
 use std::alloc::{AllocError, Global};
 use weights::class_got;
+
+/// How many vectors are looked for at most, so that a search ends soon. No plan is known that needs a fourth of them.
+const MOST_VECTORS: usize = 32_768;
 
 /// Which vector of a pool was looked for.
 #[derive(Debug, PartialEq, Drop)]
@@ -19,7 +23,7 @@ enum Asked {
 }
 
 /// All on which a pool's lightest vector depends.
-#[derive(Debug, PartialEq, Drop)]
+#[derive(Debug, Drop)]
 struct Question {
     asked: Asked,
     /// The maximum of each pool.
@@ -33,6 +37,30 @@ struct Question {
 struct Answered {
     question: Question,
     answer: Option<Weighed>,
+}
+
+impl Answered {
+    /// Whether it answers this question too.
+    fn answers(&self, question: &Question) -> bool {
+        self.question.enough == question.enough
+            && self.question.asked == question.asked
+            && self.holds_at(&question.maxes)
+    }
+
+    /// Whether the answer is the same where the pools have these maximums: those that lent have the same as before. Another
+    /// one would not lend now either, as its workers would weigh no less: it may have a larger maximum.
+    fn holds_at(&self, maxes: &[u64]) -> bool {
+        self.question.maxes.iter().zip(maxes).enumerate().all(|(pool, (before, now))| before == now
+            || (before < now && !self.has_lent(pool)))
+    }
+
+    /// Whether the pool lent on the way to the answer. Without a vector none did.
+    fn has_lent(&self, pool: usize) -> bool {
+        match &self.answer {
+            Some(weighed) => weighed.lenders.contains(&pool),
+            None => false,
+        }
+    }
 }
 
 /// What is remembered of a pool.
@@ -49,8 +77,8 @@ pub(crate) struct Look {
     pub(crate) pool: usize,
     /// The vector's total; the greatest number where there is no vector.
     pub(crate) total: u64,
-    /// The answer's place in what is remembered of the pool.
-    pub(crate) place: usize,
+    /// The answer's place in what is remembered of the pool; None where there is no vector.
+    place: Option<usize>,
 }
 
 impl Look {
@@ -59,7 +87,7 @@ impl Look {
         Look {
             pool,
             total: u64::MAX,
-            place: 0,
+            place: None,
         }
     }
 }
@@ -70,6 +98,8 @@ pub(crate) struct Remembered<'a> {
     pub(crate) plan: &'a Plan,
     pub(crate) levels: &'a Levels,
     pools: Vec<PoolMemory>,
+    /// How many more vectors may be looked for.
+    vectors_left: usize,
 }
 
 impl<'a> Remembered<'a> {
@@ -90,10 +120,12 @@ impl<'a> Remembered<'a> {
             plan,
             levels,
             pools,
+            vectors_left: MOST_VECTORS,
         })
     }
 
-    /// The pool's lightest vector of the kind, where the pools have these maximums.
+    /// The pool's lightest vector of the kind, where the pools have these maximums. Once too many were looked for, only
+    /// those are told that are remembered.
     pub(crate) fn lightest(
         &mut self,
         alloc: Global,
@@ -101,7 +133,7 @@ impl<'a> Remembered<'a> {
         kind: Kind,
         maxes: &[u64],
         enough: u64,
-    ) -> Result<Look, AllocError> {
+    ) -> Result<Look, Halt> {
         let growing = self.growing(maxes);
         let Some(memory) = self.pools.get_mut(pool) else {
             return Ok(Look::nothing(pool));
@@ -110,8 +142,15 @@ impl<'a> Remembered<'a> {
         if let Some(place) = memory.place_of(&question) {
             return Ok(memory.look(pool, place));
         }
+        if self.vectors_left == 0 {
+            return Err(Halt::Limit(Limit::Unknown));
+        }
+        self.vectors_left = self.vectors_left.saturating_sub(1);
         let answer = growing.lightest(alloc, pool, kind, enough)?;
-        memory.answered.push(Answered { question, answer })?;
+        memory
+            .answered
+            .push(Answered { question, answer })
+            .map_err(AllocError::from)?;
         Ok(memory.look(pool, memory.answered.len().saturating_sub(1)))
     }
 
@@ -129,7 +168,7 @@ impl<'a> Remembered<'a> {
 
     /// What the workers of each pool weigh in an answer's vector.
     pub(crate) fn workers_at(&self, look: Look) -> Option<&[u64]> {
-        let answered = self.pools.get(look.pool)?.answered.get(look.place)?;
+        let answered = self.pools.get(look.pool)?.answered.get(look.place?)?;
         match &answered.answer {
             Some(weighed) => Some(&weighed.workers),
             None => None,
@@ -177,16 +216,16 @@ impl PoolMemory {
     fn place_of(&self, question: &Question) -> Option<usize> {
         self.answered
             .iter()
-            .position(|answered| answered.question == *question)
+            .position(|answered| answered.answers(question))
     }
 
     /// What the answer at this place says.
     fn look(&self, pool: usize, place: usize) -> Look {
         let mut look = Look::nothing(pool);
         if let Some(answered) = self.answered.get(place) {
-            look.place = place;
             if let Some(weighed) = &answered.answer {
                 look.total = weighed.total;
+                look.place = Some(place);
             }
         }
         look

@@ -47,7 +47,7 @@ impl Placing {
         known: &mut Remembered,
         rank: u64,
         lending: bool,
-    ) -> Result<Vec<Look>, AllocError> {
+    ) -> Result<Vec<Look>, Halt> {
         let maxes = maxes_of(alloc, &self.rooms)?;
         let ranks = self.ranks_or(alloc, rank)?;
         let reach = reach(alloc, known.plan, known.levels, &ranks)?;
@@ -60,7 +60,8 @@ impl Placing {
         for (pool, (room, placed)) in self.rooms.iter().zip(&self.placed).enumerate() {
             if placed.is_none() {
                 let enough = room.core.saturating_sub(1);
-                looks.push(known.lightest(alloc, pool, kind, &maxes, enough)?)?;
+                let look = known.lightest(alloc, pool, kind, &maxes, enough)?;
+                looks.push(look).map_err(AllocError::from)?;
             }
         }
         Ok(looks)
@@ -84,15 +85,20 @@ impl Placing {
             return Err(Halt::Limit(Limit::Unknown));
         };
         let core = core_for(&look);
-        if core > MOST_UNITS {
-            return Err(Halt::Limit(Limit::Core(look.pool)));
-        }
         if let Some(room) = self.rooms.get_mut(look.pool) {
             self.has_widened = self.has_widened || core > room.max;
             *room = room.raised(core);
         }
         self.place(look, rank);
         Ok(())
+    }
+
+    /// Why no pool can get the core that it lacks.
+    fn limit_of(&self, looks: &[Look]) -> Limit {
+        match self.choice_of(looks, 0) {
+            Some(look) => Limit::Core(look.pool),
+            None => Limit::Unknown,
+        }
     }
 
     /// The pool before which so many stand where those that lack less stand first.
@@ -133,6 +139,15 @@ fn core_for(look: &Look) -> u64 {
     look.total.saturating_add(1)
 }
 
+/// Those of the looks whose core is within the limit.
+fn within_limit(alloc: Global, looks: &[Look]) -> Result<Vec<Look>, AllocError> {
+    looks
+        .iter()
+        .filter(|look| core_for(look) <= MOST_UNITS)
+        .copied()
+        .collect(alloc)
+}
+
 /// Gives each pool a rank and a blocked vector, where the pools have these cores and maximums or larger ones: in each round
 /// to all whose core is enough or, where none is, to the one that lacks least. Where that is so for the first time, so many
 /// that lack less are passed over.
@@ -150,9 +165,13 @@ pub(crate) fn ranked(
             break;
         }
         if !placing.place_all(&looks, rank) {
+            let choices = within_limit(alloc, &looks)?;
+            if choices.is_empty() {
+                return Err(Halt::Limit(placing.limit_of(&looks)));
+            }
             let choice = if placing.choices == 0 { passed_over } else { 0 };
-            placing.choices = placing.choices.max(looks.len());
-            placing.place_one(&looks, rank, choice)?;
+            placing.choices = placing.choices.max(choices.len());
+            placing.place_one(&choices, rank, choice)?;
         }
     }
     Ok(placing)

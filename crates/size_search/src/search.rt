@@ -29,8 +29,8 @@ const FURTHER_ATTEMPTS: usize = 3;
 /// round, the one that lacks least gets it. The queues follow, and then the sizes are put back to what the certificate
 /// needs. Some further attempts begin with another pool, or without what a pool got; the cheapest one is answered.
 ///
-/// That the certificate accepts the plan of these sizes is proved, and that no smaller core or queue would do for it. Another
-/// certificate may need less.
+/// That the certificate accepts the plan of these sizes is proved. So is that for this certificate and with these maximums no
+/// smaller core or queue would do, of those that are no smaller than declared. Another certificate may need less.
 ///
 /// # Errors
 ///
@@ -80,40 +80,46 @@ fn looked_for(alloc: Global, plan: &Plan) -> Result<Result<Cert, NoSizes>, Alloc
 /// The cheapest attempt.
 fn cheapest(alloc: Global, known: &mut Remembered) -> Result<Result<Attempt, Limit>, AllocError> {
     let declared = rooms_of(alloc, known.plan)?;
-    let first = outcome(tried(alloc, known, rooms_of(alloc, known.plan)?, 0))?;
+    let first = outcome(tried(alloc, known, Vec::from_slice(alloc, &declared)?, 0))?;
     let choices = match &first {
         Ok(first) => first.choices,
         Err(_) => MOST_POOLS,
     };
     let mut best = first;
     for passed_over in 1..choices.min(1 + FURTHER_ATTEMPTS) {
-        let rooms = rooms_of(alloc, known.plan)?;
+        let rooms = Vec::from_slice(alloc, &declared)?;
         let next = outcome(tried(alloc, known, rooms, passed_over))?;
+        best = better(best, next);
+    }
+    let mut best = match best {
+        Ok(best) => best,
+        Err(limit) => return Ok(Err(limit)),
+    };
+    for pool in most_raised(alloc, &best, &declared)? {
+        let rooms = put_back(alloc, &best, &declared, pool)?;
+        let next = outcome(tried(alloc, known, rooms, 0))?;
         best = cheaper(best, next);
     }
-    for pool in most_raised(alloc, &best, &declared)? {
-        if let Some(rooms) = put_back(alloc, &best, &declared, pool)? {
-            let next = outcome(tried(alloc, known, rooms, 0))?;
-            best = cheaper(best, next);
-        }
-    }
-    Ok(best)
+    Ok(Ok(best))
 }
 
-/// The first attempt, unless the second one is cheaper.
-fn cheaper(
-    first: Result<Attempt, Limit>,
-    second: Result<Attempt, Limit>,
-) -> Result<Attempt, Limit> {
+/// What came of the better of two attempts. Where neither found anything it is the first one.
+fn better(first: Result<Attempt, Limit>, second: Result<Attempt, Limit>) -> Result<Attempt, Limit> {
     match (first, second) {
-        (Ok(first), Ok(second)) => Ok(if second.cost < first.cost {
-            second
-        } else {
-            first
-        }),
+        (Ok(first), second) => Ok(cheaper(first, second)),
         (Err(_), Ok(second)) => Ok(second),
-        (first, Err(_)) => first,
+        (Err(limit), Err(_)) => Err(limit),
     }
+}
+
+/// The first attempt, unless the second one found something cheaper.
+fn cheaper(first: Attempt, second: Result<Attempt, Limit>) -> Attempt {
+    if let Ok(second) = second {
+        if second.cost < first.cost {
+            return second;
+        }
+    }
+    first
 }
 
 /// What an attempt came to, where memory did not run out.
@@ -126,15 +132,8 @@ fn outcome(tried: Result<Attempt, Halt>) -> Result<Result<Attempt, Limit>, Alloc
 }
 
 /// The pools whose core and maximum have grown most, at most three.
-fn most_raised(
-    alloc: Global,
-    best: &Result<Attempt, Limit>,
-    declared: &[Room],
-) -> Result<Vec<usize>, AllocError> {
+fn most_raised(alloc: Global, best: &Attempt, declared: &[Room]) -> Result<Vec<usize>, AllocError> {
     let mut raised = Vec::new(alloc);
-    let Ok(best) = best else {
-        return Ok(raised);
-    };
     for _ in 0..FURTHER_ATTEMPTS {
         let mut most = 0;
         let mut chosen = None;
@@ -155,16 +154,13 @@ fn most_raised(
 /// What the attempt needs, but with what this pool declares.
 fn put_back(
     alloc: Global,
-    best: &Result<Attempt, Limit>,
+    best: &Attempt,
     declared: &[Room],
     pool: usize,
-) -> Result<Option<Vec<Room>>, AllocError> {
-    let Ok(best) = best else {
-        return Ok(None);
-    };
+) -> Result<Vec<Room>, AllocError> {
     let mut rooms = Vec::from_slice(alloc, &best.rooms)?;
     if let (Some(room), Some(declared)) = (rooms.get_mut(pool), declared.get(pool)) {
         *room = *declared;
     }
-    Ok(Some(rooms))
+    Ok(rooms)
 }
