@@ -1,8 +1,8 @@
-use Rattle.std.proofs.Common.{◌≡◌, true, IsSome, set, Some, refl, sym, ap, subst, ◌∙◌}
+use Rattle.std.proofs.Common.{◌≡◌, true, IsSome, set, refl, sym, ap, subst, ◌∙◌}
 use Rattle.written_machine.specs.declared.parent.Parent.TheVariants.{Job}
 use Rattle.live_views.specs.declared.job_view.Phase.TheVariants.{At}
-use Rattle.live_views.specs.ViewStep.{live_job, may_ask_for, with_phase}
-use Rattle.interleaving.specs.PlaceList.{place_at, place_in_phase}
+use Rattle.live_views.specs.ViewStep.{may_ask_for, with_phase}
+use Rattle.interleaving.specs.PlaceList.{place_in_phase}
 use Rattle.interleaving.specs.JobList.{JobList}
 use Rattle.interleaving.specs.LiveJobs.{AreIndexed, jobs_in}
 use Rattle.interleaving.proofs.Indexed.{indexed_phased, jobs_phased, has_place, live_if_asks}

@@ -1,4 +1,4 @@
-use Rattle.std.proofs.Common.{◌≡◌, ◌==◌, cond, IsSome, set, nat_eq, sym, ap, subst, ◌∙◌}
+use Rattle.std.proofs.Common.{◌==◌, cond, IsSome, set, nat_eq, sym, ap, subst, ◌∙◌}
 use Rattle.std.specs.HashMap.{get}
 use Rattle.interleaving.specs.PlaceList.{PlaceList, place_at, place_in_phase, items_below}
 use Rattle.interleaving.proofs.Items.{items-updated}
