@@ -9,7 +9,7 @@ Of each plan of examples/, of plans made by chance, and of some larger ones:
   a submit for which it is so. For every other plan sizes are found.
 - To what `fit --bundle` writes `check` says yes. Its plan differs from the given one in sizes alone, none of them smaller,
   and the lines of `fit` tell these sizes, and those of the given plan where they differ.
-- With the same certificate, one less of any core or queue that is changed is a no.
+- With the same certificate, one less of any core or queue that is changed is a no. A max that is changed is the core.
 - Where `certify` finds a certificate nothing is changed.
 
 Of small plans, with one or two pools and single clients, that get sizes up to 6: all sizes that grow by less, all together,
@@ -132,10 +132,12 @@ class Fit:
         return self.fault_of_less(fitted, cert)
 
     def fault_of_less(self, fitted, cert):
-        """A size that falls, or a core or queue that is changed and could do with one less."""
+        """A size that falls, a max that rises without its core, or a core or queue that is changed and could do with less."""
         for number, (now, found) in enumerate(zip(self.plan.pools, fitted.pools)):
             if any(new < old for new, old in zip(sizes_of(found), sizes_of(now))):
                 return f"a size of {now.name} falls"
+            if found.max > now.max and found.max != found.core:
+                return f"the max of {now.name} rises further than its core"
             for less in lessened(now, found):
                 self.count["grown"] += 1
                 pools = [*fitted.pools[:number], less, *fitted.pools[number + 1:]]
