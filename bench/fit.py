@@ -51,7 +51,7 @@ class Bench:
     def run(self):
         self.measured("2 pools, long bodies", with_queues_of_one(two_pools(SIZE)), SIZE, TWO_POOLS_BAR)
         self.measured("20 pools, each calls all others", calls_of_all(POOLS), 0, CALLS_BAR)
-        self.measured("20 pools, calls go round twice", calls_round(POOLS, 2), 0, None)
+        self.measured("20 pools, calls go round twice", calls_round(POOLS, 2), 0, CALLS_BAR)
         tell_if_uncounted()
         self.bars.end()
 
@@ -70,13 +70,12 @@ class Bench:
             fit.answer.split()[-1].decode(),
             *[f"{cost.milliseconds:.1f}" for cost in (first, second, third)],
             *[f"{ratio:.2f}" for ratio in ratios],
-            "-" if bar is None else f"{bar:.1f}",
+            f"{bar:.1f}",
             *instruction_cells(self.folder, [fit, certify]),
             f"{first.mebibytes:.1f}",
             f"{third.mebibytes:.1f}",
         )
-        if bar is not None:
-            self.bars.hold(f"{name}: the greater ratio", max(ratios), bar)
+        self.bars.hold(f"{name}: the greater ratio", max(ratios), bar)
 
     def program(self, name, text, given, status, *words):
         """The program with these words on a text, which is in the folder from now on, and its answer."""
