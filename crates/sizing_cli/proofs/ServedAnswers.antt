@@ -19,7 +19,9 @@ use Rattle.sizing_cli.specs.declared.status.ServeFault.{ServeFault}
 use Rattle.sizing_cli.specs.Answer.{Answer, input_too_long}
 use Rattle.sizing_cli.specs.Report.{report, has_report}
 use Rattle.sizing_cli.specs.Certify.{IsCertifyAnswer, IsCertifiedBundle, AnswersReading, AnswersPlan, whole_lines}
+use Rattle.sizing_cli.specs.Fit as fit
 use Rattle.sizing_cli.specs.Served.{IsAnswer, WritesAnswer, WritesFront, MeansSafe}
+use Rattle.sizing_cli.proofs.PastTheLimit.{answered_whole}
 use Rattle.sizing_cli.proofs.SafeInputs.{yes_means_safe, run_means_safe}
 use Rattle.sizing_cli.proofs.FittedAnswers.{sizes_mean_safe, bundle_means_fitted}
 
@@ -32,7 +34,7 @@ ByLength input answer Answers long = MatchBool long (answer ≡ input_too_long) 
 abbrev IsByLength : (List ℕ → Type 0) → Answer → List ℕ → Type 0
 IsByLength Answers answer input = ByLength input answer (Answers input) (nat_lt MOST_INPUT_BYTES (length input))
 
-pub answered_by_length : (Answers : List ℕ → Type 0) (remaining : Option (List ℕ)) (items slice : List ℕ) (answer : Answer) → IfSome remaining (λ input. items ≡ take (MOST_INPUT_BYTES + 1) input) → slice ≡ items
+answered_by_length : (Answers : List ℕ → Type 0) (remaining : Option (List ℕ)) (items slice : List ℕ) (answer : Answer) → IfSome remaining (λ input. items ≡ take (MOST_INPUT_BYTES + 1) input) → slice ≡ items
     → IsByLength Answers answer slice → IfSome remaining (IsByLength Answers answer)
 answered_by_length Answers None items slice answer front same is = tt
 answered_by_length Answers (Some input) items slice answer front same is =
@@ -44,6 +46,17 @@ answered_by_length Answers (Some input) items slice answer front same is =
           subst (ByLength input answer (Answers input)) (sym (lt-ltb MOST_INPUT_BYTES (length input) (omega arith))) too_long
       | inr short ↦ subst (IsByLength Answers answer) (is_front ∙ take_all (MOST_INPUT_BYTES + 1) input short) is
     ]
+
+-- whatever the command is
+pub answered_by_front : (remaining : Option (List ℕ)) (items : List ℕ) (command : Command) (answer : Answer) → IfSome remaining (λ input. items ≡ take (MOST_INPUT_BYTES + 1) input)
+    → IsAnswer command items answer → IfSome remaining (λ input. IsAnswer command input answer)
+answered_by_front remaining items Replay answer front is = answered_whole remaining items items Replay answer front refl is
+answered_by_front remaining items Check answer front is = answered_whole remaining items items Check answer front refl is
+answered_by_front remaining items Explain answer front is = answered_whole remaining items items Explain answer front refl is
+answered_by_front remaining items (Certify workers) answer front is =
+    answered_by_length (λ bytes. AnswersReading (whole_lines bytes) (plan_of (whole_lines bytes)) answer) remaining items items answer front refl is
+answered_by_front remaining items (Fit wanted) answer front is = answered_by_length (λ bytes. fit.AnswersReading wanted (plan_of bytes) answer) remaining items items answer front refl is
+answered_by_front remaining items (Run rounds) answer front is = answered_whole remaining items items (Run rounds) answer front refl is
 
 -- ---- what is written of it
 

@@ -1,5 +1,5 @@
 -- The faults that end a call that serves, and how often one was answered.
-use Rattle.std.specs.Prelude.{ℕ, Bool, ◌==◌, ◌||◌, if◌then◌else◌, Result, Ok, Err}
+use Rattle.std.specs.Prelude.{ℕ, Bool, false, ◌==◌, ◌||◌, if◌then◌else◌, Result, Ok, Err}
 use Rattle.byte_streams.specs.declared.reading.InputError.{InputError}
 use Rattle.byte_streams.specs.declared.reading.InputError.TheVariants.{Memory, Fault}
 use Rattle.cert_search.specs.declared.finding.SearchFault.{SearchFault}
@@ -38,11 +38,15 @@ is_of_search number = number == MEMORY || number == MIXED || number == GATE
 abbrev pub is_of_run : ℕ → Bool
 is_of_run number = number == STRANGE || is_of_search number
 
+-- the answer of a command on threads ends with no fault of another number
+abbrev pub is_of_threads : Command → ℕ → Bool
+is_of_threads Replay number = false
+is_of_threads Check number = false
+is_of_threads Explain number = false
+is_of_threads (Certify workers) number = is_of_search number
+is_of_threads (Fit wanted) number = is_of_search number
+is_of_threads (Run rounds) number = is_of_run number
+
 -- a call that serves the command ends with no fault of another number
 abbrev pub is_known_of : Command → ℕ → Bool
-is_known_of Replay number = is_known number
-is_known_of Check number = is_known number
-is_known_of Explain number = is_known number
-is_known_of (Certify workers) number = is_known number || is_of_search number
-is_known_of (Fit wanted) number = is_known number || is_of_search number
-is_known_of (Run rounds) number = is_known number || is_of_run number
+is_known_of command number = is_known number || is_of_threads command number

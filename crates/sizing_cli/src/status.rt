@@ -19,7 +19,8 @@ use std::fmt;
 pub enum Status {
     /// Yes, or done.
     Done,
-    /// No: something is refused, not possible or stuck, a condition fails, no certificate was found, or a plan is not run.
+    /// No: something is refused, not possible or stuck, a condition fails, no certificate or no sizes were found, sizes
+    /// change, or a plan is not run.
     Refused,
     /// The input has a fault, which the answer tells.
     BadText,
@@ -45,8 +46,8 @@ impl Status {
     }
 }
 
-/// Why there is no answer: fault 20 Memory, 41 Strange of a run, 42 Mixed or 43 Gate of a run or a search, 60 ReadFailed or
-/// 61 WriteFailed.
+/// Why there is no answer: fault 20 Memory, 41 Strange of a run, 42 Mixed of a run or a search, 43 Gate of a run, a search or
+/// a check on threads, 60 ReadFailed or 61 WriteFailed.
 ///
 /// After 61 a front of the answer was written, and after any other nothing.
 #[derive(Clone, Copy, Debug, PartialEq, Eq)]
