@@ -1,9 +1,10 @@
 -- The document of a plan: a table with a list of pools, of classes and of clients, the keys of each table ascending.
-use Rattle.std.specs.Prelude.{ℕ, pos, Bool, true, if◌then◌else◌, List, map, codes}
+use Rattle.std.specs.Prelude.{ℕ, pos, Bool, true, false, if◌then◌else◌, List, map, codes}
 use Rattle.std.specs.Ordering.{nat_cmp, match_ordering}
 use Rattle.std.specs.Cmp.Lexicographic.{slice_cmp}
 use Rattle.toml.specs.Data.{Data, string, integer, boolean, array, table, Members, no_members, member}
 use Rattle.toml.specs.View.{items_of}
+use Rattle.toml.specs.Text.{IsDocumentText}
 use Rattle.job_bodies.specs.Plan.{Pool, Class, Client, Plan, pool_names}
 use Rattle.plan_writer.specs.Spelling.{name_at, body_texts}
 
@@ -53,6 +54,10 @@ plan_document plan =
     member (codes "class") (list_data (map (class_data pools classes) plan.classes))
     (member (codes "client") (list_data (map (client_data classes) plan.clients))
     (member (codes "pool") (list_data (map pool_data plan.pools)) no_members))
+
+-- the text is one of this document
+abbrev pub IsPlanText : Plan → List ℕ → Type 0
+IsPlanText plan text = IsDocumentText false (plan_document plan) text
 
 -- the members with one more, put before the first key above its own, or in the place of its own key's
 abbrev pub with_member : List ℕ → Data → Members → Members

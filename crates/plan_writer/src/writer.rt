@@ -1,9 +1,8 @@
 //! The text of a plan that was made in code.
 
-ghost use Rattle.std.specs.Prelude.{◌≡◌, ◌≤◌, false, length, IfOk, Ok, string_bytes};
-ghost use Rattle.toml.specs.Text.{IsDocumentText};
+ghost use Rattle.std.specs.Prelude.{◌≡◌, ◌≤◌, length, IfOk, Ok, string_bytes};
 ghost use Rattle.plan_text.specs.declared.document.TheConstants.{MOST_TEXT_BYTES};
-ghost use Rattle.plan_writer.specs.PlanDocument as spec;
+ghost use Rattle.plan_writer.specs.PlanDocument.{IsPlanText};
 ghost use Rattle.plan_text.specs.PlanOf.{plan_of};
 
 use crate::plan_values::plan_document;
@@ -19,7 +18,7 @@ use std::alloc::{AllocError, Global};
 ///
 /// [`AllocError`] where memory runs out.
 pub fn write_plan(alloc: Global, plan: &Plan) -> Result<String, AllocError>
-    ensures document { IfOk result (λ text. IsDocumentText false (spec.plan_document plan.now) (string_bytes text)) }
+    ensures document { IfOk result (λ text. IsPlanText plan.now (string_bytes text)) }
     ensures reads_back { IfOk result (λ text. length (string_bytes text) ≤ MOST_TEXT_BYTES → plan_of (string_bytes text) ≡ Ok plan.now) }
 {
     let document = plan_document(alloc, plan)?;

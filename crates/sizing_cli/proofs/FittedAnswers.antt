@@ -1,11 +1,14 @@
 -- What status 0 means of an answer of `fit`.
-use Rattle.std.proofs.Common.{◌≡◌, ℕ, inl, inr, Bool, true, false, List, length, Result, Ok, Err, IsTrue, refl, sym, ap, subst, ◌∙◌}
+use Rattle.std.proofs.Common.{◌≡◌, ◌≤◌, ◌<◌, ℕ, inl, inr, Bool, true, false, List, [], ◌∷◌, ◌++◌, length, arith, Result, Ok, Err, IsTrue, refl, sym, ap, subst, ◌∙◌}
 use Rattle.std.specs.Prelude.{MatchBool, nat_lt, ◌==◌}
 use Rattle.std.proofs.lemmas.Bool.{eqb-true}
+use Rattle.std.proofs.lemmas.List.{length-append}
 use Rattle.job_bodies.specs.Plan.{Plan}
 use Rattle.job_bodies.specs.declared.fault.PlanFault.{PlanFault}
 use Rattle.plan_text.specs.PlanOf.{plan_of}
 use Rattle.certificates.specs.Cert.{Cert}
+use Rattle.cert_text.specs.declared.document.TheConstants.{MOST_TEXT_BYTES}
+use Rattle.cert_text.specs.CertText.{cert_text}
 use Rattle.headline.specs.Accepted.{accepted}
 use Rattle.headline.proofs.Theorem.{promises}
 use Rattle.cert_check.proofs.Yes.{plans_read_are_well_formed}
@@ -17,7 +20,7 @@ use Rattle.sizing_cli.specs.declared.limits.TheConstants.{MOST_INPUT_BYTES}
 use Rattle.sizing_cli.specs.declared.status.Status.TheVariants.{Done, Refused, BadText}
 use Rattle.sizing_cli.specs.Answer.{Answer, yes_or_no, input_too_long}
 use Rattle.sizing_cli.specs.SafeInput.{IsSafePlan}
-use Rattle.sizing_cli.specs.Fit.{no_sizes_answer, text_too_long, IsFittedBundle, AnswersPlan, AnswersReading, IsFitAnswer}
+use Rattle.sizing_cli.specs.Fit.{IsTooLong, no_sizes_answer, text_too_long, IsFittedBundle, AnswersPlan, AnswersReading, IsFitAnswer}
 use Rattle.sizing_cli.proofs.SafeInputs.{yes_from_done}
 
 -- an answer with another status is none
@@ -35,6 +38,14 @@ bad_text_is_not_done answer other same bad done =
 sized_as_it_is : (plan fit : Plan) (cert : Cert) → IsSized plan cert fit → changes plan fit ≡ 0 → IsTrue (accepted plan cert)
 sized_as_it_is plan fit cert sized none =
     subst (λ (p : Plan). IsTrue (accepted p cert)) (unchanged plan fit sized.fits.same_outline none) sized.fits.accepts
+
+-- where the text of the certificate is too long
+pub too_long_by_cert : (plan fit : Plan) (cert : Cert) (text : List ℕ) → IsSized plan cert fit → text ≡ cert_text cert → MOST_TEXT_BYTES ≤ length text → IsTooLong plan
+too_long_by_cert plan fit cert text sized is long =
+    record { cert = cert; fit = fit; is_sized = sized; long = inr (subst (λ (t : List ℕ). MOST_TEXT_BYTES < length (t ++ 10 ∷ [])) is (longer text long)) }
+  where
+    longer : (t : List ℕ) → MOST_TEXT_BYTES ≤ length t → MOST_TEXT_BYTES < length (t ++ 10 ∷ [])
+    longer t long = omega (arith, long, length-append t (10 ∷ []))
 
 pub sizes_mean_safe : (input : List ℕ) (answer : Answer) → IsFitAnswer Sizes input answer → answer.status ≡ Done → IsSafePlan input
 sizes_mean_safe input answer is done = by_length (nat_lt MOST_INPUT_BYTES (length input)) is
@@ -70,7 +81,7 @@ bundle_means_fitted input answer is done = by_length (nat_lt MOST_INPUT_BYTES (l
   where
     by_answer : (plan : Plan) → plan_of input ≡ Ok plan → AnswersPlan Bundle plan answer → IsFittedTo input answer.text
     by_answer plan is_plan (inl told) = absurd (refused_is_not_done answer (no_sizes_answer plan told.cause) told.answer_is refl done)
-    by_answer plan is_plan (inr (inl too_long)) = absurd (refused_is_not_done answer text_too_long too_long refl done)
+    by_answer plan is_plan (inr (inl told)) = absurd (refused_is_not_done answer text_too_long told.0 refl done)
     by_answer plan is_plan (inr (inr fitted)) = record { plan = plan; is_plan = is_plan; bundle = fitted.bundle }
 
     by_plan : (read : Result Plan PlanFault) → plan_of input ≡ read → AnswersReading Bundle read answer → IsFittedTo input answer.text

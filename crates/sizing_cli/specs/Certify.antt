@@ -48,11 +48,15 @@ pub record IsCertified (plan : List ℕ) (answer : Answer) : Type 0 where
   pub bundle : IsCertifiedBundle plan answer.text
   pub status : answer.status ≡ Done
 
--- a certificate accepts the plan, and its text with its newline is too long to be read
+-- the certificate's text with its newline is too long to be read
+abbrev pub HasLongText : Cert → Type 0
+HasLongText cert = MOST_TEXT_BYTES < length (cert_text cert ++ 10 ∷ [])
+
+-- a certificate accepts the plan, and its text is too long
 pub record IsTooLong (plan : Plan) : Type 0 where
   pub cert : Cert
   pub accepts : IsTrue (accepted plan cert)
-  pub long : MOST_TEXT_BYTES < length (cert_text cert ++ 10 ∷ [])
+  pub long : HasLongText cert
 
 -- to a text and what may have been found for it: the line that says that nothing was, or a bundle with a certificate
 abbrev pub AnswersFound : List ℕ → Answer → Type 0

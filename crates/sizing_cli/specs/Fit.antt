@@ -1,9 +1,11 @@
 -- What `fit` may answer to an input: a relation, since nothing is said of which sizes are found, or that some are.
-use Rattle.std.specs.Prelude.{◌≡◌, ◌⊎◌, ℕ, nat_lt, ◌==◌, List, [], ◌∷◌, ◌++◌, length, codes, Result, Ok, Err, MatchBool}
+use Rattle.std.specs.Prelude.{◌≡◌, ◌⊎◌, ◌<◌, ℕ, nat_lt, ◌==◌, List, [], ◌∷◌, ◌++◌, length, codes, Result, Ok, Err, MatchBool}
 use Rattle.job_bodies.specs.Plan.{Plan}
 use Rattle.job_bodies.specs.FaultText.{fault_line}
 use Rattle.job_bodies.specs.declared.fault.PlanFault.{PlanFault}
+use Rattle.plan_text.specs.declared.document.TheConstants.{MOST_TEXT_BYTES}
 use Rattle.plan_text.specs.PlanOf.{plan_of}
+use Rattle.plan_writer.specs.PlanDocument.{IsPlanText}
 use Rattle.certificates.specs.Cert.{Cert}
 use Rattle.cert_text.specs.CertText.{cert_text}
 use Rattle.size_search.specs.declared.found.NoSizes.{NoSizes}
@@ -16,7 +18,7 @@ use Rattle.command_line.specs.declared.command.Wanted.TheVariants.{Sizes, Bundle
 use Rattle.sizing_cli.specs.declared.limits.TheConstants.{MOST_INPUT_BYTES}
 use Rattle.sizing_cli.specs.declared.status.Status.TheVariants.{Done, Refused}
 use Rattle.sizing_cli.specs.Answer.{Answer, fault, input_too_long, yes_or_no}
-use Rattle.sizing_cli.specs.Certify.{IsBundleWith}
+use Rattle.sizing_cli.specs.Certify.{IsBundleWith, HasLongText}
 
 -- the sizes of the fitted plan, which are a no where one changes
 abbrev pub sizes_answer : Plan → Plan → Answer
@@ -41,12 +43,14 @@ pub record TellsSizes (plan : Plan) (answer : Answer) : Type 0 where
   pub is_sized : IsSized plan cert fit
   pub answer_is : answer ≡ sizes_answer plan fit
 
--- the bundle of a text of the plan of such sizes, and of the certificate for which they are the least: `check` says yes to it
+-- the bundle of the text of the plan of such sizes, as it is written, and of the certificate for which they are the least:
+-- `check` says yes to it
 pub record IsFittedBundle (plan : Plan) (text : List ℕ) : Type 0 where
   pub cert : Cert
   pub fit : Plan
   pub is_sized : IsSized plan cert fit
   pub fit_text : List ℕ
+  pub is_text : IsPlanText fit fit_text
   pub is_fit : plan_of fit_text ≡ Ok fit
   pub bundle : IsBundleWith fit_text (cert_text cert ++ 10 ∷ []) text
 
@@ -54,10 +58,23 @@ pub record IsFitted (plan : Plan) (answer : Answer) : Type 0 where
   pub bundle : IsFittedBundle plan answer.text
   pub status : answer.status ≡ Done
 
+-- a text of the plan, as one that is written, is too long to be read
+pub record HasLongPlanText (plan : Plan) : Type 0 where
+  pub text : List ℕ
+  pub is_text : IsPlanText plan text
+  pub long : MOST_TEXT_BYTES < length text
+
+-- a certificate accepts the plan of such sizes, and a text of that plan is too long, or the certificate's is
+pub record IsTooLong (plan : Plan) : Type 0 where
+  pub cert : Cert
+  pub fit : Plan
+  pub is_sized : IsSized plan cert fit
+  pub long : HasLongPlanText fit ⊎ HasLongText cert
+
 -- to a plan
 abbrev pub AnswersPlan : Wanted → Plan → Answer → Type 0
 AnswersPlan Sizes plan answer = TellsCause plan answer ⊎ TellsSizes plan answer
-AnswersPlan Bundle plan answer = TellsCause plan answer ⊎ ((answer ≡ text_too_long) ⊎ IsFitted plan answer)
+AnswersPlan Bundle plan answer = TellsCause plan answer ⊎ (((answer ≡ text_too_long) × IsTooLong plan) ⊎ IsFitted plan answer)
 
 abbrev pub AnswersReading : Wanted → Result Plan PlanFault → Answer → Type 0
 AnswersReading wanted (Err f) answer = answer ≡ fault (fault_line f)

@@ -114,10 +114,11 @@ fn bundle<R: Threads + Wait + Sync>(
     ensures fault { IfErr result (λ fault. IsTrue (is_of_search fault.number)) }
 {
     let fit_text = write_plan(alloc, fit)?;
+    if fit_text.len() > plan_text::MOST_TEXT_BYTES {
+        return Ok(Output::of(text_too_long(alloc)?));
+    }
     let mut cert_text = write_cert(alloc, cert)?;
-    if fit_text.len() > plan_text::MOST_TEXT_BYTES
-        || cert_text.len() >= cert_text::MOST_TEXT_BYTES
-    {
+    if cert_text.len() >= cert_text::MOST_TEXT_BYTES {
         return Ok(Output::of(text_too_long(alloc)?));
     }
     cert_text.extend_from_slice(b"\n")?;
