@@ -1,5 +1,6 @@
 pub mod Splitting
 pub mod Answering
+pub mod SameSets
 pub mod PastTheLimit
 pub mod LastSeparator
 pub mod SafeInputs

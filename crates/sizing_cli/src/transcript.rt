@@ -52,7 +52,9 @@ fn reply_to(
             None => Ok(Reply::NotPossible),
         },
         EventLine::Stuck(members) => {
-            let members = members.to_vec(alloc)?;
+            // A world finds numbers that rise by halves.
+            let mut members = members.to_vec(alloc)?;
+            members.sort_unstable();
             Ok(Reply::Stuck(world.stuck(plan, &members)))
         }
     }
