@@ -83,7 +83,7 @@ class Bench:
         )
         if bar is not None:
             self.bars.hold(f"{name}: ratio of the times", time, bar)
-            self.bars.hold(f"{name}: ratio of the peaks", memory, MEMORY_BAR)
+        self.bars.hold(f"{name}: ratio of the peaks", memory, MEMORY_BAR)
 
     def certified(self, name, text):
         bundle = self.asked("certify", text.encode())

@@ -18,8 +18,8 @@ It answers on standard output. To begin, paste the example of `sizing certify --
 
 Exit status:
   0  yes, or done
-  1  no: a condition fails, a job is refused or stuck, an event is not possible, no certificate was
-     found, or sizes change
+  1  no: a condition fails, a job is refused or stuck, an event is not possible, no certificate or no
+     sizes were found, or sizes change
   2  bad text in the input, a run that is too large, or bad arguments
   3  memory ran out, or reading, writing or running failed";
 
@@ -277,8 +277,8 @@ with ` (now X)` behind each number that changes, where X is what PLAN says. The 
 `changes N`, where N is how many numbers change. With `--bundle` it is the plan of those sizes, a
 line that is exactly `%%`, and a certificate in JSON, to which `sizing check` answers yes.
 
-No number falls. For the certificate that was found no smaller core or queue would do; another
-certificate may need less.
+No number falls. For the certificate that was found no smaller core or maximum would do, and with
+these maximums no smaller queue; another certificate may need less.
 
 Or the answer is the line `no fitting sizes found`, and one that says why:
   class NAME submits itself
