@@ -1,12 +1,13 @@
 //! Vectors whose total is brought below its limit by workers that lend what their jobs weigh.
 
-ghost use Rattle.std.specs.Prelude.{IfOk, IfSome, IsTrue};
+ghost use Rattle.std.specs.Prelude.{◌<◌, ◌≤◌, IfOk, IfSome, IsTrue, vec_len};
 ghost use Rattle.weights.specs.Vector.{vector_fits};
 
 use crate::Levels;
 use crate::numbers::{number_at, put_at};
 use crate::rows::vector_of;
 use crate::sketch::Sketch;
+use crate::tried::Tried;
 use crate::wanted::Wanted;
 use job_bodies::Plan;
 use std::alloc::{AllocError, Global};
@@ -15,12 +16,12 @@ use weights::Vector;
 /// The most loans that are tried for one vector: each makes the total smaller, so that few are enough.
 const MOST_LOANS: usize = 256;
 
-/// A pool whose workers weigh so much instead of what they weighed, and what comes of it.
-#[derive(Debug, Drop)]
+/// A pool whose workers weigh so much instead of what they weighed, and where what comes of it stands.
+#[derive(Clone, Copy, Debug)]
 struct Loan {
     pool: usize,
     weight: u64,
-    sketch: Sketch,
+    place: usize,
 }
 
 /// What each pool's workers weigh, and what comes of it.
@@ -37,6 +38,10 @@ pub(crate) struct Loans {
 ///
 /// While the total is above its limit, one pool lends: its workers weigh as much as its jobs do at most, so that its
 /// queued jobs weigh less. Of all pools that may lend one lends which makes the total the least.
+///
+/// No workers' weights are weighed twice, since all that are tried are kept with what comes of them. A pool that lent
+/// is asked what its jobs weigh where it lends nothing: of the last lender these are the workers from before its loan,
+/// and of another one often a loan that was passed over.
 pub(crate) fn lent(
     alloc: Global,
     plan: &Plan,
@@ -45,24 +50,25 @@ pub(crate) fn lent(
 ) -> Result<Loans, AllocError> {
     let mut workers = vec![in alloc; 0; plan.pools().len()]?;
     let mut lenders = Vec::new(alloc);
-    let mut sketch = Sketch::of(alloc, plan, levels, wanted, &workers)?;
+    let mut tried = Tried::new(alloc, plan, levels, wanted);
+    let mut place = tried.place_of(&workers)?;
     for _ in 0..MOST_LOANS {
-        if sketch.total <= wanted.limit {
+        if tried.sketch(place).total <= wanted.limit {
             break;
         }
-        let Some(loan) = best_loan(alloc, plan, levels, wanted, &mut workers, &sketch)? else {
+        let Some(loan) = best_loan(plan, wanted, &mut tried, &mut workers, place)? else {
             break;
         };
         put_at(&mut workers, loan.pool, loan.weight);
         if !lenders.contains(&loan.pool) {
             lenders.push(loan.pool)?;
         }
-        sketch = loan.sketch;
+        place = loan.place;
     }
     Ok(Loans {
         workers,
         lenders,
-        sketch,
+        sketch: tried.into_sketch(place),
     })
 }
 
@@ -86,57 +92,64 @@ pub(crate) fn least_vector(
     vector_of(alloc, plan, wanted, workers, &sketch)
 }
 
-/// The loan that makes the total the least, if one makes it less than it is. The workers stay as they are.
+/// The loan that makes the total the least, if one makes it less than the total at this place, of the workers as they
+/// are. The workers stay so.
+///
+/// A loan is not weighed where its workers alone weigh as much as the least total so far: it cannot make it less.
 fn best_loan(
-    alloc: Global,
     plan: &Plan,
-    levels: &Levels,
     wanted: &Wanted,
+    tried: &mut Tried,
     workers: &mut [u64],
-    sketch: &Sketch,
-) -> Result<Option<Loan>, AllocError> {
+    place: usize,
+) -> Result<Option<Loan>, AllocError>
+    requires { place < vec_len tried.old.weighings }
+    ensures stands { IfOk result (λ found. IfSome found (λ loan. loan.place < vec_len tried.new.weighings)) }
+    ensures kept { vec_len tried.old.weighings ≤ vec_len tried.new.weighings }
+{
     let mut best = None;
-    let mut least = sketch.total;
+    let mut least = tried.sketch(place).total;
     for pool in 0..plan.pools().len() {
         if !wanted.may_lend(pool) {
             continue;
         }
         let before = number_at(workers, pool);
-        let weight = peak(alloc, plan, levels, wanted, workers, pool, sketch)?;
-        if weight != before {
-            put_at(workers, pool, weight);
-            let sketch = Sketch::of(alloc, plan, levels, wanted, workers)?;
-            put_at(workers, pool, before);
-            if sketch.total < least {
-                least = sketch.total;
+        let weight = peak(tried, workers, pool, place)?;
+        put_at(workers, pool, weight);
+        if weight != before && wanted.workers_weigh(plan, workers) < least {
+            let place = tried.place_of(workers)?;
+            let total = tried.sketch(place).total;
+            if total < least {
+                least = total;
                 best = Some(Loan {
                     pool,
                     weight,
-                    sketch,
+                    place,
                 });
             }
         }
+        put_at(workers, pool, before);
     }
     Ok(best)
 }
 
 /// The most that a job of the pool weighs in its body, where neither the pool's workers nor its done jobs weigh anything.
-/// The sketch tells it of a pool that does not lend.
+/// The sketch at this place, of the workers as they are, tells it of a pool that does not lend.
 fn peak(
-    alloc: Global,
-    plan: &Plan,
-    levels: &Levels,
-    wanted: &Wanted,
+    tried: &mut Tried,
     workers: &mut [u64],
     pool: usize,
-    sketch: &Sketch,
-) -> Result<u64, AllocError> {
+    place: usize,
+) -> Result<u64, AllocError>
+    requires { place < vec_len tried.old.weighings }
+    ensures kept { vec_len tried.old.weighings ≤ vec_len tried.new.weighings }
+{
     let before = number_at(workers, pool);
     if before == 0 {
-        return Ok(number_at(&sketch.peaks, pool));
+        return Ok(number_at(&tried.sketch(place).peaks, pool));
     }
     put_at(workers, pool, 0);
-    let without = Sketch::of(alloc, plan, levels, wanted, workers)?;
+    let without = tried.place_of(workers)?;
     put_at(workers, pool, before);
-    Ok(number_at(&without.peaks, pool))
+    Ok(number_at(&tried.sketch(without).peaks, pool))
 }

@@ -12,6 +12,7 @@ mod numbers;
 mod reached;
 mod rows;
 mod sketch;
+mod tried;
 mod vectors;
 mod wanted;
 mod weight;

@@ -47,9 +47,7 @@ impl Sketch {
                 sketch.weigh_class(wanted, workers, *number, class);
             }
         }
-        for (number, pool) in plan.pools().iter().enumerate() {
-            sketch.add(number_at(workers, number), wanted.max_of(number, pool));
-        }
+        sketch.add(wanted.workers_weigh(plan, workers), 1);
         for client in plan.clients() {
             sketch.weigh_client(wanted, client)?;
         }

@@ -1,7 +1,7 @@
 //! Which vector of a pool is looked for.
 
 use crate::numbers::number_at;
-use job_bodies::{Action, Class, Pool};
+use job_bodies::{Action, Class, Plan, Pool};
 use weights::class_got;
 
 /// Where the jobs of the pool have to weigh at least 1.
@@ -108,6 +108,16 @@ impl<'a> Wanted<'a> {
             Some(maxes) => number_at(maxes, number),
             None => pool.max,
         }
+    }
+
+    /// What all workers weigh together, where each of a pool weighs so much.
+    pub(crate) fn workers_weigh(&self, plan: &Plan, workers: &[u64]) -> u64 {
+        let mut total = 0u64;
+        for (number, pool) in plan.pools().iter().enumerate() {
+            let weight = number_at(workers, number).saturating_mul(self.max_of(number, pool));
+            total = total.saturating_add(weight);
+        }
+        total
     }
 
     /// Whether gets give something back.

@@ -1,0 +1,5 @@
+use Rattle.std.proofs.Common.{◌<◌, vec_len}
+use Rattle.least_vectors.proofs.lending.lent.Given as goal
+
+abbrev pub invariant-loop : goal.invariant-loop
+invariant-loop l = l.place < vec_len l.tried.weighings

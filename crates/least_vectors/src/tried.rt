@@ -1,0 +1,77 @@
+//! All that is weighed in the search for one vector, so that no workers' weights are weighed twice.
+
+ghost use Rattle.std.specs.Prelude.{◌<◌, ◌≤◌, IfOk, vec_len};
+
+use crate::Levels;
+use crate::sketch::Sketch;
+use crate::wanted::Wanted;
+use job_bodies::Plan;
+use std::alloc::{AllocError, Global};
+
+/// What each pool's workers weigh, and what comes of it.
+#[derive(Debug, Drop)]
+struct Weighing {
+    workers: Vec<u64>,
+    sketch: Sketch,
+}
+
+/// The vector that is wanted, and all workers' weights that were tried for it.
+#[derive(Drop)]
+pub(crate) struct Tried<'a> {
+    alloc: Global,
+    plan: &'a Plan,
+    levels: &'a Levels,
+    wanted: &'a Wanted<'a>,
+    weighings: Vec<Weighing>,
+}
+
+impl<'a> Tried<'a> {
+    /// Nothing is tried yet.
+    pub(crate) fn new(
+        alloc: Global,
+        plan: &'a Plan,
+        levels: &'a Levels,
+        wanted: &'a Wanted<'a>,
+    ) -> Tried<'a> {
+        Tried {
+            alloc,
+            plan,
+            levels,
+            wanted,
+            weighings: Vec::new(alloc),
+        }
+    }
+
+    /// Where the sketch of these workers' weights stands. They are weighed unless they were before.
+    pub(crate) fn place_of(&mut self, workers: &[u64]) -> Result<usize, AllocError>
+        ensures stands { IfOk result (λ place. place < vec_len self.new.weighings) }
+        ensures kept { vec_len self.old.weighings ≤ vec_len self.new.weighings }
+    {
+        let known = self
+            .weighings
+            .iter()
+            .position(|weighing| weighing.workers.as_slice() == workers);
+        if let Some(place) = known {
+            return Ok(place);
+        }
+        let place = self.weighings.len();
+        let sketch = Sketch::of(self.alloc, self.plan, self.levels, self.wanted, workers)?;
+        let workers = Vec::from_slice(self.alloc, workers)?;
+        self.weighings.push(Weighing { workers, sketch })?;
+        Ok(place)
+    }
+
+    /// The sketch at this place.
+    pub(crate) fn sketch(&self, place: usize) -> &Sketch
+        requires { place < vec_len self.now.weighings }
+    {
+        &self.weighings[place].sketch
+    }
+
+    /// The sketch at this place, without the others.
+    pub(crate) fn into_sketch(mut self, place: usize) -> Sketch
+        requires { place < vec_len self.weighings }
+    {
+        self.weighings.swap_remove(place).sketch
+    }
+}
