@@ -2,6 +2,7 @@
 use Rattle.std.proofs.Common.{◌≡◌, ℕ, ◌+◌, ◌*◌, ◌<◌, ◌≤◌, inl, inr, suc, true, List, [], ◌∷◌, length, get_or, sum_by, refl, ap, sym, subst, ◌∙◌, arith, zero-add}
 use Rattle.std.specs.List.{enumerate_from}
 use Rattle.std.proofs.lemmas.Bool.{cases_lt, and_parts}
+use Rattle.std.proofs.lemmas.List.{get_or_past}
 use Rattle.std.proofs.lemmas.List.Sums.{sum_by-cons}
 use Rattle.std.proofs.Math.Nat.{mul-le-mul_left}
 use Rattle.job_bodies.specs.declared.limits.TheConstants.{MOST_UNITS}
@@ -10,12 +11,13 @@ use Rattle.weights.specs.Vector.{Vector, workers_weight, client_weight, total}
 use Rattle.certificates.specs.Cert.{Cert, pool_cert_at, cert_fits}
 use Rattle.headline.specs.Conditions.{failing}
 use Rattle.headline.specs.Accepted.{is_nil}
-use Rattle.fitted_sizes.specs.Fitted.{core_needed}
-use Rattle.fitted_sizes.specs.Widened.{with_max, widened, outline, IsWideFit, WidenedMaxesAreLeast}
+use Rattle.fitted_sizes.specs.Fitted.{core_needed, raised}
+use Rattle.fitted_sizes.specs.Widened.{with_max, widened, outline, IsWideFit, HasLeastCores, without_maxes, IsLeastWide, LeavesRoom, WidenedMaxesAreLeast}
 use Rattle.fitted_sizes.proofs.Numbered.{length-numbered, numbered_at, numbered_past, map-numbered}
 use Rattle.fitted_sizes.proofs.Shapes.{cert_fits-pools}
 use Rattle.fitted_sizes.proofs.TotalRows.{totals_where_accepted}
 use Rattle.fitted_sizes.proofs.Changes.{nameplate, length-outline, sizes_at}
+use Rattle.fitted_sizes.proofs.LeastSizes.{raised_at, raised_past}
 
 -- ---- totals grow with the maxes
 
@@ -42,6 +44,10 @@ total-grows plan other v same grows =
     omega (arith, workers_total-grows v 0 plan.pools other.pools (sym as_many) grows)
 
 -- ---- the widened plan
+
+-- the pool without its max
+abbrev pub maxless : Pool → Pool
+maxless pool = record pool { max = 0 }
 
 -- each core is at least the one that is needed with the plan's maxes
 cores_least : (plan other : Plan) (cert : Cert) (p : ℕ) → p < length plan.pools → IsWideFit plan cert other → core_needed plan (pool_cert_at cert p).blocked ≤ (pool_at other p).core
@@ -75,6 +81,35 @@ maxes_least plan other cert fits = record {
       | inr past ↦ let max = ap (λ (pool : Pool). pool.max) (numbered_past (λ (entry : ℕ × Pool). with_max plan (pool_cert_at cert entry.0).blocked entry.1) 0 plan.pools p no_pool past) in
           omega arith
     ]
+
+-- ---- what callers get
+
+widened-without_maxes : (plan : Plan) (cert : Cert) → without_maxes (widened plan cert) ≡ without_maxes plan
+widened-without_maxes plan cert =
+    ap (λ (pools : List Pool). record plan { pools = pools })
+    (map-numbered maxless (λ (entry : ℕ × Pool). with_max plan (pool_cert_at cert entry.0).blocked entry.1) maxless 0 plan.pools (λ i pool. refl))
+
+pub widened_is_least_wide : (plan : Plan) (cert : Cert) → IsLeastWide plan cert (widened plan cert)
+widened_is_least_wide plan cert = record {
+  wider = record { same_but_maxes = widened-without_maxes plan cert; no_smaller_max = no_smaller_max };
+  least = λ other fits. maxes_least plan other cert fits;
+}
+  where
+    no_smaller_max : (p : ℕ) → (pool_at plan p).max ≤ (pool_at (widened plan cert) p).max
+    no_smaller_max p = elim (cases_lt p (length plan.pools)) [
+      | inl inside ↦ let max = ap (λ (pool : Pool). pool.max) (widened_at plan cert p inside) in omega arith
+      | inr past ↦ let none = ap (λ (pool : Pool). pool.max) (get_or_past plan.pools p no_pool past) in omega arith
+    ]
+
+pub widened_leaves_room : (plan : Plan) (cert : Cert) → LeavesRoom plan cert (widened plan cert)
+widened_leaves_room plan cert p inside = let max = ap (λ (pool : Pool). pool.max) (widened_at plan cert p inside) in omega arith
+
+pub raised_has_least_cores : (plan : Plan) (cert : Cert) → HasLeastCores plan cert (raised plan cert)
+raised_has_least_cores plan cert other fits larger p = elim (cases_lt p (length plan.pools)) [
+  | inl inside ↦ let core = ap (λ (pool : Pool). pool.core) (raised_at plan cert p inside) in
+      omega (arith, larger.core p, cores_least plan other cert p inside fits)
+  | inr past ↦ let core = ap (λ (pool : Pool). pool.core) (raised_past plan cert p past) in omega (arith, larger.core p)
+]
 
 pub widened_maxes_are_least : WidenedMaxesAreLeast
 widened_maxes_are_least = record {

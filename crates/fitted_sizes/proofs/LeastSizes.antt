@@ -42,12 +42,12 @@ pub raised-shape : (plan : Plan) (cert : Cert) → shape (raised plan cert) ≡ 
 raised-shape plan cert =
     ap (λ (pools : List Pool). record plan { pools = pools }) (map-numbered bare (λ (entry : ℕ × Pool). raised_pool plan (pool_cert_at cert entry.0) entry.1) bare 0 plan.pools (λ i pool. refl))
 
-raised_at : (plan : Plan) (cert : Cert) (p : ℕ) → p < length plan.pools → pool_at (raised plan cert) p ≡ raised_pool plan (pool_cert_at cert p) (pool_at plan p)
+pub raised_at : (plan : Plan) (cert : Cert) (p : ℕ) → p < length plan.pools → pool_at (raised plan cert) p ≡ raised_pool plan (pool_cert_at cert p) (pool_at plan p)
 raised_at plan cert p inside =
     numbered_at (λ (entry : ℕ × Pool). raised_pool plan (pool_cert_at cert entry.0) entry.1) 0 plan.pools p no_pool no_pool inside
     ∙ ap (λ (j : ℕ). raised_pool plan (pool_cert_at cert j) (pool_at plan p)) (zero-add p)
 
-raised_past : (plan : Plan) (cert : Cert) (p : ℕ) → length plan.pools ≤ p → pool_at (raised plan cert) p ≡ pool_at plan p
+pub raised_past : (plan : Plan) (cert : Cert) (p : ℕ) → length plan.pools ≤ p → pool_at (raised plan cert) p ≡ pool_at plan p
 raised_past plan cert p past =
     numbered_past (λ (entry : ℕ × Pool). raised_pool plan (pool_cert_at cert entry.0) entry.1) 0 plan.pools p no_pool past ∙ sym (get_or_past plan.pools p no_pool past)
 

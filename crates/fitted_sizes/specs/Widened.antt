@@ -6,7 +6,7 @@ use Rattle.job_bodies.specs.WellFormed.{IsWellFormed}
 use Rattle.weights.specs.Vector.{Vector}
 use Rattle.certificates.specs.Cert.{Cert, pool_cert_at}
 use Rattle.headline.specs.Accepted.{accepted}
-use Rattle.fitted_sizes.specs.Fitted.{core_needed}
+use Rattle.fitted_sizes.specs.Fitted.{core_needed, IsNoSmaller}
 
 abbrev pub with_max : Plan → Vector → Pool → Pool
 with_max plan v pool = record pool { max = max pool.max (core_needed plan v) }
@@ -26,9 +26,33 @@ pub record IsWideFit (plan : Plan) (cert : Cert) (other : Plan) : Type 0 where
   pub no_smaller_max : (p : ℕ) → (pool_at plan p).max ≤ (pool_at other p).max
   pub accepts : IsTrue (accepted other cert)
 
+-- no such plan that has no smaller core or queue either has a smaller core than the fit: a larger max saves no core
+abbrev pub HasLeastCores : Plan → Cert → Plan → Type 0
+HasLeastCores plan cert fit = (other : Plan) → IsWideFit plan cert other → IsNoSmaller other plan → (p : ℕ) → (pool_at fit p).core ≤ (pool_at other p).core
+
 -- there is no such plan
 abbrev pub NoneFitsWide : Plan → Cert → Type 0
 NoneFitsWide plan cert = (other : Plan) → ¬ IsWideFit plan cert other
+
+-- ---- what it is
+
+-- the plan without its maxes
+abbrev pub without_maxes : Plan → Plan
+without_maxes plan = record plan { pools = map (λ (pool : Pool). record pool { max = 0 }) plan.pools }
+
+-- the other plan differs from this one in larger maxes alone
+pub record IsWider (plan other : Plan) : Type 0 where
+  pub same_but_maxes : without_maxes other ≡ without_maxes plan
+  pub no_smaller_max : (p : ℕ) → (pool_at plan p).max ≤ (pool_at other p).max
+
+-- it differs in larger maxes alone, and none of them is larger than need be: what fits the plan fits the wide one
+pub record IsLeastWide (plan : Plan) (cert : Cert) (wide : Plan) : Type 0 where
+  pub wider : IsWider plan wide
+  pub least : (other : Plan) → IsWideFit plan cert other → IsWideFit wide cert other
+
+-- each max leaves room for the core that is needed with the plan's maxes
+abbrev pub LeavesRoom : Plan → Cert → Plan → Type 0
+LeavesRoom plan cert wide = (p : ℕ) → p < length plan.pools → core_needed plan (pool_cert_at cert p).blocked ≤ (pool_at wide p).max
 
 -- each of these plans has at least the cores that are needed, and the widened maxes: a larger max saves no core
 pub record WidenedMaxesAreLeast : Type 0 where

@@ -8,6 +8,7 @@ ghost use Rattle.weights.specs.Vector.{vector_fits};
 ghost use Rattle.weights.specs.Bound.{bound_vector};
 ghost use Rattle.certificates.specs.Cert.{cert_fits, pool_cert_at};
 ghost use Rattle.fitted_sizes.specs.Fitted as spec;
+ghost use Rattle.fitted_sizes.specs.Widened.{HasLeastCores};
 ghost use Rattle.fitted_sizes.specs.Unfit.{failing_elsewhere, first_unfit, unfit_pool, why_unfit};
 
 use crate::Unfit;
@@ -142,7 +143,8 @@ fn unfit(
 
 /// The plan with each core and each queue that is below what the certificate needs raised to it: the least cores and
 /// queues, of those no smaller than the plan's, with which the certificate accepts the plan. An accepted plan is answered as
-/// it is. Where there are no such cores and queues it hands the plan back, and says why.
+/// it is. With larger maximums no smaller core would do either. Where there are no such cores and queues it hands the plan
+/// back, and says why.
 ///
 /// # Errors
 ///
@@ -154,6 +156,7 @@ pub fn fitted(
 ) -> Result<Result<Plan, (Plan, Unfit)>, AllocError>
     ensures fitted { IfOk result (λ answer. IfOk answer (λ fit. spec.fitted plan cert.now ≡ Some fit)) }
     ensures least { IfOk result (λ answer. IfOk answer (spec.IsLeastFit plan cert.now)) }
+    ensures least_cores { IfOk result (λ answer. IfOk answer (HasLeastCores plan cert.now)) }
 
     ensures not_fitted { IfOk result (λ answer. IfErr answer (λ _. spec.fitted plan cert.now ≡ None)) }
     ensures none { IfOk result (λ answer. IfErr answer (λ _. spec.NoneFits plan cert.now)) }

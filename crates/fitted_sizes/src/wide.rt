@@ -58,9 +58,10 @@ fn too_wide_pools(pools: &[Pool]) -> Option<Unfit>
     None
 }
 
-/// The plan with each maximum that is below the core that the certificate needs raised to it. All sizes with which the
-/// certificate accepts the plan, and whose maximums are no smaller than the plan's, have at least these maximums. Where the
-/// totals grow by that, the certificate may need more.
+/// The plan with each maximum that is below the core that the certificate needs raised to it, which leaves room for that
+/// core. No maximum is raised without need: all sizes with which the certificate accepts the plan, and whose maximums are no
+/// smaller than the plan's, have at least these maximums. Where the totals grow by that, the certificate may need more.
+
 ///
 /// Where the certificate has another shape than the plan, or a core above 1,000,000 is needed, there are no such sizes, and
 /// it says why.
@@ -70,6 +71,9 @@ fn too_wide_pools(pools: &[Pool]) -> Option<Unfit>
 /// [`AllocError`] where memory runs out.
 pub fn widened(alloc: Global, plan: &Plan, cert: &Cert) -> Result<Result<Plan, Unfit>, AllocError>
     ensures widened { IfOk result (λ answer. IfOk answer (λ wide. wide ≡ spec.widened plan.now cert.now)) }
+    ensures room { IfOk result (λ answer. IfOk answer (spec.LeavesRoom plan.now cert.now)) }
+    ensures least { IfOk result (λ answer. IfOk answer (spec.IsLeastWide plan.now cert.now)) }
+
     ensures none { IfOk result (λ answer. IfErr answer (λ _. spec.NoneFitsWide plan.now cert.now)) }
     ensures why { IfOk result (λ answer. IfErr answer (λ unfit. why_not_widened plan.now cert.now ≡ Some unfit)) }
 {

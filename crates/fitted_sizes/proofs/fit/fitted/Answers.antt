@@ -3,7 +3,9 @@ use Rattle.job_bodies.specs.Plan.{Pool, Plan}
 use Rattle.job_bodies.specs.WellFormed.{IsWellFormed}
 use Rattle.job_bodies.specs.Build.{given}
 use Rattle.fitted_sizes.specs.Fitted.{raised, IsLeastFit}
+use Rattle.fitted_sizes.specs.Widened.{HasLeastCores}
 use Rattle.fitted_sizes.specs.Unfit.{why_unfit}
+use Rattle.fitted_sizes.proofs.LeastMaxes.{raised_has_least_cores}
 use Rattle.fitted_sizes.proofs.Unfits.{fitted_where_not_unfit, well_formed_where_not_unfit, none_where_unfit, least_where_not_unfit, none_fits_where_unfit}
 use Rattle.fitted_sizes.proofs.fit.fitted.Goals as goal
 
@@ -32,3 +34,9 @@ returns-in_ok-with_pools-in-None-clause-least c =
     let none : why_unfit plan c.args.cert.now ≡ None = sym c.in_ok-unfit.ensures ∙ c.in-None.is in
     let is : c.in_ok-with_pools-in-None.field-0 ≡ raised plan c.args.cert.now = c.in_ok-with_pools-in-None.ensures ∙ ap (λ (pools : List Pool). given pools plan.classes plan.clients) c.in_ok-pools.ensures.pools in
     subst (IsLeastFit plan c.args.cert.now) (sym is) (least_where_not_unfit plan c.args.cert.now c.in_ok-pools.ensures.well_formed none)
+
+pub returns-in_ok-with_pools-in-None-clause-least_cores : goal.returns-in_ok-with_pools-in-None-clause-least_cores
+returns-in_ok-with_pools-in-None-clause-least_cores c =
+    let plan = c.args.plan in
+    let is : c.in_ok-with_pools-in-None.field-0 ≡ raised plan c.args.cert.now = c.in_ok-with_pools-in-None.ensures ∙ ap (λ (pools : List Pool). given pools plan.classes plan.clients) c.in_ok-pools.ensures.pools in
+    subst (HasLeastCores plan c.args.cert.now) (sym is) (raised_has_least_cores plan c.args.cert.now)

@@ -1,8 +1,10 @@
-use Rattle.std.proofs.Common.{◌≡◌, List, None, Some, sym, subst, ◌∙◌}
+use Rattle.std.proofs.Common.{◌≡◌, List, None, Some, sym, ap, subst, ◌∙◌}
 use Rattle.job_bodies.specs.Plan.{Pool}
 use Rattle.job_bodies.specs.WellFormed.{IsWellFormed}
 use Rattle.job_bodies.specs.Build.{given}
+use Rattle.fitted_sizes.specs.Widened.{widened, IsLeastWide, LeavesRoom}
 use Rattle.fitted_sizes.specs.Unfit.{why_not_widened}
+use Rattle.fitted_sizes.proofs.LeastMaxes.{widened_is_least_wide, widened_leaves_room}
 use Rattle.fitted_sizes.proofs.Unfits.{why_not_widened_is, widened_is_well_formed, none_fits_where_not_widened}
 use Rattle.fitted_sizes.proofs.wide.widened.Goals as goal
 
@@ -17,3 +19,15 @@ returns-in-Some-clause-none c =
     let plan = c.args.plan.now in
     let some : why_not_widened plan c.args.cert.now ≡ Some c.in-Some.unfit = why_not_widened_is plan c.args.cert.now c.deref.result.now (Some c.in-Some.unfit) (sym c.if-not-fits.ensures) (c.deref.ensures.value ∙ c.in_ok-pools.ensures.pools) c.in-Some.ensures in
     none_fits_where_not_widened plan c.args.cert.now c.in-Some.unfit some
+
+pub returns-in_ok-with_pools-in-None-clause-room : goal.returns-in_ok-with_pools-in-None-clause-room
+returns-in_ok-with_pools-in-None-clause-room c =
+    let plan = c.args.plan.now in
+    let is : c.in_ok-with_pools-in-None.field-0 ≡ widened plan c.args.cert.now = c.in_ok-with_pools-in-None.ensures ∙ ap (λ (pools : List Pool). given pools plan.classes plan.clients) c.in_ok-pools.ensures.pools in
+    subst (LeavesRoom plan c.args.cert.now) (sym is) (widened_leaves_room plan c.args.cert.now)
+
+pub returns-in_ok-with_pools-in-None-clause-least : goal.returns-in_ok-with_pools-in-None-clause-least
+returns-in_ok-with_pools-in-None-clause-least c =
+    let plan = c.args.plan.now in
+    let is : c.in_ok-with_pools-in-None.field-0 ≡ widened plan c.args.cert.now = c.in_ok-with_pools-in-None.ensures ∙ ap (λ (pools : List Pool). given pools plan.classes plan.clients) c.in_ok-pools.ensures.pools in
+    subst (IsLeastWide plan c.args.cert.now) (sym is) (widened_is_least_wide plan c.args.cert.now)
