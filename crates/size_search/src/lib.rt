@@ -2,7 +2,8 @@
 //!
 //! Nothing that was looked for is trusted: what [`search_sizes`] finds went through [`fitted_sizes::fitted`], or through
 //! [`cert_check::accepts`] where the plan stays as it is. So the certificate accepts the plan of those sizes and, of those that
-//! are no smaller than declared and with these maximums, no smaller core or queue would do for it.
+//! are no smaller than declared, no smaller maximum and no smaller core would do for it, nor with these maximums a smaller queue.
+
 #![tactic(auto)]
 
 mod attempt;

@@ -29,8 +29,10 @@ const FURTHER_ATTEMPTS: usize = 3;
 /// round, the one that lacks least gets it. The queues follow, and then the sizes are put back to what the certificate
 /// needs. Some further attempts begin with another pool, or without what a pool got; the cheapest one is answered.
 ///
-/// That the certificate accepts the plan of these sizes is proved. So is that for this certificate and with these maximums no
-/// smaller core or queue would do, of those that are no smaller than declared. Another certificate may need less.
+/// That the certificate accepts the plan of these sizes is proved. So is that for this certificate, of sizes that are no
+/// smaller than declared, no smaller maximum and no smaller core would do, nor with these maximums a smaller queue. Larger
+/// maximums may save queue, and another certificate may need less.
+
 ///
 /// # Errors
 ///

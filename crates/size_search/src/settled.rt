@@ -1,7 +1,8 @@
 //! The least sizes for a certificate.
 
 ghost use Rattle.std.specs.Prelude.{IfOk};
-ghost use Rattle.size_search.specs.Sized.{IsSized, IsWider};
+ghost use Rattle.fitted_sizes.specs.Widened.{IsLeastWide};
+ghost use Rattle.size_search.specs.Sized.{IsSized};
 
 use crate::found::Limit;
 use certificates::Cert;
@@ -30,7 +31,7 @@ pub(crate) fn settled(
 /// The plan with maximums that are widened until they leave room for each core. A wider pool can need another one to be wider,
 /// but not itself, so that as many turns as pools are enough.
 fn widest(alloc: Global, plan: &Plan, cert: &Cert) -> Result<Result<Plan, Unfit>, AllocError>
-    ensures { IfOk result (λ answer. IfOk answer (IsWider plan.now)) }
+    ensures { IfOk result (λ answer. IfOk answer (IsLeastWide plan.now cert.now)) }
 {
     let mut wide = match widened(alloc, plan, cert)? {
         Ok(wide) => wide,

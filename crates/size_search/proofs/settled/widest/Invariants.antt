@@ -1,6 +1,6 @@
--- What is widest so far is wider than the plan.
-use Rattle.size_search.specs.Sized.{IsWider}
+-- No max is larger than need be so far.
+use Rattle.fitted_sizes.specs.Widened.{IsLeastWide}
 use Rattle.size_search.proofs.settled.widest.Given as goal
 
 abbrev pub invariant-loop : goal.invariant-loop
-invariant-loop l = IsWider l.plan l.wide
+invariant-loop l = IsLeastWide l.plan l.cert l.wide
