@@ -36,7 +36,7 @@ workers_total-grows v n (pool ∷ pools) (other ∷ others) long grows =
     omega (arith, sum_by-cons term (n, pool) (enumerate_from (n + 1) pools), sum_by-cons term (n, other) (enumerate_from (n + 1) others))
 
 -- where only sizes differ and no max falls, no total falls
-total-grows : (plan other : Plan) (v : Vector) → outline other ≡ outline plan → ((p : ℕ) → (pool_at plan p).max ≤ (pool_at other p).max) → total plan v ≤ total other v
+pub total-grows : (plan other : Plan) (v : Vector) → outline other ≡ outline plan → ((p : ℕ) → (pool_at plan p).max ≤ (pool_at other p).max) → total plan v ≤ total other v
 total-grows plan other v same grows =
     let as_many : length other.pools ≡ length plan.pools = sym (length-outline other) ∙ (ap (λ (any : Plan). length any.pools) same ∙ length-outline plan) in
     let of_clients = λ (clients : List Client). sum_by (λ (entry : ℕ × Client). entry.1.count * client_weight v entry.0 0) (enumerate_from 0 clients) in
@@ -93,12 +93,20 @@ pub widened_is_least_wide : (plan : Plan) (cert : Cert) → IsLeastWide plan cer
 widened_is_least_wide plan cert = record {
   wider = record { same_but_maxes = widened-without_maxes plan cert; no_smaller_max = no_smaller_max };
   least = λ other fits. maxes_least plan other cert fits;
+  needed = needed;
 }
   where
     no_smaller_max : (p : ℕ) → (pool_at plan p).max ≤ (pool_at (widened plan cert) p).max
     no_smaller_max p = elim (cases_lt p (length plan.pools)) [
       | inl inside ↦ let max = ap (λ (pool : Pool). pool.max) (widened_at plan cert p inside) in omega arith
       | inr past ↦ let none = ap (λ (pool : Pool). pool.max) (get_or_past plan.pools p no_pool past) in omega arith
+    ]
+
+    needed : (p : ℕ) → (pool_at plan p).max < (pool_at (widened plan cert) p).max → (pool_at (widened plan cert) p).max ≤ core_needed (widened plan cert) (pool_cert_at cert p).blocked
+    needed p grew = elim (cases_lt p (length plan.pools)) [
+      | inl inside ↦ let max = ap (λ (pool : Pool). pool.max) (widened_at plan cert p inside) in
+          omega (arith, total-grows plan (widened plan cert) (pool_cert_at cert p).blocked (widened-outline plan cert) no_smaller_max)
+      | inr past ↦ let none = ap (λ (pool : Pool). pool.max) (numbered_past (λ (entry : ℕ × Pool). with_max plan (pool_cert_at cert entry.0).blocked entry.1) 0 plan.pools p no_pool past) in omega arith
     ]
 
 pub widened_leaves_room : (plan : Plan) (cert : Cert) → LeavesRoom plan cert (widened plan cert)

@@ -45,10 +45,12 @@ pub record IsWider (plan other : Plan) : Type 0 where
   pub same_but_maxes : without_maxes other ≡ without_maxes plan
   pub no_smaller_max : (p : ℕ) → (pool_at plan p).max ≤ (pool_at other p).max
 
--- it differs in larger maxes alone, and none of them is larger than need be: what fits the plan fits the wide one
+-- it differs in larger maxes alone, and none of them is larger than need be: what fits the plan fits the wide one, and a max
+-- that grew is needed for the core of its own pool
 pub record IsLeastWide (plan : Plan) (cert : Cert) (wide : Plan) : Type 0 where
   pub wider : IsWider plan wide
   pub least : (other : Plan) → IsWideFit plan cert other → IsWideFit wide cert other
+  pub needed : (p : ℕ) → (pool_at plan p).max < (pool_at wide p).max → (pool_at wide p).max ≤ core_needed wide (pool_cert_at cert p).blocked
 
 -- each max leaves room for the core that is needed with the plan's maxes
 abbrev pub LeavesRoom : Plan → Cert → Plan → Type 0

@@ -1,17 +1,20 @@
 -- A widened plan, fitted, is the plan with the least sizes for a certificate.
-use Rattle.std.proofs.Common.{◌≡◌, ℕ, List, refl, ap, sym, ◌∙◌, arith}
+use Rattle.std.proofs.Common.{◌≡◌, ◌≤◌, ◌<◌, ℕ, inl, inr, List, length, refl, ap, sym, ◌∙◌, arith}
 use Rattle.std.specs.Prelude.{IsTrue}
+use Rattle.std.proofs.lemmas.Bool.{cases_lt}
+use Rattle.std.proofs.lemmas.List.{get_or_past}
 use Rattle.job_bodies.specs.Plan.{Pool, Plan, no_pool, pool_at}
 use Rattle.job_bodies.specs.WellFormed.{IsWellFormed}
-use Rattle.certificates.specs.Cert.{Cert}
+use Rattle.certificates.specs.Cert.{Cert, pool_cert_at}
 use Rattle.headline.specs.Accepted.{accepted}
-use Rattle.fitted_sizes.specs.Fitted.{IsNoSmaller, IsLeastFit}
+use Rattle.fitted_sizes.specs.Fitted.{core_needed, IsNoSmaller, IsLeastFit}
 use Rattle.fitted_sizes.specs.Widened.{outline, HasLeastCores, without_maxes, IsWider, IsLeastWide}
 use Rattle.fitted_sizes.proofs.Numbered.{map-twice}
 use Rattle.fitted_sizes.proofs.Shapes.{get_or-changed}
-use Rattle.fitted_sizes.proofs.Changes.{nameplate, outline_of_shape}
+use Rattle.fitted_sizes.proofs.TotalRows.{totals_where_accepted}
+use Rattle.fitted_sizes.proofs.Changes.{nameplate, outline_of_shape, sizes_at}
 use Rattle.fitted_sizes.proofs.LeastSizes.{has_shape}
-use Rattle.fitted_sizes.proofs.LeastMaxes.{maxless}
+use Rattle.fitted_sizes.proofs.LeastMaxes.{total-grows, maxless}
 use Rattle.size_search.specs.Sized.{IsSized}
 
 -- ---- wider plans
@@ -43,7 +46,16 @@ widened_again plan wide wider cert first second = record {
     no_smaller_max = λ p. omega (arith, first.wider.no_smaller_max p, second.wider.no_smaller_max p);
   };
   least = λ other fits. second.least other (first.least other fits);
+  needed = needed;
 }
+  where
+    needed : (p : ℕ) → (pool_at plan p).max < (pool_at wider p).max → (pool_at wider p).max ≤ core_needed wider (pool_cert_at cert p).blocked
+    needed p grew = elim (cases_lt (pool_at wide p).max (pool_at wider p).max) [
+      | inl later ↦ second.needed p later
+      | inr same ↦
+          let grown = total-grows wide wider (pool_cert_at cert p).blocked (wider_outline wide wider second.wider) second.wider.no_smaller_max in
+          omega (arith, first.needed p (omega (arith, second.wider.no_smaller_max p)), grown, second.wider.no_smaller_max p)
+    ]
 
 -- ---- sizes
 
@@ -67,10 +79,22 @@ sized_where_fitted plan wide fit cert widest found cores = record {
   });
   least_maxes = λ other fits p. omega (arith, (widest.least other fits).no_smaller_max p, maxes p);
   least_cores = λ other fits larger p. cores other (widest.least other fits) (no_smaller_than_wider plan wide other widest.wider larger) p;
+  max_is_core = max_is_core;
 }
   where
     maxes : (p : ℕ) → (pool_at fit p).max ≡ (pool_at wide p).max
     maxes p = (has_shape wide fit found.fits.resized.same_shape).max p
+
+    max_is_core : (p : ℕ) → (pool_at plan p).max < (pool_at fit p).max → (pool_at fit p).max ≡ (pool_at fit p).core
+    max_is_core p grew = elim (cases_lt p (length fit.pools)) [
+      | inl inside ↦
+          let blocked = (pool_cert_at cert p).blocked in
+          let needed = widest.needed p (omega (arith, maxes p)) in
+          let total = (has_shape wide fit found.fits.resized.same_shape).total blocked in
+          let sizes = sizes_at fit p found.fits.resized.well_formed inside in
+          omega (arith, needed, maxes p, total, (totals_where_accepted fit cert found.fits.accepts).blocked p inside, sizes.core, sizes.max)
+      | inr past ↦ let none = ap (λ (pool : Pool). pool.max) (get_or_past fit.pools p no_pool past) in absurd (omega arith)
+    ]
 
 -- a plan that is accepted as it is
 pub sized_where_accepted : (plan : Plan) (cert : Cert) → IsWellFormed plan → IsTrue (accepted plan cert) → IsSized plan cert plan
@@ -80,4 +104,5 @@ sized_where_accepted plan cert well accepts = record {
   least = λ other resized larger accepted. larger;
   least_maxes = λ other fits p. fits.no_smaller_max p;
   least_cores = λ other fits larger p. larger.core p;
+  max_is_core = λ p grew. absurd (omega arith);
 }

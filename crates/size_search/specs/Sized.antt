@@ -1,5 +1,5 @@
 -- Sizes with which a certificate accepts a plan.
-use Rattle.std.specs.Prelude.{◌≤◌, ℕ, IsTrue}
+use Rattle.std.specs.Prelude.{◌≡◌, ◌≤◌, ◌<◌, ℕ, IsTrue}
 use Rattle.job_bodies.specs.Plan.{Plan, pool_at}
 use Rattle.certificates.specs.Cert.{Cert}
 use Rattle.headline.specs.Accepted.{accepted}
@@ -11,13 +11,15 @@ use Rattle.size_search.specs.declared.found.SizesFound.TheVariants.{Found, NotFo
 
 -- The certificate accepts the plan of these sizes, which differs from the plan in larger sizes alone. Of all such plans that the
 -- certificate accepts, none has a smaller max or a smaller core, and of those with these maxes none has a smaller queue. With
--- larger maxes a smaller queue may do: in a lifetime bound the threads beyond the first workers take jobs too.
+-- larger maxes a smaller queue may do: in a lifetime bound the threads beyond the first workers take jobs too. A max that grows
+-- is its core.
 pub record IsSized (plan : Plan) (cert : Cert) (fit : Plan) : Type 0 where
   pub fits : IsWideFit plan cert fit
   pub no_smaller : IsNoSmaller fit plan
   pub least : (other : Plan) → IsResized fit other → IsNoSmaller other plan → IsTrue (accepted other cert) → IsNoSmaller other fit
   pub least_maxes : (other : Plan) → IsWideFit plan cert other → (p : ℕ) → (pool_at fit p).max ≤ (pool_at other p).max
   pub least_cores : HasLeastCores plan cert fit
+  pub max_is_core : (p : ℕ) → (pool_at plan p).max < (pool_at fit p).max → (pool_at fit p).max ≡ (pool_at fit p).core
 
 -- where sizes were found it is so of them, and else what the cause says
 abbrev pub IsFound : Plan → SizesFound → Type 0

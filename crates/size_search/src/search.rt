@@ -30,8 +30,8 @@ const FURTHER_ATTEMPTS: usize = 3;
 /// needs. Some further attempts begin with another pool, or without what a pool got; the cheapest one is answered.
 ///
 /// That the certificate accepts the plan of these sizes is proved. So is that for this certificate, of sizes that are no
-/// smaller than declared, no smaller maximum and no smaller core would do, nor with these maximums a smaller queue. Larger
-/// maximums may save queue, and another certificate may need less.
+/// smaller than declared, no smaller maximum and no smaller core would do, nor with these maximums a smaller queue, and that a
+/// maximum that grows is its core. Larger maximums may save queue, and another certificate may need less.
 
 ///
 /// # Errors
