@@ -5,7 +5,7 @@ use Rattle.std.specs.Option.{option_or}
 use Rattle.std.proofs.lemmas.List.{at_drop_more, at_drop_all, append-nil}
 use Rattle.job_bodies.specs.Plan.{Pool, no_pool}
 use Rattle.fitted_sizes.specs.declared.unfit.Unfit.{Unfit}
-use Rattle.fitted_sizes.specs.Unfit.{first_unfit}
+use Rattle.fitted_sizes.specs.Unfit.{unfit_pool, first_unfit}
 
 -- the pools from this one on are it and those behind it
 turn : {Y : Type 0} (F : List (ℕ × Pool) → Y) (pools : List Pool) (i : ℕ) → i < length pools → F (enumerate_from i (drop i pools)) ≡ F ((i, get_or pools i no_pool) ∷ enumerate_from (i + 1) (drop (i + 1) pools))
@@ -32,19 +32,19 @@ made_all made pools i front all past so_far =
 -- ---- the first of them that is unfit
 
 -- the answer of the pools from this one on
-abbrev pub rest_unfit : (ℕ → Pool → Option Unfit) → List Pool → ℕ → Option Unfit
-rest_unfit unfit_of pools i = first_unfit unfit_of (enumerate_from i (drop i pools))
+abbrev pub rest_unfit : List Pool → ℕ → Option Unfit
+rest_unfit pools i = first_unfit (enumerate_from i (drop i pools))
 
 -- this one is not
-pub unfit_later : (unfit_of : ℕ → Pool → Option Unfit) (pools : List Pool) (i : ℕ) (all : Option Unfit) → i < length pools → unfit_of i (get_or pools i no_pool) ≡ None → rest_unfit unfit_of pools i ≡ all → rest_unfit unfit_of pools (i + 1) ≡ all
-unfit_later unfit_of pools i all inside fits so_far =
-    sym (turn (first_unfit unfit_of) pools i inside ∙ ap (λ (here : Option Unfit). option_or here (rest_unfit unfit_of pools (i + 1))) fits) ∙ so_far
+pub unfit_later : (pools : List Pool) (i : ℕ) (all : Option Unfit) → i < length pools → unfit_pool i (get_or pools i no_pool) ≡ None → rest_unfit pools i ≡ all → rest_unfit pools (i + 1) ≡ all
+unfit_later pools i all inside fits so_far =
+    sym (turn first_unfit pools i inside ∙ ap (λ (here : Option Unfit). option_or here (rest_unfit pools (i + 1))) fits) ∙ so_far
 
 -- this one is
-pub unfit_here : (unfit_of : ℕ → Pool → Option Unfit) (pools : List Pool) (i : ℕ) (unfit : Unfit) (all : Option Unfit) → i < length pools → unfit_of i (get_or pools i no_pool) ≡ Some unfit → rest_unfit unfit_of pools i ≡ all → Some unfit ≡ all
-unfit_here unfit_of pools i unfit all inside found so_far =
-    sym (turn (first_unfit unfit_of) pools i inside ∙ ap (λ (here : Option Unfit). option_or here (rest_unfit unfit_of pools (i + 1))) found) ∙ so_far
+pub unfit_here : (pools : List Pool) (i : ℕ) (unfit : Unfit) (all : Option Unfit) → i < length pools → unfit_pool i (get_or pools i no_pool) ≡ Some unfit → rest_unfit pools i ≡ all → Some unfit ≡ all
+unfit_here pools i unfit all inside found so_far =
+    sym (turn first_unfit pools i inside ∙ ap (λ (here : Option Unfit). option_or here (rest_unfit pools (i + 1))) found) ∙ so_far
 
 -- none is
-pub none_unfit : (unfit_of : ℕ → Pool → Option Unfit) (pools : List Pool) (i : ℕ) (all : Option Unfit) → length pools ≤ i → rest_unfit unfit_of pools i ≡ all → None ≡ all
-none_unfit unfit_of pools i all past so_far = sym (at_drop_all (λ (ps : List Pool). first_unfit unfit_of (enumerate_from i ps)) pools i past) ∙ so_far
+pub none_unfit : (pools : List Pool) (i : ℕ) (all : Option Unfit) → length pools ≤ i → rest_unfit pools i ≡ all → None ≡ all
+none_unfit pools i all past so_far = sym (at_drop_all (λ (ps : List Pool). first_unfit (enumerate_from i ps)) pools i past) ∙ so_far

@@ -1,5 +1,5 @@
 -- A plan is fitted, or there is a reason why not.
-use Rattle.std.proofs.Common.{◌≡◌, ◌≤◌, ◌<◌, ◌+◌, ℕ, zero, suc, Bool, true, false, cond, not, ◌&&◌, ltb, List, [], ◌∷◌, length, get_or, Option, Some, None, refl, sym, ap, ap₂, subst, ◌∙◌, arith}
+use Rattle.std.proofs.Common.{◌≡◌, ◌≤◌, ◌<◌, ◌+◌, ℕ, zero, suc, Bool, true, false, cond, not, ◌&&◌, ◌||◌, ltb, List, [], ◌∷◌, length, get_or, Option, Some, None, refl, sym, ap, ap₂, subst, ◌∙◌, arith}
 use Rattle.std.specs.List.{enumerate_from, find, list_all}
 use Rattle.std.specs.Option.{option_or, option_map}
 use Rattle.std.proofs.lemmas.Bool.{and_parts, and_from, ltb-false, le-ltb, false_from_ne_true}
@@ -14,8 +14,8 @@ use Rattle.fitted_sizes.specs.declared.unfit.Unfit.{Unfit}
 use Rattle.fitted_sizes.specs.declared.unfit.Unfit.TheVariants.{Shape, Condition, Core, Queue}
 use Rattle.fitted_sizes.specs.Fitted.{is_total, raised, fails_only_at_totals, fitted, IsLeastFit, NoneFits}
 use Rattle.fitted_sizes.specs.Widened.{widened, NoneFitsWide}
-use Rattle.fitted_sizes.specs.Unfit.{failing_elsewhere, first_unfit, unfit_pool, why_unfit, too_wide, why_not_widened}
-use Rattle.fitted_sizes.proofs.Changes.{HasSizes, has_sizes, sized_from_places, sizes_at, well_formed_changed}
+use Rattle.fitted_sizes.specs.Unfit.{failing_elsewhere, first_unfit, unfit_pool, why_unfit, why_not_widened}
+use Rattle.fitted_sizes.proofs.Changes.{HasSizes, has_sizes, lawful_from_sizes, sized_from_places, sizes_at, well_formed_changed}
 use Rattle.fitted_sizes.proofs.LeastSizes.{has_shape, raised-shape, raised_no_smaller, raised_is_well_formed, fitted_from, least_fit, none_fits}
 use Rattle.fitted_sizes.proofs.LeastMaxes.{length-widened, widened-outline, widened_at, wide_fit_fits, wide_fit_has_room}
 
@@ -27,20 +27,20 @@ or_parts None second none = (refl, none)
 or_parts (Some x) second none = absurd cc
 
 -- where there is none, no pool is unfit
-each_not_unfit : (unfit_of : ℕ → Pool → Option Unfit) (n : ℕ) (pools : List Pool) → first_unfit unfit_of (enumerate_from n pools) ≡ None → (p : ℕ) → p < length pools → unfit_of (n + p) (get_or pools p no_pool) ≡ None
-each_not_unfit unfit_of n [] none p inside = absurd (omega arith)
-each_not_unfit unfit_of n (pool ∷ pools) none zero inside =
+each_not_unfit : (n : ℕ) (pools : List Pool) → first_unfit (enumerate_from n pools) ≡ None → (p : ℕ) → p < length pools → unfit_pool (n + p) (get_or pools p no_pool) ≡ None
+each_not_unfit n [] none p inside = absurd (omega arith)
+each_not_unfit n (pool ∷ pools) none zero inside =
     let place : n ≡ n + 0 = omega arith in
-    subst (λ (j : ℕ). unfit_of j pool ≡ None) place (or_parts (unfit_of n pool) (first_unfit unfit_of (enumerate_from (n + 1) pools)) none).0
-each_not_unfit unfit_of n (pool ∷ pools) none (suc p) inside =
+    subst (λ (j : ℕ). unfit_pool j pool ≡ None) place (or_parts (unfit_pool n pool) (first_unfit (enumerate_from (n + 1) pools)) none).0
+each_not_unfit n (pool ∷ pools) none (suc p) inside =
     let place : n + 1 + p ≡ n + suc p = omega arith in
-    subst (λ (j : ℕ). unfit_of j (get_or pools p no_pool) ≡ None) place
-    (each_not_unfit unfit_of (n + 1) pools (or_parts (unfit_of n pool) (first_unfit unfit_of (enumerate_from (n + 1) pools)) none).1 p (omega arith))
+    subst (λ (j : ℕ). unfit_pool j (get_or pools p no_pool) ≡ None) place
+    (each_not_unfit (n + 1) pools (or_parts (unfit_pool n pool) (first_unfit (enumerate_from (n + 1) pools)) none).1 p (omega arith))
 
 -- where no pool is unfit, there is none
-none_unfit_of : (unfit_of : ℕ → Pool → Option Unfit) (n : ℕ) (pools : List Pool) → ((p q : ℕ) → p < length pools → unfit_of q (get_or pools p no_pool) ≡ None) → first_unfit unfit_of (enumerate_from n pools) ≡ None
-none_unfit_of unfit_of n [] each = refl
-none_unfit_of unfit_of n (pool ∷ pools) each = ap₂ option_or (each 0 n (omega arith)) (none_unfit_of unfit_of (n + 1) pools (λ p q inside. each (suc p) q (omega arith)))
+all_not_unfit : (n : ℕ) (pools : List Pool) → ((p q : ℕ) → p < length pools → unfit_pool q (get_or pools p no_pool) ≡ None) → first_unfit (enumerate_from n pools) ≡ None
+all_not_unfit n [] each = refl
+all_not_unfit n (pool ∷ pools) each = ap₂ option_or (each 0 n (omega arith)) (all_not_unfit (n + 1) pools (λ p q inside. each (suc p) q (omega arith)))
 
 -- what a reason is made of
 fit_parts : (fits : Bool) (reason : Option Unfit) → cond fits reason (Some Shape) ≡ None → (fits ≡ true) × (reason ≡ None)
@@ -69,24 +69,28 @@ none_found {X} test (x ∷ xs) all =
 
 -- ---- sizes
 
--- a pool that is not unfit has its core within max and its queue within the limit
+-- a pool that is not unfit has its core within max, and max and queue within their limit
 record IsWithin (pool : Pool) : Type 0 where
   core : pool.core ≤ pool.max
+  max : pool.max ≤ MOST_UNITS
   queue : pool.queue ≤ MOST_UNITS
 
 within : (p : ℕ) (pool : Pool) → unfit_pool p pool ≡ None → IsWithin pool
-within p pool none = at_tests (ltb pool.max pool.core) refl (ltb MOST_UNITS pool.queue) refl none
+within p pool none = at_tests (ltb pool.max pool.core) refl (ltb MOST_UNITS pool.max) refl (ltb MOST_UNITS pool.queue) refl none
   where
-    at_tests : (b : Bool) → ltb pool.max pool.core ≡ b → (d : Bool) → ltb MOST_UNITS pool.queue ≡ d → cond b (Some (Core p)) (cond d (Some (Queue p)) None) ≡ None → IsWithin pool
-    at_tests true is d also e = absurd cc
-    at_tests false is true also e = absurd cc
-    at_tests false is false also e = record { core = ltb-false pool.max pool.core is; queue = ltb-false MOST_UNITS pool.queue also }
+    at_tests : (a : Bool) → ltb pool.max pool.core ≡ a → (b : Bool) → ltb MOST_UNITS pool.max ≡ b → (d : Bool) → ltb MOST_UNITS pool.queue ≡ d
+        → cond (a || b) (Some (Core p)) (cond d (Some (Queue p)) None) ≡ None → IsWithin pool
+    at_tests true is b more d also e = absurd cc
+    at_tests false is true more d also e = absurd cc
+    at_tests false is false more true also e = absurd cc
+    at_tests false is false more false also e = record { core = ltb-false pool.max pool.core is; max = ltb-false MOST_UNITS pool.max more; queue = ltb-false MOST_UNITS pool.queue also }
 
 -- and a pool with lawful sizes is not unfit
 lawful_fits : (p : ℕ) (pool : Pool) → has_lawful_sizes pool ≡ true → unfit_pool p pool ≡ None
 lawful_fits p pool lawful =
     let sizes = has_sizes pool lawful in
-    ap₂ (λ (b d : Bool). cond b (Some (Core p)) (cond d (Some (Queue p)) None)) (le-ltb pool.max pool.core sizes.max) (le-ltb MOST_UNITS pool.queue sizes.most_queue)
+    let room = ap₂ (λ (a b : Bool). a || b) (le-ltb pool.max pool.core sizes.max) (le-ltb MOST_UNITS pool.max sizes.most_max) in
+    ap₂ (λ (b d : Bool). cond b (Some (Core p)) (cond d (Some (Queue p)) None)) room (le-ltb MOST_UNITS pool.queue sizes.most_queue)
 
 -- ---- the fitted plan
 
@@ -94,11 +98,11 @@ lawful_fits p pool lawful =
 record NotUnfit (plan : Plan) (cert : Cert) : Type 0 where
   fits : cert_fits plan cert ≡ true
   elsewhere : failing_elsewhere plan cert ≡ None
-  sizes : first_unfit unfit_pool (enumerate_from 0 (raised plan cert).pools) ≡ None
+  sizes : first_unfit (enumerate_from 0 (raised plan cert).pools) ≡ None
 
 not_unfit : (plan : Plan) (cert : Cert) → why_unfit plan cert ≡ None → NotUnfit plan cert
 not_unfit plan cert none =
-    let sizes = first_unfit unfit_pool (enumerate_from 0 (raised plan cert).pools) in
+    let sizes = first_unfit (enumerate_from 0 (raised plan cert).pools) in
     let whole = fit_parts (cert_fits plan cert) (option_or (option_map Condition (failing_elsewhere plan cert)) sizes) none in
     let parts = or_parts (option_map Condition (failing_elsewhere plan cert)) sizes whole.1 in
     record { fits = whole.0; elsewhere = no_condition (failing_elsewhere plan cert) parts.0; sizes = parts.1 }
@@ -112,7 +116,7 @@ sized plan cert well found = sized_from_places (raised plan cert).pools each
         let alike = has_shape plan (raised plan cert) (raised-shape plan cert) in
         let declared = sizes_at plan p well (omega (arith, alike.as_many)) in
         let larger = raised_no_smaller plan cert in
-        let limits = within (0 + p) (pool_at (raised plan cert) p) (each_not_unfit unfit_pool 0 (raised plan cert).pools found.sizes p there) in
+        let limits = within (0 + p) (pool_at (raised plan cert) p) (each_not_unfit 0 (raised plan cert).pools found.sizes p there) in
         record {
           core = omega (arith, declared.core, larger.core p);
           max = limits.core;
@@ -137,8 +141,8 @@ not_unfit_where_fitted : (plan : Plan) (cert : Cert) → fails_only_at_totals pl
 not_unfit_where_fitted plan cert only_totals all_sized =
     let parts = and_parts (cert_fits plan cert) (list_all (λ note. is_total note.place) (failing plan cert)) only_totals in
     let pools = (raised plan cert).pools in
-    let none = none_unfit_of unfit_pool 0 pools (λ p q inside. lawful_fits q (get_or pools p no_pool) (list_all_at_In has_lawful_sizes all_sized (In-get_or pools p no_pool inside))) in
-    ap (λ (fits : Bool). cond fits (option_or (option_map Condition (failing_elsewhere plan cert)) (first_unfit unfit_pool (enumerate_from 0 pools))) (Some Shape)) parts.0
+    let none = all_not_unfit 0 pools (λ p q inside. lawful_fits q (get_or pools p no_pool) (list_all_at_In has_lawful_sizes all_sized (In-get_or pools p no_pool inside))) in
+    ap (λ (fits : Bool). cond fits (option_or (option_map Condition (failing_elsewhere plan cert)) (first_unfit (enumerate_from 0 pools))) (Some Shape)) parts.0
     ∙ ap₂ (λ (found : Option Note) (sizes : Option Unfit). option_or (option_map Condition found) sizes) (none_found (λ (note : Note). is_total note.place) (failing plan cert) parts.1) none
 
 -- so where there is a reason, there is no fitted plan
@@ -161,21 +165,28 @@ none_fits_where_unfit plan cert unfit well some = none_fits plan cert well (none
 
 -- ---- the widened plan
 
-not_too_wide : (p : ℕ) (pool : Pool) → pool.max ≤ MOST_UNITS → too_wide p pool ≡ None
-not_too_wide p pool small = ap (λ (b : Bool). cond b (Some (Core p)) None) (le-ltb MOST_UNITS pool.max small)
-
-within_limit : (p : ℕ) (pool : Pool) → too_wide p pool ≡ None → pool.max ≤ MOST_UNITS
-within_limit p pool none = at_test (ltb MOST_UNITS pool.max) refl none
-  where
-    at_test : (b : Bool) → ltb MOST_UNITS pool.max ≡ b → cond b (Some (Core p)) None ≡ None → pool.max ≤ MOST_UNITS
-    at_test true is e = absurd cc
-    at_test false is e = ltb-false MOST_UNITS pool.max is
+-- the sizes of its pools are lawful, but for a max above the limit
+widened_sizes : (plan : Plan) (cert : Cert) (p : ℕ) → IsWellFormed plan → p < length (widened plan cert).pools → (pool_at (widened plan cert) p).max ≤ MOST_UNITS → HasSizes (pool_at (widened plan cert) p)
+widened_sizes plan cert p well there small =
+    let inside : p < length plan.pools = subst (λ (n : ℕ). p < n) (length-widened plan cert) there in
+    let declared = sizes_at plan p well inside in
+    let is = widened_at plan cert p inside in
+    let core = ap (λ (pool : Pool). pool.core) is in
+    let max = ap (λ (pool : Pool). pool.max) is in
+    let queue = ap (λ (pool : Pool). pool.queue) is in
+    record {
+      core = omega (arith, declared.core);
+      max = omega (arith, declared.max);
+      most_max = small;
+      queue = omega (arith, declared.queue);
+      most_queue = omega (arith, declared.most_queue);
+    }
 
 -- what the code finds, where the certificate fits
-pub why_not_widened_is : (plan : Plan) (cert : Cert) (pools : List Pool) (found : Option Unfit) → cert_fits plan cert ≡ true → pools ≡ (widened plan cert).pools → found ≡ first_unfit too_wide (enumerate_from 0 pools) → why_not_widened plan cert ≡ found
+pub why_not_widened_is : (plan : Plan) (cert : Cert) (pools : List Pool) (found : Option Unfit) → cert_fits plan cert ≡ true → pools ≡ (widened plan cert).pools → found ≡ first_unfit (enumerate_from 0 pools) → why_not_widened plan cert ≡ found
 why_not_widened_is plan cert pools found fits is e =
-    ap (λ (fit : Bool). cond fit (first_unfit too_wide (enumerate_from 0 (widened plan cert).pools)) (Some Shape)) fits
-    ∙ (ap (λ (ps : List Pool). first_unfit too_wide (enumerate_from 0 ps)) (sym is) ∙ sym e)
+    ap (λ (fit : Bool). cond fit (first_unfit (enumerate_from 0 (widened plan cert).pools)) (Some Shape)) fits
+    ∙ (ap (λ (ps : List Pool). first_unfit (enumerate_from 0 ps)) (sym is) ∙ sym e)
 
 -- where there is no reason, the widened plan is well-formed
 pub widened_is_well_formed : (plan : Plan) (cert : Cert) → IsWellFormed plan → why_not_widened plan cert ≡ None → IsWellFormed (widened plan cert)
@@ -184,26 +195,14 @@ widened_is_well_formed plan cert well none =
   where
     each : (p : ℕ) → p < length (widened plan cert).pools → HasSizes (pool_at (widened plan cert) p)
     each p there =
-        let whole = fit_parts (cert_fits plan cert) (first_unfit too_wide (enumerate_from 0 (widened plan cert).pools)) none in
-        let inside : p < length plan.pools = subst (λ (n : ℕ). p < n) (length-widened plan cert) there in
-        let declared = sizes_at plan p well inside in
-        let is = widened_at plan cert p inside in
-        let core = ap (λ (pool : Pool). pool.core) is in
-        let max = ap (λ (pool : Pool). pool.max) is in
-        let queue = ap (λ (pool : Pool). pool.queue) is in
-        record {
-          core = omega (arith, declared.core);
-          max = omega (arith, declared.max);
-          most_max = within_limit (0 + p) (pool_at (widened plan cert) p) (each_not_unfit too_wide 0 (widened plan cert).pools whole.1 p there);
-          queue = omega (arith, declared.queue);
-          most_queue = omega (arith, declared.most_queue);
-        }
+        let whole = fit_parts (cert_fits plan cert) (first_unfit (enumerate_from 0 (widened plan cert).pools)) none in
+        widened_sizes plan cert p well there (within (0 + p) (pool_at (widened plan cert) p) (each_not_unfit 0 (widened plan cert).pools whole.1 p there)).max
 
 -- where there is one, no sizes will do
-pub none_fits_where_not_widened : (plan : Plan) (cert : Cert) (unfit : Unfit) → why_not_widened plan cert ≡ Some unfit → NoneFitsWide plan cert
-none_fits_where_not_widened plan cert unfit some other fits =
+pub none_fits_where_not_widened : (plan : Plan) (cert : Cert) (unfit : Unfit) → IsWellFormed plan → why_not_widened plan cert ≡ Some unfit → NoneFitsWide plan cert
+none_fits_where_not_widened plan cert unfit well some other fits =
     let pools = (widened plan cert).pools in
-    let none = none_unfit_of too_wide 0 pools (λ p q inside. not_too_wide q (get_or pools p no_pool) (wide_fit_has_room plan other cert p fits inside)) in
+    let none = all_not_unfit 0 pools (λ p q inside. lawful_fits q (get_or pools p no_pool) (lawful_from_sizes (get_or pools p no_pool) (widened_sizes plan cert p well inside (wide_fit_has_room plan other cert p fits inside)))) in
     let no_reason : why_not_widened plan cert ≡ None =
-    ap (λ (fit : Bool). cond fit (first_unfit too_wide (enumerate_from 0 pools)) (Some Shape)) (wide_fit_fits plan other cert fits) ∙ none in
+    ap (λ (fit : Bool). cond fit (first_unfit (enumerate_from 0 pools)) (Some Shape)) (wide_fit_fits plan other cert fits) ∙ none in
     absurd cc

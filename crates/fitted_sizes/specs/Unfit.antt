@@ -1,5 +1,5 @@
 -- Why no cores and queues, or no maxes, make a plan what it is raised to.
-use Rattle.std.specs.Prelude.{ℕ, not, nat_lt, if◌then◌else◌, List, [], ◌∷◌, Option, Some, None}
+use Rattle.std.specs.Prelude.{ℕ, not, ◌||◌, nat_lt, if◌then◌else◌, List, [], ◌∷◌, Option, Some, None}
 use Rattle.std.specs.List.{enumerate_from, find}
 use Rattle.std.specs.Option.{option_or, option_map}
 use Rattle.job_bodies.specs.declared.limits.TheConstants.{MOST_UNITS}
@@ -16,26 +16,22 @@ use Rattle.fitted_sizes.specs.Widened.{widened}
 abbrev pub failing_elsewhere : Plan → Cert → Option Note
 failing_elsewhere plan cert = find (λ note. not (is_total note.place)) (failing plan cert)
 
--- the first answer of these pools, each with its number
-abbrev pub first_unfit : (ℕ → Pool → Option Unfit) → List (ℕ × Pool) → Option Unfit
-first_unfit unfit_of [] = None
-first_unfit unfit_of (entry ∷ entries) = option_or (unfit_of entry.0 entry.1) (first_unfit unfit_of entries)
-
--- a raised core above its pool's max, or a raised queue above its limit
+-- a raised core above its pool's max, a max that was raised above the limit for a core, or a raised queue above its limit
 abbrev pub unfit_pool : ℕ → Pool → Option Unfit
-unfit_pool p pool = if nat_lt pool.max pool.core then Some (Core p) else (if nat_lt MOST_UNITS pool.queue then Some (Queue p) else None)
+unfit_pool p pool = if nat_lt pool.max pool.core || nat_lt MOST_UNITS pool.max then Some (Core p) else (if nat_lt MOST_UNITS pool.queue then Some (Queue p) else None)
+
+-- the first of these pools, each with its number, that is so
+abbrev pub first_unfit : List (ℕ × Pool) → Option Unfit
+first_unfit [] = None
+first_unfit (entry ∷ entries) = option_or (unfit_pool entry.0 entry.1) (first_unfit entries)
 
 -- why the plan has no fitted plan: a condition that no size changes comes before a size
 abbrev pub why_unfit : Plan → Cert → Option Unfit
 why_unfit plan cert =
     if cert_fits plan cert
-    then option_or (option_map Condition (failing_elsewhere plan cert)) (first_unfit unfit_pool (enumerate_from 0 (raised plan cert).pools))
+    then option_or (option_map Condition (failing_elsewhere plan cert)) (first_unfit (enumerate_from 0 (raised plan cert).pools))
     else Some Shape
-
--- a max that leaves room for a core above the limit
-abbrev pub too_wide : ℕ → Pool → Option Unfit
-too_wide p pool = if nat_lt MOST_UNITS pool.max then Some (Core p) else None
 
 -- why the plan is not widened
 abbrev pub why_not_widened : Plan → Cert → Option Unfit
-why_not_widened plan cert = if cert_fits plan cert then first_unfit too_wide (enumerate_from 0 (widened plan cert).pools) else Some Shape
+why_not_widened plan cert = if cert_fits plan cert then first_unfit (enumerate_from 0 (widened plan cert).pools) else Some Shape

@@ -1,7 +1,7 @@
 //! The plan with the least cores and queues with which a certificate accepts it.
 
 ghost use Rattle.std.specs.Prelude.{◌≡◌, ◌<◌, ◌^◌, IfOk, IfErr, IsTrue, None, Some, length, not};
-ghost use Rattle.std.specs.List.{enumerate_from, find};
+ghost use Rattle.std.specs.List.{find};
 ghost use Rattle.job_bodies.specs.Plan.{pool_at};
 ghost use Rattle.job_bodies.specs.WellFormed.{IsWellFormed};
 ghost use Rattle.weights.specs.Vector.{vector_fits};
@@ -9,13 +9,14 @@ ghost use Rattle.weights.specs.Bound.{bound_vector};
 ghost use Rattle.certificates.specs.Cert.{cert_fits, pool_cert_at};
 ghost use Rattle.fitted_sizes.specs.Fitted as spec;
 ghost use Rattle.fitted_sizes.specs.Widened.{HasLeastCores};
-ghost use Rattle.fitted_sizes.specs.Unfit.{failing_elsewhere, first_unfit, unfit_pool, why_unfit};
+ghost use Rattle.fitted_sizes.specs.Unfit.{failing_elsewhere, why_unfit};
 
 use crate::Unfit;
 use crate::resized::{copied_pool, with_pools};
+use crate::unfit::unfit_pools;
 use certificates::Cert;
 use headline::Note;
-use job_bodies::{MOST_UNITS, Plan, Pool};
+use job_bodies::{Plan, Pool};
 use refusal_notes::notes;
 use std::alloc::{AllocError, Global};
 use weights::{Bound, Place, Vector};
@@ -97,31 +98,6 @@ fn failing_elsewhere(alloc: Global, plan: &Plan, cert: &Cert) -> Result<Option<N
 {
     let failing = notes(alloc, plan, cert)?;
     Ok(first_elsewhere(&failing))
-}
-
-/// Why a raised pool is not lawful, if it is not.
-fn unfit_pool(number: usize, pool: &Pool) -> Option<Unfit>
-    ensures { result ≡ unfit_pool number pool.now }
-{
-    if pool.core > pool.max {
-        Some(Unfit::Core(number))
-    } else if pool.queue > MOST_UNITS {
-        Some(Unfit::Queue(number))
-    } else {
-        None
-    }
-}
-
-/// Why the first of the raised pools that is not lawful is not.
-fn unfit_pools(pools: &[Pool]) -> Option<Unfit>
-    ensures { result ≡ first_unfit unfit_pool (enumerate_from 0 pools.now) }
-{
-    for number in 0..pools.len() {
-        if let Some(unfit) = unfit_pool(number, &pools[number]) {
-            return Some(unfit);
-        }
-    }
-    None
 }
 
 /// Why the plan has no fitted plan, given the pools that its own are raised to.

@@ -1,18 +1,18 @@
 //! The plan with maximums that leave room for the cores that a certificate needs.
 
 ghost use Rattle.std.specs.Prelude.{◌≡◌, ◌<◌, IfOk, IfErr, IsTrue, Some, length};
-ghost use Rattle.std.specs.List.{enumerate_from};
 ghost use Rattle.job_bodies.specs.Plan.{pool_at};
 ghost use Rattle.job_bodies.specs.WellFormed.{IsWellFormed};
 ghost use Rattle.certificates.specs.Cert.{cert_fits, pool_cert_at};
 ghost use Rattle.fitted_sizes.specs.Widened as spec;
-ghost use Rattle.fitted_sizes.specs.Unfit.{first_unfit, too_wide, why_not_widened};
+ghost use Rattle.fitted_sizes.specs.Unfit.{why_not_widened};
 
 use crate::Unfit;
 use crate::fit::core_needed;
 use crate::resized::{copied_pool, with_pools};
+use crate::unfit::unfit_pools;
 use certificates::Cert;
-use job_bodies::{MOST_UNITS, Plan, Pool};
+use job_bodies::{Plan, Pool};
 use std::alloc::{AllocError, Global};
 
 /// The pool of this number with its maximum raised to the core that the certificate needs.
@@ -39,25 +39,6 @@ fn widened_pools(alloc: Global, plan: &Plan, cert: &Cert) -> Result<Vec<Pool>, A
     Ok(pools)
 }
 
-/// Why a widened pool is too wide, if it is.
-fn too_wide_pool(number: usize, pool: &Pool) -> Option<Unfit>
-    ensures { result ≡ too_wide number pool.now }
-{
-    (pool.max > MOST_UNITS).then_some(Unfit::Core(number))
-}
-
-/// Why the first of the widened pools that is too wide is.
-fn too_wide_pools(pools: &[Pool]) -> Option<Unfit>
-    ensures { result ≡ first_unfit too_wide (enumerate_from 0 pools.now) }
-{
-    for number in 0..pools.len() {
-        if let Some(unfit) = too_wide_pool(number, &pools[number]) {
-            return Some(unfit);
-        }
-    }
-    None
-}
-
 /// The plan with each maximum that is below the core that the certificate needs raised to it, which leaves room for that
 /// core. No maximum is raised without need: all sizes with which the certificate accepts the plan, and whose maximums are no
 /// smaller than the plan's, have at least these maximums. Where the totals grow by that, the certificate may need more.
@@ -81,7 +62,7 @@ pub fn widened(alloc: Global, plan: &Plan, cert: &Cert) -> Result<Result<Plan, U
         return Ok(Err(Unfit::Shape));
     }
     let pools = widened_pools(alloc, plan, cert)?;
-    match too_wide_pools(&pools) {
+    match unfit_pools(&pools) {
         Some(unfit) => Ok(Err(unfit)),
         None => Ok(Ok(with_pools(alloc, plan, pools)?)),
     }

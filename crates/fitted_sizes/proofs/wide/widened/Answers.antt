@@ -18,7 +18,7 @@ pub returns-in-Some-clause-none : goal.returns-in-Some-clause-none
 returns-in-Some-clause-none c =
     let plan = c.args.plan.now in
     let some : why_not_widened plan c.args.cert.now ≡ Some c.in-Some.unfit = why_not_widened_is plan c.args.cert.now c.deref.result.now (Some c.in-Some.unfit) (sym c.if-not-fits.ensures) (c.deref.ensures.value ∙ c.in_ok-pools.ensures.pools) c.in-Some.ensures in
-    none_fits_where_not_widened plan c.args.cert.now c.in-Some.unfit some
+    none_fits_where_not_widened plan c.args.cert.now c.in-Some.unfit c.in_ok-pools.ensures.well_formed some
 
 pub returns-in_ok-with_pools-in-None-clause-room : goal.returns-in_ok-with_pools-in-None-clause-room
 returns-in_ok-with_pools-in-None-clause-room c =
