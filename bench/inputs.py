@@ -7,6 +7,8 @@ SEPARATOR = "%%\n"
 # are left for the inner jobs.
 WAVE = 4000
 THREADS = 5000
+# Of a line `stuck`, so many bytes of room for each job that waits for another.
+ROOM_FOR_WAITING = 512
 # As many kinds of clients as a plan may have.
 KINDS = 256
 
@@ -42,6 +44,10 @@ class Script:
     def answer(self):
         """What the program must print."""
         return "".join(f"{line}\n" for line in [*self.answers, self.machine.summary()]).encode()
+
+    def status(self):
+        """The exit status of the program: nothing is refused, but jobs may be stuck."""
+        return int(any(answer.endswith(" stuck yes") for answer in self.answers))
 
 
 def one_looping_client(room):
@@ -109,6 +115,40 @@ def take_queued(script, jobs):
     for job in jobs:
         if script.machine.jobs[job].phase == "queued":
             script.do("take p")
+
+
+def stuck_lines(room):
+    """Three replays of jobs each of which waits for one that is queued behind all of them, and none for any other.
+
+    The first one asks about all of them in falling order, with the last number again and again as long as there is
+    room; the second one in rising order, with each number once; and the third one asks nothing.
+    """
+    falling, rising, silent = [waiting_jobs(name, room) for name in ("one stuck line", "rising", "silent")]
+    jobs = range(len(falling.machine.jobs))
+    asked = stuck_line(reversed(jobs))
+    falling.do(asked + " 0" * ((falling.room - len(asked) - 1) // 2))
+    rising.do(stuck_line(jobs))
+    return falling, rising, silent
+
+
+def stuck_line(jobs):
+    return " ".join(["stuck", *map(str, jobs)])
+
+
+def waiting_jobs(name, room):
+    """Jobs that have all threads of a pool, and wait for as many in its queue."""
+    count = max(1, room // ROOM_FOR_WAITING)
+    plan = Plan(
+        pools=[Pool("p", count, count, count)],
+        classes=[Class("outer", "p", ["submit inner as x", "get x"]), Class("inner", "p", ["work 1"])],
+        clients=[Client("c", count, True, ["submit outer as x", "get x"])],
+    )
+    script = Script(name, plan, room)
+    for client in range(count):
+        script.do(f"client {client}")
+    for job in range(count):
+        script.do(f"job {job}")
+    return script
 
 
 def one_event(count):

@@ -1,9 +1,9 @@
 """A small model of the machine: what each event does to the pools, the clients and the jobs of a plan.
 
-It is written for the inputs of this folder: it takes lawful plans, and knows no `stuck` lines.
+It is written for the inputs of this folder: it takes lawful plans.
 """
 
-from collections import deque
+from collections import Counter, deque
 from dataclasses import dataclass, field
 
 
@@ -105,8 +105,10 @@ class Machine:
         self.unfinished = 0
 
     def happen(self, line):
-        """Makes the event of this line, and says what came of it: None where it is not possible."""
-        word, which = line.split(" ")
+        """Makes the event of this line, and says what came of it: None where it is not possible. `stuck` only asks."""
+        word, which = line.split(" ", 1)
+        if word == "stuck":
+            return f"stuck {'yes' if self.stuck({int(number) for number in which.split()}) else 'no'}"
         if word == "take":
             return self.take(self.pools[which])
         if word == "retire":
@@ -115,6 +117,14 @@ class Machine:
         if word == "client":
             return self.client(number)
         return self.job(number)
+
+    def stuck(self, members):
+        """Whether there are such jobs, and each of them is unfinished and waits for others of them alone."""
+        if not members or max(members) >= len(self.jobs):
+            return False
+        members = {number: self.jobs[number] for number in members}
+        at_work = Counter(job.pool.name for job in members.values() if job.phase == "at work")
+        return all(waits(job, members, at_work) for job in members.values())
 
     def summary(self):
         """The last line of a replay."""
@@ -192,3 +202,13 @@ class Machine:
         pool.idle -= 1
         pool.threads -= 1
         return "retired"
+
+
+def waits(job, members, at_work):
+    """Whether the job waits for these alone, so many of which are at work in each pool."""
+    if job.phase == "queued":
+        return job.pool.idle == 0 and job.pool.threads == at_work[job.pool.name]
+    if job.phase != "at work" or job.at_end():
+        return False
+    word, slot = job.body[job.position].split(" ")[:2]
+    return word == "get" and job.made[slot] in members

@@ -1,10 +1,11 @@
 #!/usr/bin/env python3
 """usage: replay.py [KIB]
 
-Times `sizing replay` on two inputs with nearly KIB KiB of event lines (1 to 1024; absent: 1024), beside a plain C
+Times `sizing replay` on three inputs with nearly KIB KiB of event lines (1 to 1024; absent: 1024), beside a plain C
 program that only splits the same bytes into lines and words and counts them; and a replay of one event on a plan of
-many clients beside the same plan with few. Where valgrind is there, it counts the instructions of the replays.
-README.md says what is measured, and what the bars are.
+many clients beside the same plan with few. Where valgrind is there, it counts the instructions of the replays, and holds
+those of a long line `stuck`, byte by byte, to those of one whose numbers rise. README.md says what is measured, and
+what the bars are.
 
 The program is crates/sizing/out/sizing, or the one that the environment variable SIZING names.
 
@@ -16,15 +17,19 @@ import sys
 
 sys.dont_write_bytecode = True
 
-from inputs import nested_jobs, one_event, one_looping_client
-from timing import Program, Table, Wrong, built, compiled, costs, has_callgrind, in_folder, instructions
+from inputs import nested_jobs, one_event, one_looping_client, stuck_lines
+from timing import Bars, Program, Table, built, compiled, costs
+from timing import has_callgrind, in_folder, instructions, tell_if_uncounted
 
 RUNS = 3
 MOST_KIB = 1024
 # For an input of MOST_KIB KiB, and so for any.
 MOST_MEBIBYTES = 11
-# What is wanted of such an input, and not held yet: the row has the ratio to it.
+# What is wanted of such an input of many events, and not held yet: the row has the ratio to it.
 WANTED_INSTRUCTIONS = 71.5
+# For the instructions a byte of a line `stuck` whose numbers fall, and whose last one stands again and again, beside
+# those of the line where each of them stands once and they rise.
+STUCK_RATIO = 2
 # For one event on a plan of as many clients as there may be, and beside the same plan with a client of each kind.
 MANY = 1_000_000
 FEW = 1
@@ -44,7 +49,7 @@ def main(words):
 
 
 class Bench:
-    """The programs, and the bars that are exceeded so far."""
+    """The programs, the table, and the bars that are exceeded so far."""
 
     def __init__(self, folder):
         self.folder = folder
@@ -52,50 +57,67 @@ class Bench:
         self.measure = compiled(folder, "measure")
         self.count_lines = compiled(folder, "count_lines")
         self.is_counted = has_callgrind()
-        self.exceeded = []
-
-    def run(self, room):
-        self.lines(room)
-        self.clients()
-        if not self.is_counted:
-            print("no instructions are counted: valgrind is missing (`apt-get install valgrind`)")
-        if self.exceeded:
-            raise Wrong("\n".join(self.exceeded))
-
-    def lines(self, room):
-        """Measures replays of many lines beside the counting of the lines alone."""
-        table = Table(
+        self.bars = Bars()
+        self.table = Table(
             ("input", 18), ("bytes", 9), ("events", 7), ("unfinished", 10), ("sizing ms", 10), ("count ms", 9),
             ("ratio", 7), ("M instr", 8), (f"of {WANTED_INSTRUCTIONS}", 7), ("sizing MiB", 10), ("count MiB", 9), ("bar", 4),
         )
+
+    def run(self, room):
         for make in (one_looping_client, nested_jobs):
-            script = make(room)
-            given = script.input()
-            (self.folder / "input").write_bytes(given)
-            counted = f"lines {given.count(10)}, words {len(given.split())}\n".encode()
-            programs = [Program([self.sizing, "replay"], script.answer()), Program([self.count_lines], counted)]
-            replayed, count = costs(self.folder, self.measure, programs, RUNS)
-            table.row(
-                script.name,
-                len(given),
-                len(script.events),
-                script.most_unfinished,
-                f"{replayed.milliseconds:.1f}",
-                f"{count.milliseconds:.1f}",
-                f"{replayed.milliseconds / count.milliseconds:.1f}",
-                *self.counted(programs[0]),
-                f"{replayed.mebibytes:.1f}",
-                f"{count.mebibytes:.1f}",
-                f"{MOST_MEBIBYTES}",
-            )
-            self.hold(f"{script.name}: MiB", replayed.mebibytes, MOST_MEBIBYTES)
+            self.lines(make(room), WANTED_INSTRUCTIONS)
+        self.stuck(*stuck_lines(room))
+        self.clients()
+        tell_if_uncounted()
+        self.bars.end()
+
+    def lines(self, script, wanted=None):
+        """Measures a long replay beside the counting of its lines. Its millions of instructions; None if uncounted."""
+        replay = self.replay(script)
+        given = (self.folder / replay.given).read_bytes()
+        lines = f"lines {given.count(10)}, words {len(given.split())}\n".encode()
+        count = Program([self.count_lines], lines, given=replay.given)
+        replayed, count = costs(self.folder, self.measure, [replay, count], RUNS)
+        counted = self.counted(replay)
+        self.table.row(
+            script.name,
+            len(given),
+            len(script.events),
+            script.most_unfinished,
+            f"{replayed.milliseconds:.1f}",
+            f"{count.milliseconds:.1f}",
+            f"{replayed.milliseconds / count.milliseconds:.1f}",
+            f"{counted:.1f}" if counted else "-",
+            f"{counted / wanted:.2f}" if counted and wanted else "-",
+            f"{replayed.mebibytes:.1f}",
+            f"{count.mebibytes:.1f}",
+            f"{MOST_MEBIBYTES}",
+        )
+        self.bars.hold(f"{script.name}: MiB", replayed.mebibytes, MOST_MEBIBYTES)
+        return counted
+
+    def replay(self, script):
+        """The replay of a script, whose input is written into the folder."""
+        (self.folder / script.name).write_bytes(script.input())
+        return Program([self.sizing, "replay"], script.answer(), script.status(), given=script.name)
 
     def counted(self, program):
-        """The cells of the instructions of a replay of many lines, and of their ratio to what is wanted."""
+        """How many millions of instructions the program runs; None where nothing counts them."""
+        return instructions(self.folder, program) if self.is_counted else None
+
+    def stuck(self, falling, rising, silent):
+        """Measures a line `stuck` whose numbers fall, and its instructions a byte beside those where they rise."""
+        of_falling = self.lines(falling)
         if not self.is_counted:
-            return ["-"] * 2
-        counted = instructions(self.folder, program)
-        return [f"{counted:.1f}", f"{counted / WANTED_INSTRUCTIONS:.2f}"]
+            return
+        of_rising, of_silent = [self.counted(self.replay(script)) for script in (rising, silent)]
+        first, second = [
+            1e6 * (counted - of_silent) / len(script.events[-1])
+            for script, counted in ((falling, of_falling), (rising, of_rising))
+        ]
+        print(f"  instructions a byte: {first:.1f}, and {second:.1f} where the numbers rise", end="")
+        print(f", ratio {first / second:.2f} of {STUCK_RATIO}")
+        self.bars.hold(f"{falling.name}: ratio of instructions a byte", first / second, STUCK_RATIO)
 
     def clients(self):
         """Measures a replay of one event on a plan of many clients beside that on a plan of few."""
@@ -107,15 +129,11 @@ class Bench:
         many, few = costs(self.folder, self.measure, programs, RUNS)
         print(f"one event, {MANY:,} clients of each kind: {many.milliseconds:.1f} ms, {many.mebibytes:.1f} MiB", end="")
         print(f" of {MANY_MEBIBYTES}; {FEW} of each: {few.milliseconds:.1f} ms, {few.mebibytes:.1f} MiB")
-        self.hold("one event on many clients: MiB", many.mebibytes, MANY_MEBIBYTES)
+        self.bars.hold("one event on many clients: MiB", many.mebibytes, MANY_MEBIBYTES)
         if self.is_counted:
-            first, second = [instructions(self.folder, program) for program in programs]
+            first, second = [self.counted(program) for program in programs]
             print(f"  M instructions: {first:.2f} and {second:.2f}, ratio {first / second:.2f} of {MANY_RATIO}")
-            self.hold("one event on many clients: ratio of instructions", first / second, MANY_RATIO)
-
-    def hold(self, what, found, bar):
-        if found > bar:
-            self.exceeded.append(f"{what} is {found:.2f}, and is not to be above {bar:.2f}")
+            self.bars.hold("one event on many clients: ratio of instructions", first / second, MANY_RATIO)
 
 
 if __name__ == "__main__":
