@@ -28,7 +28,7 @@ from pathlib import Path
 sys.dont_write_bytecode = True
 
 from found_certs import NONE, Plan, Pool, answer, plan_by_chance, text
-from no_sizes import causes
+from no_sizes import NOTHING_FOUND, causes
 from read_plans import read_plan
 
 HERE = Path(__file__).resolve().parent
@@ -85,7 +85,9 @@ def answers(program, plans):
 def fault_of(plan, told):
     """Of which kind the plan is, and what is wrong with the answer."""
     if wanted := causes(read_plan(text(plan))):
-        return "no sizes help", "" if told in wanted else f"wanted one of {sorted(wanted)}"
+        head, _, cause = told.partition("\n")
+        is_told = head == NOTHING_FOUND and cause in wanted
+        return "no sizes help", "" if is_told else f"wanted one of {sorted(wanted)}"
     sizes = sizes_told(told)
     if sizes is None:
         return "sizes change", "no sizes"

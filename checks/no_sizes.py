@@ -1,6 +1,9 @@
 """Why no sizes help a plan, worked out from its bodies alone: a circle of submits, or a submit that is made for ever and never
 got."""
 
+# What stands before the line of a cause.
+NOTHING_FOUND = "no fitting sizes found"
+
 
 def causes(plan):
     """The lines of which each tells why no sizes help the plan; none where some do."""

@@ -1,13 +1,13 @@
 //! A plan in which each pool that gets more threads makes another one need more.
 
 use crate::fits::plan_of;
-use job_bodies::Plan;
+use job_bodies::{MOST_POOLS, Plan};
 use size_search::{SizesFound, search_sizes};
 use std::alloc::{AllocError, Global};
 use std::test::*;
 
-// How many pools there are.
-const STEPS: u64 = 32;
+// How many pools there are: as many as a plan may have.
+const STEPS: u64 = MOST_POOLS as u64;
 
 // In each pool jobs `a` wait for a leaf there, and jobs `x` for the `a` of the pool before. Clients have many `x` of each
 // pool, and 3 `a` of the last one.
