@@ -9,7 +9,7 @@ pub length-items : (at : ℕ → Option Place) (n : ℕ) → length (items_below
 length-items at zero = refl
 length-items at (suc n) = let long = length_push (items_below at n) (at n) in omega (arith, long, length-items at n)
 
-item_inside : (at : ℕ → Option Place) (n k : ℕ) → k < n → place_at (items_below at n) k ≡ at k
+pub item_inside : (at : ℕ → Option Place) (n k : ℕ) → k < n → place_at (items_below at n) k ≡ at k
 item_inside at zero k inside = absurd (omega arith)
 item_inside at (suc n) k inside = ⊎_elim
     (λ (below : k < n). get_or_append_left (items_below at n) (at n ∷ []) None k (omega (arith, below, length-items at n)) ∙ item_inside at n k below)

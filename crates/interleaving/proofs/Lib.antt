@@ -2,6 +2,7 @@ pub mod Results
 pub mod Calls
 pub mod Standing
 pub mod Items
+pub mod Row
 pub mod Placed
 pub mod Fading
 pub mod Found

@@ -5,6 +5,7 @@ pub mod NextAction
 pub mod ClientList
 pub mod Clients
 pub mod PlaceList
+pub mod PlaceRow
 pub mod Places
 pub mod LatestList
 pub mod JobList

@@ -10,6 +10,7 @@ mod members;
 mod moved_clients;
 mod moves;
 mod next_action;
+mod place_row;
 mod places;
 mod plans;
 mod pools;

@@ -1,10 +1,8 @@
 //! Live jobs by number, in places that are used again.
 
-ghost use Rattle.std.specs.Prelude.{◌≡◌, ◌+◌, ◌-◌, ◌<◌, ◌^◌, [], ◌∷◌, ◌++◌, length, count_by, is_some, IsSome, slice_set, ◌≤◌, nat_eq, None, Some, OnOk};
-ghost use Rattle.std.specs.HashMap.{get, spare, hash_map_len, Updates};
-ghost use Rattle.interleaving.specs.PlaceList.{place_in_phase};
+ghost use Rattle.std.specs.Prelude.{◌≡◌, ◌+◌, ◌<◌, ◌^◌, [], ◌∷◌, ◌++◌, length, count_by, is_some, IsSome, slice_set, ◌≤◌, None, Some, OnOk};
 
-use indexmap::IndexMap;
+use crate::place_row::PlaceRow;
 use live_views::{JobView, Phase};
 use std::alloc::{AllocError, Global};
 use std::marker::Model;
@@ -19,29 +17,26 @@ pub(crate) struct Place {
 
 /// The live jobs, by number.
 ///
-/// A job that is live no more leaves its place to another: the place of the last one, and that to the next job that is
-/// made. So there are as many places as there were ever live jobs at a time.
+/// A job that is live no more leaves its place to the next job that is made. So there are as many places as there were
+/// ever live jobs at a time.
 #[derive(Debug, Drop)]
 pub(crate) struct Places {
-    // How many jobs were ever made.
-    made: usize,
+    kept: PlaceRow,
+    // How many jobs are live.
+    live: usize,
     // How many places there are, free ones included.
     count: usize,
-    kept: IndexMap<usize, Place>,
 }
 
 impl Model for Places {
-    ghost use Rattle.std.specs.Prelude.{◌-◌, ◌^◌, min, nat_eq};
-    ghost use Rattle.std.specs.HashMap.{get, spare};
-    ghost use Rattle.interleaving.specs.PlaceList.{PlaceList, items_below};
+    ghost use Rattle.interleaving.specs.PlaceList.{PlaceList};
+    ghost use Rattle.interleaving.specs.Places.{AreCounted};
 
     ghost Value = { PlaceList };
 
-    ghost view = { λ p. record { items = items_below (get nat_eq p.kept) p.made; places = p.count; room = min (spare p.kept) (2 ^ 64 - 1 - p.made) } };
+    ghost view = { λ p. record { items = p.kept.items; places = p.count; room = p.kept.room } };
 
-    ghost use Rattle.interleaving.specs.Places.{ArePlaced};
-
-    ghost invariant = { λ p. ArePlaced p.kept p.made p.count };
+    ghost invariant = { λ p. AreCounted p.kept.items p.live p.count };
 }
 
 impl Places {
@@ -53,9 +48,9 @@ impl Places {
         ensures places { result.places ≡ 0 }
     {
         Places {
-            made: 0,
+            kept: PlaceRow::new(alloc),
+            live: 0,
             count: 0,
-            kept: IndexMap::new(alloc),
         }
     }
 
@@ -63,7 +58,7 @@ impl Places {
     pub(crate) fn made(&self) -> usize
         ensures { result ≡ length self.now.items }
     {
-        self.made
+        self.kept.len()
     }
 
     /// How many places there are, free ones included.
@@ -78,7 +73,7 @@ impl Places {
     pub(crate) fn get(&self, number: usize) -> Option<Place>
         ensures { result ≡ place_at self.now.items number }
     {
-        self.kept.get(&number).copied()
+        self.kept.get(number)
     }
 
     /// What is kept of the live job of this number is this, from now on.
@@ -88,7 +83,7 @@ impl Places {
         ensures places { self.new.places ≡ self.old.places }
         ensures room { self.new.room ≡ self.old.room }
     {
-        put(&mut self.kept, number, place);
+        self.kept.set(number, place);
     }
 
     /// The live job of this number is in this phase, from now on.
@@ -98,7 +93,7 @@ impl Places {
         ensures places { self.new.places ≡ self.old.places }
         ensures room { self.new.room ≡ self.old.room }
     {
-        put_phase(&mut self.kept, number, phase);
+        self.kept.set_phase(number, phase);
     }
 
     /// The job of this number is live no more, and its place is free.
@@ -107,7 +102,9 @@ impl Places {
         ensures places { self.new.places ≡ self.old.places }
         ensures room { self.old.room ≤ self.new.room }
     {
-        self.kept.swap_remove(&number);
+        if self.kept.free(number) {
+            self.live -= 1;
+        }
     }
 
     /// Makes room for one job.
@@ -117,8 +114,7 @@ impl Places {
         ensures enough { count_by is_some self.new.items ≤ self.new.places }
         ensures room { OnOk result (0 < self.new.room) }
     {
-        self.made.checked_add(1).ok_or(AllocError)?;
-        self.kept.reserve(1)
+        self.kept.reserve(self.live)
     }
 
     /// Another job is made. There is room for it, and it takes a free place where there is one.
@@ -128,36 +124,10 @@ impl Places {
         ensures places { self.new.places ≡ places_after self.old }
         ensures fits { length self.old.items + 1 < 2 ^ 64 }
     {
-        if self.kept.insert(self.made, place).is_err() {
-            return;
+        self.kept.push(place);
+        self.live += 1;
+        if self.live > self.count {
+            self.count = self.live;
         }
-        self.made += 1;
-        if self.kept.len() > self.count {
-            self.count = self.kept.len();
-        }
-    }
-}
-
-// Another value stands at a number where one stood.
-fn put(kept: &mut IndexMap<usize, Place>, number: usize, place: Place)
-    requires { IsSome (get nat_eq kept.old number) }
-    ensures updates { Updates nat_eq kept.old kept.new number (Some place) }
-    ensures len { hash_map_len kept.new ≡ hash_map_len kept.old }
-    ensures spare { spare kept.new ≡ spare kept.old }
-{
-    if let Some(kept) = kept.get_mut(&number) {
-        *kept = place;
-    }
-}
-
-// What stands at a number is in another phase.
-fn put_phase(kept: &mut IndexMap<usize, Place>, number: usize, phase: Phase)
-    requires { IsSome (get nat_eq kept.old number) }
-    ensures updates { Updates nat_eq kept.old kept.new number (place_in_phase phase (get nat_eq kept.old number)) }
-    ensures len { hash_map_len kept.new ≡ hash_map_len kept.old }
-    ensures spare { spare kept.new ≡ spare kept.old }
-{
-    if let Some(kept) = kept.get_mut(&number) {
-        kept.job.phase = phase;
     }
 }
