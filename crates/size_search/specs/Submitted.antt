@@ -1,11 +1,11 @@
 -- Jobs that are submitted, at whatever remove, and never got.
-use Rattle.std.specs.Prelude.{◌≡◌, ℕ, List, [], ◌∷◌, map, filter, slice_get, true, false}
+use Rattle.std.specs.Prelude.{◌≡◌, ◌<◌, ℕ, List, [], ◌∷◌, length, map, filter, slice_get, true, false}
 use Rattle.numbered_lists.specs.In.{In}
 use Rattle.job_bodies.specs.declared.action.Action.{Action}
 use Rattle.job_bodies.specs.declared.action.Action.TheVariants.{Submit}
 use Rattle.job_bodies.specs.Plan.{Client, Plan, class_at, client_at, submits, is_got}
 use Rattle.size_search.specs.declared.found.NoSizes.{NoSizes}
-use Rattle.size_search.specs.declared.found.NoSizes.TheVariants.{Circle, ClientNeverGets, ClassNeverGets}
+use Rattle.size_search.specs.declared.found.NoSizes.TheVariants.{Circle, ClientNeverGets, ClassNeverGets, Core, Queue, Unknown}
 
 -- one of the bodies submits the class, or a class does that is submitted itself
 pub data IsSubmitted (plan : Plan) (bodies : List (List Action)) : ℕ → Type 0 where
@@ -33,9 +33,11 @@ pub record NeverGotByJobs (plan : Plan) (k i : ℕ) : Type 0 where
   pub submitted : IsSubmitted plan (repeated_bodies plan) k
   pub never_got : IsNeverGot (class_at plan k).body i
 
--- what the cause says of the plan; nothing is said of a limit
+-- what the cause says of the plan; of a limit it says whose it is, and no more, since another certificate may stay below it
 abbrev pub IsCause : Plan → NoSizes → Type 0
 IsCause plan (Circle k) = IsSubmitted plan ((class_at plan k).body ∷ []) k
 IsCause plan (ClientNeverGets c i) = NeverGotByClients plan c i
 IsCause plan (ClassNeverGets k i) = NeverGotByJobs plan k i
-IsCause plan _ = Unit {0}
+IsCause plan (Core p) = p < length plan.pools
+IsCause plan (Queue p) = p < length plan.pools
+IsCause plan Unknown = Unit {0}

@@ -1,6 +1,6 @@
 //! What a search for sizes comes to.
 
-ghost use Rattle.job_bodies.specs.Plan as spec;
+
 ghost use Rattle.size_search.specs.Submitted.{IsCause};
 
 use certificates::Cert;
@@ -17,7 +17,8 @@ pub enum SizesFound {
 }
 
 /// Why no sizes were found. That the first three hold of the plan is proved. They say no more: a plan may be safe for which
-/// there is no certificate. Of the others nothing is proved.
+/// there is no certificate. Of the others it is proved that the pool is one of the plan's.
+
 #[derive(Clone, Copy, Debug, PartialEq, Eq)]
 pub enum NoSizes {
     /// The class of this number submits itself, at whatever remove.
@@ -49,16 +50,17 @@ pub(crate) enum Limit {
 }
 
 impl Limit {
-    /// What is told of it.
-    pub(crate) fn cause(self) -> NoSizes
-        ensures { (plan : spec.Plan) → IsCause plan result }
+        /// What is told of it. The search is not trusted to name a pool of the plan.
+    pub(crate) fn cause(self, plan: &Plan) -> NoSizes
+        ensures { IsCause plan.now result }
     {
         match self {
-            Limit::Core(pool) => NoSizes::Core(pool),
-            Limit::Queue(pool) => NoSizes::Queue(pool),
-            Limit::Unknown => NoSizes::Unknown,
+            Limit::Core(pool) if pool < plan.pools().len() => NoSizes::Core(pool),
+            Limit::Queue(pool) if pool < plan.pools().len() => NoSizes::Queue(pool),
+            _ => NoSizes::Unknown,
         }
     }
+
 }
 
 /// Why an attempt came to nothing.

@@ -57,7 +57,7 @@ pub fn search_sizes(
     };
     Ok(match settled(alloc, plan, &cert)? {
         Ok(plan) => SizesFound::Found { plan, cert },
-        Err(limit) => SizesFound::NotFound(limit.cause()),
+        Err(limit) => SizesFound::NotFound(limit.cause(plan)),
     })
 }
 
@@ -75,7 +75,7 @@ fn looked_for(alloc: Global, plan: &Plan) -> Result<Result<Cert, NoSizes>, Alloc
     let mut known = Remembered::of(alloc, plan, &levels)?;
     Ok(match cheapest(alloc, &mut known)? {
         Ok(best) => Ok(best.cert),
-        Err(limit) => Err(limit.cause()),
+        Err(limit) => Err(limit.cause(plan)),
     })
 }
 

@@ -18,18 +18,21 @@ pub(crate) fn settled(
 ) -> Result<Result<Plan, Limit>, AllocError>
     ensures { IfOk result (λ answer. IfOk answer (IsSized plan.now cert.now)) }
 {
-    let wide = match widest(alloc, plan, cert)? {
+        let wide = match widest(alloc, plan, cert)? {
         Ok(wide) => wide,
-        Err(unfit) => return Ok(Err(limit_of(unfit))),
+        Err(unfit) => return Ok(Err(limit_of_wide(unfit))),
     };
     Ok(match fitted(alloc, wide, cert)? {
         Ok(fit) => Ok(fit),
-        Err((_plan, unfit)) => Err(limit_of(unfit)),
+        Err((_plan, unfit)) => Err(limit_of_fit(unfit)),
     })
 }
 
-/// The plan with maximums that are widened until they leave room for each core. A wider pool can need another one to be wider,
-/// but not itself, so that as many turns as pools are enough.
+
+/// The plan with maximums that are widened until they leave room for each core. A wider pool can need another one to be wider.
+/// Where that takes more turns than there are pools, it comes round to a pool again, and no sizes are enough.
+
+
 fn widest(alloc: Global, plan: &Plan, cert: &Cert) -> Result<Result<Plan, Unfit>, AllocError>
     ensures { IfOk result (λ answer. IfOk answer (IsLeastWide plan.now cert.now)) }
 {
@@ -59,11 +62,19 @@ fn have_same_maxes(plan: &Plan, other: &Plan) -> bool {
         .all(|(pool, other)| pool.max == other.max)
 }
 
-/// What keeps all sizes from making the certificate accepted.
-fn limit_of(unfit: Unfit) -> Limit {
+/// Why the plan was not widened.
+fn limit_of_wide(unfit: Unfit) -> Limit {
     match unfit {
         Unfit::Core(pool) => Limit::Core(pool),
-        Unfit::Queue(pool) => Limit::Queue(pool),
-        Unfit::Shape | Unfit::Condition(_) => Limit::Unknown,
+        Unfit::Shape | Unfit::Condition(_) | Unfit::Queue(_) => Limit::Unknown,
     }
 }
+
+/// Why the widened plan was not fitted. A core that passes its maximum there is not known to pass its limit.
+fn limit_of_fit(unfit: Unfit) -> Limit {
+    match unfit {
+        Unfit::Queue(pool) => Limit::Queue(pool),
+        Unfit::Shape | Unfit::Condition(_) | Unfit::Core(_) => Limit::Unknown,
+    }
+}
+
