@@ -3,9 +3,9 @@
 
 Times `sizing replay` on three inputs with nearly KIB KiB of event lines (1 to 1024; absent: 1024), beside a plain C
 program that only splits the same bytes into lines and words and counts them; and a replay of one event on a plan of
-many clients beside the same plan with few. Where valgrind is there, it counts the instructions of the replays, and holds
-those of a long line `stuck`, byte by byte, to those of one whose numbers rise. README.md says what is measured, and
-what the bars are.
+many clients beside the same plan with few. Where valgrind is there, it counts the instructions of the replays, and
+holds those of a long line `stuck`, byte by byte, to those of one whose numbers rise. README.md says what is measured,
+and what the bars are.
 
 The program is crates/sizing/out/sizing, or the one that the environment variable SIZING names.
 

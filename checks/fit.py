@@ -3,7 +3,7 @@
 
     python3 checks/fit.py [PLANS [SMALL_PLANS [SEED]]]     # 300 plans, 50 small ones and seed 1 where nothing is said
 
-Of each plan of examples/, of plans made by chance, and of some larger ones:
+Of each plan of examples/, of plans made by chance, and of larger ones with up to as many pools as a plan may have:
 
 - Where a circle of submits, or a submit that is made for ever and never got, lets no sizes help, that is told, of a class or
   a submit for which it is so. For every other plan sizes are found.
@@ -18,7 +18,8 @@ are given to `certify`. Where it finds a certificate for some of them that is pr
 
 The program is crates/sizing/out/sizing, or the one that the environment variable SIZING names.
 
-Exit status: 0 where all is so, 1 where something is not, 2 where there is no program.
+Exit status: 0 where all is so, 1 where something is not or fewer small plans were compared than were wanted, 2 where there is
+no program.
 """
 
 import os
@@ -33,19 +34,19 @@ sys.dont_write_bytecode = True
 
 from found_certs import Class, Client, Plan, Pool, plan_by_chance, text
 from found_sizes import cheaper_sizes, growth, small_plan
-from no_sizes import causes
+from no_sizes import NOTHING_FOUND, causes
 from read_plans import read_plan
 from refused_growths import Unable, built
 from small_plans import run, text_of
 
-NOTHING_FOUND = "no fitting sizes found"
 EXAMPLES = Path(__file__).resolve().parent.parent / "examples"
 MOST_SMALL_SIZE = 6
 # Small plans with more cheaper sizes than these are not compared with them, so more plans are drawn than are wanted.
 MOST_CHEAPER = 3000
 DRAWN_FOR_ONE = 3
-# For so many plans there is a larger one.
+# For so many plans there is a larger one, of so many pools.
 PLANS_FOR_LARGER = 10
+FEWEST_POOLS, MOST_POOLS = 8, 64
 
 
 def main():
@@ -72,6 +73,9 @@ def main():
     dearer = [saved for saved, _ in savings if saved]
     print(f"{len(compared)} small plans compared with {sum(tries for _, tries in savings)} cheaper sizes: "
           f"{len(dearer)} could do with less, by {sum(dearer)} together")
+    if len(compared) < small_count:
+        print(f"only {len(compared)} small plans could be compared, and {small_count} were wanted")
+        return 1
     return 1 if wrong else 0
 
 
@@ -184,7 +188,7 @@ def wanted_lines(plan, fitted):
 
 def larger_plan(chance):
     """A plan of many pools, with the smallest sizes, whose jobs get jobs of each other's."""
-    pools = [Pool(1, 1, 1, False) for _ in range(chance.randint(8, 20))]
+    pools = [Pool(1, 1, 1, False) for _ in range(chance.randint(FEWEST_POOLS, MOST_POOLS))]
     classes = []
     for number in range(2 * len(pools)):
         submits = [("submit", chance.randrange(number)) for _ in range(chance.randint(0, 3))] if number else []

@@ -24,7 +24,7 @@ BUILT = Path(__file__).resolve().parent.parent / "crates" / "sizing" / "out" / "
 # A plan with more states than these is left where it is and counted apart.
 MOST_STATES = 20_000
 STEPS_OF_A_WALK = 40
-SECONDS = 20
+SECONDS = 120
 
 Pool = namedtuple("Pool", "name core max queue prestart")
 Class = namedtuple("Class", "name pool body")
