@@ -1,6 +1,5 @@
 //! What a search for sizes comes to.
 
-
 ghost use Rattle.size_search.specs.Submitted.{IsCause};
 
 use certificates::Cert;
@@ -50,7 +49,7 @@ pub(crate) enum Limit {
 }
 
 impl Limit {
-        /// What is told of it. The search is not trusted to name a pool of the plan.
+    /// What is told of it. The search is not trusted to name a pool of the plan.
     pub(crate) fn cause(self, plan: &Plan) -> NoSizes
         ensures { IsCause plan.now result }
     {
@@ -60,7 +59,6 @@ impl Limit {
             _ => NoSizes::Unknown,
         }
     }
-
 }
 
 /// Why an attempt came to nothing.

@@ -18,7 +18,7 @@ pub(crate) fn settled(
 ) -> Result<Result<Plan, Limit>, AllocError>
     ensures { IfOk result (λ answer. IfOk answer (IsSized plan.now cert.now)) }
 {
-        let wide = match widest(alloc, plan, cert)? {
+    let wide = match widest(alloc, plan, cert)? {
         Ok(wide) => wide,
         Err(unfit) => return Ok(Err(limit_of_wide(unfit))),
     };
@@ -28,10 +28,8 @@ pub(crate) fn settled(
     })
 }
 
-
 /// The plan with maximums that are widened until they leave room for each core. A wider pool can need another one to be wider.
 /// Where that takes more turns than there are pools, it comes round to a pool again, and no sizes are enough.
-
 
 fn widest(alloc: Global, plan: &Plan, cert: &Cert) -> Result<Result<Plan, Unfit>, AllocError>
     ensures { IfOk result (λ answer. IfOk answer (IsLeastWide plan.now cert.now)) }
@@ -77,4 +75,3 @@ fn limit_of_fit(unfit: Unfit) -> Limit {
         Unfit::Shape | Unfit::Condition(_) | Unfit::Core(_) => Limit::Unknown,
     }
 }
-
