@@ -1,6 +1,6 @@
 //! Runs of plans of many kinds, each of which ends.
 
-use crate::gates::Counting;
+use crate::gates::{Counting, Napping};
 use crate::plans::{TWO_CLIENTS, certified};
 use locked_runner::run;
 use std::test::Fail;
@@ -75,29 +75,57 @@ const TWO_POOLS: &str = "
     ]
 ";
 
-// Each run has so many jobs and units, and calls its gate so often.
+// Plans and rounds, and how many jobs and units the run has, and how often it calls its gate.
+const RUNS: &[(&str, u64, u64, u64, u64)] = &[
+    (NO_PLAN, 1, 0, 0, 0),
+    (NO_CLIENTS, 2, 0, 0, 0),
+    (NO_POOLS, 3, 0, 12, 6),
+    (NO_GET, 1, 1, 2, 2),
+    (NOTHING_TO_DO, 3, 4, 0, 0),
+    (ONCE, 5, 3, 3, 3),
+    (TWO_CLIENTS, 50, 100, 100, 100),
+    (FAN_OUT, 50, 200, 150, 150),
+    (TWO_POOLS, 50, 200, 100, 100),
+];
+
 #[test]
 fn every_run_ends(rt: HostRuntime) -> Result<(), Fail> {
-    for (plan, rounds, jobs, units, calls) in [
-        (NO_PLAN, 1, 0, 0, 0),
-        (NO_CLIENTS, 2, 0, 0, 0),
-        (NO_POOLS, 3, 0, 12, 6),
-        (NO_GET, 1, 1, 2, 2),
-        (NOTHING_TO_DO, 3, 4, 0, 0),
-        (ONCE, 5, 3, 3, 3),
-        (TWO_CLIENTS, 50, 100, 100, 100),
-        (FAN_OUT, 50, 200, 150, 150),
-        (TWO_POOLS, 50, 200, 100, 100),
-    ] {
+    for (plan, rounds, jobs, units, calls) in RUNS {
         let certified = certified(&rt, rt.alloc(), plan).expect(&rt, "a certificate is found");
         let gate = Counting::new();
-        match run(&rt, rt.alloc(), &certified, rounds, &gate) {
+        match run(&rt, rt.alloc(), &certified, *rounds, &gate) {
             Ok(report) => {
-                assert_eq!(rt; (report.jobs, report.units), (jobs, units), "{plan}");
+                assert_eq!(rt; (report.jobs, report.units), (*jobs, *units), "{plan}");
             }
             Err(fault) => assert_eq!(rt; Some(fault), None, "{plan}"),
         }
-        assert_eq!(rt; gate.calls(), calls, "{plan}");
+        assert_eq!(rt; (gate.calls(), gate.units()), (*calls, *units), "{plan}");
+    }
+    Ok(())
+}
+
+#[test]
+fn every_run_ends_whatever_time_its_work_takes(rt: HostRuntime) -> Result<(), Fail> {
+    for (plan, rounds, jobs, units, _) in RUNS {
+        let certified = certified(&rt, rt.alloc(), plan).expect(&rt, "a certificate is found");
+        for seed in [1, 1_000_000, 2_000_000] {
+            match run(
+                &rt,
+                rt.alloc(),
+                &certified,
+                *rounds,
+                &Napping::new(&rt, seed),
+            ) {
+                Ok(report) => {
+                    assert_eq!(rt;
+                        (report.jobs, report.units),
+                        (*jobs, *units),
+                        "{seed} {plan}"
+                    );
+                }
+                Err(fault) => assert_eq!(rt; Some(fault), None, "{seed} {plan}"),
+            }
+        }
     }
     Ok(())
 }

@@ -1,14 +1,16 @@
 //! Gates that count, fail, or hold their callers.
 
 use locked_runner::{Actor, Gate, GateFault};
+use std::alloc::{AllocError, Global};
 use std::sync::atomic::{AtomicU64, Ordering};
 use std::thread;
 use std::time::{Clock, Duration};
 
-// A gate that lets each call through but one, and counts them.
+// A gate that lets each call through but one, and counts them and their units.
 #[derive(Drop)]
 pub(crate) struct Counting {
     calls: AtomicU64,
+    units: AtomicU64,
     fails_at: u64,
 }
 
@@ -21,6 +23,7 @@ impl Counting {
     pub(crate) fn failing_at(call: u64) -> Counting {
         Counting {
             calls: AtomicU64::new(0),
+            units: AtomicU64::new(0),
             fails_at: call,
         }
     }
@@ -28,10 +31,15 @@ impl Counting {
     pub(crate) fn calls(&self) -> u64 {
         self.calls.load(Ordering::SeqCst)
     }
+
+    pub(crate) fn units(&self) -> u64 {
+        self.units.load(Ordering::SeqCst)
+    }
 }
 
 impl Gate for Counting {
-    fn work(&self, _actor: Actor, _units: u32) -> Result<(), GateFault> {
+    fn work(&self, _actor: Actor, units: u32) -> Result<(), GateFault> {
+        self.units.fetch_add(u64::from(units), Ordering::SeqCst);
         let earlier = self.calls.fetch_add(1, Ordering::SeqCst);
         if earlier.wrapping_add(1) == self.fails_at {
             Err(GateFault)
@@ -39,6 +47,109 @@ impl Gate for Counting {
             Ok(())
         }
     }
+}
+
+// What one actor did.
+#[derive(Drop)]
+struct Share {
+    calls: AtomicU64,
+    units: AtomicU64,
+}
+
+// A gate that counts the calls and the units of each actor by itself. It fails for an actor whom it does not know.
+#[derive(Drop)]
+pub(crate) struct Shares {
+    clients: Vec<Share>,
+    jobs: Vec<Share>,
+}
+
+impl Shares {
+    // It knows so many clients, and so many jobs.
+    pub(crate) fn new(alloc: Global, clients: usize, jobs: usize) -> Result<Shares, AllocError> {
+        Ok(Shares {
+            clients: unmade_work(alloc, clients)?,
+            jobs: unmade_work(alloc, jobs)?,
+        })
+    }
+
+    // The calls and the units of each client.
+    pub(crate) fn of_clients(&self, alloc: Global) -> Result<Vec<(u64, u64)>, AllocError> {
+        self.clients.iter().map(counted).collect(alloc)
+    }
+
+    // The calls and the units of each job.
+    pub(crate) fn of_jobs(&self, alloc: Global) -> Result<Vec<(u64, u64)>, AllocError> {
+        self.jobs.iter().map(counted).collect(alloc)
+    }
+}
+
+impl Gate for Shares {
+    fn work(&self, actor: Actor, units: u32) -> Result<(), GateFault> {
+        let share = match actor {
+            Actor::Client(number) => self.clients.get(number),
+            Actor::Job(number) => self.jobs.get(number),
+        };
+        let Some(share) = share else {
+            return Err(GateFault);
+        };
+        share.calls.fetch_add(1, Ordering::SeqCst);
+        share.units.fetch_add(u64::from(units), Ordering::SeqCst);
+        Ok(())
+    }
+}
+
+fn unmade_work(alloc: Global, actors: usize) -> Result<Vec<Share>, AllocError> {
+    let mut shares = Vec::with_capacity(alloc, actors)?;
+    for _ in 0..actors {
+        shares.push(Share {
+            calls: AtomicU64::new(0),
+            units: AtomicU64::new(0),
+        })?;
+    }
+    Ok(shares)
+}
+
+fn counted(share: &Share) -> (u64, u64) {
+    (
+        share.calls.load(Ordering::SeqCst),
+        share.units.load(Ordering::SeqCst),
+    )
+}
+
+// A gate whose work takes no time, or up to a third of a millisecond, by chance that begins at a seed.
+#[derive(Drop)]
+pub(crate) struct Napping<'a, C: Clock + Sync> {
+    clock: &'a C,
+    chance: AtomicU64,
+}
+
+impl<'a, C: Clock + Sync> Napping<'a, C> {
+    pub(crate) fn new(clock: &'a C, seed: u64) -> Napping<'a, C> {
+        Napping {
+            clock,
+            chance: AtomicU64::new(seed),
+        }
+    }
+}
+
+impl<C: Clock + Sync> Gate for Napping<'_, C> {
+    fn work(&self, _actor: Actor, _units: u32) -> Result<(), GateFault> {
+        let drawn = drawn_from(self.chance.fetch_add(1, Ordering::SeqCst));
+        if drawn % 4 > 0 {
+            thread::sleep(self.clock, Duration::from_micros(drawn % 333));
+        } else if drawn % 8 > 0 {
+            thread::yield_now();
+        }
+        Ok(())
+    }
+}
+
+// A number by chance for each number: the mixing of SplitMix64.
+fn drawn_from(number: u64) -> u64 {
+    let mixed = number.wrapping_mul(0x9e37_79b9_7f4a_7c15);
+    let mixed = (mixed ^ (mixed >> 30)).wrapping_mul(0xbf58_476d_1ce4_e5b9);
+    let mixed = (mixed ^ (mixed >> 27)).wrapping_mul(0x94d0_49bb_1331_11eb);
+    mixed ^ (mixed >> 31)
 }
 
 // Whose work is held.

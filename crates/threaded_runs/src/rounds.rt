@@ -30,6 +30,23 @@ fn three_rounds_make_six_jobs(rt: HostRuntime) -> Result<(), Fail> {
     Ok(())
 }
 
+// A client that repeats makes no event, and does not stand at its body's end: the run is not complete.
+#[test]
+fn no_rounds_are_no_run(rt: HostRuntime) -> Result<(), Fail> {
+    let certified = certified(&rt, rt.alloc(), NESTED).expect(&rt, "a certificate is found");
+    let gate = Counting::new();
+    let fault = run(&rt, rt.alloc(), &certified, 0, &gate).err();
+    assert_eq!(rt;
+        fault,
+        Some(RunFault {
+            number: 42,
+            events: 0
+        })
+    );
+    assert_eq!(rt; gate.calls(), 0);
+    Ok(())
+}
+
 #[test]
 fn a_run_of_too_many_events_is_not_started(rt: HostRuntime) -> Result<(), Fail> {
     let certified = certified(&rt, rt.alloc(), NESTED).expect(&rt, "a certificate is found");

@@ -1,0 +1,34 @@
+//! Which actor's work a gate is asked for, and how much of it.
+
+use crate::gates::Shares;
+use crate::plans::certified;
+use locked_runner::run;
+use std::test::Fail;
+
+// Two clients that repeat, and a third one; each job is of the one class, so its work does not depend on who submits it.
+const DIFFERENT_WORK: &str = "
+    pool = [{ name = 'p', core = 2, max = 2, queue = 4 }]
+    class = [{ name = 'a', pool = 'p', body = ['work 3', 'work 4'] }]
+    client = [
+        { name = 'c', count = 2, repeat = true, body = ['work 1', 'submit a as x', 'get x'] },
+        { name = 'd', count = 1, body = ['work 2', 'submit a as x', 'get x', 'work 5'] },
+    ]
+";
+
+#[test]
+fn each_actor_does_its_own_work(rt: HostRuntime) -> Result<(), Fail> {
+    let alloc = rt.alloc();
+    let certified = certified(&rt, alloc, DIFFERENT_WORK).expect(&rt, "a certificate is found");
+    // Two clients of three rounds and one of a single round make 7 jobs.
+    let gate = Shares::new(alloc, 3, 7)?;
+    match run(&rt, alloc, &certified, 3, &gate) {
+        Ok(report) => assert_eq!(rt; (report.jobs, report.units), (7, 62)),
+        Err(fault) => assert_eq!(rt; Some(fault), None),
+    }
+    let clients = gate.of_clients(alloc)?;
+    assert_eq!(rt; clients.as_slice(), &[(3, 3), (3, 3), (2, 7)][..]);
+    for job in gate.of_jobs(alloc)? {
+        assert_eq!(rt; job, (2, 7));
+    }
+    Ok(())
+}
