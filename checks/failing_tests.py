@@ -1,0 +1,90 @@
+#!/usr/bin/env python3
+"""Shows that tests find out bodies that no clause refuses.
+
+Each file bugs/*.edit has a body that meets its contract and is wrong all the same, and names the crate whose tests must
+find it out. Each is tried in a copy of the repository, by `rt try --test`, which proves nothing. A test that fails in
+an unchanged copy too, as where the machine is too busy for its time limit, finds nothing out.
+
+The words of the command line name the bugs to try; with none, all are tried.
+
+Exit status: 0 where each bug is found out, 1 where one passes or its tests are not run, 2 where a text that is to be
+rewritten isn't there exactly once, or a bug isn't there.
+"""
+
+import re
+import shutil
+import subprocess
+import sys
+import tempfile
+import time
+from pathlib import Path
+
+HERE = Path(__file__).resolve().parent
+TOP = HERE.parent
+BUGS = HERE / "bugs"
+PASSED = re.compile(r"^test (\S+) \.\.\. ok", re.MULTILINE)
+FAILED = re.compile(r"^test (\S+) \.\.\. FAILED", re.MULTILINE)
+
+
+class Bug:
+    """What is rewritten, and the crate whose tests must find it out."""
+
+    def __init__(self, path):
+        self.name = path.stem
+        self.texts = {}
+        file, old = None, None
+        for line in path.read_text().splitlines():
+            word, _, text = line.partition(": ")
+            if word == "tests":
+                self.tests = text
+            elif word == "file":
+                file = text
+            elif word == "old":
+                old = text
+            elif word == "new":
+                self.rewrite(file, old, text)
+
+    def rewrite(self, file, old, new):
+        """Puts the new text in the place of the old one, which stands in the file exactly once."""
+        text = self.texts.get(file) or (TOP / file).read_text()
+        times = text.count(old)
+        if times != 1:
+            raise LookupError(f"{self.name}: {file} has this text {times} times, and not once: {old}")
+        self.texts[file] = text.replace(old, new)
+
+
+def tested(crate, texts):
+    """The crate's tests that pass and those that fail in a copy with these texts, and the last line that was said."""
+    with tempfile.TemporaryDirectory(prefix="failing_tests.") as folder:
+        top = Path(folder) / "copy"
+        shutil.copytree(TOP, top, ignore=shutil.ignore_patterns(".git", "out"), symlinks=True)
+        for file, text in texts.items():
+            (top / file).write_text(text)
+        done = subprocess.run(["rt", "try", "--test"], cwd=top / "crates" / crate, stdin=subprocess.DEVNULL,
+                              stdout=subprocess.PIPE, stderr=subprocess.STDOUT, text=True)
+    said = done.stdout.splitlines()
+    return set(PASSED.findall(done.stdout)), set(FAILED.findall(done.stdout)), said[-1] if said else "nothing is said"
+
+
+def main():
+    names = sys.argv[1:] or sorted(path.stem for path in BUGS.glob("*.edit"))
+    try:
+        bugs = [Bug(BUGS / f"{name}.edit") for name in names]
+    except (LookupError, FileNotFoundError) as fault:
+        print(fault, file=sys.stderr)
+        return 2
+    right = {crate: tested(crate, {})[0] for crate in sorted({bug.tests for bug in bugs})}
+    found_out = 0
+    for bug in bugs:
+        began = time.monotonic()
+        _, failed, last = tested(bug.tests, bug.texts)
+        failed &= right[bug.tests]
+        found_out += bool(failed)
+        told = f"found out by {', '.join(sorted(failed))}" if failed else f"no test of {bug.tests} finds it out: {last}"
+        print(f"{bug.name}: {told} ({time.monotonic() - began:.0f} s)", flush=True)
+    print(f"{found_out} found out by tests, {len(bugs) - found_out} not")
+    return 0 if found_out == len(bugs) else 1
+
+
+if __name__ == "__main__":
+    sys.exit(main())
