@@ -5,7 +5,7 @@ use crate::plans::certified;
 use locked_runner::run;
 use std::test::Fail;
 
-// Two clients that repeat, and a third one; each job is of the one class, so its work does not depend on who submits it.
+// Two clients that repeat, and a third one. Each job is of the one class, so its work is the same whoever submits it.
 const DIFFERENT_WORK: &str = "
     pool = [{ name = 'p', core = 2, max = 2, queue = 4 }]
     class = [{ name = 'a', pool = 'p', body = ['work 3', 'work 4'] }]
