@@ -1,2 +1,4 @@
 mod Circles
+mod Losses
+mod Repeats
 pub mod BeyondSizes

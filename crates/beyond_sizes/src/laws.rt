@@ -2,8 +2,8 @@
 
 ghost use Rattle.beyond_sizes.specs.NoSizesHelp.{NoSizesHelp};
 
-/// Where a class submits itself, at whatever remove, no certificate accepts the plan, nor any plan that differs from it in
-/// sizes alone.
+/// Where a class submits itself, at whatever remove, or a submit is made for ever that nobody gets, no certificate
+/// accepts the plan, nor any plan that differs from it in sizes alone.
 pub fn no_sizes_help()
     ensures { NoSizesHelp }
 {}

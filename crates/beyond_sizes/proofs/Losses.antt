@@ -1,0 +1,241 @@
+-- What an actor loses over its body: at each submit what the job weighs queued, but for what its get gives back.
+use Rattle.std.proofs.Common.{◌≡◌, ℕ, zero, suc, ◌+◌, ◌-◌, ◌<◌, ◌≤◌, Bool, true, false, ◌||◌, ⊎_elim, List, length, slice_get, Option, Some, None, refl, sym, ap, subst, ◌∙◌, arith}
+use Rattle.std.proofs.lemmas.Bool.{false≢true, false_from_ne_true, both_ways, or_cases, or_left, eqb-true, eq-eqb, cases_lt}
+use Rattle.std.proofs.lemmas.Option.{slice_get_within, slice_get-get_or}
+use Rattle.numbered_lists.proofs.Members.{In-slice_get, list_any_at_In}
+use Rattle.job_bodies.specs.declared.action.Action.{Action}
+use Rattle.job_bodies.specs.declared.action.Action.TheVariants.{Work, Submit, Get}
+use Rattle.job_bodies.specs.Plan.{Plan, submits, class_of_submit, class_got, gets, is_got}
+use Rattle.job_bodies.proofs.Bodies.{IsLawful}
+use Rattle.weights.specs.declared.at_get.AtGet.{AtGet}
+use Rattle.weights.specs.Vector.{Vector, queued_weight}
+use Rattle.weights.specs.AtGet.{given_back}
+use Rattle.weight_laws.proofs.VectorLaws.{BodyLaws}
+
+-- ---- sums over the positions below n
+
+abbrev sum_below : (ℕ → ℕ) → ℕ → ℕ
+sum_below f zero = 0
+sum_below f (suc n) = sum_below f n + f n
+
+sum_below-le : (f g : ℕ → ℕ) (n : ℕ) → ((s : ℕ) → f s ≤ g s) → sum_below f n ≤ sum_below g n
+sum_below-le f g zero each =
+    let of_f : sum_below f 0 ≡ 0 = refl in
+    omega (arith, of_f)
+sum_below-le f g (suc n) each =
+    let of_f : sum_below f (suc n) ≡ sum_below f n + f n = refl in
+    let of_g : sum_below g (suc n) ≡ sum_below g n + g n = refl in
+    omega (arith, of_f, of_g, each n, sum_below-le f g n each)
+
+-- where the term at t is smaller, so is the sum
+sum_below-le-at : (f g : ℕ → ℕ) (n t less : ℕ) → t < n → ((s : ℕ) → f s ≤ g s) → f t + less ≤ g t → sum_below f n + less ≤ sum_below g n
+sum_below-le-at f g zero t less inside each at = absurd (omega (arith, inside))
+sum_below-le-at f g (suc n) t less inside each at =
+    let of_f : sum_below f (suc n) ≡ sum_below f n + f n = refl in
+    let of_g : sum_below g (suc n) ≡ sum_below g n + g n = refl in
+    ⊎_elim (λ (before : t < n). omega (arith, of_f, of_g, each n, sum_below-le-at f g n t less before each at))
+    (λ (past : n ≤ t).
+    let last : t ≡ n = omega (arith, inside, past) in
+    let here : f n + less ≤ g n = subst (λ (s : ℕ). f s + less ≤ g s) last at in
+    omega (arith, of_f, of_g, here, sum_below-le f g n each))
+    (cases_lt t n)
+
+-- no term is above the sum
+term-le-sum : (f : ℕ → ℕ) (n t : ℕ) → t < n → f t ≤ sum_below f n
+term-le-sum f n t inside =
+    let at : 0 + f t ≤ f t = omega arith in
+    omega (arith, sum_below-le-at (λ s. 0) f n t (f t) inside (λ s. omega arith) at)
+
+-- ---- which submits are got so far
+
+abbrev gets_at : ℕ → Option Action → Bool
+gets_at s (Some x) = gets s x
+gets_at s None = false
+
+-- does an action before position n get the submit at position s?
+abbrev got_before : List Action → ℕ → ℕ → Bool
+got_before body zero s = false
+got_before body (suc n) s = gets_at s (slice_get body n) || got_before body n s
+
+record IsGotBefore (body : List Action) (n s : ℕ) : Type 0 where
+  position : ℕ
+  before : position < n
+  is_get : slice_get body position ≡ Some (Get s)
+
+is_that_get : (s : ℕ) (x : Option Action) → gets_at s x ≡ true → x ≡ Some (Get s)
+is_that_get s (Some (Get t)) passes = ap (λ (u : ℕ). Some (Get u)) (sym (eqb-true s t passes))
+is_that_get s (Some (Work u)) passes = absurd (false≢true passes)
+is_that_get s (Some (Submit k)) passes = absurd (false≢true passes)
+is_that_get s None passes = absurd (false≢true passes)
+
+got_from : (body : List Action) (n s : ℕ) → got_before body n s ≡ true → IsGotBefore body n s
+got_from body zero s passes = absurd (false≢true passes)
+got_from body (suc n) s passes =
+    ⊎_elim (λ now. record { position = n; before = omega arith; is_get = is_that_get s (slice_get body n) now })
+    (λ earlier. let found = got_from body n s earlier in record { position = found.position; before = omega (arith, found.before); is_get = found.is_get })
+    (or_cases (gets_at s (slice_get body n)) (got_before body n s) passes)
+
+-- where no action of the body gets it, none before n does
+not_got_before : (body : List Action) (n s : ℕ) → is_got body s ≡ false → got_before body n s ≡ false
+not_got_before body n s not_got =
+    false_from_ne_true (got_before body n s)
+    (λ passes.
+    let found = got_from body n s passes in
+    both_ways (is_got body s) not_got (list_any_at_In (gets s) (In-slice_get body found.position (Get s) found.is_get) (eq-eqb s s refl)))
+
+-- ---- what submits cost
+
+-- a submit of class k, once it is got or before
+abbrev price : AtGet → Plan → Vector → ℕ → Bool → ℕ
+price at_get plan v k true = queued_weight v k - given_back at_get plan v k
+price at_get plan v k false = queued_weight v k
+
+abbrev cost : AtGet → Plan → Vector → Bool → Option Action → ℕ
+cost at_get plan v got (Some (Submit k)) = price at_get plan v k got
+cost at_get plan v got (Some (Work u)) = 0
+cost at_get plan v got (Some (Get t)) = 0
+cost at_get plan v got None = 0
+
+-- what the submit at position s costs an actor that stands at position n
+abbrev cost_at : AtGet → Plan → Vector → List Action → ℕ → ℕ → ℕ
+cost_at at_get plan v body n s = cost at_get plan v (got_before body n s) (slice_get body s)
+
+-- it costs no more later
+price-or : (at_get : AtGet) (plan : Plan) (v : Vector) (k : ℕ) (now before : Bool) → price at_get plan v k (now || before) ≤ price at_get plan v k before
+price-or at_get plan v k false before = le-refl (price at_get plan v k before)
+  where
+    le-refl : (n : ℕ) → n ≤ n
+    le-refl n = omega arith
+price-or at_get plan v k true true =
+    let same : price at_get plan v k (true || true) ≡ price at_get plan v k true = refl in
+    omega (arith, same)
+price-or at_get plan v k true false =
+    let got : price at_get plan v k (true || false) ≡ queued_weight v k - given_back at_get plan v k = refl in
+    let not_got : price at_get plan v k false ≡ queued_weight v k = refl in
+    omega (arith, got, not_got)
+
+none-le : 0 ≤ 0
+none-le = omega arith
+
+cost-or : (at_get : AtGet) (plan : Plan) (v : Vector) (now before : Bool) (x : Option Action) → cost at_get plan v (now || before) x ≤ cost at_get plan v before x
+cost-or at_get plan v now before (Some (Submit k)) = price-or at_get plan v k now before
+cost-or at_get plan v now before (Some (Work u)) = none-le
+cost-or at_get plan v now before (Some (Get t)) = none-le
+cost-or at_get plan v now before None = none-le
+
+cost_later : (at_get : AtGet) (plan : Plan) (v : Vector) (body : List Action) (n s : ℕ) → cost_at at_get plan v body (suc n) s ≤ cost_at at_get plan v body n s
+cost_later at_get plan v body n s = cost-or at_get plan v (gets_at s (slice_get body n)) (got_before body n s) (slice_get body s)
+
+price-le : (at_get : AtGet) (plan : Plan) (v : Vector) (k : ℕ) (got : Bool) → price at_get plan v k got ≤ queued_weight v k
+price-le at_get plan v k true =
+    let got : price at_get plan v k true ≡ queued_weight v k - given_back at_get plan v k = refl in
+    omega (arith, got)
+price-le at_get plan v k false =
+    let not_got : price at_get plan v k false ≡ queued_weight v k = refl in
+    omega (arith, not_got)
+
+-- ---- over a body
+
+-- no job that the body submits gives back more than it weighed queued
+abbrev pub NoneGains : AtGet → Plan → Vector → List Action → Type 0
+NoneGains at_get plan v body = (i k : ℕ) → slice_get body i ≡ Some (Submit k) → given_back at_get plan v k ≤ queued_weight v k
+
+-- a submit names a class
+pub class_submitted : (x : Option Action) → submits x ≡ true → (k : ℕ) × (x ≡ Some (Submit k))
+class_submitted (Some (Submit k)) passes = (k, refl)
+class_submitted (Some (Work u)) passes = absurd (false≢true passes)
+class_submitted (Some (Get t)) passes = absurd (false≢true passes)
+class_submitted None passes = absurd (false≢true passes)
+
+-- a get gives back no more than the cost of its submit falls
+get_pays : (at_get : AtGet) (plan : Plan) (v : Vector) (body : List Action) (n t : ℕ) → IsLawful plan body → NoneGains at_get plan v body → slice_get body n ≡ Some (Get t)
+    → cost_at at_get plan v body (suc n) t + given_back at_get plan v (class_got body t) ≤ cost_at at_get plan v body n t
+get_pays at_get plan v body n t lawful gains is_get =
+    let submitted = class_submitted (slice_get body t) (lawful.of_submit n t is_get) in
+    let k = submitted.0 in
+    let names : class_got body t ≡ k = ap class_of_submit submitted.1 in
+    let not_before : got_before body n t ≡ false = false_from_ne_true (got_before body n t)
+    (λ passes. let found = got_from body n t passes in lawful.once found.position n t found.before found.is_get is_get) in
+    let now : gets_at t (slice_get body n) ≡ true = ap (gets_at t) is_get ∙ eq-eqb t t refl in
+    let behind : got_before body (suc n) t ≡ true = or_left (gets_at t (slice_get body n)) (got_before body n t) now in
+    let cost_before : cost_at at_get plan v body n t ≡ queued_weight v k =
+    ap (λ (got : Bool). cost at_get plan v got (slice_get body t)) not_before ∙ ap (cost at_get plan v false) submitted.1 in
+    let cost_behind : cost_at at_get plan v body (suc n) t ≡ queued_weight v k - given_back at_get plan v k =
+    ap (λ (got : Bool). cost at_get plan v got (slice_get body t)) behind ∙ ap (cost at_get plan v true) submitted.1 in
+    let given : given_back at_get plan v (class_got body t) ≡ given_back at_get plan v k = ap (given_back at_get plan v) names in
+    omega (arith, cost_before, cost_behind, given, gains t k submitted.1)
+
+-- what the action at position n does
+step : (at_get : AtGet) (plan : Plan) (v : Vector) (weight : ℕ → ℕ) (body : List Action) (n : ℕ) (x : Action) → IsLawful plan body → BodyLaws at_get plan v weight body → NoneGains at_get plan v body → slice_get body n ≡ Some x
+    → weight (suc n) + sum_below (cost_at at_get plan v body (suc n)) (suc n) ≤ weight n + sum_below (cost_at at_get plan v body n) n
+step at_get plan v weight body n x lawful laws gains at = by_action x at
+  where
+    old : ℕ → ℕ
+    old = cost_at at_get plan v body n
+
+    new : ℕ → ℕ
+    new = cost_at at_get plan v body (suc n)
+
+    one_more : sum_below new (suc n) ≡ sum_below new n + new n
+    one_more = refl
+
+    next : weight (suc n) ≡ weight (n + 1)
+    next = let number : suc n ≡ n + 1 = omega arith in ap weight number
+
+    later : sum_below new n ≤ sum_below old n
+    later = sum_below-le new old n (cost_later at_get plan v body n)
+
+    by_action : (y : Action) → slice_get body n ≡ Some y → weight (suc n) + sum_below new (suc n) ≤ weight n + sum_below old n
+    by_action (Work u) is_work =
+        let free : new n ≡ 0 = ap (cost at_get plan v (got_before body (suc n) n)) is_work in
+        omega (arith, one_more, next, later, free, laws.work n u is_work)
+    by_action (Submit k) is_submit =
+        let paid : new n ≡ price at_get plan v k (got_before body (suc n) n) = ap (cost at_get plan v (got_before body (suc n) n)) is_submit in
+        omega (arith, one_more, next, later, paid, price-le at_get plan v k (got_before body (suc n) n), laws.submit n k is_submit)
+    by_action (Get t) is_get =
+        let free : new n ≡ 0 = ap (cost at_get plan v (got_before body (suc n) n)) is_get in
+        let pays = sum_below-le-at new old n t (given_back at_get plan v (class_got body t)) (lawful.behind n t is_get) (cost_later at_get plan v body n) (get_pays at_get plan v body n t lawful gains is_get) in
+        omega (arith, one_more, next, free, pays, laws.get n t is_get)
+
+-- an actor has lost what its submits cost
+lost_so_far : (at_get : AtGet) (plan : Plan) (v : Vector) (weight : ℕ → ℕ) (body : List Action) (n : ℕ) → IsLawful plan body → BodyLaws at_get plan v weight body → NoneGains at_get plan v body → n ≤ length body
+    → weight n + sum_below (cost_at at_get plan v body n) n ≤ weight 0
+lost_so_far at_get plan v weight body zero lawful laws gains within =
+    let none : sum_below (cost_at at_get plan v body 0) 0 ≡ 0 = refl in
+    omega (arith, none)
+lost_so_far at_get plan v weight body (suc n) lawful laws gains within =
+    let at = slice_get-get_or body n (Work 0) (omega (arith, within)) in
+    omega (arith, step at_get plan v weight body n _ lawful laws gains at, lost_so_far at_get plan v weight body n lawful laws gains (omega (arith, within)))
+
+-- so no body makes its actor heavier
+pub never_heavier : (at_get : AtGet) (plan : Plan) (v : Vector) (weight : ℕ → ℕ) (body : List Action) → IsLawful plan body → BodyLaws at_get plan v weight body → NoneGains at_get plan v body → weight (length body) ≤ weight 0
+never_heavier at_get plan v weight body lawful laws gains = omega (arith, lost_so_far at_get plan v weight body (length body) lawful laws gains (omega arith))
+
+-- and one with a submit that costs makes it lighter
+lost_by : (at_get : AtGet) (plan : Plan) (v : Vector) (weight : ℕ → ℕ) (body : List Action) (i k : ℕ) → IsLawful plan body → BodyLaws at_get plan v weight body → NoneGains at_get plan v body → slice_get body i ≡ Some (Submit k)
+    → 1 ≤ price at_get plan v k (got_before body (length body) i) → weight (length body) < weight 0
+lost_by at_get plan v weight body i k lawful laws gains is_submit costs =
+    let costs_at : cost_at at_get plan v body (length body) i ≡ price at_get plan v k (got_before body (length body) i) = ap (cost at_get plan v (got_before body (length body) i)) is_submit in
+    let counted = term-le-sum (cost_at at_get plan v body (length body)) (length body) i (slice_get_within body i _ is_submit) in
+    omega (arith, costs, costs_at, counted, lost_so_far at_get plan v weight body (length body) lawful laws gains (omega arith))
+
+-- as a submit that nobody gets, of a class whose jobs weigh something
+pub lost_without_get : (at_get : AtGet) (plan : Plan) (v : Vector) (weight : ℕ → ℕ) (body : List Action) (i k : ℕ) → IsLawful plan body → BodyLaws at_get plan v weight body → NoneGains at_get plan v body → slice_get body i ≡ Some (Submit k)
+    → is_got body i ≡ false → 1 ≤ queued_weight v k → weight (length body) < weight 0
+lost_without_get at_get plan v weight body i k lawful laws gains is_submit not_got weighs =
+    let whole : price at_get plan v k (got_before body (length body) i) ≡ queued_weight v k = ap (price at_get plan v k) (not_got_before body (length body) i not_got) in
+    lost_by at_get plan v weight body i k lawful laws gains is_submit (omega (arith, whole, weighs))
+
+-- or one whose get gives back less
+pub lost_by_child : (at_get : AtGet) (plan : Plan) (v : Vector) (weight : ℕ → ℕ) (body : List Action) (i k : ℕ) → IsLawful plan body → BodyLaws at_get plan v weight body → NoneGains at_get plan v body → slice_get body i ≡ Some (Submit k)
+    → given_back at_get plan v k < queued_weight v k → weight (length body) < weight 0
+lost_by_child at_get plan v weight body i k lawful laws gains is_submit less =
+    lost_by at_get plan v weight body i k lawful laws gains is_submit (either (got_before body (length body) i))
+  where
+    either : (got : Bool) → 1 ≤ price at_get plan v k got
+    either true =
+        let got : price at_get plan v k true ≡ queued_weight v k - given_back at_get plan v k = refl in
+        omega (arith, got, less)
+    either false =
+        let not_got : price at_get plan v k false ≡ queued_weight v k = refl in
+        omega (arith, not_got, less)
