@@ -12,6 +12,7 @@ use std::alloc::AllocError;
 /// # Errors
 ///
 /// [`AllocError`] where memory runs out. The text is then as before.
+#[inline(always)]
 #[tactic(auto, using(std::proofs::lemmas::Fmt::decimal_digit))]
 pub fn push_number(text: &mut String, number: u64) -> Result<(), AllocError>
     ensures digits { OnOk result (string_bytes text.new ≡ string_bytes text.old ++ decimal number) }
