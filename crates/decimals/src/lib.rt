@@ -4,6 +4,9 @@
 
 ghost use Rattle.std.specs.Prelude.{◌≡◌, ◌++◌, OnOk, OnErr, string_bytes, decimal};
 
+mod counter;
+
+pub use counter::Counter;
 use itoa::Buffer;
 use std::alloc::AllocError;
 

@@ -4,7 +4,7 @@ ghost use Rattle.std.specs.Prelude.{◌≡◌, ◌++◌, OnOk, string_bytes, cod
 ghost use Rattle.job_bodies.specs.Plan.{pool_at};
 ghost use Rattle.event_lines.specs.Reply.{numbered, outcome_text, reply_text, summary};
 
-use decimals::push_number;
+use decimals::{Counter, push_number};
 use job_bodies::Plan;
 use std::alloc::AllocError;
 use written_machine::Outcome;
@@ -20,7 +20,7 @@ pub enum Reply {
     Stuck(bool),
 }
 
-/// Answers line `number`, counted from 1, as `7: queued job 2`, `7: not possible` or `7: stuck yes`. The plan has the
+/// Answers the line of this number, counted from 1, as `7: queued job 2`, `7: not possible` or `7: stuck yes`. The plan has the
 /// names of the pools.
 ///
 /// # Errors
@@ -29,12 +29,12 @@ pub enum Reply {
 pub fn push_reply(
     text: &mut String,
     plan: &Plan,
-    number: usize,
+    number: &Counter,
     reply: Reply,
 ) -> Result<(), AllocError>
-    ensures { OnOk result (string_bytes text.new ≡ string_bytes text.old ++ numbered number (reply_text plan.now reply)) }
+    ensures { OnOk result (string_bytes text.new ≡ string_bytes text.old ++ numbered number.now (reply_text plan.now reply)) }
 {
-    push_number(text, number as u64)?;
+    number.push_to(text)?;
     push_reply_text(text, plan, reply)?;
     text.push('\n')
 }

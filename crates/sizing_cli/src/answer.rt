@@ -9,6 +9,7 @@ ghost use Rattle.sizing_cli.specs.Transcript.{is_no, replied};
 
 use crate::Status;
 use cert_text::CertFault;
+use decimals::Counter;
 use event_lines::{Reply, push_reply};
 use faults::{Head, number};
 use interleaving::Outcome;
@@ -51,8 +52,13 @@ impl Answer {
     }
 
     /// Replies to the line of this number, counted from 1.
-    pub fn push_reply(&mut self, plan: &Plan, number: usize, reply: Reply) -> Result<(), AllocError>
-        ensures { IfOk result (λ _. self.new ≡ spec.followed_by self.old (replied plan.now number reply)) }
+    pub fn push_reply(
+        &mut self,
+        plan: &Plan,
+        number: &Counter,
+        reply: Reply,
+    ) -> Result<(), AllocError>
+        ensures { IfOk result (λ _. self.new ≡ spec.followed_by self.old (replied plan.now number.now reply)) }
     {
         push_reply(&mut self.text, plan, number, reply)?;
         if is_no(reply) {

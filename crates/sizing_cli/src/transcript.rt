@@ -8,6 +8,7 @@ ghost use Rattle.sizing_cli.specs.Transcript as spec;
 ghost use Rattle.sizing_cli.specs.SoFar.{IsEnded, RepliesSo};
 
 use crate::answer::Answer;
+use decimals::Counter;
 use event_lines::{EventLine, EventLines, Reply, push_summary};
 use interleaving::World;
 use job_bodies::Plan;
@@ -24,11 +25,11 @@ pub fn transcript(
 {
     let mut world = World::start(alloc, plan)?;
     let mut answer = Answer::empty(alloc);
-    let mut number = 0;
+    let mut number = Counter::new(alloc);
     while let Some(line) = lines.next() {
-        number += 1;
+        number.count()?;
         let reply = reply_to(alloc, &mut world, plan, line)?;
-        answer.push_reply(plan, number, reply)?;
+        answer.push_reply(plan, &number, reply)?;
         if is_last(reply) {
             return ended(answer, &world);
         }

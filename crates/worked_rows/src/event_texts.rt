@@ -1,5 +1,6 @@
 //! Texts of events, and the lines that answer them.
 
+use decimals::Counter;
 use event_lines::{EventLine, EventLines, Reply, push_reply, push_summary};
 use job_bodies::{Plan, Pool};
 use std::alloc::Global;
@@ -86,8 +87,10 @@ fn lines_that_answer(rt: HostRuntime) -> Result<(), Fail> {
         Reply::NotPossible,
     ];
     let mut text = String::new(rt.alloc());
-    for (place, reply) in replies.iter().enumerate() {
-        push_reply(&mut text, &plan, place + 1, *reply)?;
+    let mut number = Counter::new(rt.alloc());
+    for reply in replies {
+        number.count()?;
+        push_reply(&mut text, &plan, &number, reply)?;
     }
     push_summary(&mut text, 1, 2)?;
     assert_eq!(rt;

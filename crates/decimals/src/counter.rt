@@ -1,0 +1,80 @@
+//! A number that counts up.
+
+ghost use Rattle.std.specs.Prelude.{◌≡◌, ◌+◌, ◌<◌, ◌^◌, ◌++◌, OnOk, OnErr, string_bytes, decimal};
+
+use crate::push_number;
+use std::alloc::{AllocError, Global};
+use std::marker::Model;
+
+/// A number that counts up by one.
+///
+/// The digits before its last one are kept as text, and change with each tenth number alone.
+#[derive(Debug, Drop)]
+pub struct Counter {
+    front: String,
+    tens: u64,
+    last_digit: u8,
+}
+
+impl Model for Counter {
+    ghost use Rattle.std.specs.Prelude.{◌≡◌, ℕ, ◌+◌, ◌*◌, ◌<◌, ◌^◌, string_bytes};
+    ghost use Rattle.decimals.specs.Tens.{tens_text};
+
+    ghost Value = { ℕ };
+
+    ghost view = { λ c. c.tens * 10 + c.last_digit };
+
+    ghost invariant = { λ c. (string_bytes c.front ≡ tens_text c.tens) × (c.last_digit < 10) × (c.tens * 10 + c.last_digit < 2 ^ 64) };
+}
+
+impl Counter {
+    /// A counter at 0.
+    pub fn new(alloc: Global) -> Counter
+        ensures { result ≡ 0 }
+    {
+        Counter {
+            front: String::new(alloc),
+            tens: 0,
+            last_digit: 0,
+        }
+    }
+
+    /// Counts one more.
+    ///
+    /// # Errors
+    ///
+    /// [`AllocError`] where memory runs out. The counter is then at 0 again.
+    #[inline(always)]
+    #[tactic(auto, using(crate::proofs::Counting::tens_text_above))]
+    pub fn count(&mut self) -> Result<(), AllocError>
+        requires { self.old + 1 < 2 ^ 64 }
+        ensures counted { OnOk result (self.new ≡ self.old + 1) }
+        ensures again { OnErr result (self.new ≡ 0) }
+    {
+        if self.last_digit < 9 {
+            self.last_digit += 1;
+            return Ok(());
+        }
+        let tens = self.tens + 1;
+        self.front.clear();
+        self.tens = 0;
+        self.last_digit = 0;
+        push_number(&mut self.front, tens)?;
+        self.tens = tens;
+        Ok(())
+    }
+
+    /// Puts the number behind the text, in decimal digits.
+    ///
+    /// # Errors
+    ///
+    /// [`AllocError`] where memory runs out. The text may then end with the first digits.
+    #[inline(always)]
+    #[tactic(auto, using(crate::proofs::Counting::tens_text_digit))]
+    pub fn push_to(&self, text: &mut String) -> Result<(), AllocError>
+        ensures { OnOk result (string_bytes text.new ≡ string_bytes text.old ++ decimal self.now) }
+    {
+        text.push_str(&self.front)?;
+        text.push((b'0' + self.last_digit) as char)
+    }
+}
