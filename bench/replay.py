@@ -29,7 +29,7 @@ MOST_MEBIBYTES = 11
 WANTED_INSTRUCTIONS = 71.5
 # For the instructions a byte of a line `stuck` whose numbers fall, and whose last one stands again and again, beside
 # those of the line where each of them stands once and they rise.
-STUCK_RATIO = 2
+STUCK_RATIO = 3
 # For one event on a plan of as many clients as there may be, and beside the same plan with a client of each kind.
 MANY = 1_000_000
 FEW = 1

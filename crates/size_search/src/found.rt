@@ -1,5 +1,6 @@
 //! What a search for sizes comes to.
 
+ghost use Rattle.std.specs.Prelude.{◌≡◌};
 ghost use Rattle.size_search.specs.Submitted.{IsCause};
 
 use certificates::Cert;
@@ -71,6 +72,10 @@ pub(crate) enum Halt {
 }
 
 impl From<AllocError> for Halt {
+    ghost use Rattle.size_search.specs.declared.found.Halt.TheVariants.{Memory};
+
+    ghost from_gives = { λ error halt. halt ≡ Memory error };
+
     fn from(error: AllocError) -> Halt {
         Halt::Memory(error)
     }
