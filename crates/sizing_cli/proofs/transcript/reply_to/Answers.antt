@@ -18,9 +18,12 @@ returns-in-None c = λ s reached live.
 pub returns-in_ok-members-in-Stuck : goal.returns-in_ok-members-in-Stuck
 returns-in_ok-members-in-Stuck c = λ s reached live.
     let test = λ (numbers : List ℕ). is_waiting_set c.args.plan.now s numbers in
-    rw c.in-Stuck.is
-    (reached, live, ap reply.Stuck (sym
-    (c.stuck.ensures.value s reached live
-    ∙ (ap test c.deref.ensures.value
-    ∙ (same_sets c.args.plan.now s _ _ c.sort_unstable.ensures.permutation
-    ∙ ap test c.in_ok-members-in-Stuck.ensures)))))
+    rw c.in-Stuck.is (
+      reached,
+      live,
+      ap reply.Stuck (sym
+          (c.stuck.ensures.value s reached live
+          ∙ (ap test c.deref.ensures.value
+          ∙ (same_sets c.args.plan.now s _ _ c.sort_unstable.ensures.permutation
+          ∙ ap test c.in_ok-members-in-Stuck.ensures)))),
+    )
