@@ -18,7 +18,8 @@ sys.dont_write_bytecode = True
 
 from machine import Class, Client, Plan, Pool
 from plan_texts import MOST_ACTIONS, MOST_CLASSES, filled, largest
-from timing import Bars, Program, Table, Wrong, built, compiled, costs, in_folder, instruction_cells, tell_if_uncounted
+from timing import Bars, Program, Table, Wrong, built, compiled, costs
+from timing import instruction_cells, tell_if_uncounted, without_words
 
 RUNS = 10
 SIZE = 1024 * 1024
@@ -29,10 +30,7 @@ CLIENTS = 1000
 
 
 def main(words):
-    if words:
-        print("usage: certify.py", file=sys.stderr)
-        return 2
-    return in_folder(lambda folder: Bench(folder).run())
+    return without_words("certify.py", words, lambda folder: Bench(folder).run())
 
 
 class Bench:

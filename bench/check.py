@@ -19,7 +19,8 @@ sys.dont_write_bytecode = True
 
 from bundles import FEW_CLIENTS, MOST_SIZE, every_condition_fails, full_bodies, long_names, long_rows, short_rows
 from certificates import checked, explained
-from timing import Bars, Program, Table, built, compiled, costs, in_folder, instruction_cells, run, tell_if_uncounted
+from timing import Bars, Program, Table, built, compiled, costs, instruction_cells
+from timing import run, tell_if_uncounted, without_words
 
 RUNS = 40
 SIZE = 1024 * 1024
@@ -29,10 +30,7 @@ COUNTS_BAR = 1.1
 
 
 def main(words):
-    if words:
-        print("usage: check.py", file=sys.stderr)
-        return 2
-    return in_folder(lambda folder: Bench(folder).run())
+    return without_words("check.py", words, lambda folder: Bench(folder).run())
 
 
 class Bench:

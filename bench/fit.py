@@ -19,7 +19,8 @@ sys.dont_write_bytecode = True
 from certify import CLIENTS, SIZE, two_pools
 from machine import Class, Client, Plan, Pool
 from plan_texts import filled
-from timing import Bars, Program, Table, Wrong, built, compiled, costs, in_folder, instruction_cells, tell_if_uncounted
+from timing import Bars, Program, Table, Wrong, built, compiled, costs
+from timing import instruction_cells, tell_if_uncounted, without_words
 
 RUNS = 10
 TWO_POOLS_BAR = 5
@@ -29,10 +30,7 @@ SIZES = re.compile(r"pool \w+: core (\d+)[^,]*, max (\d+)[^,]*, queue (\d+).*")
 
 
 def main(words):
-    if words:
-        print("usage: fit.py", file=sys.stderr)
-        return 2
-    return in_folder(lambda folder: Bench(folder).run())
+    return without_words("fit.py", words, lambda folder: Bench(folder).run())
 
 
 class Bench:

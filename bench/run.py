@@ -18,7 +18,7 @@ from dataclasses import dataclass
 sys.dont_write_bytecode = True
 
 from machine import Class, Client, Plan, Pool
-from timing import Bars, Program, Table, Wrong, built, compiled, costs, in_folder
+from timing import Bars, Program, Table, Wrong, built, compiled, costs, without_words
 
 RUNS = 5
 TIME_BAR = 1.2
@@ -62,10 +62,7 @@ class Row:
 
 
 def main(words):
-    if words:
-        print("usage: run.py", file=sys.stderr)
-        return 2
-    return in_folder(lambda folder: Bench(folder).run())
+    return without_words("run.py", words, lambda folder: Bench(folder).run())
 
 
 class Bench:

@@ -57,6 +57,14 @@ def in_folder(bench):
     return 0
 
 
+def without_words(name, words, bench):
+    """Calls a benchmark that takes no words, and gives its exit status."""
+    if words:
+        print(f"usage: {name}", file=sys.stderr)
+        return 2
+    return in_folder(bench)
+
+
 def built(name):
     """The path of a crate's built program, or of the one that the environment variable of that name tells."""
     program = Path(os.environ.get(name.upper()) or CRATES / name / "out" / name).resolve()
