@@ -287,7 +287,7 @@ Or the answer is the line `no fitting sizes found`, and one that says why:
   pool NAME: core above 1000000
   pool NAME: queue above 1000000
   no cause was found
-That there is no certificate does not say that the plan is unsafe. Actions are numbered from 0. With
+That no sizes were found does not say that the plan is unsafe. Actions are numbered from 0. With
 `--bundle` it may also be the line
   no bundle: text too long
 
