@@ -233,7 +233,7 @@ Exit status:
   0  a certificate was found
   1  none was, or its text is too long
   2  bad text in PLAN, or bad arguments
-  3  memory ran out, or reading or writing failed
+  3  memory ran out, or reading, writing or a thread failed
 
 Example, to be pasted into a shell:
 
@@ -277,8 +277,9 @@ with ` (now X)` behind each number that changes, where X is what PLAN says. The 
 `changes N`, where N is how many numbers change. With `--bundle` it is the plan of those sizes, a
 line that is exactly `%%`, and a certificate in JSON, to which `sizing check` answers yes.
 
-No number falls. For the certificate that was found no smaller core or maximum would do, and with
-these maximums no smaller queue; another certificate may need less.
+No number falls. Of sizes that are not below those of PLAN, no smaller core or maximum would do for
+the certificate that was found, and with these maximums no smaller queue; another certificate may
+need less.
 
 Or the answer is the line `no fitting sizes found`, and one that says why:
   class NAME submits itself
@@ -295,7 +296,7 @@ Exit status:
   0  no number changes, or a bundle was written
   1  numbers change, or there is a line that says why nothing was found or written
   2  bad text in PLAN, or bad arguments
-  3  memory ran out, or reading or writing failed
+  3  memory ran out, or reading, writing or a thread failed
 
 Example, to be pasted into a shell. Both clients can submit while the pool's worker is idle and has
 taken neither job, and the queue has room for one.
@@ -339,7 +340,7 @@ many as its maximum, and they make the events of the plan: each repeating client
 body N times, the others once, and every job is finished. No submit is refused, whatever the
 threads do. A unit of work is counted and takes no time. A run has at most 64 clients, at most 64
 threads of pools, and at most 1000000 events, of which a job has one for each of its actions and 2
-more.
+more, and a client one for each of its actions and one between two rounds.
 
 The answer is one line:
   jobs N, units N, refused 0   how many jobs there were, and how much work of clients and jobs
