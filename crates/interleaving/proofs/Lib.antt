@@ -1,5 +1,4 @@
 pub mod Results
-pub mod Calls
 pub mod Standing
 pub mod Items
 pub mod Row

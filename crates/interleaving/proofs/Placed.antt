@@ -1,5 +1,5 @@
 -- What is known of places by number once one of them changes.
-use Rattle.std.proofs.Common.{◌≡◌, ℕ, ◌+◌, ◌<◌, ◌≤◌, ◌==◌, Bool, true, false, cond, List, [], ◌∷◌, ◌++◌, length, set, count_by, is_some, IsSome, Option, Some, None, ⊎_elim, refl, sym, ap, subst, ◌∙◌, arith}
+use Rattle.std.proofs.Common.{◌≡◌, ℕ, ◌+◌, ◌<◌, ◌≤◌, ◌==◌, Bool, true, false, cond, List, [], ◌∷◌, ◌++◌, length, set, count_by, is_some, IsSome, Option, Some, None, ⊎_elim, refl, sym, ap, ◌∙◌, arith}
 use Rattle.std.proofs.lemmas.Bool.{cases_lt, cases_Bool, eqb-true}
 use Rattle.std.proofs.lemmas.List.{get_or_past, set_past}
 use Rattle.std.proofs.lemmas.List.Sums.{sum_by-append, sum_by-cons}

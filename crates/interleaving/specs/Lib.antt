@@ -7,6 +7,7 @@ pub mod Clients
 pub mod PlaceList
 pub mod PlaceRow
 pub mod Places
+pub mod CallList
 pub mod LatestList
 pub mod JobList
 pub mod LiveJobs

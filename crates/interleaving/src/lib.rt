@@ -1,6 +1,7 @@
 //! The running machine of a plan: many bounded thread pools, the clients that submit to them, and the live jobs.
 #![tactic(auto)]
 
+mod calls;
 mod clients;
 mod finish;
 mod get;

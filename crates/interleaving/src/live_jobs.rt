@@ -4,6 +4,7 @@ ghost use Rattle.std.specs.Prelude.{◌≡◌, ◌≢◌, ℕ, ◌+◌, ◌<◌,
 ghost use Rattle.written_machine.specs.declared.parent.Parent.TheVariants.{Job};
 ghost use Rattle.live_views.specs.declared.job_view.Phase.TheVariants.{At};
 ghost use Rattle.live_views.specs.ViewStep.{live_job, live_child, is_done, is_unfinished_job, may_ask_for, with_phase, in_phase, unless_stale, unless_orphan, finished_or_gone};
+ghost use Rattle.interleaving.specs.JobList.{room_for};
 ghost use Rattle.interleaving.specs.LiveJobs.{WasMade, DoneAreLatest, NoOtherIsStale, IsAlone, places_made, jobs_in, AreReached, ReachesStay, ReachesTo, OrphansAreFound, AreOrphaned, AreFound, IsGone, ForgetsOrphan, is_done_job};
 
 use crate::latest::Latest;
@@ -29,7 +30,7 @@ impl Model for LiveJobs {
 
     ghost Value = { JobList };
 
-    ghost view = { λ l. record { jobs = jobs_in l.kept.items; places = l.kept.places; room = min l.kept.room l.latest.room } };
+    ghost view = { λ l. record { jobs = jobs_in l.kept.items; places = l.kept.places; room = record { of_clients = min l.kept.room l.latest.of_clients.room; of_jobs = min l.kept.room l.latest.of_jobs.room } } };
 
     ghost invariant = { λ l. AreIndexed l.kept.items l.latest l.unfinished };
 }
@@ -63,6 +64,7 @@ impl LiveJobs {
     }
 
     /// The live job of this number.
+    #[inline(always)]
     pub(crate) fn get(&self, number: usize) -> Option<JobView>
         ensures { result ≡ live_job self.now.jobs number }
     {
@@ -106,21 +108,21 @@ impl LiveJobs {
         self.kept.free(number);
     }
 
-    /// Makes room for one job.
-    pub(crate) fn reserve(&mut self) -> Result<(), AllocError>
+    /// Makes room for one job of the actor.
+    pub(crate) fn reserve_for(&mut self, actor: Parent) -> Result<(), AllocError>
         ensures jobs { self.new.jobs ≡ self.old.jobs }
         ensures places { self.new.places ≡ self.old.places }
         ensures enough { OnOk result (count_by is_some self.new.jobs ≤ self.new.places) }
-        ensures room { OnOk result (0 < self.new.room) }
+        ensures room { OnOk result (0 < room_for self.new.room actor) }
     {
-        self.latest.reserve()?;
+        self.latest.reserve_for(actor)?;
         self.kept.reserve()
     }
 
     /// The job's parent makes it. There is room for it. The parent's done job of the same submit, which can only be its
     /// latest, is live no more.
     pub(crate) fn make(&mut self, latest: Option<usize>, job: JobView)
-        requires room { 0 < self.old.room }
+        requires room { 0 < room_for self.old.room job.parent }
         requires parent { WasMade self.old.jobs job.parent }
         requires stale { NoOtherIsStale self.old.jobs latest job.parent job.slot }
         requires begins { is_done job.phase ≡ false }

@@ -61,11 +61,12 @@ impl PlaceRow {
     }
 
     /// What is kept of the job of this number.
+    #[inline(always)]
     pub(crate) fn get(&self, number: usize) -> Option<Place>
         ensures { result ≡ place_at self.now.items number }
     {
         if number < self.base {
-            return self.older.get(&number).copied();
+            return get_older(&self.older, number);
         }
         *self.recent.get(number - self.base)?
     }
@@ -195,6 +196,14 @@ fn set_phase_in(place: &mut Option<Place>, phase: Phase)
     if let Some(place) = place {
         place.job.phase = phase;
     }
+}
+
+// What is kept under a number. Few look-ups come here, and they stay out of their callers.
+#[inline(never)]
+fn get_older(older: &HashMap<usize, Place>, number: usize) -> Option<Place>
+    ensures { result ≡ get nat_eq older.now number }
+{
+    older.get(&number).copied()
 }
 
 // Another value stands at a number where one stood.

@@ -70,6 +70,7 @@ impl Places {
     }
 
     /// What is kept of the live job of this number.
+    #[inline(always)]
     pub(crate) fn get(&self, number: usize) -> Option<Place>
         ensures { result ≡ place_at self.now.items number }
     {

@@ -41,7 +41,7 @@ impl World {
     {
         let pool = pool_of(plan, class);
         let latest = self.latest_before(actor, next);
-        self.jobs.reserve()?;
+        self.jobs.reserve_for(actor)?;
         self.clients.reserve_for(actor, next.position)?;
         let number = self.jobs.len();
         let (phase, outcome) = match self.pools[pool].offer(number)? {

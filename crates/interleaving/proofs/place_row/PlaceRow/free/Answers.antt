@@ -1,4 +1,4 @@
-use Rattle.std.proofs.Common.{◌≡◌, ◌-◌, ◌++◌, None, is_some, set, rules, nat_eq, sym, ap, ◌∙◌}
+use Rattle.std.proofs.Common.{◌≡◌, ◌++◌, None, is_some, set, rules, nat_eq, sym, ap, ◌∙◌}
 use Rattle.std.specs.HashMap.{get}
 use Rattle.interleaving.specs.PlaceList.{place_at, items_below}
 use Rattle.interleaving.specs.PlaceRow.{Row}

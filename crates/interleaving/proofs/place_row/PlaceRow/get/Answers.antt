@@ -10,8 +10,7 @@ use Rattle.interleaving.proofs.place_row.PlaceRow.get.Goals as goal
 pub returns-then-number-self : goal.returns-then-number-self
 returns-then-number-self c =
     let r = c.self.inside in
-    let is_kept : c.copied.result ≡ get nat_eq r.older c.args.number = search rules in
-    is_kept ∙ sym (at_lower (get nat_eq r.older) r.base r.recent.items c.args.number c.if-number-self.true) ∙ ap (λ (s : Row). place_at s.items c.args.number) c.self.view_is
+    c.get_older.ensures ∙ sym (at_lower (get nat_eq r.older) r.base r.recent.items c.args.number c.if-number-self.true) ∙ ap (λ (s : Row). place_at s.items c.args.number) c.self.view_is
 
 pub returns-in_err-get : goal.returns-in_err-get
 returns-in_err-get c =

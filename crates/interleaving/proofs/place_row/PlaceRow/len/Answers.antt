@@ -1,4 +1,4 @@
-use Rattle.std.proofs.Common.{length, sym, ap, ◌∙◌, arith, nat_eq}
+use Rattle.std.proofs.Common.{length, ap, arith, nat_eq}
 use Rattle.std.specs.HashMap.{get}
 use Rattle.interleaving.specs.PlaceRow.{Row}
 use Rattle.interleaving.proofs.Row.{length-row}

@@ -1,4 +1,4 @@
-use Rattle.std.proofs.Common.{◌≡◌, ◌-◌, ◌<◌, true, length, Some, is_some, IsSome, set, nat_eq, sym, ap, subst, ◌∙◌, arith}
+use Rattle.std.proofs.Common.{◌≡◌, ◌-◌, true, Some, is_some, IsSome, set, nat_eq, sym, ap, subst, ◌∙◌, arith}
 use Rattle.std.specs.HashMap.{get}
 use Rattle.interleaving.specs.PlaceList.{place_at}
 use Rattle.interleaving.specs.PlaceRow.{Row}

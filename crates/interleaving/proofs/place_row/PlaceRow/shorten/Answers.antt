@@ -1,8 +1,7 @@
-use Rattle.std.proofs.Common.{◌≡◌, ◌+◌, ◌<◌, ◌∷◌, ◌++◌, length, Some, nat_eq, refl, sym, ap, ◌∙◌, arith}
+use Rattle.std.proofs.Common.{◌+◌, ◌<◌, ◌∷◌, ◌++◌, length, nat_eq, refl, sym, ap, ◌∙◌, arith}
 use Rattle.std.specs.HashMap.{get}
 use Rattle.interleaving.specs.PlaceList.{items_below}
 use Rattle.interleaving.specs.PlaceRow.{Row}
-use Rattle.interleaving.specs.declared.places.Place.{Place}
 use Rattle.interleaving.proofs.Placed.{none_from, still_below}
 use Rattle.interleaving.proofs.Row.{first_lowered, gaps_lowered, first_and_rest}
 use Rattle.interleaving.proofs.place_row.PlaceRow.shorten.Goals as goal

@@ -13,7 +13,7 @@ make-requires-clause-stale c =
     let a = c.args.actor in
     let t = c.args.next.position in
     let latest = c.latest_before-latest.result in
-    let moved : c.move_actor.new.jobs.jobs ≡ moved_live_jobs a (t + 1) view = c.move_actor.ensures.jobs view (sym (c.in_ok-reserve.ensures.jobs ∙ ap (λ (w : WorldValue). w.view.jobs) c.self.view_is)) in
+    let moved : c.move_actor.new.jobs.jobs ≡ moved_live_jobs a (t + 1) view = c.move_actor.ensures.jobs view (sym (c.in_ok-reserve_for.ensures.jobs ∙ ap (λ (w : WorldValue). w.view.jobs) c.self.view_is)) in
     subst (λ js. NoOtherIsStale js latest a t) (sym moved) (stale_moved a a t (t + 1) latest view (none_but_latest view.jobs latest a t c.requires.done c.latest_before-latest.ensures))
 
 pub make-requires-clause-parent : goal.make-requires-clause-parent
@@ -21,7 +21,7 @@ make-requires-clause-parent c =
     let view = c.args.self.now.view in
     let a = c.args.actor in
     let t = c.args.next.position in
-    let moved : c.move_actor.new.jobs.jobs ≡ moved_live_jobs a (t + 1) view = c.move_actor.ensures.jobs view (sym (c.in_ok-reserve.ensures.jobs ∙ ap (λ (w : WorldValue). w.view.jobs) c.self.view_is)) in
+    let moved : c.move_actor.new.jobs.jobs ≡ moved_live_jobs a (t + 1) view = c.move_actor.ensures.jobs view (sym (c.in_ok-reserve_for.ensures.jobs ∙ ap (λ (w : WorldValue). w.view.jobs) c.self.view_is)) in
     was_made a (length view.clients) view.jobs c.move_actor.new.jobs.jobs c.requires.there (ap length moved ∙ length-moved a (t + 1) view)
 
 pub returns-clause-places : goal.returns-clause-places
@@ -29,9 +29,9 @@ returns-clause-places c =
     let old = c.args.self.now in
     let a = c.args.actor in
     let t = c.args.next.position in
-    let reserved = c.in_ok-reserve.ensures.jobs ∙ ap (λ (w : WorldValue). w.view.jobs) c.self.view_is in
+    let reserved = c.in_ok-reserve_for.ensures.jobs ∙ ap (λ (w : WorldValue). w.view.jobs) c.self.view_is in
     let moved = c.move_actor.ensures.jobs old.view (sym reserved) in
-    let room = c.in_ok-reserve.ensures.places ∙ ap (λ (w : WorldValue). w.places) c.self.view_is in
+    let room = c.in_ok-reserve_for.ensures.places ∙ ap (λ (w : WorldValue). w.places) c.self.view_is in
     let all = ap (count_by is_some) reserved in
-    let enough : live_jobs old.view ≤ old.places = omega (arith, c.in_ok-reserve.ensures.enough, all, room) in
+    let enough : live_jobs old.view ≤ old.places = omega (arith, c.in_ok-reserve_for.ensures.enough, all, room) in
     used_again a a t (t + 1) _ old _ c.move_actor.new.jobs moved (c.move_actor.ensures.places ∙ room) enough c.make.ensures.jobs c.make.ensures.places
