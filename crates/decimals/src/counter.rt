@@ -2,7 +2,7 @@
 
 ghost use Rattle.std.specs.Prelude.{◌≡◌, ◌+◌, ◌<◌, ◌^◌, ◌++◌, OnOk, OnErr, string_bytes, decimal};
 
-use crate::push_number;
+use itoa::Buffer;
 use std::alloc::{AllocError, Global};
 use std::marker::Model;
 
@@ -43,24 +43,23 @@ impl Counter {
     ///
     /// # Errors
     ///
-    /// [`AllocError`] where memory runs out. The counter is then at 0 again.
+    /// [`AllocError`] where memory runs out. The counter is then as before.
     #[inline(always)]
     #[tactic(auto, using(crate::proofs::Counting::tens_text_above))]
     pub fn count(&mut self) -> Result<(), AllocError>
         requires { self.old + 1 < 2 ^ 64 }
         ensures counted { OnOk result (self.new ≡ self.old + 1) }
-        ensures again { OnErr result (self.new ≡ 0) }
+        ensures unchanged { OnErr result (self.new ≡ self.old) }
     {
         if self.last_digit < 9 {
             self.last_digit += 1;
             return Ok(());
         }
         let tens = self.tens + 1;
-        self.front.clear();
-        self.tens = 0;
-        self.last_digit = 0;
-        push_number(&mut self.front, tens)?;
+        let mut digits = Buffer::new();
+        self.front.replace_range(.., digits.format(tens))?;
         self.tens = tens;
+        self.last_digit = 0;
         Ok(())
     }
 
