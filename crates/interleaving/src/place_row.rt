@@ -1,10 +1,10 @@
 //! What is kept of jobs, by number.
 
-ghost use Rattle.std.specs.Prelude.{◌≡◌, ◌+◌, ◌<◌, ◌^◌, [], ◌∷◌, ◌++◌, length, is_some, IsSome, slice_set, ◌≤◌, nat_eq, None, Some, OnOk};
+ghost use Rattle.std.specs.Prelude.{◌≡◌, ◌+◌, ◌<◌, ◌^◌, [], ◌∷◌, ◌++◌, length, is_some, IsSome, slice_set, ◌≤◌, ◌⊎◌, nat_eq, None, Some, OnOk};
 ghost use Rattle.std.specs.HashMap.{get, spare, Updates};
 ghost use Rattle.std.specs.VecDeque.{deque_len, deque_capacity};
 ghost use Rattle.interleaving.specs.PlaceList.{place_at, place_in_phase};
-ghost use Rattle.interleaving.specs.PlaceRow.{gaps};
+ghost use Rattle.interleaving.specs.PlaceRow.{HasNoGapAtFront, gaps, longest};
 
 use crate::places::Place;
 use live_views::Phase;
@@ -12,7 +12,7 @@ use std::alloc::{AllocError, Global};
 use std::collections::{HashMap, VecDeque};
 use std::marker::Model;
 
-// The recent numbers are at most twice the live jobs and these.
+// The ring may have two numbers for each live job and for each of these.
 const SPARE_NUMBERS: usize = 16;
 
 /// What is kept of each job that was made, by number: a row with a gap for each job that is live no more.
@@ -36,7 +36,7 @@ impl Model for PlaceRow {
 
     ghost Value = { Row };
 
-    ghost view = { λ r. record { items = row_items r.older r.base r.recent.items; room = min (deque_capacity r.recent - deque_len r.recent) (2 ^ 64 - 1 - (r.base + deque_len r.recent)) } };
+    ghost view = { λ r. record { items = row_items r.older r.base r.recent.items; span = deque_len r.recent; room = min (deque_capacity r.recent - deque_len r.recent) (2 ^ 64 - 1 - (r.base + deque_len r.recent)) } };
 
     ghost invariant = { λ r. IsRow r.older r.base r.recent.items };
 }
@@ -44,7 +44,8 @@ impl Model for PlaceRow {
 impl PlaceRow {
     /// No jobs so far.
     pub(crate) fn new(alloc: Global) -> PlaceRow
-        ensures { result.items ≡ [] }
+        ensures items { result.items ≡ [] }
+        ensures span { result.span ≡ 0 }
     {
         PlaceRow {
             base: 0,
@@ -75,6 +76,7 @@ impl PlaceRow {
     pub(crate) fn set(&mut self, number: usize, place: Place)
         requires { IsSome (place_at self.old.items number) }
         ensures items { self.new.items ≡ slice_set self.old.items number (Some place) }
+        ensures span { self.new.span ≡ self.old.span }
         ensures room { self.new.room ≡ self.old.room }
     {
         if number < self.base {
@@ -88,6 +90,7 @@ impl PlaceRow {
     pub(crate) fn set_phase(&mut self, number: usize, phase: Phase)
         requires { IsSome (place_at self.old.items number) }
         ensures items { self.new.items ≡ slice_set self.old.items number (place_in_phase phase (place_at self.old.items number)) }
+        ensures span { self.new.span ≡ self.old.span }
         ensures room { self.new.room ≡ self.old.room }
     {
         if number < self.base {
@@ -101,6 +104,7 @@ impl PlaceRow {
     pub(crate) fn free(&mut self, number: usize) -> bool
         ensures value { result ≡ is_some (place_at self.old.items number) }
         ensures items { self.new.items ≡ slice_set self.old.items number None }
+        ensures span { self.new.span ≤ self.old.span }
         ensures room { self.old.room ≤ self.new.room }
     {
         if number < self.base {
@@ -111,9 +115,11 @@ impl PlaceRow {
         was_kept
     }
 
-    /// Makes room for one job. So many are live.
+    /// Makes room for one job. So many are live: where the ring is too long for them, it gives its first number away.
     pub(crate) fn reserve(&mut self, live: usize) -> Result<(), AllocError>
         ensures items { self.new.items ≡ self.old.items }
+        ensures span { self.new.span ≤ self.old.span }
+        ensures short { OnOk result ((self.new.span < longest live) ⊎ (self.new.span < self.old.span)) }
         ensures room { OnOk result (0 < self.new.room) }
     {
         self.shorten(live)?;
@@ -125,7 +131,9 @@ impl PlaceRow {
 
     // Where there are many recent numbers, the first of them is one of the older ones from now on.
     fn shorten(&mut self, live: usize) -> Result<(), AllocError>
-        ensures { self.new.items ≡ self.old.items }
+        ensures items { self.new.items ≡ self.old.items }
+        ensures span { self.new.span ≤ self.old.span }
+        ensures short { OnOk result ((self.new.span < longest live) ⊎ (self.new.span < self.old.span)) }
     {
         if self.recent.len() / 2 <= live.saturating_add(SPARE_NUMBERS) {
             return Ok(());
@@ -145,6 +153,7 @@ impl PlaceRow {
     pub(crate) fn push(&mut self, place: Place)
         requires { 0 < self.old.room }
         ensures items { self.new.items ≡ self.old.items ++ Some place ∷ [] }
+        ensures span { self.new.span ≡ self.old.span + 1 }
         ensures fits { length self.old.items + 1 < 2 ^ 64 }
     {
         self.recent.push_back_reserved(Some(place));
@@ -154,6 +163,7 @@ impl PlaceRow {
 // The gaps at the front go. How many they were.
 fn skip_gaps(recent: &mut VecDeque<Option<Place>>) -> usize
     ensures items { recent.old.items ≡ gaps result ++ recent.new.items }
+    ensures front { HasNoGapAtFront recent.new.items }
     ensures len { deque_len recent.new + result ≡ deque_len recent.old }
     ensures capacity { deque_capacity recent.new ≡ deque_capacity recent.old }
 {

@@ -29,14 +29,16 @@ pub(crate) struct Places {
 }
 
 impl Model for Places {
+    ghost use Rattle.std.specs.Prelude.{◌-◌, min};
     ghost use Rattle.interleaving.specs.PlaceList.{PlaceList};
+    ghost use Rattle.interleaving.specs.PlaceRow.{longest};
     ghost use Rattle.interleaving.specs.Places.{AreCounted};
 
     ghost Value = { PlaceList };
 
-    ghost view = { λ p. record { items = p.kept.items; places = p.count; room = p.kept.room } };
+    ghost view = { λ p. record { items = p.kept.items; places = p.count; room = min p.kept.room (longest p.count - p.kept.span) } };
 
-    ghost invariant = { λ p. AreCounted p.kept.items p.live p.count };
+    ghost invariant = { λ p. AreCounted p.kept p.live p.count };
 }
 
 impl Places {

@@ -6,8 +6,8 @@ use Rattle.interleaving.proofs.Placed.{none_from, still_below}
 use Rattle.interleaving.proofs.Row.{first_lowered, gaps_lowered, first_and_rest}
 use Rattle.interleaving.proofs.place_row.PlaceRow.shorten.Goals as goal
 
-pub returns : goal.returns
-returns c =
+pub returns-clause-items : goal.returns-clause-items
+returns-clause-items c =
     let r = c.self.inside in
     let at = get nat_eq r.older in
     let after = get nat_eq c.insert.new.self in
