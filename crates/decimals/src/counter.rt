@@ -63,6 +63,13 @@ impl Counter {
         Ok(())
     }
 
+    /// How far it has counted.
+    pub fn get(&self) -> u64
+        ensures { result ≡ self.now }
+    {
+        self.tens * 10 + u64::from(self.last_digit)
+    }
+
     /// Puts the number behind the text, in decimal digits.
     ///
     /// # Errors

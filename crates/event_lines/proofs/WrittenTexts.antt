@@ -1,5 +1,5 @@
 -- The lines that a text writes are those whose text it is, but for the last newline.
-use Rattle.std.proofs.Common.{◌≡◌, ◌⊎◌, ◌↔◌, inl, inr, ⊎_elim, ℕ, suc, ◌+◌, ◌-◌, ◌<◌, Bool, true, false, not, ◌==◌, nat_lt, IsTrue, List, [], ◌∷◌, ◌++◌, length, take, get_or, map, flat_map, Result, Ok, Err, Option, Some, None, refl, sym, ap, ap₂, subst, ◌∙◌, arith, add-one, length-append, get_or-append-add, take_at, take_all, take-suc}
+use Rattle.std.proofs.Common.{◌≡◌, ◌⊎◌, inl, inr, ⊎_elim, ℕ, suc, ◌+◌, ◌-◌, ◌<◌, true, false, not, ◌==◌, nat_lt, List, [], ◌∷◌, ◌++◌, length, take, get_or, map, Result, Ok, Err, Option, Some, None, refl, sym, ap, ap₂, subst, ◌∙◌, arith, get_or-append-add, take_at, take_all, take-suc}
 use Rattle.std.specs.List.{list_all, join_with_byte}
 use Rattle.std.proofs.lemmas.Bool.{and_parts, and_from, eqb-true, eq-eqb, ne_eqb, cond-true, cond-false, cases_Bool}
 use Rattle.std.proofs.lemmas.Bool.Decides.{nat_tests}
@@ -7,11 +7,11 @@ use Rattle.std.proofs.lemmas.List.{length_push}
 use Rattle.std.proofs.lemmas.List.Splits.{join_with_byte-slice_split, length-slice_split}
 use Rattle.readings.specs.Reading.{◌>>=◌, some_or, read_each}
 use Rattle.job_bodies.specs.Plan.{Plan, Pool, pool_names}
-use Rattle.job_bodies.specs.WellFormed.{is_name_byte, is_letter, is_within, is_lawful_name, is_lawful_pool, has_lawful_sizes, are_distinct, IsWellFormed}
+use Rattle.job_bodies.specs.WellFormed.{is_name_byte, is_lawful_name, is_lawful_pool, has_lawful_sizes, are_distinct}
 use Rattle.event_lines.specs.Pieces.{is_newline, without_last_newline, lines_of}
 use Rattle.event_lines.specs.EventLine.{Line, line_of, line_at, event_lines}
 use Rattle.event_lines.specs.LineText.{line_text, lines_text, is_lawful_line}
-use Rattle.event_lines.specs.Laws.{Writes, EventLinesAreCanonical}
+use Rattle.event_lines.specs.Laws.{EventLinesAreCanonical}
 use Rattle.event_lines.proofs.Splits.{has_no, cut_at, cut_joined, joined_before, flat_map-map, is_piece, joined_ends}
 use Rattle.event_lines.proofs.WrittenLines.{line_read, line_written, has_plain_name, line_on_one_line}
 

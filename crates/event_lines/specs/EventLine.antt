@@ -1,5 +1,5 @@
 -- What a line of events says: an event, or a question whether some jobs wait for each other alone.
-use Rattle.std.specs.Prelude.{ℕ, ◌+◌, if◌then◌else◌, List, position, codes, Option, None, Result, option_map, option_and_then}
+use Rattle.std.specs.Prelude.{ℕ, ◌+◌, if◌then◌else◌, List, map, position, codes, Option, Some, None, Result, Ok, Err, option_map, option_and_then}
 use Rattle.std.specs.Str.{bytes_eq}
 use Rattle.readings.specs.Reading.{some_or, read_each}
 use Rattle.job_bodies.specs.Plan.{Plan}
@@ -7,9 +7,10 @@ use Rattle.written_machine.specs.declared.event.Event.{Event}
 use Rattle.written_machine.specs.declared.event.Event.TheVariants as event
 use Rattle.event_lines.specs.declared.event_line.EventLine.{EventLine}
 use Rattle.event_lines.specs.declared.event_line.EventLine.TheVariants as code
+use Rattle.event_lines.specs.declared.lines.BadLine.{BadLine}
 use Rattle.event_lines.specs.Pieces.{lines_of, split_space, first_line, behind_line}
 use Rattle.event_lines.specs.Number.{number_of}
-use Rattle.event_lines.specs.Words.{all_of, members_in}
+use Rattle.event_lines.specs.Words.{members_in}
 
 pub data Line : Type 0 where
   Happens : Event → Line
@@ -58,6 +59,17 @@ line_at plan place text = some_or (line_of plan text) (place + 1)
 unfoldable pub event_lines : Plan → List ℕ → Result (List Line) ℕ
 event_lines plan text = read_each (line_at plan) 0 (lines_of text)
 
--- the lines of a text, or None where one is bad
-abbrev pub lines_in : Plan → List ℕ → Option (List Line)
-lines_in plan text = all_of (line_of plan) (lines_of text)
+-- ---- one line after another
+
+-- what a line says, as the program reads it
+abbrev pub line_read : Result EventLine BadLine → Option Line
+line_read (Ok line) = Some (line_seen line)
+line_read (Err bad) = None
+
+-- what each line of a text says, None where it is a bad one
+abbrev pub lines_read : Plan → List ℕ → List (Option Line)
+lines_read plan text = map (line_of plan) (lines_of text)
+
+-- what lines say, or the number of the first bad one, counted from 1, the first line's place being i
+abbrev pub all_from : ℕ → List (Option Line) → Result (List Line) ℕ
+all_from i lines = read_each (λ place line. some_or line (place + 1)) i lines

@@ -1,6 +1,6 @@
 //! What a line of events says.
 
-ghost use Rattle.std.specs.Prelude.{◌≡◌, ◌≢◌, ◌++◌, ℕ, List, codes, option_map};
+ghost use Rattle.std.specs.Prelude.{◌≡◌, ◌≢◌, ◌++◌, ℕ, List, codes, option_map, MatchOption};
 ghost use Rattle.event_lines.specs.Number.{split_number_line};
 ghost use Rattle.event_lines.specs.EventLine.{line_seen};
 ghost use Rattle.event_lines.specs.EventLine as spec;
@@ -31,12 +31,20 @@ pub(crate) fn split_event_line<'a>(plan: &Plan, text: &'a [u8]) -> Option<(Event
         let (job, behind) = split_number_line(job)?;
         return Some((EventLine::Happens(Event::Job(job)), behind));
     }
-    if let Some(client) = text.strip_prefix(b"client ") {
+    if let Some(client) = behind_client(text) {
         let (client, behind) = split_number_line(client)?;
         return Some((EventLine::Happens(Event::Client(client)), behind));
     }
     let (line, behind) = split_line(text);
     Some((line_of_others(plan, line)?, behind))
+}
+
+/// What stands behind `client `. Of seven bytes at once the compiler makes vector instructions, at twice the cost.
+#[inline(always)]
+fn behind_client(text: &[u8]) -> Option<&[u8]>
+    ensures { MatchOption result ((rest : List ℕ) → text.now ≢ codes "client " ++ rest) (λ rest. text.now ≡ codes "client " ++ rest.now) }
+{
+    text.strip_prefix(b"clie")?.strip_prefix(b"nt ")
 }
 
 /// The number that the first line of a text writes, and what stands behind that line.

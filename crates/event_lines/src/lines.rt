@@ -1,63 +1,67 @@
 //! The lines of a text of events.
 
-ghost use Rattle.std.specs.Prelude.{◌≡◌, ◌≤◌, ◌∷◌, [], length, IfOk, MatchOption};
-ghost use Rattle.event_lines.specs.EventLine.{line_seen};
-ghost use Rattle.event_lines.specs.EventLine as spec;
+ghost use Rattle.std.specs.Prelude.{◌≡◌, ◌≤◌, ◌∷◌, [], length, MatchOption};
+ghost use Rattle.event_lines.specs.EventLine.{line_read, lines_read};
 
 use crate::event_line::{EventLine, split_event_line};
+use crate::pieces::split_line;
 use job_bodies::Plan;
 use std::marker::Model;
 
-/// Lines of events, each of which was read once and says something. [`next`](EventLines::next) reads them again, one
-/// after another, so that they need no room beside their text.
+/// Lines of events. [`next`](EventLines::next) reads them one after another, each once, so that they need no room beside
+/// their text.
 #[derive(Debug, Drop)]
 pub struct EventLines<'a> {
     plan: &'a Plan,
     rest: &'a [u8],
 }
 
+/// A line that is none of the forms of a line of events.
+#[derive(Clone, Copy, Debug, PartialEq, Eq)]
+pub struct BadLine;
+
 impl<'a> Model for EventLines<'a> {
-    ghost use Rattle.std.specs.Prelude.{List, IsSome};
-    ghost use Rattle.event_lines.specs.Words.{or_nothing};
-    ghost use Rattle.event_lines.specs.EventLine.{Line, lines_in};
+    ghost use Rattle.std.specs.Prelude.{List, Option};
+    ghost use Rattle.event_lines.specs.EventLine.{Line, lines_read};
 
-    ghost Value = { List Line };
+    ghost Value = { List (Option Line) };
 
-    ghost view = { λ l. or_nothing (lines_in l.plan.now l.rest.now) };
-
-    ghost invariant = { λ l. IsSome (lines_in l.plan.now l.rest.now) };
+    ghost view = { λ l. lines_read l.plan.now l.rest.now };
 }
 
 impl<'a> EventLines<'a> {
     /// The lines of a text, each `client N`, `job N`, `take POOL`, `retire POOL` or `stuck N N ..`. A number is at most
     /// [`MOST_NUMBER`](crate::MOST_NUMBER), and has no leading zero; a pool is one of the plan's, by its name. The last
     /// newline may be missing.
-    ///
-    /// # Errors
-    ///
-    /// The number of the first line that is none of these forms, counted from 1.
-    pub fn read(plan: &'a Plan, text: &'a [u8]) -> Result<EventLines<'a>, usize>
-        ensures lines { result ≡ spec.event_lines plan.now text.now }
-        ensures few { IfOk result (λ lines. length lines ≤ length text.now) }
+    pub fn new(plan: &'a Plan, text: &'a [u8]) -> EventLines<'a>
+        ensures lines { result ≡ lines_read plan.now text.now }
+        ensures few { length result ≤ length text.now }
     {
-        let mut rest = text;
-        let mut number = 0;
-        while !rest.is_empty() {
-            number += 1;
-            match split_event_line(plan, rest) {
-                Some((_, behind)) => rest = behind,
-                None => return Err(number),
-            }
-        }
-        Ok(EventLines { plan, rest: text })
+        EventLines { plan, rest: text }
     }
 
     /// The next line; None behind the last one.
-    pub fn next(&mut self) -> Option<EventLine<'a>>
-        ensures { MatchOption result ((self.old ≡ []) × (self.new ≡ [])) (λ line. self.old ≡ line_seen line ∷ self.new) }
+    ///
+    /// # Errors
+    ///
+    /// [`BadLine`] in the place of a line that is none of the forms. The lines behind it can be read.
+    #[inline(always)]
+    pub fn next(&mut self) -> Option<Result<EventLine<'a>, BadLine>>
+        ensures { MatchOption result ((self.old ≡ []) × (self.new ≡ [])) (λ line. self.old ≡ line_read line ∷ self.new) }
     {
-        let (line, behind) = split_event_line(self.plan, self.rest)?;
-        self.rest = behind;
-        Some(line)
+        if self.rest.is_empty() {
+            return None;
+        }
+        match split_event_line(self.plan, self.rest) {
+            Some((line, behind)) => {
+                self.rest = behind;
+                Some(Ok(line))
+            }
+            None => {
+                let (_, behind) = split_line(self.rest);
+                self.rest = behind;
+                Some(Err(BadLine))
+            }
+        }
     }
 }

@@ -1,4 +1,4 @@
-use Rattle.std.proofs.Common.{◌≡◌, ◌++◌, codes, Some, None, refl, sym, ◌∙◌}
+use Rattle.std.proofs.Common.{codes, Some, None, refl}
 use Rattle.std.proofs.lemmas.Bool.Decides.{Decides-eqb}
 use Rattle.std.proofs.lemmas.Slice.Eq.{strip_prefix_is}
 use Rattle.event_lines.proofs.Verbs.{take_line, retire_line, stuck_line, no_line}

@@ -1,20 +1,21 @@
 use Rattle.std.proofs.Common.{sym, ◌∙◌}
+use Rattle.std.proofs.lemmas.Bool.{eqb-true}
 use Rattle.event_lines.specs.EventLine.{line_seen}
-use Rattle.event_lines.proofs.LineByLine.{next_good, next_none}
+use Rattle.event_lines.proofs.Numbers.{not_zero}
+use Rattle.event_lines.proofs.LineByLine.{next_good, next_bad, none_left}
 use Rattle.event_lines.proofs.lines.EventLines.next.Goals as goal
 
-pub returns-in_err-line : goal.returns-in_err-line
-returns-in_err-line c =
-    let read = rw c.in_err-line.was at c.split_event_line.ensures in
-    let none = sym c.self.view_is ∙ next_none c.self.inside.plan.now c.self.inside.rest.now read c.self.invariant in
-    rw c.from_residual.ensures (none, none)
+pub returns-then-is_empty : goal.returns-then-is_empty
+returns-then-is_empty c =
+    let none = sym c.self.view_is ∙ none_left c.self.inside.plan.now c.self.inside.rest.now (eqb-true _ 0 (sym c.is_empty.ensures ∙ c.if-is_empty.true)) in
+    (none, none)
 
-pub invariant_of-self : goal.invariant_of-self
-invariant_of-self c =
-    let some = rw c.in_ok-line.was at c.split_event_line.ensures in
-    (next_good c.self.inside.plan.now c.self.inside.rest.now c.in_ok-line.behind.now (line_seen c.in_ok-line.line) some c.self.invariant).0
+pub returns-in-Some : goal.returns-in-Some
+returns-in-Some c =
+    sym c.self.view_is
+    ∙ next_good c.self.inside.plan.now c.self.inside.rest.now c.in-Some.behind.now (line_seen c.in-Some.line) (not_zero _ (sym c.is_empty.ensures ∙ c.if-is_empty.false)) c.in-Some.ensures
 
-pub returns : goal.returns
-returns c =
-    let some = rw c.in_ok-line.was at c.split_event_line.ensures in
-    sym c.self.view_is ∙ (next_good c.self.inside.plan.now c.self.inside.rest.now c.in_ok-line.behind.now (line_seen c.in_ok-line.line) some c.self.invariant).1
+pub returns-in-None : goal.returns-in-None
+returns-in-None c =
+    sym c.self.view_is
+    ∙ next_bad c.self.inside.plan.now c.self.inside.rest.now c.split_line.result.1.now (not_zero _ (sym c.is_empty.ensures ∙ c.if-is_empty.false)) c.in-None.ensures c.split_line.ensures.behind

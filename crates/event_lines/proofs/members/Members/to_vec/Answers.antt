@@ -1,4 +1,4 @@
-use Rattle.std.proofs.Common.{sym, ◌∙◌}
+use Rattle.std.proofs.Common.{sym}
 use Rattle.event_lines.proofs.WordByWord.{rest_shorter, front_begin, front_more, front_bad, front_last, front_last_bad}
 use Rattle.event_lines.proofs.members.Members.to_vec.Goals as goal
 use Rattle.event_lines.proofs.members.Members.to_vec.Goals.{in-Some-number_of-2+in_ok-push-2, in_default-number_of-2}
