@@ -33,7 +33,7 @@ abbrev pub replay_of_lines : Plan → Result (List Line) ℕ → Answer
 replay_of_lines plan (Err line) = bad_event line
 replay_of_lines plan (Ok lines) = transcript plan (start plan) 1 lines
 
--- the replay of the event lines on the plan, none of which happens before all are read
+-- the replay of the event lines on the plan, or the number of the first bad line, whatever comes of those before it
 abbrev pub replay : Plan → List ℕ → Answer
 replay plan second = if nat_lt MOST_EVENT_BYTES (length second) then input_too_long else replay_of_lines plan (event_lines plan second)
 

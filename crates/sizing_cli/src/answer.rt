@@ -99,7 +99,7 @@ pub fn too_large(alloc: Global) -> Result<Answer, AllocError>
 }
 
 /// The answer to event lines of which this one, counted from 1, is bad.
-pub fn bad_event(alloc: Global, line: usize) -> Result<Answer, AllocError>
+pub fn bad_event(alloc: Global, line: u64) -> Result<Answer, AllocError>
     ensures { IfOk result (λ answer. answer ≡ spec.bad_event line) }
 {
     fault(format!(in alloc; "{} at line {line}", Head(number::BAD_EVENT))?)

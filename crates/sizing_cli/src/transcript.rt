@@ -1,37 +1,43 @@
 //! The replay of event lines on a plan.
 
 ghost use Rattle.std.specs.Prelude.{◌≡◌, ◌<◌, ◌^◌, length, IfOk};
-ghost use Rattle.event_lines.specs.EventLine.{line_seen};
+ghost use Rattle.event_lines.specs.EventLine.{all_from, line_seen};
 ghost use Rattle.interleaving.specs.OfPlan.{IsOf};
-ghost use Rattle.written_machine.specs.Reach.{start};
-ghost use Rattle.sizing_cli.specs.Transcript as spec;
+ghost use Rattle.sizing_cli.specs.Report.{replay_of_lines};
 ghost use Rattle.sizing_cli.specs.SoFar.{IsEnded, RepliesSo};
+ghost use Rattle.sizing_cli.specs.Transcript as spec;
 
-use crate::answer::Answer;
+use crate::answer::{Answer, bad_event};
 use decimals::Counter;
 use event_lines::{EventLine, EventLines, Reply, push_summary};
 use interleaving::World;
 use job_bodies::Plan;
 use std::alloc::{AllocError, Global};
 
-/// Replays the lines from the plan's start, up to the first event that is not possible.
-pub fn transcript(
+/// Replays the lines from the plan's start, up to the first event that is not possible. Those behind it are only read.
+///
+/// A bad line is told in place of what came of the lines before it, so nothing is answered before all are read.
+pub fn replay_lines(
     alloc: Global,
     plan: &Plan,
     mut lines: EventLines<'_>,
 ) -> Result<Answer, AllocError>
     requires { length lines < 2 ^ 64 }
-    ensures { IfOk result (λ answer. answer ≡ spec.transcript plan.now (start plan.now) 1 lines.entry) }
+    ensures { IfOk result (λ answer. answer ≡ replay_of_lines plan.now (all_from 0 lines.entry)) }
 {
     let mut world = World::start(alloc, plan)?;
     let mut answer = Answer::empty(alloc);
     let mut number = Counter::new(alloc);
+    let mut is_over = false;
     while let Some(line) = lines.next() {
         number.count()?;
-        let reply = reply_to(alloc, &mut world, plan, line)?;
-        answer.push_reply(plan, &number, reply)?;
-        if is_last(reply) {
-            return ended(answer, &world);
+        let Ok(line) = line else {
+            return bad_event(alloc, number.get());
+        };
+        if !is_over {
+            let reply = reply_to(alloc, &mut world, plan, line)?;
+            answer.push_reply(plan, &number, reply)?;
+            is_over = is_last(reply);
         }
     }
     ended(answer, &world)
