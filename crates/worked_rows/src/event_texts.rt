@@ -1,7 +1,7 @@
 //! Texts of events, and the lines that answer them.
 
 use decimals::Counter;
-use event_lines::{EventLine, EventLines, Reply, push_reply, push_summary};
+use event_lines::{BadLine, EventLine, EventLines, Reply, push_reply, push_summary};
 use job_bodies::{Plan, Pool};
 use std::alloc::Global;
 use std::test::Fail;
@@ -21,14 +21,12 @@ fn plan_of_p_and_q(alloc: Global) -> Result<Plan, Fail> {
     Ok(Plan::build(alloc, pools, Vec::new(alloc), Vec::new(alloc))?)
 }
 
-/// Each form of line is read. A line of none of them is told by its number.
+/// Each form of line is read. A line of none of them is told in its place, and the lines around it are read.
 #[test]
 fn lines_that_are_read(rt: HostRuntime) -> Result<(), Fail> {
     let plan = plan_of_p_and_q(rt.alloc())?;
     let text = b"client 0\njob 1000000000\ntake q\nretire p\nstuck 0 1";
-    let Ok(mut lines) = EventLines::read(&plan, text) else {
-        return Err(Fail::from("a line is bad"));
-    };
+    let mut lines = EventLines::new(&plan, text);
     let events = [
         Event::Client(0),
         Event::Job(1_000_000_000),
@@ -37,14 +35,14 @@ fn lines_that_are_read(rt: HostRuntime) -> Result<(), Fail> {
     ];
     for event in events {
         let line = lines.next();
-        assert!(rt; matches!(line, Some(EventLine::Happens(happens)) if happens == event));
+        assert!(rt; matches!(line, Some(Ok(EventLine::Happens(happens))) if happens == event));
     }
-    let Some(EventLine::Stuck(members)) = lines.next() else {
+    let Some(Ok(EventLine::Stuck(members))) = lines.next() else {
         return Err(Fail::from("the line asks nothing"));
     };
     assert_eq!(rt; members.to_vec(rt.alloc())?.as_slice(), [0, 1].as_slice());
     assert!(rt; lines.next().is_none());
-    assert!(rt; matches!(EventLines::read(&plan, b""), Ok(_)));
+    assert!(rt; EventLines::new(&plan, b"").next().is_none());
     let bad_lines = [
         "",
         "client",
@@ -63,8 +61,11 @@ fn lines_that_are_read(rt: HostRuntime) -> Result<(), Fail> {
     ];
     for line in bad_lines {
         let text = format!(in rt.alloc(); "client 0\n{line}\nclient 0\n")?;
-        let answer = EventLines::read(&plan, text.as_bytes());
-        assert!(rt; matches!(answer, Err(2)), "{line}");
+        let mut lines = EventLines::new(&plan, text.as_bytes());
+        assert!(rt; matches!(lines.next(), Some(Ok(_))), "{line}");
+        assert!(rt; matches!(lines.next(), Some(Err(BadLine))), "{line}");
+        assert!(rt; matches!(lines.next(), Some(Ok(_))), "{line}");
+        assert!(rt; lines.next().is_none(), "{line}");
     }
     Ok(())
 }
