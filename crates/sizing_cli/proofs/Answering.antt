@@ -1,5 +1,5 @@
 -- An answer so far, line by line.
-use Rattle.std.proofs.Common.{◌≡◌, ℕ, ◌+◌, Bool, false, if◌then◌else◌, cond, List, [], ◌∷◌, ◌++◌, length, Option, Some, None, Result, Ok, Err, refl, sym, ap, ap₂, ◌∙◌, append_assoc, arith}
+use Rattle.std.proofs.Common.{◌≡◌, ℕ, ◌+◌, Bool, true, false, if◌then◌else◌, cond, List, [], ◌∷◌, ◌++◌, length, Option, Some, None, Result, Ok, Err, IfOk, refl, sym, ap, ap₂, ◌∙◌, append_assoc, arith}
 use Rattle.readings.specs.Reading.{◌>>=◌}
 use Rattle.job_bodies.specs.Plan.{Plan}
 use Rattle.written_machine.specs.declared.event.Event.{Event}
@@ -17,7 +17,7 @@ use Rattle.sizing_cli.specs.declared.status.Status.TheVariants.{Done, Refused, B
 use Rattle.sizing_cli.specs.Answer.{Answer, then_status, followed_by, bad_event}
 use Rattle.sizing_cli.specs.Transcript.{is_last, replied, happened, ending, reply_to, transcript}
 use Rattle.sizing_cli.specs.Report.{replay_of_lines}
-use Rattle.sizing_cli.specs.SoFar.{RepliesIn, RepliesSo}
+use Rattle.sizing_cli.specs.SoFar.{IsEnded, RepliesIn, RepliesSo}
 
 -- ---- the states that are reached
 
@@ -105,3 +105,20 @@ so_far_replied plan lines left rest before after old new number is_over reply li
           ∙ so_far.whole;
       count = omega (arith, so_far.count, ap (λ (ls : List (Option Line)). length ls) next);
     }
+
+-- no line is left
+pub so_far_ended : (plan : Plan) (lines left : List (Option Line)) (world : View) (answer whole : Answer) (number : ℕ) (is_over : Bool) → left ≡ []
+    → IsSoFar plan lines world answer number is_over left → IsEnded world answer whole → whole ≡ replay_of_lines plan (all_from 0 lines)
+so_far_ended plan lines left world answer whole number is_over none so_far ended =
+    ended plan so_far.state so_far.reached so_far.live
+    ∙ sym (nothing_more is_over)
+    ∙ sym (ap (λ (ls : List (Option Line)). replay_behind plan so_far.state answer number is_over (all_from number ls)) none)
+    ∙ so_far.whole
+  where
+    nothing_more : (over : Bool) → replay_behind plan so_far.state answer number over (Ok []) ≡ followed_by answer (ending so_far.state)
+    nothing_more true = refl
+    nothing_more false = refl
+
+pub if_ok_map : {T E : Type 0} (result : Result T E) (P Q : T → Type 0) → ((x : T) → P x → Q x) → IfOk result P → IfOk result Q
+if_ok_map (Ok x) P Q f h = f x h
+if_ok_map (Err e) P Q f h = h

@@ -1,4 +1,4 @@
-use Rattle.sizing_cli.proofs.Answering.{so_far_start, so_far_replied}
+use Rattle.sizing_cli.proofs.Answering.{so_far_start, so_far_replied, so_far_ended, if_ok_map}
 use Rattle.sizing_cli.proofs.transcript.replay_lines.Goals as goal
 
 pub loop-line-init : goal.loop-line-init
@@ -12,3 +12,9 @@ loop-line-preserved-then-not-is_over c =
     rw (c.in_ok-count.ensures.counted, c.is_last-is_over.ensures)
     (so_far_replied c.args.plan.now c.args.lines c.loop-line.lines c.next.new.self c.loop-line.world.view c.reply_to.new.world.view c.loop-line.answer c.push_reply.new.self c.loop-line.number c.loop-line.is_over
     c.in_ok-reply.reply _ next c.if-not-is_over.true c.loop-line.invariant c.in_ok-reply.ensures pushed)
+
+pub returns : goal.returns
+returns c =
+    if_ok_map c.ended.result _ _
+    (λ whole ended. so_far_ended c.args.plan.now c.args.lines c.loop-line.lines c.loop-line.world.view c.loop-line.answer whole c.loop-line.number c.loop-line.is_over c.in_default.ensures.0 c.loop-line.invariant ended)
+    c.ended.ensures
