@@ -1,8 +1,8 @@
 -- A plan is fitted, or there is a reason why not.
-use Rattle.std.proofs.Common.{◌≡◌, ◌≤◌, ◌<◌, ◌+◌, ℕ, zero, suc, Bool, true, false, cond, not, ◌&&◌, ◌||◌, ltb, List, [], ◌∷◌, length, get_or, Option, Some, None, refl, sym, ap, ap₂, subst, ◌∙◌, arith}
+use Rattle.std.proofs.Common.{◌≡◌, ◌≤◌, ◌<◌, ◌+◌, ◌⊎◌, ℕ, zero, suc, inl, inr, Bool, true, false, cond, not, ◌&&◌, ◌||◌, ltb, List, [], ◌∷◌, length, get_or, Option, Some, None, refl, sym, ap, ap₂, subst, ◌∙◌, arith}
 use Rattle.std.specs.List.{enumerate_from, find, list_all}
 use Rattle.std.specs.Option.{option_or, option_map}
-use Rattle.std.proofs.lemmas.Bool.{and_parts, and_from, ltb-false, le-ltb, false_from_ne_true}
+use Rattle.std.proofs.lemmas.Bool.{and_parts, and_from, ltb-true, ltb-false, le-ltb, false_from_ne_true}
 use Rattle.numbered_lists.proofs.Members.{list_all_at_In, In-get_or}
 use Rattle.job_bodies.specs.declared.limits.TheConstants.{MOST_UNITS}
 use Rattle.job_bodies.specs.Plan.{Pool, Plan, no_pool, pool_at}
@@ -14,10 +14,10 @@ use Rattle.fitted_sizes.specs.declared.unfit.Unfit.{Unfit}
 use Rattle.fitted_sizes.specs.declared.unfit.Unfit.TheVariants.{Shape, Condition, Core, Queue}
 use Rattle.fitted_sizes.specs.Fitted.{is_total, raised, fails_only_at_totals, fitted, IsLeastFit, NoneFits}
 use Rattle.fitted_sizes.specs.Widened.{widened, NoneFitsWide}
-use Rattle.fitted_sizes.specs.Unfit.{failing_elsewhere, first_unfit, unfit_pool, why_unfit, why_not_widened}
+use Rattle.fitted_sizes.specs.Unfit.{failing_elsewhere, first_unfit, unfit_pool, why_unfit, why_not_widened, ToldCoresNeedLargerMaxes}
 use Rattle.fitted_sizes.proofs.Changes.{HasSizes, has_sizes, lawful_from_sizes, sized_from_places, sizes_at, well_formed_changed}
-use Rattle.fitted_sizes.proofs.LeastSizes.{has_shape, raised-shape, raised_no_smaller, raised_is_well_formed, fitted_from, least_fit, none_fits}
-use Rattle.fitted_sizes.proofs.LeastMaxes.{length-widened, widened-outline, widened_at, wide_fit_fits, wide_fit_has_room}
+use Rattle.fitted_sizes.proofs.LeastSizes.{has_shape, raised-shape, raised_at, raised_no_smaller, raised_is_well_formed, fitted_from, least_fit, none_fits}
+use Rattle.fitted_sizes.proofs.LeastMaxes.{length-widened, widened-outline, widened_at, wide_fit_fits, wide_fit_has_room, widened_maxes_are_least}
 
 -- ---- the first reason
 
@@ -206,3 +206,72 @@ none_fits_where_not_widened plan cert unfit well some other fits =
     let no_reason : why_not_widened plan cert ≡ None =
     ap (λ (fit : Bool). cond fit (first_unfit (enumerate_from 0 pools)) (Some Shape)) (wide_fit_fits plan other cert fits) ∙ none in
     absurd cc
+
+-- ---- a core that is told
+
+-- it is that of the pool, whose core is above max, or whose max is above the limit
+record IsAbove (p : ℕ) (pool : Pool) (told : ℕ) : Type 0 where
+  number : p ≡ told
+  above : (pool.max < pool.core) ⊎ (MOST_UNITS < pool.max)
+
+core_above : (p : ℕ) (pool : Pool) (told : ℕ) → unfit_pool p pool ≡ Some (Core told) → IsAbove p pool told
+core_above p pool told some = at_tests (ltb pool.max pool.core) refl (ltb MOST_UNITS pool.max) refl (ltb MOST_UNITS pool.queue) some
+  where
+    at_tests : (a : Bool) → ltb pool.max pool.core ≡ a → (b : Bool) → ltb MOST_UNITS pool.max ≡ b → (d : Bool)
+        → cond (a || b) (Some (Core p)) (cond d (Some (Queue p)) None) ≡ Some (Core told) → IsAbove p pool told
+    at_tests true is b more d e = record { number = cc; above = inl (ltb-true pool.max pool.core is) }
+    at_tests false is true more d e = record { number = cc; above = inr (ltb-true MOST_UNITS pool.max more) }
+    at_tests false is false more true e = absurd cc
+    at_tests false is false more false e = absurd cc
+
+-- the pool at this place of the list has it
+record IsToldAt (n : ℕ) (pools : List Pool) (told : ℕ) : Type 0 where
+  place : ℕ
+  inside : place < length pools
+  is_above : IsAbove (n + place) (get_or pools place no_pool) told
+
+told_at : (n : ℕ) (pools : List Pool) (told : ℕ) → first_unfit (enumerate_from n pools) ≡ Some (Core told) → IsToldAt n pools told
+told_at n [] told some = absurd cc
+told_at n (pool ∷ pools) told some = at_first (unfit_pool n pool) refl (λ rest. told_at (n + 1) pools told rest) some
+  where
+    first_place : n ≡ n + 0
+    first_place = omega arith
+
+    next_place : (i : ℕ) → n + 1 + i ≡ n + suc i
+    next_place i = omega arith
+
+    at_first : (found : Option Unfit) → unfit_pool n pool ≡ found → (first_unfit (enumerate_from (n + 1) pools) ≡ Some (Core told) → IsToldAt (n + 1) pools told)
+        → option_or found (first_unfit (enumerate_from (n + 1) pools)) ≡ Some (Core told) → IsToldAt n (pool ∷ pools) told
+    at_first None none rest e =
+        let later = rest e in
+        record {
+          place = suc later.place;
+          inside = omega (arith, later.inside);
+          is_above = subst (λ (j : ℕ). IsAbove j (get_or pools later.place no_pool) told) (next_place later.place) later.is_above;
+        }
+    at_first (Some unfit) is rest e =
+        record { place = 0; inside = omega arith; is_above = subst (λ (j : ℕ). IsAbove j pool told) first_place (core_above n pool told (is ∙ e)) }
+
+-- it comes of the sizes
+of_sizes : (fits : Bool) (found : Option Note) (sizes : Option Unfit) (told : ℕ) → cond fits (option_or (option_map Condition found) sizes) (Some Shape) ≡ Some (Core told) → sizes ≡ Some (Core told)
+of_sizes true None sizes told some = some
+of_sizes true (Some note) sizes told some = absurd cc
+of_sizes false found sizes told some = absurd cc
+
+-- so more core than max is needed there
+pub told_cores_need_larger_maxes : ToldCoresNeedLargerMaxes
+told_cores_need_larger_maxes plan other cert p well some fits =
+    let pools = (raised plan cert).pools in
+    let told = told_at 0 pools p (of_sizes (cert_fits plan cert) (failing_elsewhere plan cert) (first_unfit (enumerate_from 0 pools)) p some) in
+    let at : told.place ≡ p = omega (arith, told.is_above.number) in
+    let inside : p < length plan.pools = omega (arith, told.inside, (has_shape plan (raised plan cert) (raised-shape plan cert)).as_many) in
+    let is = raised_at plan cert p inside in
+    let core = ap (λ (pool : Pool). pool.core) is in
+    let max = ap (λ (pool : Pool). pool.max) is in
+    let wide = ap (λ (pool : Pool). pool.max) (widened_at plan cert p inside) in
+    let declared = sizes_at plan p well inside in
+    let least = (widened_maxes_are_least.maxes plan other cert fits).no_smaller_max p in
+    elim (subst (λ (i : ℕ). ((get_or pools i no_pool).max < (get_or pools i no_pool).core) ⊎ (MOST_UNITS < (get_or pools i no_pool).max)) at told.is_above.above) [
+      | inl above ↦ omega (arith, above, declared.max)
+      | inr above ↦ absurd (omega (arith, above, declared.most_max))
+    ]

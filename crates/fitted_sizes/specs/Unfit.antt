@@ -1,16 +1,17 @@
 -- Why no cores and queues, or no maxes, make a plan what it is raised to.
-use Rattle.std.specs.Prelude.{ℕ, not, ◌||◌, nat_lt, if◌then◌else◌, List, [], ◌∷◌, Option, Some, None}
+use Rattle.std.specs.Prelude.{◌≡◌, ◌<◌, ℕ, not, ◌||◌, nat_lt, if◌then◌else◌, List, [], ◌∷◌, Option, Some, None}
 use Rattle.std.specs.List.{enumerate_from, find}
 use Rattle.std.specs.Option.{option_or, option_map}
 use Rattle.job_bodies.specs.declared.limits.TheConstants.{MOST_UNITS}
-use Rattle.job_bodies.specs.Plan.{Pool, Plan}
+use Rattle.job_bodies.specs.Plan.{Pool, Plan, pool_at}
+use Rattle.job_bodies.specs.WellFormed.{IsWellFormed}
 use Rattle.certificates.specs.Cert.{Cert, cert_fits}
 use Rattle.headline.specs.declared.note.Note.{Note}
 use Rattle.headline.specs.Conditions.{failing}
 use Rattle.fitted_sizes.specs.declared.unfit.Unfit.{Unfit}
 use Rattle.fitted_sizes.specs.declared.unfit.Unfit.TheVariants.{Shape, Condition, Core, Queue}
 use Rattle.fitted_sizes.specs.Fitted.{is_total, raised}
-use Rattle.fitted_sizes.specs.Widened.{widened}
+use Rattle.fitted_sizes.specs.Widened.{widened, IsWideFit}
 
 -- the first condition that fails and that no core and no queue changes
 abbrev pub failing_elsewhere : Plan → Cert → Option Note
@@ -35,3 +36,7 @@ why_unfit plan cert =
 -- why the plan is not widened
 abbrev pub why_not_widened : Plan → Cert → Option Unfit
 why_not_widened plan cert = if cert_fits plan cert then first_unfit (enumerate_from 0 (widened plan cert).pools) else Some Shape
+
+-- where a core is told, all sizes with which the certificate accepts the plan have a larger max there
+abbrev pub ToldCoresNeedLargerMaxes : Type 0
+ToldCoresNeedLargerMaxes = (plan other : Plan) (cert : Cert) (p : ℕ) → IsWellFormed plan → why_unfit plan cert ≡ Some (Core p) → IsWideFit plan cert other → (pool_at plan p).max < (pool_at other p).max

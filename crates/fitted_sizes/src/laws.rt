@@ -2,6 +2,7 @@
 
 ghost use Rattle.fitted_sizes.specs.Fitted.{FittedSizesAreLeast, AcceptedPlansFit, LargerSizesAreAccepted, SmallestFitIsLeast};
 ghost use Rattle.fitted_sizes.specs.Widened.{WidenedMaxesAreLeast};
+ghost use Rattle.fitted_sizes.specs.Unfit.{ToldCoresNeedLargerMaxes};
 
 /// A certificate accepts the fitted plan, which differs from its plan in larger cores and queues alone; no other such plan
 /// that it accepts has a smaller core or queue; and where there is no fitted plan, there is no such plan.
@@ -29,4 +30,10 @@ pub fn smallest_fit_is_least()
 /// least those that the certificate needs with the plan's maximums, and so the maximums are at least the widened ones.
 pub fn widened_maxes_are_least()
     ensures { WidenedMaxesAreLeast }
+{}
+
+/// Where a plan is not fitted for the core of a pool, that pool has a larger maximum in all sizes with which the certificate
+/// accepts the plan, and whose maximums are no smaller than the plan's.
+pub fn told_cores_need_larger_maxes()
+    ensures { ToldCoresNeedLargerMaxes }
 {}

@@ -13,7 +13,7 @@ mod wide;
 pub use fit::{fitted, smallest};
 pub use laws::{
     accepted_plans_fit, fitted_sizes_are_least, larger_sizes_are_accepted, smallest_fit_is_least,
-    widened_maxes_are_least,
+    told_cores_need_larger_maxes, widened_maxes_are_least,
 };
 pub use resized::copied;
 pub use unfit::Unfit;

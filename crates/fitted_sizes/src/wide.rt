@@ -42,7 +42,6 @@ fn widened_pools(alloc: Global, plan: &Plan, cert: &Cert) -> Result<Vec<Pool>, A
 /// The plan with each maximum that is below the core that the certificate needs raised to it, which leaves room for that
 /// core. No maximum is raised without need: all sizes with which the certificate accepts the plan, and whose maximums are no
 /// smaller than the plan's, have at least these maximums. Where the totals grow by that, the certificate may need more.
-
 ///
 /// Where the certificate has another shape than the plan, or a core above 1,000,000 is needed, there are no such sizes, and
 /// it says why.

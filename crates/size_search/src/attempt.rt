@@ -18,7 +18,7 @@ pub(crate) struct Attempt {
     pub(crate) rooms: Vec<Room>,
     /// By how much the plan's sizes have to grow, all together.
     pub(crate) cost: u64,
-    /// How many pools there were to choose from where first none had core enough.
+    /// The most pools that there were to choose from in a round where none had core enough, before rounds began again.
     pub(crate) choices: usize,
 }
 

@@ -18,7 +18,6 @@ pub enum SizesFound {
 
 /// Why no sizes were found. That the first three hold of the plan is proved. They say no more: a plan may be safe for which
 /// there is no certificate. Of the others it is proved that the pool is one of the plan's.
-
 #[derive(Clone, Copy, Debug, PartialEq, Eq)]
 pub enum NoSizes {
     /// The class of this number submits itself, at whatever remove.

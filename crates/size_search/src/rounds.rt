@@ -16,7 +16,7 @@ pub(crate) struct Placing {
     pub(crate) placed: Vec<Option<(u64, Look)>>,
     /// Whether a maximum has grown.
     pub(crate) has_widened: bool,
-    /// How many pools there were to choose from where first none had core enough; 0 where there was always one.
+    /// The most pools that there were to choose from in a round where none had core enough; 0 where there was always one.
     pub(crate) choices: usize,
 }
 

@@ -32,7 +32,6 @@ const FURTHER_ATTEMPTS: usize = 3;
 /// That the certificate accepts the plan of these sizes is proved. So is that for this certificate, of sizes that are no
 /// smaller than declared, no smaller maximum and no smaller core would do, nor with these maximums a smaller queue, and that a
 /// maximum that grows is its core. Larger maximums may save queue, and another certificate may need less.
-
 ///
 /// # Errors
 ///

@@ -30,7 +30,6 @@ pub(crate) fn settled(
 
 /// The plan with maximums that are widened until they leave room for each core. A wider pool can need another one to be wider.
 /// Where that takes more turns than there are pools, it comes round to a pool again, and no sizes are enough.
-
 fn widest(alloc: Global, plan: &Plan, cert: &Cert) -> Result<Result<Plan, Unfit>, AllocError>
     ensures { IfOk result (λ answer. IfOk answer (IsLeastWide plan.now cert.now)) }
 {

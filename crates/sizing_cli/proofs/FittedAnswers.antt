@@ -12,7 +12,10 @@ use Rattle.cert_text.specs.CertText.{cert_text}
 use Rattle.headline.specs.Accepted.{accepted}
 use Rattle.headline.proofs.Theorem.{promises}
 use Rattle.cert_check.proofs.Yes.{plans_read_are_well_formed}
-use Rattle.size_search.specs.Sized.{IsSized}
+use Rattle.size_search.specs.declared.found.NoSizes.TheVariants.{Unknown}
+use Rattle.size_search.specs.declared.found.SizesFound.{SizesFound}
+use Rattle.size_search.specs.declared.found.SizesFound.TheVariants.{Found, NotFound}
+use Rattle.size_search.specs.Sized.{IsSized, IsFound}
 use Rattle.size_lines.specs.Sizes.{changes}
 use Rattle.size_lines.proofs.Unchanged.{unchanged}
 use Rattle.command_line.specs.declared.command.Wanted.TheVariants.{Sizes, Bundle}
@@ -20,7 +23,8 @@ use Rattle.sizing_cli.specs.declared.limits.TheConstants.{MOST_INPUT_BYTES}
 use Rattle.sizing_cli.specs.declared.status.Status.TheVariants.{Done, Refused, BadText}
 use Rattle.sizing_cli.specs.Answer.{Answer, yes_or_no, input_too_long}
 use Rattle.sizing_cli.specs.SafeInput.{IsSafePlan}
-use Rattle.sizing_cli.specs.Fit.{IsTooLong, no_sizes_answer, text_too_long, IsFittedBundle, AnswersPlan, AnswersReading, IsFitAnswer}
+use Rattle.sizing_cli.specs.Certify.{HasLongText}
+use Rattle.sizing_cli.specs.Fit.{no_sizes_answer, text_too_long, AnswersFound, AnswersReading, IsFitAnswer, IsFittedBundle}
 use Rattle.sizing_cli.proofs.SafeInputs.{yes_from_done}
 
 -- an answer with another status is none
@@ -39,10 +43,9 @@ sized_as_it_is : (plan fit : Plan) (cert : Cert) → IsSized plan cert fit → c
 sized_as_it_is plan fit cert sized none =
     subst (λ (p : Plan). IsTrue (accepted p cert)) (unchanged plan fit sized.fits.same_outline none) sized.fits.accepts
 
--- where the text of the certificate is too long
-pub too_long_by_cert : (plan fit : Plan) (cert : Cert) (text : List ℕ) → IsSized plan cert fit → text ≡ cert_text cert → MOST_TEXT_BYTES ≤ length text → IsTooLong plan
-too_long_by_cert plan fit cert text sized is long =
-    record { cert = cert; fit = fit; is_sized = sized; long = inr (subst (λ (t : List ℕ). MOST_TEXT_BYTES < length (t ++ 10 ∷ [])) is (longer text long)) }
+-- the text of a certificate that is as long as one may be is too long with its newline
+pub long_with_newline : (cert : Cert) (text : List ℕ) → text ≡ cert_text cert → MOST_TEXT_BYTES ≤ length text → HasLongText cert
+long_with_newline cert text is long = subst (λ (t : List ℕ). MOST_TEXT_BYTES < length (t ++ 10 ∷ [])) is (longer text long)
   where
     longer : (t : List ℕ) → MOST_TEXT_BYTES ≤ length t → MOST_TEXT_BYTES < length (t ++ 10 ∷ [])
     longer t long = omega (arith, long, length-append t (10 ∷ []))
@@ -50,21 +53,21 @@ too_long_by_cert plan fit cert text sized is long =
 pub sizes_mean_safe : (input : List ℕ) (answer : Answer) → IsFitAnswer Sizes input answer → answer.status ≡ Done → IsSafePlan input
 sizes_mean_safe input answer is done = by_length (nat_lt MOST_INPUT_BYTES (length input)) is
   where
-    by_answer : (plan : Plan) → plan_of input ≡ Ok plan → AnswersPlan Sizes plan answer → IsSafePlan input
-    by_answer plan is_plan (inl told) = absurd (refused_is_not_done answer (no_sizes_answer plan told.cause) told.answer_is refl done)
-    by_answer plan is_plan (inr told) =
-        let yes : yes_or_no (changes plan told.fit == 0) ≡ Done = sym (ap (λ (a : Answer). a.status) told.answer_is) ∙ done in
-        let none : changes plan told.fit ≡ 0 = eqb-true (changes plan told.fit) 0 (yes_from_done (changes plan told.fit == 0) yes) in
+    by_found : (plan : Plan) → plan_of input ≡ Ok plan → (found : SizesFound) → IsFound plan found → AnswersFound Sizes plan found answer → IsSafePlan input
+    by_found plan is_plan (NotFound cause) is_cause is = absurd (refused_is_not_done answer (no_sizes_answer plan cause) is refl done)
+    by_found plan is_plan (Found fit cert) sized is =
+        let yes : yes_or_no (changes plan fit == 0) ≡ Done = sym (ap (λ (a : Answer). a.status) is) ∙ done in
+        let none : changes plan fit ≡ 0 = eqb-true (changes plan fit) 0 (yes_from_done (changes plan fit == 0) yes) in
         record {
           plan = plan;
           is_plan = is_plan;
-          cert = told.cert;
-          promises = promises plan told.cert (plans_read_are_well_formed input plan is_plan) (sized_as_it_is plan told.fit told.cert told.is_sized none);
+          cert = cert;
+          promises = promises plan cert (plans_read_are_well_formed input plan is_plan) (sized_as_it_is plan fit cert sized none);
         }
 
     by_plan : (read : Result Plan PlanFault) → plan_of input ≡ read → AnswersReading Sizes read answer → IsSafePlan input
     by_plan (Err fault) is_fault bad = absurd (bad_text_is_not_done answer _ bad refl done)
-    by_plan (Ok plan) is_plan answers = by_answer plan is_plan answers
+    by_plan (Ok plan) is_plan answers = by_found plan is_plan answers.found answers.is_found answers.answers
 
     by_length : (long : Bool) → MatchBool long (answer ≡ input_too_long) (AnswersReading Sizes (plan_of input) answer) → IsSafePlan input
     by_length true too_long = absurd (bad_text_is_not_done answer input_too_long too_long refl done)
@@ -79,14 +82,16 @@ pub record IsFittedTo (input text : List ℕ) : Type 0 where
 pub bundle_means_fitted : (input : List ℕ) (answer : Answer) → IsFitAnswer Bundle input answer → answer.status ≡ Done → IsFittedTo input answer.text
 bundle_means_fitted input answer is done = by_length (nat_lt MOST_INPUT_BYTES (length input)) is
   where
-    by_answer : (plan : Plan) → plan_of input ≡ Ok plan → AnswersPlan Bundle plan answer → IsFittedTo input answer.text
-    by_answer plan is_plan (inl told) = absurd (refused_is_not_done answer (no_sizes_answer plan told.cause) told.answer_is refl done)
-    by_answer plan is_plan (inr (inl told)) = absurd (refused_is_not_done answer text_too_long told.0 refl done)
-    by_answer plan is_plan (inr (inr fitted)) = record { plan = plan; is_plan = is_plan; bundle = fitted.bundle }
+    by_found : (plan : Plan) → plan_of input ≡ Ok plan → (found : SizesFound) → IsFound plan found → AnswersFound Bundle plan found answer → IsFittedTo input answer.text
+    by_found plan is_plan (NotFound cause) is_cause is = absurd (refused_is_not_done answer (no_sizes_answer plan cause) is refl done)
+    by_found plan is_plan (Found fit cert) sized (inl none) = absurd (refused_is_not_done answer (no_sizes_answer plan Unknown) none refl done)
+    by_found plan is_plan (Found fit cert) sized (inr (inl long)) = absurd (refused_is_not_done answer text_too_long long.0 refl done)
+    by_found plan is_plan (Found fit cert) sized (inr (inr bundled)) =
+        record { plan = plan; is_plan = is_plan; bundle = record { cert = cert; fit = fit; is_sized = sized; bundle = bundled.bundle } }
 
     by_plan : (read : Result Plan PlanFault) → plan_of input ≡ read → AnswersReading Bundle read answer → IsFittedTo input answer.text
     by_plan (Err fault) is_fault bad = absurd (bad_text_is_not_done answer _ bad refl done)
-    by_plan (Ok plan) is_plan answers = by_answer plan is_plan answers
+    by_plan (Ok plan) is_plan answers = by_found plan is_plan answers.found answers.is_found answers.answers
 
     by_length : (long : Bool) → MatchBool long (answer ≡ input_too_long) (AnswersReading Bundle (plan_of input) answer) → IsFittedTo input answer.text
     by_length true too_long = absurd (bad_text_is_not_done answer input_too_long too_long refl done)

@@ -9,8 +9,10 @@ use Rattle.plan_writer.specs.PlanDocument.{IsPlanText}
 use Rattle.certificates.specs.Cert.{Cert}
 use Rattle.cert_text.specs.CertText.{cert_text}
 use Rattle.size_search.specs.declared.found.NoSizes.{NoSizes}
-use Rattle.size_search.specs.Submitted.{IsCause}
-use Rattle.size_search.specs.Sized.{IsSized}
+use Rattle.size_search.specs.declared.found.NoSizes.TheVariants.{Unknown}
+use Rattle.size_search.specs.declared.found.SizesFound.{SizesFound}
+use Rattle.size_search.specs.declared.found.SizesFound.TheVariants.{Found, NotFound}
+use Rattle.size_search.specs.Sized.{IsSized, IsFound}
 use Rattle.size_lines.specs.Sizes.{changes, sizes_text}
 use Rattle.size_lines.specs.Cause.{no_sizes_text}
 use Rattle.command_line.specs.declared.command.Wanted.{Wanted}
@@ -30,33 +32,10 @@ no_sizes_answer plan cause = record { text = no_sizes_text plan cause; status = 
 abbrev pub text_too_long : Answer
 text_too_long = record { text = codes "no bundle: text too long" ++ 10 ∷ []; status = Refused }
 
--- none are found, and what the answer says of the plan holds
-pub record TellsCause (plan : Plan) (answer : Answer) : Type 0 where
-  pub cause : NoSizes
-  pub is_cause : IsCause plan cause
-  pub answer_is : answer ≡ no_sizes_answer plan cause
-
--- a certificate accepts the plan of these sizes, and they are the least for it
-pub record TellsSizes (plan : Plan) (answer : Answer) : Type 0 where
-  pub cert : Cert
-  pub fit : Plan
-  pub is_sized : IsSized plan cert fit
-  pub answer_is : answer ≡ sizes_answer plan fit
-
--- the bundle of the text of the plan of such sizes, as it is written, and of the certificate for which they are the least:
--- `check` says yes to it
-pub record IsFittedBundle (plan : Plan) (text : List ℕ) : Type 0 where
-  pub cert : Cert
-  pub fit : Plan
-  pub is_sized : IsSized plan cert fit
-  pub fit_text : List ℕ
-  pub is_text : IsPlanText fit fit_text
-  pub is_fit : plan_of fit_text ≡ Ok fit
-  pub bundle : IsBundleWith fit_text (cert_text cert ++ 10 ∷ []) text
-
-pub record IsFitted (plan : Plan) (answer : Answer) : Type 0 where
-  pub bundle : IsFittedBundle plan answer.text
-  pub status : answer.status ≡ Done
+-- what is told of what the search found
+abbrev pub told : Plan → SizesFound → Answer
+told plan (Found fit cert) = sizes_answer plan fit
+told plan (NotFound cause) = no_sizes_answer plan cause
 
 -- a text of the plan, as one that is written, is too long to be read
 pub record HasLongPlanText (plan : Plan) : Type 0 where
@@ -64,17 +43,34 @@ pub record HasLongPlanText (plan : Plan) : Type 0 where
   pub is_text : IsPlanText plan text
   pub long : MOST_TEXT_BYTES < length text
 
--- a certificate accepts the plan of such sizes, and a text of that plan is too long, or the certificate's is
-pub record IsTooLong (plan : Plan) : Type 0 where
-  pub cert : Cert
-  pub fit : Plan
-  pub is_sized : IsSized plan cert fit
-  pub long : HasLongPlanText fit ⊎ HasLongText cert
+-- the bundle of the text of the fitted plan, as it is written, and of the certificate: `check` says yes to it
+pub record IsBundleOf (fit : Plan) (cert : Cert) (text : List ℕ) : Type 0 where
+  pub fit_text : List ℕ
+  pub is_text : IsPlanText fit fit_text
+  pub is_fit : plan_of fit_text ≡ Ok fit
+  pub bundle : IsBundleWith fit_text (cert_text cert ++ 10 ∷ []) text
 
--- to a plan
-abbrev pub AnswersPlan : Wanted → Plan → Answer → Type 0
-AnswersPlan Sizes plan answer = TellsCause plan answer ⊎ TellsSizes plan answer
-AnswersPlan Bundle plan answer = TellsCause plan answer ⊎ (((answer ≡ text_too_long) × IsTooLong plan) ⊎ IsFitted plan answer)
+pub record IsBundled (fit : Plan) (cert : Cert) (answer : Answer) : Type 0 where
+  pub bundle : IsBundleOf fit cert answer.text
+  pub status : answer.status ≡ Done
+
+-- to sizes that were found and the certificate: the bundle, or that a text of it is too long; of a bundle to which `check` did
+-- not say yes, that none was found
+abbrev pub BundlesSizes : Plan → Plan → Cert → Answer → Type 0
+BundlesSizes plan fit cert answer =
+    (answer ≡ no_sizes_answer plan Unknown) ⊎ (((answer ≡ text_too_long) × (HasLongPlanText fit ⊎ HasLongText cert)) ⊎ IsBundled fit cert answer)
+
+-- to what the search found
+abbrev pub AnswersFound : Wanted → Plan → SizesFound → Answer → Type 0
+AnswersFound Sizes plan found answer = answer ≡ told plan found
+AnswersFound Bundle plan (Found fit cert) answer = BundlesSizes plan fit cert answer
+AnswersFound Bundle plan (NotFound cause) answer = answer ≡ no_sizes_answer plan cause
+
+-- to a plan: something was found that is so of the plan, and it is answered
+pub record AnswersPlan (wanted : Wanted) (plan : Plan) (answer : Answer) : Type 0 where
+  pub found : SizesFound
+  pub is_found : IsFound plan found
+  pub answers : AnswersFound wanted plan found answer
 
 abbrev pub AnswersReading : Wanted → Result Plan PlanFault → Answer → Type 0
 AnswersReading wanted (Err f) answer = answer ≡ fault (fault_line f)
@@ -83,3 +79,10 @@ AnswersReading wanted (Ok plan) answer = AnswersPlan wanted plan answer
 -- to an input
 abbrev pub IsFitAnswer : Wanted → List ℕ → Answer → Type 0
 IsFitAnswer wanted input answer = MatchBool (nat_lt MOST_INPUT_BYTES (length input)) (answer ≡ input_too_long) (AnswersReading wanted (plan_of input) answer)
+
+-- what status 0 means of a bundle: it is that of such sizes and of the certificate for which they are the least
+pub record IsFittedBundle (plan : Plan) (text : List ℕ) : Type 0 where
+  pub cert : Cert
+  pub fit : Plan
+  pub is_sized : IsSized plan cert fit
+  pub bundle : IsBundleOf fit cert text

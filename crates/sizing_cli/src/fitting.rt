@@ -1,8 +1,6 @@
 //! The search for sizes, from the bytes of a plan to the lines of its sizes or to a bundle.
 
 ghost use Rattle.std.specs.Prelude.{◌≡◌, IfOk, IfErr, IsTrue};
-ghost use Rattle.size_search.specs.Sized.{IsSized};
-ghost use Rattle.size_search.specs.Submitted.{IsCause};
 ghost use Rattle.sizing_cli.specs.Fit as spec;
 ghost use Rattle.sizing_cli.specs.ServeFault.{is_of_search};
 
@@ -64,28 +62,20 @@ fn fit_plan<R: Threads + Wait + Sync>(
     ensures fault { IfErr result (λ fault. IsTrue (is_of_search fault.number)) }
 {
     let first = search(rt, alloc, plan, WORKERS, &AtOnce)?;
-    match search_sizes(alloc, plan, first)? {
-        SizesFound::Found { plan: fit, cert } => found(rt, alloc, wanted, plan, &fit, &cert),
-        SizesFound::NotFound(cause) => Ok(Output::of(not_found(alloc, plan, cause)?)),
+    let found = search_sizes(alloc, plan, first)?;
+    match wanted {
+        Wanted::Sizes => Ok(Output::of(told(alloc, plan, &found)?)),
+        Wanted::Bundle => bundle(rt, alloc, plan, &found),
     }
 }
 
-/// What is wanted of the sizes that were found.
-fn found<R: Threads + Wait + Sync>(
-    rt: &R,
-    alloc: Global,
-    wanted: Wanted,
-    plan: &Plan,
-    fit: &Plan,
-    cert: &Cert,
-) -> Result<Output, ServeFault>
-    requires { IsSized plan.now cert.now fit.now }
-    ensures answer { IfOk result (spec.AnswersPlan wanted plan.now) }
-    ensures fault { IfErr result (λ fault. IsTrue (is_of_search fault.number)) }
+/// What is told of what the search found.
+fn told(alloc: Global, plan: &Plan, found: &SizesFound) -> Result<Answer, AllocError>
+    ensures { IfOk result (λ answer. answer ≡ spec.told plan.now found.now) }
 {
-    match wanted {
-        Wanted::Sizes => Ok(Output::of(sizes(alloc, plan, fit)?)),
-        Wanted::Bundle => bundle(rt, alloc, plan, fit, cert),
+    match found {
+        SizesFound::Found { plan: fit, .. } => sizes(alloc, plan, fit),
+        SizesFound::NotFound(cause) => no_sizes(alloc, plan, *cause),
     }
 }
 
@@ -101,16 +91,43 @@ fn sizes(alloc: Global, plan: &Plan, fit: &Plan) -> Result<Answer, AllocError>
     })
 }
 
-/// The bundle of the fitted plan and of the certificate.
+/// The lines that say that no sizes were found, and why.
+fn no_sizes(alloc: Global, plan: &Plan, cause: NoSizes) -> Result<Answer, AllocError>
+    ensures { IfOk result (λ answer. answer ≡ spec.no_sizes_answer plan.now cause) }
+{
+    let mut text = String::new(alloc);
+    push_no_sizes(&mut text, plan, cause)?;
+    Ok(Answer {
+        text,
+        status: Status::Refused,
+    })
+}
+
+/// The bundle of what the search found.
 fn bundle<R: Threads + Wait + Sync>(
+    rt: &R,
+    alloc: Global,
+    plan: &Plan,
+    found: &SizesFound,
+) -> Result<Output, ServeFault>
+    ensures answer { IfOk result (spec.AnswersFound Wanted.Bundle plan.now found.now) }
+    ensures fault { IfErr result (λ fault. IsTrue (is_of_search fault.number)) }
+{
+    match found {
+        SizesFound::Found { plan: fit, cert } => bundle_of_sizes(rt, alloc, plan, fit, cert),
+        SizesFound::NotFound(cause) => Ok(Output::of(no_sizes(alloc, plan, *cause)?)),
+    }
+}
+
+/// The bundle of the fitted plan and of the certificate.
+fn bundle_of_sizes<R: Threads + Wait + Sync>(
     rt: &R,
     alloc: Global,
     plan: &Plan,
     fit: &Plan,
     cert: &Cert,
 ) -> Result<Output, ServeFault>
-    requires { IsSized plan.now cert.now fit.now }
-    ensures answer { IfOk result (spec.AnswersPlan Wanted.Bundle plan.now) }
+    ensures answer { IfOk result (spec.BundlesSizes plan.now fit.now cert.now) }
     ensures fault { IfErr result (λ fault. IsTrue (is_of_search fault.number)) }
 {
     let fit_text = write_plan(alloc, fit)?;
@@ -127,20 +144,8 @@ fn bundle<R: Threads + Wait + Sync>(
             bytes,
             status: Status::Done,
         }),
-        None => Ok(Output::of(not_found(alloc, plan, NoSizes::Unknown)?)),
+        None => Ok(Output::of(no_sizes(alloc, plan, NoSizes::Unknown)?)),
     }
-}
-
-/// The lines that say that no sizes were found, and why.
-fn not_found(alloc: Global, plan: &Plan, cause: NoSizes) -> Result<Answer, AllocError>
-    ensures { IfOk result (λ answer. answer ≡ spec.no_sizes_answer plan.now cause) }
-{
-    let mut text = String::new(alloc);
-    push_no_sizes(&mut text, plan, cause)?;
-    Ok(Answer {
-        text,
-        status: Status::Refused,
-    })
 }
 
 fn text_too_long(alloc: Global) -> Result<Answer, AllocError>
