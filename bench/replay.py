@@ -25,8 +25,8 @@ RUNS = 3
 MOST_KIB = 1024
 # For an input of MOST_KIB KiB, and so for any.
 MOST_MEBIBYTES = 11
-# What is wanted of such an input of many events, and not held yet: the row has the ratio to it.
-WANTED_INSTRUCTIONS = 71.5
+# For such an input of many events, in millions: what a plain program takes that replays the same, and is not proved.
+MOST_INSTRUCTIONS = 71.5
 # For the instructions a byte of a line `stuck` whose numbers fall, and whose last one stands again and again, beside
 # those of the line where each of them stands once and they rise.
 STUCK_RATIO = 3
@@ -60,18 +60,18 @@ class Bench:
         self.bars = Bars()
         self.table = Table(
             ("input", 18), ("bytes", 9), ("events", 7), ("unfinished", 10), ("sizing ms", 10), ("count ms", 9),
-            ("ratio", 7), ("M instr", 8), (f"of {WANTED_INSTRUCTIONS}", 7), ("sizing MiB", 10), ("count MiB", 9), ("bar", 4),
+            ("ratio", 7), ("M instr", 8), (f"of {MOST_INSTRUCTIONS}", 7), ("sizing MiB", 10), ("count MiB", 9), ("bar", 4),
         )
 
     def run(self, room):
         for make in (one_looping_client, nested_jobs):
-            self.lines(make(room), WANTED_INSTRUCTIONS)
+            self.lines(make(room), MOST_INSTRUCTIONS)
         self.stuck(*stuck_lines(room))
         self.clients()
         tell_if_uncounted()
         self.bars.end()
 
-    def lines(self, script, wanted=None):
+    def lines(self, script, most=None):
         """Measures a long replay beside the counting of its lines. Its millions of instructions; None if uncounted."""
         replay = self.replay(script)
         given = (self.folder / replay.given).read_bytes()
@@ -88,12 +88,14 @@ class Bench:
             f"{count.milliseconds:.1f}",
             f"{replayed.milliseconds / count.milliseconds:.1f}",
             f"{counted:.1f}" if counted else "-",
-            f"{counted / wanted:.2f}" if counted and wanted else "-",
+            f"{counted / most:.2f}" if counted and most else "-",
             f"{replayed.mebibytes:.1f}",
             f"{count.mebibytes:.1f}",
             f"{MOST_MEBIBYTES}",
         )
         self.bars.hold(f"{script.name}: MiB", replayed.mebibytes, MOST_MEBIBYTES)
+        if counted and most:
+            self.bars.hold(f"{script.name}: M instructions", counted, most)
         return counted
 
     def replay(self, script):
