@@ -25,7 +25,7 @@ RUNS = 3
 MOST_KIB = 1024
 # For an input of MOST_KIB KiB, and so for any.
 MOST_MEBIBYTES = 11
-# For such an input of many events, in millions: what a plain program takes that replays the same, and is not proved.
+# For such an input of many events, in millions.
 MOST_INSTRUCTIONS = 71.5
 # For the instructions a byte of a line `stuck` whose numbers fall, and whose last one stands again and again, beside
 # those of the line where each of them stands once and they rise.
