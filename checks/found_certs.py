@@ -1,8 +1,8 @@
 #!/usr/bin/env python3
 """Compares the search for certificates with a second one, written apart from it in Python, on small plans made by chance.
 
-For each plan the second one says which bounds the check must tell of the certificate, or that none is found, and the test
-program found_certs must answer the same. Both go by this method, but the second one takes no short way: it tries numbers
+For each plan the second one says which bounds `sizing check` must tell of the certificate that `sizing certify` finds, or
+that none is found. Both go by this method, but the second one takes no short way: it tries numbers
 where the program computes them.
 
 1. A class is a level above the highest of the classes that it submits. A circle of submits gets no certificate.
@@ -20,45 +20,44 @@ where the program computes them.
 
     python3 checks/found_certs.py [PLANS [SEED]]     # 2,000 plans and seed 1 where nothing is said
 
-The program is crates/found_certs/out/found_certs, or the one that the environment variable FOUND_CERTS names.
+The program is crates/sizing/out/sizing, or the one that the environment variable SIZING names.
 
 Exit status: 0 where both agree on each plan, 1 where they do not, 2 where there is no program.
 """
 
-import os
 import random
-import re
-import subprocess
 import sys
-from pathlib import Path
 
-HERE = Path(__file__).resolve().parent
-BUILT = HERE.parent / "crates" / "found_certs" / "out" / "found_certs"
+sys.dont_write_bytecode = True
+
+from asking import built_program, each, written
+
 MOST_WEIGHT = 1_000_000_000
 MOST_LOANS = 256
-SECONDS = 600
 
 
 def main():
-    program = Path(os.environ.get("FOUND_CERTS") or BUILT).resolve()
-    if not os.access(program, os.X_OK) or not program.is_file():
-        print(f"there is no program at {program}: run `rt run` in crates/found_certs", file=sys.stderr)
+    if not (program := built_program()):
         return 2
     words = [int(word) for word in sys.argv[1:]]
     count, seed = (words + [2000, 1][len(words):])[:2]
     chance = random.Random(seed)
     plans = [plan_by_chance(chance) for _ in range(count)]
     answers = [answer(plan) for plan in plans]
-    given = "%%\n".join(f"# plan {number}\n{text(plan)}" for number, plan in enumerate(plans))
-    ended = subprocess.run([program], input=given, capture_output=True, text=True, timeout=SECONDS)
-    told = re.split(r"^# plan \d+$", ended.stdout, flags=re.M)[1:]
-    differing = [number for number in range(count) if told[number:number + 1] != [f"\n{answers[number]}\n\n"]]
+    told = each(lambda plan: told_of(program, text(plan)), plans)
+    differing = [number for number in range(count) if told[number] != answers[number]]
     for number in differing[:3]:
-        print(f"plan {number}:\n{text(plans[number])}is answered\n{''.join(told[number:number + 1])}and not\n{answers[number]}")
+        print(f"plan {number}:\n{text(plans[number])}is answered\n{told[number]}\nand not\n{answers[number]}")
     found = sum(told != NONE for told in answers)
     lifetimes = sum("lifetime" in told for told in answers)
     print(f"{count} plans, {len(differing)} differ; {found} get a certificate, {lifetimes} of them with a lifetime vector")
-    return 1 if differing or ended.returncode else 0
+    return 1 if differing else 0
+
+
+def told_of(program, plan):
+    """What the check says of the certificate that is found, or that none is."""
+    bundle = written(program, ["certify"], plan)
+    return (written(program, ["check"], bundle) if "\n%%\n" in f"\n{bundle}" else bundle).strip()
 
 
 # ---- plans by chance

@@ -1,5 +1,5 @@
 #!/usr/bin/env python3
-"""Tests the sizes that the program found_sizes finds, on small plans made by chance, with the second search of found_certs.py.
+"""Tests the sizes that `sizing fit` finds, on small plans made by chance, with the second search of found_certs.py.
 
 Of each plan:
 
@@ -13,36 +13,29 @@ of the second search. All such sizes are tried, where they are not too many.
 
     python3 checks/found_sizes.py [PLANS [SMALL_PLANS [SEED]]]     # 2,000 plans, 100 small ones and seed 1 where nothing is said
 
-The program is crates/found_sizes/out/found_sizes, or the one that the environment variable FOUND_SIZES names.
+The program is crates/sizing/out/sizing, or the one that the environment variable SIZING names.
 
 Exit status: 0 where all is so, 1 where something is not, 2 where there is no program.
 """
 
-import os
 import random
 import re
-import subprocess
 import sys
-from pathlib import Path
 
 sys.dont_write_bytecode = True
 
+from asking import built_program, each, written
 from found_certs import NONE, Plan, Pool, answer, plan_by_chance, text
 from no_sizes import NOTHING_FOUND, causes
 from read_plans import read_plan
 
-HERE = Path(__file__).resolve().parent
-BUILT = HERE.parent / "crates" / "found_sizes" / "out" / "found_sizes"
-SECONDS = 600
 SIZES = re.compile(r"pool \S+: core (\d+)(?: \(now \d+\))?, max (\d+)(?: \(now \d+\))?, queue (\d+)(?: \(now \d+\))?")
 # Small plans whose sizes grow by more than this are not compared with all other sizes.
 MOST_GROWTH = {1: 9, 2: 7}
 
 
 def main():
-    program = Path(os.environ.get("FOUND_SIZES") or BUILT).resolve()
-    if not os.access(program, os.X_OK) or not program.is_file():
-        print(f"there is no program at {program}: run `rt run` in crates/found_sizes", file=sys.stderr)
+    if not (program := built_program()):
         return 2
     words = [int(word) for word in sys.argv[1:]]
     count, small_count, seed = (words + [2000, 100, 1][len(words):])[:3]
@@ -75,11 +68,7 @@ def report(plan, told, fault):
 
 
 def answers(program, plans):
-    given = "%%\n".join(f"# plan {number}\n{text(plan)}" for number, plan in enumerate(plans))
-    ended = subprocess.run([program], input=given, capture_output=True, text=True, timeout=SECONDS, check=True)
-    told = [part.strip() for part in re.split(r"^# plan \d+$", ended.stdout, flags=re.M)[1:]]
-    assert len(told) == len(plans), ended.stderr
-    return told
+    return each(lambda plan: written(program, ["fit"], text(plan)).strip(), plans)
 
 
 def fault_of(plan, told):

@@ -1,0 +1,23 @@
+//! Tests of calls, where a row of a file cannot say what is asked.
+#![tactic(auto)]
+
+#[cfg(test)]
+mod bytes;
+#[cfg(test)]
+mod cert_texts;
+#[cfg(test)]
+mod event_texts;
+#[cfg(test)]
+mod fits;
+#[cfg(test)]
+mod help_texts;
+#[cfg(test)]
+mod judged_plans;
+#[cfg(test)]
+mod limits;
+#[cfg(test)]
+mod pools;
+#[cfg(test)]
+mod stairs;
+#[cfg(test)]
+mod told_notes;

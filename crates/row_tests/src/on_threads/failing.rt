@@ -1,0 +1,82 @@
+//! Sources and sinks that fail at one of their calls.
+
+ghost use Rattle.command_line.specs.Command.{IsInRange};
+
+use crate::on_threads::ended::Ended;
+use sizing_cli::{Command, MemorySink, MemorySource, ServeFault};
+use std::alloc::{AllocError, Global};
+use std::sync::Wait;
+use std::thread::Threads;
+
+const READ_FAILED: ServeFault = ServeFault { number: 60 };
+
+const WRITE_FAILED: ServeFault = ServeFault { number: 61 };
+
+// How many bytes a call reads or writes.
+const PIECE: usize = 250;
+
+/// Says where a source that fails does not give 60 with nothing written. One call more than those that give the bytes is
+/// made, which tells their end; a failure of a later call is never met.
+pub fn push_failing_reads<R: Threads + Wait + Sync>(
+    rt: &R,
+    alloc: Global,
+    command: Command,
+    input: &[u8],
+    ended: &Ended,
+    answer: &mut String,
+) -> Result<(), AllocError>
+    requires { IsInRange command }
+{
+    let last = input.len().div_ceil(PIECE) as u64;
+    for calls in 0..=last.saturating_add(1) {
+        let mut source = MemorySource::new(input).at_most(PIECE).failing_after(calls);
+        let failed = Ended::of_source(rt, alloc, command, &mut source, MemorySink::new(alloc))?;
+        let is_right = if calls <= last {
+            failed.written.is_empty() && failed.outcome == Err(READ_FAILED)
+        } else {
+            failed == *ended
+        };
+        if !is_right {
+            write!(answer, ", but not with a source that fails after {calls}")?;
+        }
+    }
+    Ok(())
+}
+
+/// Says where a sink that fails does not give 61 with a front of the answer. A failure of a later call than those that take
+/// the answer is never met.
+pub fn push_failing_writes<R: Threads + Wait + Sync>(
+    rt: &R,
+    alloc: Global,
+    command: Command,
+    input: &[u8],
+    ended: &Ended,
+    answer: &mut String,
+) -> Result<(), AllocError>
+    requires { IsInRange command }
+{
+    for calls in 0..=ended.written.len().div_ceil(PIECE) {
+        let sink = MemorySink::new(alloc)
+            .at_most(PIECE)
+            .failing_after(calls as u64);
+        let mut source = MemorySource::new(input);
+        let failed = Ended::of_source(rt, alloc, command, &mut source, sink)?;
+        if !is_front_of(&failed, ended, PIECE.saturating_mul(calls)) {
+            write!(answer, ", but not with a sink that fails after {calls}")?;
+        }
+    }
+    Ok(())
+}
+
+// So many bytes were written and the call failed; where there are no more, it ended well.
+fn is_front_of(failed: &Ended, ended: &Ended, length: usize) -> bool {
+    let whole = ended.written.len();
+    let outcome = if length < whole {
+        Err(WRITE_FAILED)
+    } else {
+        ended.outcome
+    };
+    failed.outcome == outcome
+        && failed.written.len() == length.min(whole)
+        && ended.written.starts_with(&failed.written)
+}

@@ -1,0 +1,60 @@
+//! Texts of plans, and by hand the line that each of them is answered.
+
+mod answers;
+mod lists;
+
+use crate::files::Suite;
+use crate::plan_texts::answers::answered;
+use crate::plan_texts::lists::{built, written};
+use std::alloc::{AllocError, Global};
+
+/// Texts of plans.
+///
+/// - `plan` is a text.
+/// - `spelling` is a text that is also read with a carriage return before each newline, and with a byte order mark before
+///   that. All three are answered alike.
+/// - `lists` are the lists of a plan, a line for each entry.
+/// - `written` are such lists, which are answered by the text that is written of their plan.
+/// - `change` is a text, a line `%%`, and a line `OLD -> NEW`: the text is read with NEW in place of OLD.
+pub struct PlanTexts;
+
+impl Suite for PlanTexts {
+    fn answer(&self, alloc: Global, kind: &str, input: &[u8]) -> Result<String, AllocError> {
+        match kind {
+            "plan" => answered(alloc, input),
+            "spelling" => answered_in_each_spelling(alloc, input),
+            "lists" => built(alloc, input),
+            "written" => written(alloc, input),
+            "change" => answered(alloc, changed(alloc, input)?.as_bytes()),
+            _ => String::from_str(alloc, "no such kind of input"),
+        }
+    }
+}
+
+fn answered_in_each_spelling(alloc: Global, text: &[u8]) -> Result<String, AllocError> {
+    let mut returns = Vec::new(alloc);
+    for byte in text {
+        if *byte == b'\n' {
+            returns.push(b'\r')?;
+        }
+        returns.push(*byte)?;
+    }
+    let mut marked = Vec::new(alloc);
+    marked.extend_from_slice(b"\xef\xbb\xbf")?;
+    marked.extend_from_slice(&returns)?;
+    let answer = answered(alloc, text)?;
+    let with_returns = answered(alloc, &returns)?;
+    let with_a_mark = answered(alloc, &marked)?;
+    if with_returns == answer && with_a_mark == answer {
+        return Ok(answer);
+    }
+    format!(in alloc; "{answer} or {with_returns} or {with_a_mark}")
+}
+
+fn changed(alloc: Global, input: &[u8]) -> Result<String, AllocError> {
+    let input = String::from_utf8_lossy(alloc, input)?;
+    let (text, change) = input.split_once("\n%%\n").unwrap_or((&input, ""));
+    let (old, new) = change.split_once(" -> ").unwrap_or((change, ""));
+    let (before, behind) = text.split_once(old).unwrap_or(("", "no such place"));
+    format!(in alloc; "{before}{new}{behind}")
+}

@@ -1,0 +1,89 @@
+//! Plans of lists, without a text.
+
+use crate::plan_texts::answers::line_of;
+use job_bodies::{Action, Class, Client, Plan, PlanFault, Pool};
+use plan_text::read_plan;
+use plan_writer::write_plan;
+use std::alloc::{AllocError, Global};
+
+/// The plan of the lists or their fault, in one line.
+pub fn built(alloc: Global, lines: &[u8]) -> Result<String, AllocError> {
+    line_of(alloc, plan_of(alloc, lines)?)
+}
+
+/// The text that is written of the plan of the lists, where it is read as a plan whose text is the same; else the fault of
+/// reading it.
+pub fn written(alloc: Global, lines: &[u8]) -> Result<String, AllocError> {
+    let text = match plan_of(alloc, lines)? {
+        Ok(plan) => write_plan(alloc, &plan)?,
+        Err(fault) => return fault.to_string(alloc),
+    };
+    let again = match read_plan(alloc, text.as_bytes()) {
+        Ok(plan) => write_plan(alloc, &plan)?,
+        Err(fault) => return fault.to_string(alloc),
+    };
+    if again != text {
+        return format!(in alloc; "{text} and then {again}");
+    }
+    Ok(text)
+}
+
+// The plan of the lists, a line for each entry: pools by name, core, maximum, queue and `prestarted`; classes by name, pool and
+// body; looping clients by name, count and body, and other clients by the same.
+fn plan_of(alloc: Global, lines: &[u8]) -> Result<Result<Plan, PlanFault>, AllocError> {
+    let lines = String::from_utf8_lossy(alloc, lines)?;
+    let mut pools = Vec::new(alloc);
+    let mut classes = Vec::new(alloc);
+    let mut clients = Vec::new(alloc);
+    for line in lines.lines() {
+        let words = line.split(' ').collect::<Vec<&str>>(alloc)?;
+        match words.as_slice() {
+            ["pool", name, sizes @ ..] => pools.push(pool_of(alloc, name, sizes)?)?,
+            ["class", name, pool, body @ ..] => classes.push(Class {
+                name: String::from_str(alloc, name)?,
+                pool: place(pool),
+                body: body_of(alloc, body)?,
+            })?,
+            [kind, name, count, body @ ..] => clients.push(Client {
+                name: String::from_str(alloc, name)?,
+                count: number(count),
+                repeat: *kind == "client",
+                body: body_of(alloc, body)?,
+            })?,
+            _ => {}
+        }
+    }
+    Ok(Plan::build(alloc, pools, classes, clients))
+}
+
+fn pool_of(alloc: Global, name: &str, sizes: &[&str]) -> Result<Pool, AllocError> {
+    let size = |at: usize| number(sizes.get(at).copied().unwrap_or(""));
+    Ok(Pool {
+        name: String::from_str(alloc, name)?,
+        core: size(0),
+        max: size(1),
+        queue: size(2),
+        prestart: sizes.contains(&"prestarted"),
+    })
+}
+
+fn body_of(alloc: Global, words: &[&str]) -> Result<Vec<Action>, AllocError> {
+    let mut body = Vec::new(alloc);
+    for pair in words.chunks(2) {
+        match pair {
+            ["work", units] => body.push(Action::Work(units.parse::<u32>().unwrap_or(0)))?,
+            ["submit", class] => body.push(Action::Submit(place(class)))?,
+            ["get", position] => body.push(Action::Get(place(position)))?,
+            _ => {}
+        }
+    }
+    Ok(body)
+}
+
+fn number(word: &str) -> u64 {
+    word.parse::<u64>().unwrap_or(0)
+}
+
+fn place(word: &str) -> usize {
+    word.parse::<usize>().unwrap_or(0)
+}

@@ -1,0 +1,115 @@
+//! Inputs of the program, from bytes to bytes, and by hand what each of them is answered.
+
+mod ended;
+mod failing;
+mod words;
+
+ghost use Rattle.std.specs.Prelude.{◌<◌, IsTrue};
+ghost use Rattle.sizing_cli.specs.Report.{is_alone};
+
+use crate::files::Suite;
+use crate::served::ended::{Ended, serve};
+use crate::served::failing::Case;
+use crate::served::words::asked;
+use sizing_cli::{Command, MemorySink, MemorySource};
+use std::alloc::{AllocError, Global};
+
+/// What the program is given.
+///
+/// - `replay`, `check` and `explain` are the whole input of the command. Its answer is what is written, with the status on a
+///   last line. An input that is short is also read and answered where a call of the source or of the sink fails.
+/// - `check and explain` is an input of both commands. Its answer is that of the first, and behind it that of the second
+///   where that is another.
+/// - `fronts of a replay`, `fronts of a check` and `fronts of an explain` are an input whose shorter fronts are all answered.
+///   The answer is that to the shortest, and behind it each that is not as the one before, with the length of its front.
+/// - `words` are the words of a command line, with a newline behind each.
+pub struct Served;
+
+// An input of at most so many bytes is short.
+const SHORT: usize = 250;
+
+// An input of more bytes is long.
+const LONG: usize = 20_000;
+
+impl Suite for Served {
+    fn answer(&self, alloc: Global, kind: &str, input: &[u8]) -> Result<String, AllocError> {
+        match kind {
+            "replay" => answered(alloc, Command::Replay, input),
+            "check" => answered(alloc, Command::Check, input),
+            "explain" => answered(alloc, Command::Explain, input),
+            "check and explain" => checked_and_explained(alloc, input),
+            "fronts of a replay" => fronts(alloc, Command::Replay, input),
+            "fronts of a check" => fronts(alloc, Command::Check, input),
+            "fronts of an explain" => fronts(alloc, Command::Explain, input),
+            "words" => asked(alloc, input),
+            _ => String::from_str(alloc, "no such kind of input"),
+        }
+    }
+}
+
+fn whole(alloc: Global, command: Command, input: &[u8]) -> Result<Ended, AllocError>
+    requires { IsTrue (is_alone command) }
+{
+    let sink = MemorySink::new(alloc);
+    serve(alloc, command, &mut MemorySource::new(input), sink)
+}
+
+// What is answered where a call reads and writes at most so many bytes.
+fn in_pieces(
+    alloc: Global,
+    command: Command,
+    input: &[u8],
+    most: usize,
+) -> Result<Ended, AllocError>
+    requires command { IsTrue (is_alone command) }
+    requires most { 0 < most }
+{
+    let mut source = MemorySource::new(input).at_most(most);
+    let sink = MemorySink::new(alloc).at_most(most);
+    serve(alloc, command, &mut source, sink)
+}
+
+fn answered(alloc: Global, command: Command, input: &[u8]) -> Result<String, AllocError>
+    requires { IsTrue (is_alone command) }
+{
+    let ended = whole(alloc, command, input)?;
+    let mut answer = ended.shown(alloc)?;
+    let in_pieces = if input.len() <= LONG {
+        in_pieces(alloc, command, input, 1)?
+    } else {
+        in_pieces(alloc, command, input, 5_000)?
+    };
+    if in_pieces != ended {
+        answer.push_str(", but not in pieces")?;
+    }
+    if input.len() <= SHORT {
+        let case = Case { input, ended };
+        case.push_otherwise(alloc, command, &mut answer)?;
+    }
+    Ok(answer)
+}
+
+fn checked_and_explained(alloc: Global, input: &[u8]) -> Result<String, AllocError> {
+    let mut answer = answered(alloc, Command::Check, input)?;
+    let explained = answered(alloc, Command::Explain, input)?;
+    if explained != answer {
+        write!(answer, "\n{explained}")?;
+    }
+    Ok(answer)
+}
+
+fn fronts(alloc: Global, command: Command, input: &[u8]) -> Result<String, AllocError>
+    requires { IsTrue (is_alone command) }
+{
+    let mut last = whole(alloc, command, &[])?;
+    let mut answer = last.shown(alloc)?;
+    for length in 0..input.len() {
+        let ended = whole(alloc, command, &input[..length])?;
+        if ended != last {
+            let shown = ended.shown(alloc)?;
+            write!(answer, "\nfrom {length} bytes:\n{shown}")?;
+            last = ended;
+        }
+    }
+    Ok(answer)
+}

@@ -1,0 +1,168 @@
+//! Sources and sinks that fail at one of their calls.
+
+ghost use Rattle.std.specs.Prelude.{◌<◌, IsTrue};
+ghost use Rattle.sizing_cli.specs.Report.{is_alone};
+
+use crate::served::ended::{Ended, serve};
+use sizing_cli::{Command, MemorySink, MemorySource, ServeFault, StdSink, serve_alone};
+use std::alloc::{AllocError, Global};
+use std::io;
+use std::io::Write;
+
+const READ_FAILED: ServeFault = ServeFault { number: 60 };
+
+const WRITE_FAILED: ServeFault = ServeFault { number: 61 };
+
+// How many bytes a writer takes in a call that later takes none.
+const STALLING_PIECE: usize = 60;
+
+/// An input, and what a command answers to it where no call fails.
+#[derive(Drop)]
+pub struct Case<'a> {
+    pub input: &'a [u8],
+    pub ended: Ended,
+}
+
+impl Case<'_> {
+    /// Says where a failing call ends otherwise than it must.
+    pub fn push_otherwise(
+        &self,
+        alloc: Global,
+        command: Command,
+        answer: &mut String,
+    ) -> Result<(), AllocError>
+        requires { IsTrue (is_alone command) }
+    {
+        self.push_failing_reads(alloc, command, answer, 150)?;
+        self.push_failing_writes(alloc, command, answer, 40)?;
+        self.push_stalling_writes(alloc, command, answer)
+    }
+
+    // A source that fails gives 60, and nothing is written. One call more than those that give the bytes is made, which
+    // tells their end. A failure of a later call is never met.
+    fn push_failing_reads(
+        &self,
+        alloc: Global,
+        command: Command,
+        answer: &mut String,
+        most: usize,
+    ) -> Result<(), AllocError>
+        requires command { IsTrue (is_alone command) }
+        requires most { 0 < most }
+    {
+        let last = self.input.len().div_ceil(most) as u64;
+        for calls in 0..=last.saturating_add(1) {
+            let mut source = MemorySource::new(self.input)
+                .at_most(most)
+                .failing_after(calls);
+            let failed = serve(alloc, command, &mut source, MemorySink::new(alloc))?;
+            let is_right = if calls <= last {
+                failed.written.is_empty() && failed.outcome == Err(READ_FAILED)
+            } else {
+                failed == self.ended
+            };
+            if !is_right {
+                write!(
+                    answer,
+                    ", but not with a source of {most} that fails after {calls}"
+                )?;
+            }
+        }
+        Ok(())
+    }
+
+    // A sink that fails gives 61, and what it has is a front of the answer. A failure of a later call than those that take
+    // the answer is never met.
+    fn push_failing_writes(
+        &self,
+        alloc: Global,
+        command: Command,
+        answer: &mut String,
+        most: usize,
+    ) -> Result<(), AllocError>
+        requires command { IsTrue (is_alone command) }
+        requires most { 0 < most }
+    {
+        for calls in 0..=self.ended.written.len().div_ceil(most) {
+            let sink = MemorySink::new(alloc)
+                .at_most(most)
+                .failing_after(calls as u64);
+            let mut source = MemorySource::new(self.input);
+            let failed = serve(alloc, command, &mut source, sink)?;
+            if !is_front_of(&failed, &self.ended, most.saturating_mul(calls)) {
+                write!(
+                    answer,
+                    ", but not with a sink of {most} that fails after {calls}"
+                )?;
+            }
+        }
+        Ok(())
+    }
+
+    // A writer that takes no byte has failed. A sink may not take none itself: its contract wants a byte or a fault.
+    fn push_stalling_writes(
+        &self,
+        alloc: Global,
+        command: Command,
+        answer: &mut String,
+    ) -> Result<(), AllocError>
+        requires { IsTrue (is_alone command) }
+    {
+        for calls in 0..=self.ended.written.len().div_ceil(STALLING_PIECE) {
+            let mut sink = StdSink::new(Stalling {
+                taken: Vec::new(alloc),
+                calls,
+            });
+            let mut source = MemorySource::new(self.input);
+            let outcome = serve_alone(alloc, command, &mut source, &mut sink);
+            let Stalling { taken, calls: _ } = sink.into_inner();
+            let failed = Ended {
+                written: taken,
+                outcome,
+            };
+            if !is_front_of(&failed, &self.ended, calls.saturating_mul(STALLING_PIECE)) {
+                write!(
+                    answer,
+                    ", but not with a writer that takes none after {calls}"
+                )?;
+            }
+        }
+        Ok(())
+    }
+}
+
+// So many bytes were written and the call failed; where there are no more, it ended well.
+fn is_front_of(failed: &Ended, ended: &Ended, length: usize) -> bool {
+    let whole = ended.written.len();
+    let outcome = if length < whole {
+        Err(WRITE_FAILED)
+    } else {
+        ended.outcome
+    };
+    failed.outcome == outcome
+        && failed.written.len() == length.min(whole)
+        && ended.written.starts_with(&failed.written)
+}
+
+// Takes a piece in each of so many calls, and then none.
+#[derive(Drop)]
+struct Stalling {
+    taken: Vec<u8>,
+    calls: usize,
+}
+
+impl Write for Stalling {
+    fn write(&mut self, piece: &[u8]) -> io::Result<usize> {
+        if self.calls == 0 {
+            return Ok(0);
+        }
+        self.calls -= 1;
+        let count = piece.len().min(STALLING_PIECE);
+        self.taken.extend_from_slice(&piece[..count])?;
+        Ok(count)
+    }
+
+    fn flush(&mut self) -> io::Result<()> {
+        Ok(())
+    }
+}

@@ -1,0 +1,39 @@
+//! Which sets of jobs wait only for their own members.
+
+ghost use Rattle.interleaving.specs.OfPlan.{IsOf};
+
+use crate::worlds::facts::push_fact;
+use interleaving::World;
+use job_bodies::Plan;
+use std::alloc::{AllocError, Global};
+
+// No world of these tests makes more jobs, so that the last number is always nobody's.
+const JOBS_SHOWN: u32 = 6;
+
+/// Adds those sets of the first numbers that are stuck.
+pub fn push_stuck_sets(
+    said: &mut String,
+    alloc: Global,
+    plan: &Plan,
+    world: &World,
+) -> Result<(), AllocError>
+    requires { IsOf plan.now world.now.view }
+{
+    for set in 0..1_u32 << JOBS_SHOWN {
+        let members = members_of(alloc, set)?;
+        if world.stuck(plan, &members) {
+            push_fact(said, &format!(in alloc; "{members:?}")?)?;
+        }
+    }
+    Ok(())
+}
+
+fn members_of(alloc: Global, set: u32) -> Result<Vec<usize>, AllocError> {
+    let mut members = Vec::new(alloc);
+    for number in 0..JOBS_SHOWN {
+        if (set >> number) & 1 == 1 {
+            members.push(number as usize)?;
+        }
+    }
+    Ok(members)
+}

@@ -1,0 +1,57 @@
+//! The counter.
+
+ghost use Rattle.std.specs.Prelude.{◌≡◌, ℕ};
+
+use held_machines::Machine;
+use std::alloc::{AllocError, Global};
+
+/// What may happen to a counter.
+#[derive(Clone, Copy, Debug, PartialEq, Eq)]
+pub enum Change {
+    Up,
+    Down,
+}
+
+/// A counter that starts at 0, and goes neither below it nor above its greatest value.
+#[derive(Clone, Copy, Debug, Drop)]
+pub struct Counter {
+    pub most: u64,
+}
+
+impl Machine for Counter {
+    ghost use Rattle.thread_tests.specs.Counting.{next_count};
+
+    type State = u64;
+
+    type Event = Change;
+
+    ghost Ideal = { ℕ };
+
+    ghost first = { λ _. 0 };
+
+    ghost next = { λ counter n change. next_count counter.most n change };
+
+    ghost content = { λ _ n. n };
+
+    fn start(&self, _alloc: Global) -> Result<u64, AllocError> {
+        Ok(0)
+    }
+
+    fn step(&self, count: &mut u64, change: Change) -> Result<bool, AllocError> {
+        match change {
+            Change::Up => {
+                if *count >= self.most {
+                    return Ok(false);
+                }
+                *count += 1;
+            }
+            Change::Down => {
+                if *count == 0 {
+                    return Ok(false);
+                }
+                *count -= 1;
+            }
+        }
+        Ok(true)
+    }
+}
