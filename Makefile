@@ -3,24 +3,38 @@ PREFIX ?= /usr/local
 PROGRAM = crates/sizing/out/sizing
 READER = crates/plan_reader/out/plan_reader
 
-.PHONY: demo program install test examples checks bench plan_reader
+# What the programs are proved from: they are proved again where one of these is newer.
+PROGRAM_SOURCES := $(shell python3 tools/crates.py sizing)
+READER_SOURCES := $(shell python3 tools/crates.py plan_reader)
+
+.PHONY: demo program install test gate refused examples checks bench plan_reader
 
 # Runs the program on its first example as it is written, before any proof: about a minute on a fresh machine.
 demo:
 	@examples/demo
 
-# Proves and builds the program: ten to twenty minutes on a fresh machine, and seconds after that.
-program:
-	@tools/build sizing replay $(PROGRAM)
+# Proves and builds the program: about twenty minutes on four cores, and nothing where it is built and no source is newer.
+program: $(PROGRAM)
+
+$(PROGRAM): $(PROGRAM_SOURCES)
+	@tools/build sizing $@
 
 # Proves and builds the program, and puts it where a shell finds it.
 install: program
 	install -D -m 755 $(PROGRAM) $(DESTDIR)$(PREFIX)/bin/sizing
 	@echo "sizing is in $(DESTDIR)$(PREFIX)/bin"
 
-# The whole gate: every proof from nothing, the wrong bodies that must be refused, every test and every stored run.
+# Every test, every worked row and each program's stored run as they are written: minutes. It proves nothing.
 test:
+	@tools/test
+
+# The whole gate: every proof from nothing, the wrong bodies that must be refused, every test and every stored run.
+gate:
 	rt ci
+
+# The wrong bodies that the gate leaves out, of every crate or of one: make refused CRATE=NAME.
+refused:
+	@tools/refused $(CRATE)
 
 # Runs the built program on each example, and compares what it answers.
 examples: program
@@ -49,5 +63,7 @@ bench: program plan_reader
 	python3 bench/run.py
 
 # Proves and builds the program that reads the texts alone.
-plan_reader:
-	@tools/build plan_reader plan $(READER)
+plan_reader: $(READER)
+
+$(READER): $(READER_SOURCES)
+	@tools/build plan_reader $@

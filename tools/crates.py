@@ -1,0 +1,51 @@
+"""The crates of this repository, as crates.txt lists them, and copies of some of them.
+
+    crates.py CRATE     # the files from which the program of this crate is proved, for make"""
+import os
+import re
+import shutil
+import sys
+
+ROOT = os.path.dirname(os.path.dirname(os.path.abspath(__file__)))
+
+
+def lines_of_crates():
+    """The lines of crates.txt, by the name of their crate, in their order: each crate stands behind those below it."""
+    with open(f"{ROOT}/crates.txt", encoding="utf-8") as file:
+        lines = [line.split("#")[0].strip() for line in file]
+    return {re.split("[: ]", line)[0]: line for line in lines if ":" in line}
+
+
+def below(lines, names):
+    """These crates and all that they stand on, of this repository."""
+    found, left = set(), list(names)
+    while left:
+        crate = left.pop()
+        if crate in lines and crate not in found:
+            found.add(crate)
+            left += lines[crate].partition(":")[2].split()
+    return found
+
+
+def copy_crates(lines, names, room, left_out=()):
+    """Copies these crates to the folder, with a crates.txt of their own, and without what is left out."""
+    leave = shutil.ignore_patterns("out", *left_out)
+    for name in names:
+        shutil.copytree(f"{ROOT}/crates/{name}", f"{room}/crates/{name}", ignore=leave)
+    shutil.copy(f"{ROOT}/HANDLES", room)
+    with open(f"{room}/crates.txt", "w", encoding="utf-8") as file:
+        file.writelines(f"{line}\n" for name, line in lines.items() if name in names)
+
+
+def files_of(names):
+    """The files from which these crates are proved, by their paths from the top of the repository."""
+    for name in sorted(names):
+        for folder, folders, files in os.walk(f"{ROOT}/crates/{name}"):
+            folders[:] = sorted(set(folders) - {"out", "must-fail", "also-refused"})
+            yield from (os.path.relpath(f"{folder}/{file}", ROOT) for file in sorted(files))
+    yield from ("crates.txt", "HANDLES")
+
+
+if __name__ == "__main__":
+    crates = lines_of_crates()
+    print(*files_of(below(crates, sys.argv[1:2])))
