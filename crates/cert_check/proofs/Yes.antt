@@ -10,7 +10,7 @@ use Rattle.plan_text.proofs.Buildable.{are_within_limits, well_formed_read}
 use Rattle.certificates.specs.Cert.{Cert}
 use Rattle.cert_text.specs.CertOf.{cert_of}
 use Rattle.headline.specs.Accepted.{accepted}
-use Rattle.headline.proofs.Theorem.{promises}
+use Rattle.headline.proofs.Promised.{promises}
 use Rattle.cert_check.specs.Check.{IsSafeWith}
 
 -- what is read is well-formed

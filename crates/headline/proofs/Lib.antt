@@ -2,3 +2,10 @@ pub mod CertLaws
 pub mod Faults
 pub mod Bounded
 pub mod Theorem
+pub mod Calls
+pub mod JavaTheorem
+pub mod JavaBounded
+pub mod JavaDrains
+pub mod LeavingOut
+pub mod LeavingOutDrains
+pub mod Promised

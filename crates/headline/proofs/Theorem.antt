@@ -11,7 +11,7 @@ use Rattle.written_machine.specs.State.{State, job_at, is_unfinished}
 use Rattle.written_machine.specs.Step.{step}
 use Rattle.written_machine.specs.Reach.{start, state_after, replay, IsReached}
 use Rattle.written_machine.specs.Waiting.{IsWaitingSet}
-use Rattle.written_machine.specs.Safe.{Safe, is_of_job_or_pool, GoesOn}
+use Rattle.written_machine.specs.Safe.{IsSafe, Safe, is_of_job_or_pool, GoesOn}
 use Rattle.written_machine.proofs.Events.{Happens, happens}
 use Rattle.written_machine.proofs.Reached.{replay_none, replay_keeps, reached_keeps}
 use Rattle.written_machine.proofs.Progress.{goes_on}
@@ -25,14 +25,14 @@ use Rattle.starvation_laws.proofs.BlockedCounts.{blocked-below_core}
 use Rattle.starvation_laws.proofs.Descent.{none_waits}
 use Rattle.starvation_laws.proofs.Draining.{lowers}
 use Rattle.headline.specs.Accepted.{accepted}
-use Rattle.headline.specs.Headline.{Promises, AcceptedPlansAreSafe, AcceptedPlansGoOn, AcceptedPlansDrain}
+use Rattle.headline.specs.Headline.{AcceptedPlansAreSafe, AcceptedPlansGoOn, AcceptedPlansDrain}
 use Rattle.headline.proofs.CertLaws.{CertLaws, cert_laws}
 use Rattle.headline.proofs.Bounded.{Bounded, bounded_start, bounded_step, keeps_sizes}
 
 -- ---- what every state that an accepted plan reaches keeps
 
 -- the bounds of the certificate's pools
-abbrev bound_of : Cert → ℕ → Bound
+abbrev pub bound_of : Cert → ℕ → Bound
 bound_of cert p = (pool_cert_at cert p).bound
 
 -- what the pools' bounds keep, and each blocked vector is balanced
@@ -41,14 +41,14 @@ pub record Sound (plan : Plan) (cert : Cert) (s : State) : Type 0 where
   pub blocked : (p : ℕ) → p < length plan.pools → IsBalanced GivesBack plan (pool_cert_at cert p).blocked s
 
 -- the start is sound
-sound_start : (plan : Plan) (cert : Cert) → IsOrdered plan → Sound plan cert (start plan)
+pub sound_start : (plan : Plan) (cert : Cert) → IsOrdered plan → Sound plan cert (start plan)
 sound_start plan cert ordered = record {
   bounded = bounded_start plan (bound_of cert) ordered;
   blocked = λ p inside. balanced_start GivesBack plan (pool_cert_at cert p).blocked;
 }
 
 -- every event keeps that
-sound_step : (plan : Plan) (cert : Cert) (s s' : State) (o : Outcome) {e : Event} → IsOrdered plan → CertLaws plan cert → Sound plan cert s → Happens plan s e s' o → Sound plan cert s'
+pub sound_step : (plan : Plan) (cert : Cert) (s s' : State) (o : Outcome) {e : Event} → IsOrdered plan → CertLaws plan cert → Sound plan cert s → Happens plan s e s' o → Sound plan cert s'
 sound_step plan cert s s' o ordered laws sound happened = record {
   bounded = bounded_step plan (bound_of cert) s s' o ordered laws.bound sound.bounded happened;
   blocked = λ p inside.
@@ -63,24 +63,28 @@ sound plan cert s ordered laws reached = reached_keeps plan (Sound plan cert) (s
 -- ---- the headline and its companion
 
 -- where the state is sound, no set of jobs waits only for its own members
-sound_waits : (plan : Plan) (cert : Cert) (s : State) → IsOrdered plan → CertLaws plan cert → Sound plan cert s → (members : List ℕ) → ¬ IsWaitingSet plan s members
+pub sound_waits : (plan : Plan) (cert : Cert) (s : State) → IsOrdered plan → CertLaws plan cert → Sound plan cert s → (members : List ℕ) → ¬ IsWaitingSet plan s members
 sound_waits plan cert s ordered laws held members =
     none_waits plan cert.ranks s members ordered laws.ranks held.bounded.kept
     (λ p inside. blocked-below_core plan (is_counted plan cert.ranks) (pool_cert_at cert p).blocked s p ordered inside (laws.blocked p inside) held.bounded.kept (held.blocked p inside))
+
+-- so it is safe
+pub sound_safe : (plan : Plan) (cert : Cert) (s : State) → IsOrdered plan → CertLaws plan cert → Sound plan cert s → IsSafe plan s
+sound_safe plan cert s ordered laws held =
+    let sizes = keeps_sizes plan (bound_of cert) s held.bounded in
+    record {
+      none_refused = sizes.none_refused;
+      within_max = sizes.within_max;
+      within_queue = sizes.within_queue;
+      none_waits = sound_waits plan cert s ordered laws held;
+    }
 
 -- the headline: every reached state is safe
 pub safe : (plan : Plan) (cert : Cert) → IsWellFormed plan → IsTrue (accepted plan cert) → Safe plan
 safe plan cert well_formed is_accepted events s reached =
     let is_ordered = ordered plan well_formed in
     let laws = cert_laws plan cert is_accepted in
-    let held = sound plan cert s is_ordered laws (events, reached) in
-    let sizes = keeps_sizes plan (bound_of cert) s held.bounded in
-    record {
-      none_refused = sizes.none_refused;
-      within_max = sizes.within_max;
-      within_queue = sizes.within_queue;
-      none_waits = sound_waits plan cert s is_ordered laws held;
-    }
+    sound_safe plan cert s is_ordered laws (sound plan cert s is_ordered laws (events, reached))
 
 -- its companion: every reached state with an unfinished job goes on
 pub goes_on_everywhere : (plan : Plan) (cert : Cert) → IsWellFormed plan → IsTrue (accepted plan cert) → GoesOn plan
@@ -141,7 +145,3 @@ accepted_plans_go_on plan cert well_formed is_accepted = goes_on_everywhere plan
 -- the bound
 pub accepted_plans_drain : AcceptedPlansDrain
 accepted_plans_drain plan cert well_formed is_accepted = drains plan cert well_formed is_accepted
-
--- all three
-pub promises : (plan : Plan) (cert : Cert) → IsWellFormed plan → IsTrue (accepted plan cert) → Promises plan cert
-promises plan cert well_formed is_accepted = record { safe = safe plan cert well_formed is_accepted; goes_on = goes_on_everywhere plan cert well_formed is_accepted; drains = drains plan cert well_formed is_accepted }

@@ -10,7 +10,7 @@ use Rattle.certificates.specs.Cert.{Cert}
 use Rattle.cert_text.specs.declared.document.TheConstants.{MOST_TEXT_BYTES}
 use Rattle.cert_text.specs.CertText.{cert_text}
 use Rattle.headline.specs.Accepted.{accepted}
-use Rattle.headline.proofs.Theorem.{promises}
+use Rattle.headline.proofs.Promised.{promises}
 use Rattle.cert_check.proofs.Yes.{plans_read_are_well_formed}
 use Rattle.size_search.specs.declared.found.NoSizes.TheVariants.{Unknown}
 use Rattle.size_search.specs.declared.found.SizesFound.{SizesFound}

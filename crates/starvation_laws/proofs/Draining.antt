@@ -104,7 +104,7 @@ todo_before plan ranks k i x e =
     omega (arith, now, sum_by-drop_more (of_submit (full plan ranks)) body i x inside)
 
 -- so a job that passes an action has so much less to do
-todo-passed : (plan : Plan) (ranks : Ranks) (s : State) (j : ℕ) (body : List Action) (i : ℕ) (x : Action) → StandsAt plan s (parent.Job j) body i (Some x)
+pub todo-passed : (plan : Plan) (ranks : Ranks) (s : State) (j : ℕ) (body : List Action) (i : ℕ) (x : Action) → StandsAt plan s (parent.Job j) body i (Some x)
     → todo plan ranks (with_position (parent.Job j) (i + 1) s) + 1 + of_submit (full plan ranks) x ≡ todo plan ranks s
 todo-passed plan ranks s j body i x at =
     let k = (job_at s j).class in

@@ -7,7 +7,7 @@ use Rattle.numbered_lists.proofs.Places.{length-places}
 use Rattle.numbered_lists.proofs.Sums.{count_by-le-sum_by}
 use Rattle.job_bodies.specs.declared.action.Action.{Action}
 use Rattle.job_bodies.specs.declared.action.Action.TheVariants as action
-use Rattle.job_bodies.specs.Plan.{Plan, pool_at, class_at}
+use Rattle.job_bodies.specs.Plan.{Plan, pool_at, class_at, first_workers}
 use Rattle.job_bodies.proofs.Bodies.{IsOrdered}
 use Rattle.written_machine.specs.declared.parent.Parent.{Parent}
 use Rattle.written_machine.specs.declared.parent.Parent.TheVariants as parent
@@ -56,7 +56,7 @@ queued-le-spent plan v p jobs laws classes =
     subst (λ (stage : Stage). 1 ≤ stage_weight GivesBack plan v job.class stage) (sym (queued_stage job.stage parts.0)) (laws.queued job.class (classes j no_job inside) (eqb-true (pool_of plan job.class) p parts.1)))
 
 -- so a full queue and one more job would weigh more than the total
-standing_refuses_nothing : (plan : Plan) (v : Vector) (s : State) (a : Parent) (body : List Action) (i k : ℕ) → IsOrdered plan → StandingLaws plan (pool_of plan k) v → Kept plan s → IsBalanced GivesBack plan v s → StandsAt plan s a body i (Some (action.Submit k))
+pub standing_refuses_nothing : (plan : Plan) (v : Vector) (s : State) (a : Parent) (body : List Action) (i k : ℕ) → IsOrdered plan → StandingLaws plan (pool_of plan k) v → Kept plan s → IsBalanced GivesBack plan v s → StandsAt plan s a body i (Some (action.Submit k))
     → (pool_at plan (pool_of plan k)).queue ≤ length (pool_part s (pool_of plan k)).queue → ⊥
 standing_refuses_nothing plan v s a body i k ordered laws kept balanced at no_room =
     let p = pool_of plan k in
@@ -109,17 +109,23 @@ made-le-spent plan v p jobs laws classes inside =
     job_weighs_one plan v p job.class job.stage laws (classes j no_job made) (eqb-true (pool_of plan job.class) p passes) (inside j))
 
 -- so as many jobs as the queue and the threads hold, and one more, would weigh more than the total
-lifetime_refuses_nothing : (plan : Plan) (v : Vector) (s : State) (a : Parent) (body : List Action) (i k : ℕ) → IsOrdered plan → LifetimeLaws plan (pool_of plan k) v → Kept plan s → HaveJobs plan s → IsBalanced GivesNothing plan v s → StandsAt plan s a body i (Some (action.Submit k))
-    → (pool_at plan (pool_of plan k)).queue ≤ length (pool_part s (pool_of plan k)).queue → (pool_at plan (pool_of plan k)).max ≤ threads plan s (pool_of plan k) → ⊥
-lifetime_refuses_nothing plan v s a body i k ordered laws kept have balanced at no_room all_started =
+pub lifetime_leaves_room : (plan : Plan) (v : Vector) (s : State) (a : Parent) (body : List Action) (i k : ℕ) → IsOrdered plan → LifetimeLaws plan (pool_of plan k) v → Kept plan s → IsBalanced GivesNothing plan v s → StandsAt plan s a body i (Some (action.Submit k))
+    → (pool_at plan (pool_of plan k)).queue + (pool_at plan (pool_of plan k)).max ≤ jobs_made plan s (pool_of plan k) + first_workers (pool_at plan (pool_of plan k)) → ⊥
+lifetime_leaves_room plan v s a body i k ordered laws kept balanced at as_many =
     let p = pool_of plan k in
     let exists = class_exists plan s a body i k ordered at in
     let within = submit_within_total GivesNothing plan v s a body i k ordered laws.laws kept balanced at in
     let enough = made-le-spent plan v p (moved_jobs a (i + 1) s) laws (classes_moved (length plan.classes) s a (i + 1) kept.classes) (are_inside_moved plan s a body i (action.Submit k) kept at) in
     let one = laws.queued k exists refl in
     let limit = laws.within in
-    let made = have p (ordered.pools k exists) in
     omega (arith, made_jobs-moved plan s a (i + 1) p)
+
+-- and a full queue and all threads have so many jobs
+lifetime_refuses_nothing : (plan : Plan) (v : Vector) (s : State) (a : Parent) (body : List Action) (i k : ℕ) → IsOrdered plan → LifetimeLaws plan (pool_of plan k) v → Kept plan s → HaveJobs plan s → IsBalanced GivesNothing plan v s → StandsAt plan s a body i (Some (action.Submit k))
+    → (pool_at plan (pool_of plan k)).queue ≤ length (pool_part s (pool_of plan k)).queue → (pool_at plan (pool_of plan k)).max ≤ threads plan s (pool_of plan k) → ⊥
+lifetime_refuses_nothing plan v s a body i k ordered laws kept have balanced at no_room all_started =
+    let made = have (pool_of plan k) (ordered.pools k (class_exists plan s a body i k ordered at)) in
+    lifetime_leaves_room plan v s a body i k ordered laws kept balanced at (omega arith)
 
 -- the jobs that were made of the pool are within the total
 pub jobs-le-total : (plan : Plan) (v : Vector) (s : State) (p : ℕ) → IsOrdered plan → LifetimeLaws plan p v → Kept plan s → IsBalanced GivesNothing plan v s → jobs_made plan s p ≤ total plan v

@@ -36,7 +36,7 @@ kept_moved plan s a body i i' kept stands next = record {
 
 -- ---- an actor submitted a job
 
-made_actors : (plan : Plan) (s : State) (a : Parent) (body : List Action) (i k : ℕ) (stage : Stage) → Kept plan s → StandsAt plan s a body i (Some (action.Submit k)) → stage ≢ Stage.Claimed → ((n : ℕ) → stage ≡ Stage.At n → n ≡ 0)
+pub made_actors : (plan : Plan) (s : State) (a : Parent) (body : List Action) (i k : ℕ) (stage : Stage) → Kept plan s → StandsAt plan s a body i (Some (action.Submit k)) → stage ≢ Stage.Claimed → ((n : ℕ) → stage ≡ Stage.At n → n ≡ 0)
     → (b : Parent) (body' : List Action) (n : ℕ) → Stands plan (with_job (new_job k a i stage) (with_position a (i + 1) s)) b body' n → ActorKept (moved_jobs a (i + 1) s ++ new_job k a i stage ∷ []) b body' n
 made_actors plan s a body i k stage kept at unclaimed begins b body' n now = elim (standing-pushed plan (with_position a (i + 1) s) (new_job k a i stage) b body' n now) [
   | inl new ↦ subst (ActorKept (moved_jobs a (i + 1) s ++ new_job k a i stage ∷ []) b body') (sym (begins n new.1)) (actor_begins (moved_jobs a (i + 1) s ++ new_job k a i stage ∷ []) b body')

@@ -6,7 +6,7 @@ use Rattle.pool_ranks.specs.Ranks.{Ranks, rank_rows}
 use Rattle.certificates.specs.Cert.{Cert, cert_fits}
 use Rattle.headline.specs.Conditions.{failing}
 use Rattle.headline.specs.Accepted.{is_nil}
-use Rattle.headline.proofs.Theorem.{promises}
+use Rattle.headline.proofs.Promised.{promises}
 use Rattle.cert_check.specs.Holding.{pool_holds}
 use Rattle.cert_check.proofs.Conditions.{held, ranks_fail}
 use Rattle.cert_check.proofs.Pools.{fails_here, passes_all}

@@ -7,7 +7,7 @@ use Rattle.pool_ranks.specs.Ranks.{Ranks, rank_rows}
 use Rattle.certificates.specs.Cert.{Cert, cert_fits}
 use Rattle.headline.specs.Conditions.{failing}
 use Rattle.headline.specs.Accepted.{is_nil}
-use Rattle.headline.proofs.Theorem.{promises}
+use Rattle.headline.proofs.Promised.{promises}
 use Rattle.cert_check.specs.declared.answer.PoolLine.{PoolLine}
 use Rattle.cert_check.specs.declared.on_threads.PoolCheck.{PoolCheck}
 use Rattle.cert_check.specs.Holding.{pool_holds}

@@ -1,0 +1,61 @@
+-- Replays of small plans in the steps of Java's execute, computed from the definitions alone.
+use Rattle.std.proofs.Common.{◌≡◌, ℕ, List, [], ◌∷◌, ◌++◌, length, Option, Some, None, false, refl}
+use Rattle.std.specs.Option.{option_map}
+use Rattle.job_bodies.specs.declared.action.Action.TheVariants.{Work, Submit}
+use Rattle.job_bodies.specs.Plan.{Plan}
+use Rattle.written_machine.specs.declared.event.Event.{Event}
+use Rattle.written_machine.specs.declared.event.Event.TheVariants as event
+use Rattle.written_machine.specs.State.{pool_part, threads}
+use Rattle.written_machine.specs.Reach.{start}
+use Rattle.java_steps.specs.Execute.{JavaState, java_replay, between_calls}
+
+-- one pool with one core thread, a maximum of two and a queue of one, and clients that each submit one piece of work
+abbrev one_pool : ℕ → Plan
+one_pool clients = record {
+  pools = record { name = 112 ∷ []; core = 1; max = 2; queue = 1; prestart = false } ∷ [];
+  classes = record { name = 97 ∷ []; pool = 0; body = Work 1 ∷ [] } ∷ [];
+  clients = record { name = 99 ∷ []; count = clients; repeat = false; body = Submit 0 ∷ [] } ∷ [];
+}
+
+-- what is seen of a state: how many submits were refused, how many threads the pool has, how many of them are idle, and how
+-- many jobs wait in its queue
+abbrev seen : Plan → JavaState → ℕ × ℕ × ℕ × ℕ
+seen plan s = (s.machine.refusals, threads plan s.machine 0, (pool_part s.machine 0).idle, length (pool_part s.machine 0).queue)
+
+-- after these events, from the start
+abbrev seen_after : ℕ → List Event → Option (ℕ × ℕ × ℕ × ℕ)
+seen_after clients events = option_map (seen (one_pool clients)) (java_replay (one_pool clients) (Some (between_calls (start (one_pool clients)))) events)
+
+-- client 0 submits; client 1 looks and offers, and its job fills the queue; client 2 looks, and its offer fails
+abbrev offer_fails : List Event
+offer_fails = event.Client 0 ∷ event.Client 1 ∷ event.Client 1 ∷ event.Client 2 ∷ event.Client 2 ∷ []
+
+-- job 0 ends, and its thread takes job 1
+abbrev queue_empties : List Event
+queue_empties = event.Job 0 ∷ event.Job 0 ∷ event.Take 0 ∷ []
+
+-- the queue is empty by then, and still client 2 gets a second thread
+one_job_at_work : seen_after 3 (offer_fails ++ queue_empties) ≡ Some (0, 1, 0, 0)
+one_job_at_work = refl
+
+second_thread_though_queue_has_room : seen_after 3 (offer_fails ++ queue_empties ++ event.Client 2 ∷ []) ≡ Some (0, 2, 0, 0)
+second_thread_though_queue_has_room = refl
+
+-- client 3 looks, its offer fails, and it gets the last thread
+abbrev last_thread_goes : List Event
+last_thread_goes = event.Client 3 ∷ event.Client 3 ∷ event.Client 3 ∷ []
+
+-- job 1 ends too: nothing is queued and one thread is idle, and still client 2 is refused
+one_thread_idle : seen_after 4 (offer_fails ++ last_thread_goes ++ queue_empties ++ event.Job 1 ∷ event.Job 1 ∷ []) ≡ Some (0, 2, 1, 0)
+one_thread_idle = refl
+
+refused_though_queue_has_room : seen_after 4 (offer_fails ++ last_thread_goes ++ queue_empties ++ event.Job 1 ∷ event.Job 1 ∷ event.Client 2 ∷ []) ≡ Some (1, 2, 1, 0)
+refused_though_queue_has_room = refl
+
+-- a client between two steps of its submit may stand still while all others come to an end
+others_go_on : seen_after 4 (offer_fails ++ queue_empties ++ event.Job 1 ∷ event.Job 1 ∷ event.Client 3 ∷ event.Client 3 ∷ event.Take 0 ∷ event.Job 2 ∷ event.Job 2 ∷ []) ≡ Some (0, 1, 1, 0)
+others_go_on = refl
+
+-- and a client whose body is at its end has no step
+over : seen_after 3 (event.Client 0 ∷ event.Client 0 ∷ []) ≡ None
+over = refl

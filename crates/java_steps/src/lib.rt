@@ -1,0 +1,8 @@
+//! Submits in the steps of Java's `execute`: what a state is while calls of it are under way, what an event does to it, and
+//! which states a list of events reaches. The definitions stand in `specs/`; nothing here runs, and the functions of `laws`
+//! have their contracts alone.
+#![tactic(auto)]
+
+mod laws;
+
+pub use laws::written_states_are_reached;

@@ -1,0 +1,5 @@
+pub mod DoneWeights
+pub mod LeftOut
+pub mod Choices
+pub mod LeftOutCosts
+pub mod WorkedLeavingOut
