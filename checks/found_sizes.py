@@ -51,14 +51,17 @@ def main():
     tried = 0
     for plan, told in zip(small, answers(program, small)):
         sizes = sizes_told(told)
-        if sizes is None or growth(plan, sizes) > MOST_GROWTH[len(plan.pools)]:
+        if sizes is None:
+            wrong += report(plan, told, "no sizes")
+            continue
+        if growth(plan, sizes) > MOST_GROWTH[len(plan.pools)]:
             continue
         tried += 1
         cheaper = cheaper_sizes(plan, growth(plan, sizes), lambda other: answer(other) != NONE)
         wrong += report(plan, told, cheaper and f"less would do: {cheaper}")
     print(f"{count} plans: " + ", ".join(f"{kind} {number}" for kind, number in kinds.items()))
     print(f"{small_count} small plans, {tried} compared with all sizes; {wrong} of all are wrong")
-    return 1 if wrong else 0
+    return 1 if wrong or small and not tried else 0
 
 
 def report(plan, told, fault):

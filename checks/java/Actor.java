@@ -1,0 +1,143 @@
+import java.util.List;
+import java.util.concurrent.ExecutionException;
+import java.util.concurrent.Future;
+import java.util.concurrent.RejectedExecutionException;
+import java.util.concurrent.SynchronousQueue;
+import java.util.concurrent.TimeUnit;
+
+/** A client or a job, with a thread of its own that makes one step when the driver says so. */
+class Actor {
+    enum Order { ACT, LEAVE_OUT, RUN_FREE }
+
+    private static final ThreadLocal<Actor> CURRENT = new ThreadLocal<>();
+    private final SynchronousQueue<Order> orders = new SynchronousQueue<>();
+    private final SynchronousQueue<String> answers = new SynchronousQueue<>();
+    final Replay replay;
+    final List<Plan.Action> body;
+    final Job[] submitted;
+    volatile int position;
+    volatile boolean within;
+    private boolean free;
+
+    Actor(Replay replay, List<Plan.Action> body) {
+        this.replay = replay;
+        this.body = body;
+        this.submitted = new Job[body.size()];
+    }
+
+    // ---- the driver's side
+
+    /** One step, and how far the actor came. */
+    String step(Order order) throws InterruptedException {
+        send(order);
+        String answer = answers.poll(Rest.MILLISECONDS, TimeUnit.MILLISECONDS);
+        if (answer == null) {
+            throw new IllegalStateException("no answer of an actor");
+        }
+        return answer;
+    }
+
+    void send(Order order) throws InterruptedException {
+        if (!orders.offer(order, Rest.MILLISECONDS, TimeUnit.MILLISECONDS)) {
+            throw new IllegalStateException("an actor does not wait");
+        }
+    }
+
+    boolean atEnd() {
+        return position == body.size();
+    }
+
+    boolean isAt(char what) {
+        return !atEnd() && body.get(position).what() == what;
+    }
+
+    /** The job that the get is for, or null where it was left out. */
+    Job awaited() {
+        return submitted[body.get(position).operand()];
+    }
+
+    // ---- on the actor's own thread
+
+    /** Goes through the body from where it stands, a step for each order, or freely. */
+    void go(boolean freely) throws InterruptedException, ExecutionException {
+        CURRENT.set(this);
+        free = freely;
+        Order order = nextOrder();
+        while (!atEnd()) {
+            order = rest(act(order));
+        }
+    }
+
+    private String act(Order order) throws InterruptedException, ExecutionException {
+        Plan.Action action = body.get(position);
+        String answer = switch (action.what()) {
+            case 's' -> order == Order.LEAVE_OUT || free && replay.leavesOut() ? leaveOut() : submit(action.operand());
+            case 'g' -> get(submitted[action.operand()]);
+            default -> "worked " + action.operand();
+        };
+        if (!answer.equals("refused")) {
+            position++;
+        }
+        return answer;
+    }
+
+    private String leaveOut() {
+        submitted[position] = null;
+        return "left out";
+    }
+
+    private String submit(int number) {
+        Job job = new Job(replay, number);
+        try {
+            job.future = replay.poolOf(number).executor.submit(job);
+        } catch (RejectedExecutionException refused) {
+            if (free) {
+                replay.refusedFree();
+                throw refused;
+            }
+            return "refused";
+        } finally {
+            within = false;
+        }
+        submitted[position] = job;
+        if (free) {
+            replay.submittedFree(job);
+        }
+        return "submitted";
+    }
+
+    private static String get(Job job) throws InterruptedException, ExecutionException {
+        if (job == null) {
+            return "passed";
+        }
+        Future<Job> future = job.future;
+        return "got job " + future.get().number;
+    }
+
+    /** Within a submit: the actor rests here too, where the replay goes step by step. */
+    static void pause(String where) {
+        Actor actor = CURRENT.get();
+        if (actor == null || !actor.replay.inSteps || actor.free) {
+            return;
+        }
+        actor.within = true;
+        try {
+            actor.rest(where);
+        } catch (InterruptedException over) {
+            Thread.currentThread().interrupt();
+        }
+    }
+
+    private Order rest(String answer) throws InterruptedException {
+        if (!free) {
+            answers.put(answer);
+        }
+        return nextOrder();
+    }
+
+    private Order nextOrder() throws InterruptedException {
+        Order order = free ? Order.RUN_FREE : orders.take();
+        free = order == Order.RUN_FREE;
+        return order;
+    }
+}

@@ -1,0 +1,32 @@
+import java.util.List;
+import java.util.concurrent.BlockingQueue;
+import java.util.concurrent.ThreadPoolExecutor;
+import java.util.concurrent.TimeUnit;
+
+/** An executor of a plan's pool, with a queue of which the driver holds the gate. */
+final class GatedPool {
+    final Plan.Pool pool;
+    final Gate gate = new Gate();
+    final BlockingQueue<Runnable> queue;
+    final ThreadPoolExecutor executor;
+
+    GatedPool(Plan.Pool pool, String kind, List<Thread> threads) throws InterruptedException {
+        this.pool = pool;
+        queue = kind.equals("linked") ? new LinkedQueue(pool.queue(), gate) : new ArrayQueue(pool.queue(), gate);
+        executor = new ThreadPoolExecutor(pool.core(), pool.max(), 1_000_000, TimeUnit.SECONDS, queue, work -> {
+            Thread thread = new Thread(work);
+            thread.setDaemon(true);
+            threads.add(thread);
+            return thread;
+        });
+        if (pool.prestart()) {
+            executor.prestartAllCoreThreads();
+            gate.awaitIdle(pool.core());
+        }
+    }
+
+    /** What the executor itself tells, and how many of its threads wait at the gate. */
+    String counts() {
+        return pool.name() + ": threads " + executor.getPoolSize() + ", idle " + gate.idle() + ", queued " + queue.size();
+    }
+}

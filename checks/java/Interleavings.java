@@ -1,0 +1,96 @@
+import java.util.concurrent.CountDownLatch;
+import java.util.concurrent.ExecutionException;
+import java.util.concurrent.Future;
+import java.util.concurrent.RejectedExecutionException;
+import java.util.concurrent.ThreadPoolExecutor;
+import java.util.concurrent.TimeUnit;
+
+/**
+ * Core 1, max 2, queue 1, and one-shot clients W, V, X and perhaps Y. X's offer fails, and X stands still there, before it
+ * asks for a thread; what it finds when it goes on is no longer what it found.
+ */
+final class Interleavings {
+    /** The offer of X waits behind its failure, or with the slip nothing waits. */
+    private static final class WaitingOffer implements Moments {
+        final CountDownLatch failed = new CountDownLatch(1);
+        final CountDownLatch goOn = new CountDownLatch(1);
+        volatile Thread who;
+
+        @Override
+        public void afterFailedOffer() {
+            if (Thread.currentThread() == who) {
+                failed.countDown();
+                await(goOn);
+            }
+        }
+    }
+
+    private final WaitingOffer moments = new WaitingOffer();
+    private final ThreadPoolExecutor pool;
+
+    private Interleavings(String kind) {
+        pool = new ThreadPoolExecutor(1, 2, 1, TimeUnit.HOURS,
+                kind.equals("linked") ? new LinkedQueue(1, moments) : new ArrayQueue(1, moments));
+    }
+
+    /** `KIND THIRD WAITS`: Y is there or not, and X waits or not. Prints what X is answered, and what the pool is then. */
+    public static void main(String[] words) throws Exception {
+        System.out.println(new Interleavings(words[0]).told(Boolean.parseBoolean(words[1]), Boolean.parseBoolean(words[2])));
+        System.exit(0);
+    }
+
+    private String told(boolean four, boolean waits) throws InterruptedException, ExecutionException {
+        CountDownLatch first = new CountDownLatch(1);
+        CountDownLatch held = new CountDownLatch(1);
+        Future<?> jobOfW = pool.submit(() -> await(first));
+        CountDownLatch taken = new CountDownLatch(1);
+        Future<?> jobOfV = pool.submit(taken::countDown);
+        String[] answer = new String[1];
+        Thread x = new Thread(() -> answer[0] = submits(held));
+        moments.who = waits ? x : null;
+        x.start();
+        if (waits) {
+            await(moments.failed);
+        } else {
+            x.join();
+        }
+        String ofY = four ? submits(held) : "none";
+        first.countDown();
+        jobOfW.get();
+        await(taken);
+        jobOfV.get();
+        while (pool.getActiveCount() != pool.getPoolSize() - 1) {
+            Thread.onSpinWait();
+        }
+        String before = state();
+        moments.goOn.countDown();
+        x.join();
+        while (pool.getQueue().size() > 0) {
+            Thread.onSpinWait();
+        }
+        String after = state();
+        held.countDown();
+        return "Y " + ofY + ", then " + before + "; X " + answer[0] + ", then " + after;
+    }
+
+    private String submits(CountDownLatch held) {
+        try {
+            pool.submit(() -> await(held));
+            return "served";
+        } catch (RejectedExecutionException refused) {
+            return "refused";
+        }
+    }
+
+    private String state() {
+        return "queued " + pool.getQueue().size() + " threads " + pool.getPoolSize() + " at work " + pool.getActiveCount();
+    }
+
+    private static void await(CountDownLatch latch) {
+        try {
+            latch.await();
+        } catch (InterruptedException over) {
+            Thread.currentThread().interrupt();
+        }
+    }
+}

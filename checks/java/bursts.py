@@ -1,0 +1,118 @@
+"""Bursts of one-shot clients at the bound of lifetime vectors, and with one job more.
+
+By hand: a refusal needs `queue + max` jobs before it, less core where the pool is prestarted, since each thread that is not
+prestarted was made for a job, and none of these is queued. So a pool that is ever given just so many refuses none, in any
+order of steps. With one more, jobs that are held until all have submitted fill a pool that is not prestarted, and in each
+round just that one is refused. Elsewhere there is an order in which it is, and the rounds go on until one has it.
+"""
+
+from collections import Counter
+from typing import NamedTuple
+
+
+class Line(NamedTuple):
+    core: int
+    max: int
+    queue: int
+    prestart: bool
+    held: bool  # each job is held until all clients have submitted
+    nested: bool  # each job submits one job more to the pool
+
+    def bound(self):
+        return self.queue + self.max - self.core * self.prestart
+
+    def clients(self):
+        return self.bound() // (1 + self.nested)
+
+    def each_round(self):
+        """With one job more each round refuses just one."""
+        return self.held and not self.prestart and not self.nested
+
+
+LINES = [
+    Line(1, 2, 1, False, True, False),
+    Line(1, 2, 1, False, False, False),
+    Line(1, 3, 2, False, True, False),
+    Line(1, 3, 2, False, False, False),
+    Line(2, 4, 3, False, True, False),
+    Line(2, 5, 4, False, True, False),
+    Line(3, 8, 6, False, True, False),
+    # With one more: the first job's is queued, and so the next ones start threads.
+    Line(1, 3, 1, False, True, True),
+    Line(1, 2, 2, False, True, True),
+    Line(2, 4, 2, False, True, True),
+    Line(1, 2, 1, True, True, False),
+    Line(1, 3, 2, True, False, False),
+    Line(2, 4, 3, True, True, False),
+    Line(2, 3, 4, True, False, False),
+]
+ROUNDS = 200
+# Where only some rounds refuse, so many are tried at most.
+MOST_ROUNDS = 50_000
+PART_LEFT_OUT = 0.2
+KINDS = ("array", "linked")
+
+
+def part(tools):
+    return [*at_the_bound(tools), *one_more(tools), *slips(tools)]
+
+
+def burst(line, kind, more, slow, leaves, until_refused, clients=None):
+    words = (kind, line.core, line.max, line.queue, line.prestart, clients or line.clients(), more, line.held, line.nested, slow,
+             leaves, MOST_ROUNDS if until_refused else ROUNDS, until_refused)
+    return " ".join(str(word).lower() for word in words)
+
+
+def done(tools, bursts):
+    """What came of each burst, by its words."""
+    return [{what: int(number) for what, number in (words.rsplit(" ", 1) for words in told.split(", "))}
+            for told in tools.run_java("Bursts", *bursts)]
+
+
+def at_the_bound(tools):
+    bursts = [burst(line, kind, 0, slow, leaves, False)
+              for number, line in enumerate(LINES) for slow, leaves in ((False, 0), (True, 0), (True, PART_LEFT_OUT))
+              for kind in (KINDS[(number + slow) % 2],)]
+    told = done(tools, bursts)
+    wrong = [f"bursts at the bound, {words}: {found}" for words, found in zip(bursts, told, strict=True) if found["refused in"]]
+    print(f"bursts at the bound: {len(LINES)} pools, {sum(found['rounds'] for found in told)} rounds, a thread asked for though the queue "
+          f"has room {sum(found['asked with room'] for found in told)} times, refused in {sum(found['refused in'] for found in told)} rounds", flush=True)
+    return wrong
+
+
+def one_more(tools):
+    bursts = [burst(line, KINDS[number % 2], 1, not line.each_round(), 0, not line.each_round()) for number, line in enumerate(LINES)]
+    told = done(tools, bursts)
+    wrong, sure, some = [], 0, []
+    for line, words, found in zip(LINES, bursts, told, strict=True):
+        if line.each_round():
+            sure += 1
+            right = found["refused in"] == found["rounds"] == ROUNDS and found["most"] == 1
+        else:
+            some.append(found["rounds"])
+            right = found["refused in"] == 1
+        if not right:
+            wrong.append(f"bursts with one job more, {words}: {found}")
+    print(f"bursts with one job more: {sure} pools that refuse just one in each of {ROUNDS} rounds; {len(some)} that refuse in some, the "
+          f"first after {', '.join(map(str, some))} rounds; with {len(wrong)} wrong", flush=True)
+    return wrong
+
+
+def slips(tools):
+    """Wrong bounds and sizes: of each pool they must be found."""
+    planted = [(name, line, jobs) for line in LINES for name, line, jobs in slips_of(line)]
+    told = done(tools, [burst(line, KINDS[number % 2], 0, True, 0, True, jobs) for number, (_, line, jobs) in enumerate(planted)])
+    wanted = Counter(name for name, _, _ in planted)
+    found = Counter(name for (name, _, _), one in zip(planted, told, strict=True) if one["refused in"])
+    print("slips, found of so many: " + ", ".join(f"'{name}' {found[name]} of {number}" for name, number in wanted.items()), flush=True)
+    return [f"bursts: the slip '{name}' is found {found[name]} times of {number}" for name, number in wanted.items() if found[name] != number]
+
+
+def slips_of(line):
+    """By name, with the pool's sizes and the number of jobs."""
+    if line.prestart:
+        yield "threads that are prestarted count as made for jobs", line, line.queue + line.max
+    elif line.each_round():
+        yield "the maximum is the core", line._replace(max=line.core), line.clients()
+        if line.queue > 1:
+            yield "the queue is one shorter", line._replace(queue=line.queue - 1), line.clients()

@@ -1,0 +1,83 @@
+#!/usr/bin/env python3
+"""Holds unmodified executors of java.util.concurrent to what the plans, the rules of docs/GUIDE.md and the promises say.
+
+    python3 checks/java/check.py [PART ..]     # replays, interleavings, bursts, loops; all where nothing is said
+
+README.md says what each part shows. Each part also has planted slips, which it must find. It needs a JDK (`javac` and
+`java`, of JAVA_HOME where that is set): where there is none it says so, and nothing is shown.
+
+The program is crates/sizing/out/sizing, or the one that the environment variable SIZING names; `interleavings`, `bursts`
+and `loops` need none.
+
+Exit status: 0 where all is as it should be, or there is no JDK; 1 where something is not; 2 where there is no program.
+"""
+
+import os
+import shutil
+import subprocess
+import sys
+import tempfile
+from pathlib import Path
+
+sys.dont_write_bytecode = True
+HERE = Path(__file__).resolve().parent
+sys.path[:0] = [str(HERE), str(HERE.parent)]
+
+import bursts
+import interleavings
+import loops
+import replays
+from refused_growths import Unable, built
+
+PARTS = {"replays": replays.part, "interleavings": interleavings.part, "bursts": bursts.part, "loops": loops.part}
+SECONDS = 1800
+
+
+class Tools:
+    """The program, and the compiled classes."""
+
+    def __init__(self, program, java, classes):
+        self.program, self.java, self.classes = program, java, classes
+
+    def run_java(self, name, *words, given=""):
+        """What a Java program prints, line by line."""
+        ended = subprocess.run([self.java, "-cp", self.classes, name, *map(str, words)], input=given, text=True,
+                               stdout=subprocess.PIPE, timeout=SECONDS, check=True)
+        return ended.stdout.splitlines()
+
+    def sizing(self, command, text):
+        ended = subprocess.run([self.program, command], input=text, text=True, capture_output=True, timeout=SECONDS)
+        return ended.returncode, ended.stdout
+
+
+def tool(name):
+    home = os.environ.get("JAVA_HOME")
+    return shutil.which(name, path=str(Path(home) / "bin")) if home else shutil.which(name)
+
+
+def main():
+    javac, java = tool("javac"), tool("java")
+    if not javac or not java:
+        print("checks/java: there is no JDK (javac and java) here, so nothing is checked")
+        return 0
+    wanted = sys.argv[1:] or list(PARTS)
+    try:
+        program = built() if "replays" in wanted else None
+    except Unable as why:
+        print(why, file=sys.stderr)
+        return 2
+    with tempfile.TemporaryDirectory() as classes:
+        sources = sorted(map(str, HERE.glob("*.java")))
+        subprocess.run([javac, "-Xlint:all", "-Werror", "-d", classes, *sources], check=True)
+        version = subprocess.run([java, "-version"], capture_output=True, text=True).stderr.splitlines()[0]
+        print(f"{version}, {os.cpu_count()} processors", flush=True)
+        tools = Tools(program, java, classes)
+        wrong = [line for name in wanted for line in PARTS[name](tools)]
+    for line in wrong[:5]:
+        print(line)
+    print(f"{len(wrong)} wrong")
+    return 1 if wrong else 0
+
+
+if __name__ == "__main__":
+    sys.exit(main())

@@ -1,0 +1,24 @@
+"""Two interleavings that Java has and a submit in one step has not, with a queue whose failed offer waits.
+
+Core 1, max 2, queue 1. W's job starts the first thread, V's is queued, X's offer fails, and X stands still. Then the jobs
+of W and V end, and X asks for a thread. By hand: with Y, who got the last thread meanwhile, X is refused, though nothing is
+queued and one of the two threads is idle; without Y, X gets a second thread, though nothing is queued.
+"""
+
+BY_HAND = {
+    "four clients": "Y served, then queued 0 threads 2 at work 1; X refused, then queued 0 threads 2 at work 1",
+    "three clients": "Y none, then queued 0 threads 1 at work 0; X served, then queued 0 threads 2 at work 1",
+}
+
+
+def part(tools):
+    wrong, found = [], 0
+    for kind in ("array", "linked"):
+        for name, wanted in BY_HAND.items():
+            told = tools.run_java("Interleavings", kind, str(name == "four clients").lower(), "true")
+            if told != [wanted]:
+                wrong.append(f"interleavings, {kind}, {name}: {told}, wanted {wanted}")
+            slipped = tools.run_java("Interleavings", kind, str(name == "four clients").lower(), "false")
+            found += slipped != [wanted]
+    print(f"interleavings: 4, with {len(wrong)} wrong; slip 'the failed offer does not wait': found in {found} of 4", flush=True)
+    return wrong + ([] if found == 4 else ["interleavings: the slip is not found"])

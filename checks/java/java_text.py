@@ -1,0 +1,19 @@
+"""Plans and cases as the Java side reads them."""
+
+
+def plan_lines(plan):
+    for pool in plan.pools:
+        yield f"pool {pool.name} {pool.core} {pool.max} {pool.queue} {str(pool.prestart).lower()}"
+    for one in plan.classes:
+        yield " ".join(["class", str(one.pool), "false", *actions(one.body)])
+    for client in plan.clients:
+        yield " ".join(["client", str(client.count), str(client.repeat).lower(), *actions(client.body)])
+    yield "events"
+
+
+def actions(body):
+    return [f"{what[0]}{operand}" for what, operand in body]
+
+
+def case(plan, kind, in_steps, events):
+    return "\n".join([f"case {kind} {str(in_steps).lower()}", *plan_lines(plan), *events, "end"]) + "\n"

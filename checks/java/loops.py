@@ -1,0 +1,75 @@
+"""Clients that go round and round through certified plans of examples/, and the same with a queue one less.
+
+A queue that is bounded by the certificate's total is what the plan needs; where one place less is not safe, by hand, some
+submit must be refused.
+"""
+
+from pathlib import Path
+
+from java_text import plan_lines
+from read_plans import read_plan
+
+EXAMPLES = Path(__file__).resolve().parent.parent.parent / "examples"
+ROUNDS = 100_000
+# The most microseconds for which a worker that is slow waits before it takes.
+SLOW = 150
+# The same of the pool whose queue is one less, so that its threads are often idle together.
+SLOW_LESS = 2000
+PART_LEFT_OUT = 0.25
+# Rounds, the part of submits that is left out, and how slow workers are.
+WAYS = ((ROUNDS, 0, 0), (20_000, PART_LEFT_OUT, 0), (20_000, 0, SLOW), (20_000, PART_LEFT_OUT, SLOW))
+# The pools whose queue is as long as the plan needs, and why one place less is not enough.
+ONE_LESS = {
+    # both jobs queued, and the one thread idle
+    "two-clients-queue-of-two": {"p": 2},
+    "start-before-queue": {"p": 2},
+    # all 25 requests queued, and all threads idle
+    "web-and-database-sized": {"web": 25},
+    # all 1,000 requests; and what four front threads ask, while the two threads of the back are idle
+    "front-and-back": {"front": 1000, "back": 4},
+    # the jobs of both clients, while the threads are idle
+    "cross-pools-two-threads": {"p": 2, "q": 2},
+    # six sections, while two reports run and all other threads are idle
+    "report-fan-out-core-3": {"reports": 6},
+    # one place is enough
+    "nested-two-workers": {},
+    "one-client-loops": {},
+    "one-burst": {},
+}
+
+
+def part(tools):
+    return [line for name, sizes in ONE_LESS.items() for line in loops_of(tools, name, sizes)]
+
+
+def loops_of(tools, name, sizes):
+    """A plan with the queues that it needs, and with each of them one less."""
+    plan = read_plan((EXAMPLES / f"{name}.toml").read_text())
+    needed = with_queues(plan, sizes)
+    repeats = any(client.repeat for client in plan.clients)
+    wrong, jobs, less = [], 0, []
+    for kind in ("array", "linked"):
+        for rounds, leaves, slow in WAYS:
+            told = looped(tools, needed, kind, rounds, leaves, slow, "all", False)
+            jobs += told["completed"]
+            if told["refused"] or told["completed"] != told["jobs"] or repeats and told["rounds"] != rounds:
+                wrong.append(f"loops, {name}, {kind}, slow {slow}, leaves out {leaves}: {told}")
+        for pool, queue in sizes.items():
+            told = looped(tools, with_queues(needed, {pool: queue - 1}), kind, ROUNDS, 0, SLOW_LESS, pool, True)
+            less.append(f"{pool} {queue - 1} ({kind}) after {told['rounds']}")
+            if not told["refused"]:
+                wrong.append(f"loops, {name}, {kind}, {pool} {queue - 1}: none refused in {told['rounds']} rounds")
+    rounds = ", ".join(str(rounds) for rounds, _, _ in WAYS) if repeats else "no"
+    print(f"loops, {name}: two kinds of queue, {rounds} rounds each, {jobs} jobs, with {len(wrong)} wrong"
+          + (f"; with one place less refused in {', '.join(less)} rounds" if less else ""), flush=True)
+    return wrong
+
+
+def with_queues(plan, sizes):
+    return plan._replace(pools=[pool._replace(queue=sizes.get(pool.name, pool.queue)) for pool in plan.pools])
+
+
+def looped(tools, plan, kind, rounds, leaves, slow, slow_pool, until_refused):
+    given = "\n".join(plan_lines(plan)) + "\n"
+    told = tools.run_java("Loops", kind, rounds, leaves, slow, slow_pool, str(until_refused).lower(), given=given)[0]
+    return {what: int(number) for what, number in (words.split() for words in told.split(", "))}

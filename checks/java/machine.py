@@ -1,0 +1,181 @@
+"""What an executor must answer to a list of events, by the three rules of the Javadoc (docs/GUIDE.md), with submits left out.
+
+A submit is one event, or (`in_steps`) up to three: below core a new thread starts the job; else the job is offered to the
+queue; and if that fails, a thread is asked for. An actor before a submit may leave it out, and its get is then passed.
+"""
+
+NOT_POSSIBLE = "not possible"
+
+
+class Actor:
+    def __init__(self, body, repeat):
+        self.body, self.repeat, self.position = body, repeat, 0
+        self.made = {}  # the latest job of each submit, None where it was left out
+        self.call = None  # how far its call of execute came
+        self.tried = False  # a submit of it was refused, and it stands there still
+        self.path, self.spots = [], {}  # what it did, and where in that each submit stands
+
+    def action(self):
+        return self.body[self.position] if self.position < len(self.body) else ("end", None)
+
+
+class Job(Actor):
+    def __init__(self, body, number, kind, pool, stage):
+        super().__init__(body, True)
+        self.number, self.kind, self.pool, self.stage = number, kind, pool, stage
+
+
+class Machine:
+    def __init__(self, plan, in_steps=False):
+        self.plan, self.in_steps, self.refusals = plan, in_steps, 0
+        self.clients = [Actor(client.body, client.repeat) for client in plan.clients for _ in range(client.count)]
+        self.jobs = []
+        self.gave_up = False  # some actor left out a submit that was refused before
+        self.idle = [pool.core if pool.prestart else 0 for pool in plan.pools]
+        self.queues = [[] for _ in plan.pools]
+
+    def busy(self, pool):
+        return [job for job in self.jobs if job.pool == pool and job.stage == "running"]
+
+    def threads(self, pool):
+        return self.idle[pool] + len(self.busy(pool))
+
+    # ---- events
+
+    def moves(self):
+        """All events that are possible."""
+        found = []
+        for word, actors in (("client", self.clients), ("job", self.jobs)):
+            for number, actor in enumerate(actors):
+                if self.can_act(actor):
+                    found.append(f"{word} {number}")
+                if actor.action()[0] == "submit" and self.is_about(actor) and not actor.call:
+                    found.append(f"leave {word} {number}")
+        for pool, one in enumerate(self.plan.pools):
+            if self.idle[pool] and self.queues[pool]:
+                found.append(f"take {one.name}")
+            if self.idle[pool] and self.threads(pool) > one.core:
+                found.append(f"retire {one.name}")
+        return found
+
+    @staticmethod
+    def is_about(actor):
+        return not isinstance(actor, Job) or actor.stage == "running"
+
+    def can_act(self, actor):
+        what, operand = actor.action()
+        if not self.is_about(actor):
+            return False
+        if what == "get":
+            return actor.made[operand] is None or actor.made[operand].stage == "done"
+        return what != "end" or actor.repeat
+
+    def answer(self, event):
+        if event.startswith("stuck"):
+            return "stuck yes" if self.wait_for_each_other({int(word) for word in event.split()[1:]}) else "stuck no"
+        if event not in self.moves():
+            return NOT_POSSIBLE
+        *leave, word, which = event.split()
+        if word in ("take", "retire"):
+            return self.of_pool(word, [pool.name for pool in self.plan.pools].index(which))
+        actor = (self.clients if word == "client" else self.jobs)[int(which)]
+        return self.leave_out(actor) if leave else self.act(actor)
+
+    def of_pool(self, word, pool):
+        self.idle[pool] -= 1
+        if word == "retire":
+            return "retired"
+        job = self.queues[pool].pop(0)
+        job.stage = "running"
+        return f"took job {job.number}"
+
+    def leave_out(self, actor):
+        self.gave_up = self.gave_up or actor.tried
+        actor.tried = False
+        actor.made[actor.position] = None
+        actor.position += 1
+        return "left out"
+
+    def act(self, actor):
+        what, operand = actor.action()
+        if what == "submit":
+            return self.submit(actor, operand)
+        if what == "end":
+            return self.end(actor)
+        actor.position += 1
+        if what == "work":
+            actor.path.append(("work", operand))
+            return f"worked {operand}"
+        if actor.made[operand] is None:
+            return "passed"
+        actor.path.append(("get", actor.spots[operand]))
+        return f"got job {actor.made[operand].number}"
+
+    def end(self, actor):
+        if isinstance(actor, Job):
+            actor.stage = "done"
+            self.idle[actor.pool] += 1
+            return f"finished job {actor.number}"
+        actor.position = 0
+        return "looped"
+
+    # ---- a submit
+
+    def submit(self, actor, kind):
+        pool = self.plan.classes[kind].pool
+        sizes = self.plan.pools[pool]
+        if actor.call is None:
+            if self.threads(pool) < sizes.core:
+                return self.makes(actor, kind, pool, "running")
+            actor.call = "found core threads"
+            if self.in_steps:
+                return actor.call
+        if actor.call == "found core threads":
+            if len(self.queues[pool]) < sizes.queue:
+                return self.makes(actor, kind, pool, "queued")
+            actor.call = "found the queue full"
+            if self.in_steps:
+                return actor.call
+        if self.threads(pool) < sizes.max:
+            return self.makes(actor, kind, pool, "running")
+        actor.call, actor.tried = None, True
+        self.refusals += 1
+        return f"refused by {sizes.name}"
+
+    def makes(self, actor, kind, pool, stage):
+        job = Job(self.plan.classes[kind].body, len(self.jobs), kind, pool, stage)
+        self.jobs.append(job)
+        if stage == "queued":
+            self.queues[pool].append(job)
+        actor.call, actor.tried = None, False
+        actor.made[actor.position] = job
+        actor.spots[actor.position] = len(actor.path)
+        actor.path.append(("submit", job))
+        actor.position += 1
+        return f"{'queued' if stage == 'queued' else 'started'} job {job.number}"
+
+    # ---- jobs that wait only for each other
+
+    def wait_for_each_other(self, members):
+        return all(number < len(self.jobs) and self.waits(self.jobs[number], members) for number in members)
+
+    def waits(self, job, members):
+        if job.stage == "queued":
+            return not self.idle[job.pool] and all(other.number in members for other in self.busy(job.pool))
+        what, operand = job.action()
+        return job.stage == "running" and what == "get" and job.made[operand] is not None and job.made[operand].number in members
+
+    def most_waiting(self):
+        """The greatest set of jobs that wait only for each other."""
+        members = {job.number for job in self.jobs if job.stage in ("queued", "running")}
+        while not self.wait_for_each_other(members):
+            members = {number for number in members if self.waits(self.jobs[number], members)}
+        return members
+
+    def counts(self):
+        """How many submits were refused and jobs are unfinished, and what each pool has."""
+        unfinished = sum(job.stage != "done" for job in self.jobs)
+        return [f"refusals {self.refusals}, unfinished {unfinished}"] + [
+            f"{one.name}: threads {self.threads(pool)}, idle {self.idle[pool]}, queued {len(self.queues[pool])}"
+            for pool, one in enumerate(self.plan.pools)
+        ]

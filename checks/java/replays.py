@@ -1,0 +1,190 @@
+"""Lists of events, on the executors, by `sizing replay`, and by the machine of this folder."""
+
+import random
+from collections import Counter
+from pathlib import Path
+
+from java_text import case
+from machine import NOT_POSSIBLE, Machine
+from paths import on_the_paths, plan_of_paths
+from read_plans import read_plan
+from small_plans import text_of
+from walks import plan_by_chance, walk
+
+EXAMPLES = Path(__file__).resolve().parent.parent.parent / "examples"
+KINDS = ("array", "linked")
+LISTS = 1000
+# Of so many plans each slip is tried.
+SLIPPED = 100
+# How many jobs of an example's end never finish, where all jobs and threads run on and no client acts: by hand. Of all
+# other examples it is none.
+NEVER_FINISH = {"cross-pools": 4, "nested-one-worker": 2, "nested-unused-max": 2, "report-fan-out": 8, "there-and-back": 3}
+PART_LEFT_OUT = 0.3
+
+
+def part(tools):
+    chance = random.Random(1)
+    return [*examples(tools), *lists(tools, chance), *slips(tools, chance)]
+
+
+def numbered(answers):
+    return [f"{number}: {told}" for number, told in enumerate(answers, 1)]
+
+
+def on_executors(tools, cases):
+    """What the executors answer to each case."""
+    told, found = tools.run_java("Replays", given="".join(cases)), []
+    for _ in cases:
+        end = told.index("end")
+        found.append(told[:end])
+        told = told[end + 1 :]
+    return found
+
+
+# ---- the examples
+
+
+def examples(tools):
+    wrong, cases, wanted = [], [], []
+    for events in sorted(EXAMPLES.glob("*.events")):
+        plan = events.with_suffix(".toml").read_text()
+        stored = events.with_suffix(".replay").read_text().splitlines()[:-1]
+        answer = tools.sizing("replay", f"{plan}%%\n{events.read_text()}")[1].splitlines()
+        if answer != stored:
+            wrong.append(f"replays, {events.stem}: sizing replay differs from {events.stem}.replay")
+        for kind in KINDS:
+            cases.append(case(read_plan(plan), kind, False, [*events.read_text().splitlines(), "counts", "run free 0"]))
+            wanted.append((events.stem, kind, answer, NEVER_FINISH.get(events.stem, 0)))
+    answers = 0
+    for (name, kind, answer, never), told in zip(wanted, on_executors(tools, cases)):
+        steps = len(answer)
+        answers += steps - 1
+        if told[:steps] != answer or not told[-1].endswith(f"unfinished {never}"):
+            wrong.append(f"replays, {name}, {kind}: {told}, wanted {answer} and at last unfinished {never}")
+    print(f"replays of examples: {len(wanted)}, answers {answers}, with {len(wrong)} wrong", flush=True)
+    return wrong
+
+
+# ---- lists by chance
+
+
+class List:
+    """A list of events for a plan, with what must be answered."""
+
+    def __init__(self, chance, plan, machine_of=Machine):
+        self.plan, self.kind = plan, chance.choice(KINDS)
+        self.in_steps, self.leaving_out = chance.random() < 0.5, chance.random() < 0.5
+        self.machine, self.events, self.answers = walk(plan, chance, self.in_steps, self.leaving_out)
+        self.wanted = numbered(self.answers) + self.machine.counts()
+
+    def case(self, plan=None, *more):
+        return case(plan or self.plan, self.kind, self.in_steps, [*self.events, "counts", *more])
+
+    def of_program(self):
+        """The plan and events that `sizing replay` can show, with its answers; None where there are none."""
+        if self.in_steps:
+            return None
+        plan = plan_of_paths(self.machine) if self.leaving_out else self.plan
+        if plan is None:
+            return None
+        events, answers = on_the_paths(self.events, self.answers) if self.leaving_out else (self.events, self.answers)
+        return plan, events, numbered(answers) + self.wanted[len(self.answers) : len(self.answers) + 1]
+
+
+def lists(tools, chance):
+    wrong, count, found, certified = [], Counter(), [], []
+    for _ in range(LISTS):
+        one = List(chance, plan_by_chance(chance))
+        found.append(one)
+        status, _ = tools.sizing("certify", text_of(one.plan))
+        certified.append(status == 0)
+        shown = one.of_program()
+        if shown:
+            plan, events, answers = shown
+            told = tools.sizing("replay", f"{text_of(plan)}%%\n" + "\n".join(events))[1].splitlines()
+            count["by sizing replay"] += 1
+            count["of these with parts left out"] += "left out" in one.answers
+            if told != answers:
+                wrong.append(f"replays, sizing replay: {told}, wanted {answers} of\n{text_of(plan)}%%\n" + "\n".join(events))
+    cases = [one.case(None, f"run free {PART_LEFT_OUT * one.leaving_out}") if sure else one.case() for one, sure in zip(found, certified)]
+    for one, sure, told in zip(found, certified, on_executors(tools, cases)):
+        count["on executors"] += 1
+        count["in steps"] += one.in_steps
+        count["parts left out"] += "left out" in one.answers
+        count["prestarted"] += any(pool.prestart for pool in one.plan.pools)
+        count["answers"] += len(one.answers)
+        count["refused"] += sum(told.startswith("refused") for told in one.answers)
+        count["stuck yes"] += one.answers.count("stuck yes")
+        count["retired"] += one.answers.count("retired")
+        count["certified"] += sure
+        wanted = one.wanted + (["then refusals 0, unfinished 0"] if sure else [])
+        if told != wanted:
+            wrong.append(f"replays, {one.kind}, in steps {one.in_steps}: {told}, wanted {wanted} of\n{one.case()}")
+    print("replays by chance: " + ", ".join(f"{what} {number}" for what, number in count.items()) + f", with {len(wrong)} wrong", flush=True)
+    return wrong
+
+
+# ---- slips
+
+
+class AsksTheQueueAgain(Machine):
+    """Whoever asks for a thread is queued where the queue has room by then."""
+
+    def submit(self, actor, kind):
+        pool = self.plan.classes[kind].pool
+        if actor.call == "found the queue full" and len(self.queues[pool]) < self.plan.pools[pool].queue:
+            return self.makes(actor, kind, pool, "queued")
+        return super().submit(actor, kind)
+
+
+class IdleThreadsAreGiven(Machine):
+    """A submit hands its job to an idle thread."""
+
+    def submit(self, actor, kind):
+        pool = self.plan.classes[kind].pool
+        if actor.call is None and self.idle[pool]:
+            self.idle[pool] -= 1
+            return self.makes(actor, kind, pool, "running")
+        return super().submit(actor, kind)
+
+
+def with_pools(plan, change):
+    return plan._replace(pools=[pool._replace(**change(pool)) for pool in plan.pools])
+
+
+POOL_SLIPS = {
+    "a queue one longer": lambda pool: {"queue": pool.queue + 1},
+    "a maximum one higher": lambda pool: {"max": pool.max + 1},
+    "a core one higher": lambda pool: {"core": pool.core + 1, "max": max(pool.max, pool.core + 1)},
+    "prestarted the other way": lambda pool: {"prestart": not pool.prestart},
+}
+RULE_SLIPS = {"an ask looks at the queue again": AsksTheQueueAgain, "idle threads are given jobs": IdleThreadsAreGiven}
+
+
+def slips(tools, chance):
+    """Each slip is planted into what the executors are, or into the machine, and must be found."""
+    found = Counter()
+    some = [List(chance, plan_by_chance(chance)) for _ in range(SLIPPED)]
+    for name, change in POOL_SLIPS.items():
+        told = on_executors(tools, [one.case(with_pools(one.plan, change)) for one in some])
+        found[name] = sum(told != one.wanted for one, told in zip(some, told))
+        shown = [one.of_program() for one in some]
+        answers = [tools.sizing("replay", f"{text_of(with_pools(plan, change))}%%\n" + "\n".join(events))[1].splitlines()
+                   for plan, events, _ in filter(None, shown)]
+        found[name + ", in sizing's plan"] = sum(told != wanted for told, (_, _, wanted) in zip(answers, filter(None, shown)))
+    told = on_executors(tools, [case(one.plan, one.kind, one.in_steps, [event.removeprefix("leave ") for event in one.events] + ["counts"]) for one in some])
+    found["what is left out is submitted"] = sum(told != one.wanted for one, told in zip(some, told))
+    told = on_executors(tools, [one.case() for one in some])
+    for name, rule in RULE_SLIPS.items():
+        found[name] = sum(by_rule(rule, one) != answers for one, answers in zip(some, told))
+    print(f"slips, found in so many of {SLIPPED} lists: " + ", ".join(f"'{name}' {number}" for name, number in found.items()), flush=True)
+    return [f"replays: the slip '{name}' is not found" for name, number in found.items() if not number]
+
+
+def by_rule(rule, one):
+    machine, answers = rule(one.plan, one.in_steps), []
+    for event in one.events:
+        answers.append(machine.answer(event))
+        if answers[-1] == NOT_POSSIBLE:
+            break
+    return numbered(answers) + machine.counts()

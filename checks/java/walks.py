@@ -1,0 +1,59 @@
+"""Plans and lists of events by chance."""
+
+import sys
+from pathlib import Path
+
+sys.path.insert(0, str(Path(__file__).resolve().parent.parent))
+
+from found_certs import body_by_chance
+from machine import NOT_POSSIBLE, Machine
+from small_plans import Class, Client, Plan, Pool
+
+MOST_JOBS = 60
+# How often an event of each kind is drawn, where it is possible.
+WEIGHTS = {"client": 4, "job": 4, "take": 2, "retire": 1, "leave": 2}
+
+
+def plan_by_chance(chance):
+    pools = []
+    for number in range(chance.choice([1, 1, 2, 3])):
+        core = chance.choice([1, 1, 2, 3])
+        pools.append(Pool("pqr"[number], core, core + chance.choice([0, 1, 2]), chance.choice([1, 1, 2, 3]), chance.random() < 0.3))
+    classes = [
+        Class("abcd"[number], chance.randrange(len(pools)), body_by_chance(chance, number))
+        for number in range(chance.choice([1, 2, 3, 4]))
+    ]
+    clients = [
+        Client("uvw"[number], chance.choice([1, 2, 3, 5]), chance.random() < 0.7, body_by_chance(chance, len(classes)))
+        for number in range(chance.choice([1, 1, 2, 3]))
+    ]
+    return Plan(pools, classes, clients)
+
+
+def walk(plan, chance, in_steps, leaving_out, most=60):
+    """A list of events, drawn one by one, with what must be answered, and the machine at its end."""
+    machine, events, answers = Machine(plan, in_steps), [], []
+    while len(events) < most and len(machine.jobs) < MOST_JOBS:
+        event = draw(machine, chance, leaving_out)
+        if event is None:
+            break
+        events.append(event)
+        answers.append(machine.answer(event))
+        if answers[-1] == NOT_POSSIBLE:
+            break
+    return machine, events, answers
+
+
+def draw(machine, chance, leaving_out):
+    """One event, now and then a question, and rarely an event that may not be possible."""
+    if machine.jobs and chance.random() < 0.05:
+        waiting = machine.most_waiting()
+        members = waiting if waiting and chance.random() < 0.7 else {chance.randrange(len(machine.jobs)) for _ in range(2)}
+        return "stuck " + " ".join(map(str, sorted(members)))
+    if chance.random() < 0.01:
+        return chance.choice([
+            f"client {chance.randrange(len(machine.clients) + 1)}", f"job {chance.randrange(len(machine.jobs) + 1)}",
+            f"take {machine.plan.pools[0].name}", f"retire {machine.plan.pools[0].name}",
+        ])
+    moves = [event for event in machine.moves() if leaving_out or not event.startswith("leave")]
+    return chance.choices(moves, [WEIGHTS[event.split()[0]] for event in moves])[0] if moves else None
