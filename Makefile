@@ -13,7 +13,7 @@ READER_SOURCES := $(shell python3 tools/crates.py plan_reader)
 demo:
 	@examples/demo
 
-# Proves and builds the program: about twenty minutes on four cores, and nothing where it is built and no source is newer.
+# Proves and builds the program: some 25 minutes on four cores, and nothing where it is built and no source is newer.
 program: $(PROGRAM)
 
 $(PROGRAM): $(PROGRAM_SOURCES)
@@ -41,13 +41,14 @@ examples: program
 	python3 examples/check.py
 
 # What no contract says of the built program: a refused growth of memory, the ends of its streams, that runs end, and how
-# cheap the sizes are that it finds.
+# cheap the sizes are that it finds; and what Java's own executors do beside it, where a JDK is there.
 checks: program
 	python3 checks/refused_growths.py
 	python3 checks/ends_of_streams.py
 	python3 checks/small_plans.py
 	python3 checks/runs.py
 	python3 checks/fit.py
+	python3 checks/java/check.py
 
 # Times a replay beside a plain program that only splits and counts the same lines, the reading of a plan beside the
 # reading of its TOML alone, check and explain beside the reading of their two texts alone, certify beside the reading of

@@ -87,12 +87,13 @@ def processor_seconds():
 
 
 def main(words, written):
-    """Runs rt with these words, and writes a line for each process of rattle's, and one for the whole."""
+    """Runs rt with these words, and writes a line for each process of rattle's, and one for the whole, with the number of processors."""
+    os.makedirs(os.path.dirname(written), exist_ok=True)
     rt = rt_module()
     measure(rt)
     since, used = time.monotonic(), processor_seconds()
     status = rt.main(words)
-    whole = "", "whole", " ".join(words), processor_seconds() - used, time.monotonic() - since
+    whole = str(os.cpu_count()), "whole", " ".join(words), processor_seconds() - used, time.monotonic() - since
     with open(written, "w", encoding="utf-8") as file:
         for crate, kind, name, seconds, wall in [*taken, whole]:
             file.write(f"{crate}\t{kind}\t{name}\t{seconds:.2f}\t{wall:.2f}\n")
