@@ -1,13 +1,15 @@
 -- Replays of small plans in the steps of Java's execute, computed from the definitions alone.
-use Rattle.std.proofs.Common.{◌≡◌, ℕ, List, [], ◌∷◌, ◌++◌, length, Option, Some, None, false, refl}
-use Rattle.std.specs.Option.{option_map}
+use Rattle.std.proofs.Common.{◌≡◌, ℕ, List, [], ◌∷◌, ◌++◌, length, Option, Some, None, false, refl, arith}
+use Rattle.std.specs.Option.{option_map, unwrap_or}
 use Rattle.job_bodies.specs.declared.action.Action.TheVariants.{Work, Submit}
 use Rattle.job_bodies.specs.Plan.{Plan}
+use Rattle.job_bodies.specs.WellFormed.{IsWellFormed}
 use Rattle.written_machine.specs.declared.event.Event.{Event}
 use Rattle.written_machine.specs.declared.event.Event.TheVariants as event
 use Rattle.written_machine.specs.State.{pool_part, threads}
 use Rattle.written_machine.specs.Reach.{start}
 use Rattle.java_steps.specs.Execute.{JavaState, java_replay, between_calls}
+use Rattle.java_steps.specs.WithRoom.{WithRoom, RefusedWithRoom, StartedWithRoom}
 
 -- one pool with one core thread, a maximum of two and a queue of one, and clients that each submit one piece of work
 abbrev one_pool : ℕ → Plan
@@ -59,3 +61,51 @@ others_go_on = refl
 -- and a client whose body is at its end has no step
 over : seen_after 3 (event.Client 0 ∷ event.Client 0 ∷ []) ≡ None
 over = refl
+
+-- ---- as laws
+
+-- the state after these events of so many clients
+abbrev after_events : ℕ → List Event → JavaState
+after_events clients events = unwrap_or (java_replay (one_pool clients) (Some (between_calls (start (one_pool clients)))) events) (between_calls (start (one_pool clients)))
+
+-- so few clients make a well-formed plan
+three_well_formed : IsWellFormed (one_pool 3)
+three_well_formed = record { few_pools = omega arith; few_classes = omega arith; few_clients = omega arith; pool_names = refl; class_names = refl; client_names = refl; pools = refl; classes = refl; clients = refl }
+
+four_well_formed : IsWellFormed (one_pool 4)
+four_well_formed = record { few_pools = omega arith; few_classes = omega arith; few_clients = omega arith; pool_names = refl; class_names = refl; client_names = refl; pools = refl; classes = refl; clients = refl }
+
+-- jobs 0 and 1 are done
+abbrev both_done : List Event
+both_done = queue_empties ++ event.Job 1 ∷ event.Job 1 ∷ []
+
+-- client 2 asks
+abbrev started_with_room : WithRoom (one_pool 3) 0
+started_with_room = record {
+  before = after_events 3 (offer_fails ++ both_done);
+  reached = (offer_fails ++ both_done, refl);
+  room = omega arith;
+  at_core = omega arith;
+  idle = omega arith;
+  event = event.Client 2;
+  after = after_events 3 (offer_fails ++ both_done ++ event.Client 2 ∷ []);
+  step = refl;
+}
+
+abbrev refused_with_room : WithRoom (one_pool 4) 0
+refused_with_room = record {
+  before = after_events 4 (offer_fails ++ last_thread_goes ++ both_done);
+  reached = (offer_fails ++ last_thread_goes ++ both_done, refl);
+  room = omega arith;
+  at_core = omega arith;
+  idle = omega arith;
+  event = event.Client 2;
+  after = after_events 4 (offer_fails ++ last_thread_goes ++ both_done ++ event.Client 2 ∷ []);
+  step = refl;
+}
+
+pub java_may_start_with_room : StartedWithRoom
+java_may_start_with_room = (one_pool 3, 0, started_with_room, three_well_formed, refl)
+
+pub java_may_refuse_with_room : RefusedWithRoom
+java_may_refuse_with_room = (one_pool 4, 0, refused_with_room, four_well_formed, refl)

@@ -1,2 +1,3 @@
 pub mod Execute
 pub mod JavaSafe
+pub mod WithRoom

@@ -5,4 +5,4 @@
 
 mod laws;
 
-pub use laws::written_states_are_reached;
+pub use laws::{java_may_refuse_with_room, java_may_start_with_room, written_states_are_reached};
