@@ -1,0 +1,88 @@
+//! Turns of actors, and runs of equal ones.
+
+use interleaving::Event;
+use std::alloc::{AllocError, Global};
+
+/// What one actor does until another one acts, as `client web: works, submits page (queued)`.
+#[derive(Debug, Drop)]
+struct Turn {
+    actor: Event,
+    text: String,
+    events: u64,
+}
+
+/// Equal turns, one after another.
+#[derive(Debug, Drop)]
+pub(crate) struct Run {
+    pub(crate) text: String,
+    pub(crate) turns: u64,
+    pub(crate) events: u64,
+}
+
+/// The runs so far, and the turn that is not over.
+#[derive(Debug, Drop)]
+pub(crate) struct Turns {
+    runs: Vec<Run>,
+    current: Option<Turn>,
+}
+
+impl Turns {
+    pub(crate) fn new(alloc: Global) -> Turns {
+        Turns {
+            runs: Vec::new(alloc),
+            current: None,
+        }
+    }
+
+    /// Adds an event: what its actor does, behind what it did right before.
+    pub(crate) fn push(
+        &mut self,
+        actor: Event,
+        mut who: String,
+        act: &str,
+    ) -> Result<(), AllocError> {
+        if let Some(turn) = &mut self.current {
+            if turn.actor == actor {
+                turn.text.push_str(", ")?;
+                turn.text.push_str(act)?;
+                turn.events = turn.events.saturating_add(1);
+                return Ok(());
+            }
+        }
+        who.push_str(": ")?;
+        who.push_str(act)?;
+        let turn = Turn {
+            actor,
+            text: who,
+            events: 1,
+        };
+        match self.current.replace(turn) {
+            Some(last) => self.end(last),
+            None => Ok(()),
+        }
+    }
+
+    fn end(&mut self, turn: Turn) -> Result<(), AllocError> {
+        if let Some(run) = self.runs.last_mut() {
+            if run.text.as_str() == turn.text.as_str() {
+                run.turns = run.turns.saturating_add(1);
+                run.events = run.events.saturating_add(turn.events);
+                return Ok(());
+            }
+        }
+        self.runs.push(Run {
+            text: turn.text,
+            turns: 1,
+            events: turn.events,
+        })?;
+        Ok(())
+    }
+
+    /// All runs.
+    pub(crate) fn into_runs(mut self) -> Result<Vec<Run>, AllocError> {
+        if let Some(last) = self.current.take() {
+            self.end(last)?;
+        }
+        Ok(self.runs)
+    }
+}

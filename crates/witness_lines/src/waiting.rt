@@ -1,0 +1,82 @@
+//! Who waits for whom.
+
+use crate::names::{class_name, pool_name};
+use interleaving::{JobView, Parent, Phase, World};
+use job_bodies::{Action, Plan};
+use std::alloc::AllocError;
+
+/// How many of the jobs that wait are told, at most.
+const MOST_LINES: usize = 20;
+
+/// A line for each of the jobs, as `job 0 (report) waits for job 1 (section)` and `job 1 (section) waits in the queue of p`.
+pub(crate) fn push_waits(
+    text: &mut String,
+    plan: &Plan,
+    world: &World,
+    members: &[usize],
+) -> Result<(), AllocError> {
+    for member in members.iter().copied().take(MOST_LINES) {
+        if let Some(job) = world.job(member) {
+            push_wait(text, plan, world, members, member, job)?;
+        }
+    }
+    if members.len() > MOST_LINES {
+        let more = members.len().saturating_sub(MOST_LINES);
+        writeln!(text, "and {more} more jobs")?;
+    }
+    Ok(())
+}
+
+fn push_wait(
+    text: &mut String,
+    plan: &Plan,
+    world: &World,
+    members: &[usize],
+    number: usize,
+    job: JobView,
+) -> Result<(), AllocError> {
+    let class = class_name(plan, job.class);
+    match job.phase {
+        Phase::Queued => {
+            let pool = pool_name(plan, plan.class_at(job.class).map_or(0, |class| class.pool));
+            writeln!(
+                text,
+                "job {number} ({class}) waits in the queue of {pool}, whose threads are all at work for jobs named here"
+            )
+        }
+        Phase::At(position) => match child_at(plan, world, members, number, job, position) {
+            Some((child, child_class)) => {
+                let child_class = class_name(plan, child_class);
+                writeln!(
+                    text,
+                    "job {number} ({class}) waits for job {child} ({child_class})"
+                )
+            }
+            None => Ok(()),
+        },
+        Phase::Done => Ok(()),
+    }
+}
+
+/// The job that the job of this number waits for at its position, and its class.
+fn child_at(
+    plan: &Plan,
+    world: &World,
+    members: &[usize],
+    number: usize,
+    job: JobView,
+    position: usize,
+) -> Option<(usize, usize)> {
+    let Some(Action::Get(submit)) = plan.class_at(job.class)?.body.get(position).copied() else {
+        return None;
+    };
+    let mut found = None;
+    for member in members.iter().copied() {
+        if let Some(child) = world.job(member) {
+            if child.is_child_of(Parent::Job(number), submit) {
+                found = Some((member, child.class));
+            }
+        }
+    }
+    found
+}
