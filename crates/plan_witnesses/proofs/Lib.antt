@@ -1,0 +1,4 @@
+pub mod Lowered
+pub mod Standing
+pub mod Lasting
+pub mod Accepted

@@ -1,0 +1,167 @@
+-- A plan with lower maximums: where no thread is started above them, it makes the same steps.
+use Rattle.std.proofs.Common.{◌≡◌, ℕ, zero, suc, ◌+◌, ◌<◌, ◌≤◌, ◌⊎◌, List, [], ◌∷◌, length, map, get_or, Option, Some, None, inl, inr, ⊎_elim, refl, sym, ap, subst, ◌∙◌, arith}
+use Rattle.std.specs.List.{enumerate_from}
+use Rattle.std.proofs.lemmas.Option.{same_Some}
+use Rattle.std.proofs.lemmas.Grind.{common_steps}
+use Rattle.job_bodies.specs.declared.action.Action.{Action}
+use Rattle.job_bodies.specs.declared.action.Action.TheVariants as action
+use Rattle.job_bodies.specs.Plan.{Pool, Plan, no_pool, pool_at, class_at, client_at}
+use Rattle.job_bodies.proofs.Bodies.{IsLawful, IsOrdered}
+use Rattle.pool_machine.specs.declared.offer.Offer.{Offer}
+use Rattle.pool_machine.specs.declared.offer.Offer.TheVariants as offer
+use Rattle.pool_machine.specs.PoolState.{PoolView, new_pool, answer}
+use Rattle.written_machine.specs.declared.parent.Parent.{Parent}
+use Rattle.written_machine.specs.declared.parent.Parent.TheVariants as parent
+use Rattle.written_machine.specs.declared.event.Event.{Event}
+use Rattle.written_machine.specs.declared.event.Outcome.{Outcome}
+use Rattle.written_machine.specs.declared.event.Outcome.TheVariants as outcome
+use Rattle.written_machine.specs.State.{State, PoolPart, pool_of, pool_seen, part_of, threads}
+use Rattle.written_machine.specs.Step.{Point, answered, submitted, acted, stepped, step}
+use Rattle.written_machine.specs.Reach.{start}
+use Rattle.written_machine.proofs.Events.{StandsAt, event_of, Happens, works, starts, queues, is_refused, gets, finishes, loops, takes, retires}
+use Rattle.written_machine.proofs.Kept.{Kept}
+use Rattle.written_machine.proofs.KeptSubmits.{class_exists}
+
+-- ---- the plan
+
+abbrev pub with_most : (ℕ → ℕ) → ℕ × Pool → Pool
+with_most most entry = record entry.1 { max = most entry.0 }
+
+-- with this maximum for each pool
+abbrev pub lowered : Plan → (ℕ → ℕ) → Plan
+lowered plan most = record plan { pools = map (with_most most) (enumerate_from 0 plan.pools) }
+
+-- it is from core to the maximum
+abbrev pub IsBetween : Plan → (ℕ → ℕ) → Type 0
+IsBetween plan most = (p : ℕ) → p < length plan.pools → ((pool_at plan p).core ≤ most p) × (most p ≤ (pool_at plan p).max)
+
+length_from : (most : ℕ → ℕ) (n : ℕ) (pools : List Pool) → length (map (with_most most) (enumerate_from n pools)) ≡ length pools
+length_from most n [] = refl
+length_from most n (x ∷ xs) = ap (λ (k : ℕ). suc k) (length_from most (n + 1) xs)
+
+core_from : (most : ℕ → ℕ) (n : ℕ) (pools : List Pool) (p : ℕ) → (get_or (map (with_most most) (enumerate_from n pools)) p no_pool).core ≡ (get_or pools p no_pool).core
+core_from most n [] p = refl
+core_from most n (x ∷ xs) zero = refl
+core_from most n (x ∷ xs) (suc p) = core_from most (n + 1) xs p
+
+queue_from : (most : ℕ → ℕ) (n : ℕ) (pools : List Pool) (p : ℕ) → (get_or (map (with_most most) (enumerate_from n pools)) p no_pool).queue ≡ (get_or pools p no_pool).queue
+queue_from most n [] p = refl
+queue_from most n (x ∷ xs) zero = refl
+queue_from most n (x ∷ xs) (suc p) = queue_from most (n + 1) xs p
+
+max_from : (most : ℕ → ℕ) (n : ℕ) (pools : List Pool) (p : ℕ) → p < length pools → (get_or (map (with_most most) (enumerate_from n pools)) p no_pool).max ≡ most (n + p)
+max_from most n [] p inside = absurd (omega arith)
+max_from most n (x ∷ xs) zero inside = ap most (let same : n ≡ n + 0 = omega arith in same)
+max_from most n (x ∷ xs) (suc p) inside = max_from most (n + 1) xs p (omega arith) ∙ ap most (let same : n + 1 + p ≡ n + suc p = omega arith in same)
+
+parts_from : (most : ℕ → ℕ) (n : ℕ) (pools : List Pool) → map (λ pool. part_of (new_pool pool)) (map (with_most most) (enumerate_from n pools)) ≡ map (λ pool. part_of (new_pool pool)) pools
+parts_from most n [] = refl
+parts_from most n (x ∷ xs) = ap (λ (parts : List PoolPart). part_of (new_pool x) ∷ parts) (parts_from most (n + 1) xs)
+
+pub length-lowered : (plan : Plan) (most : ℕ → ℕ) → length (lowered plan most).pools ≡ length plan.pools
+length-lowered plan most = length_from most 0 plan.pools
+
+pub core-lowered : (plan : Plan) (most : ℕ → ℕ) (p : ℕ) → (pool_at (lowered plan most) p).core ≡ (pool_at plan p).core
+core-lowered plan most p = core_from most 0 plan.pools p
+
+pub queue-lowered : (plan : Plan) (most : ℕ → ℕ) (p : ℕ) → (pool_at (lowered plan most) p).queue ≡ (pool_at plan p).queue
+queue-lowered plan most p = queue_from most 0 plan.pools p
+
+pub max-lowered : (plan : Plan) (most : ℕ → ℕ) (p : ℕ) → p < length plan.pools → (pool_at (lowered plan most) p).max ≡ most p
+max-lowered plan most p inside = max_from most 0 plan.pools p inside ∙ ap most (let same : 0 + p ≡ p = omega arith in same)
+
+-- it starts as the plan does
+pub start-lowered : (plan : Plan) (most : ℕ → ℕ) → start (lowered plan most) ≡ start plan
+start-lowered plan most = ap (λ (parts : List PoolPart). record (start plan) { pools = parts }) (parts_from most 0 plan.pools)
+
+lawful-lowered : (plan : Plan) (most : ℕ → ℕ) (body : List Action) → IsLawful plan body → IsLawful (lowered plan most) body
+lawful-lowered plan most body lawful = record { short = lawful.short; work = lawful.work; submit = lawful.submit; behind = lawful.behind; of_submit = lawful.of_submit; once = lawful.once }
+
+pub ordered-lowered : (plan : Plan) (most : ℕ → ℕ) → IsOrdered plan → IsBetween plan most → IsOrdered (lowered plan most)
+ordered-lowered plan most ordered between = record {
+  classes = λ k. lawful-lowered plan most (class_at plan k).body (ordered.classes k);
+  clients = λ c. lawful-lowered plan most (client_at plan c).body (ordered.clients c);
+  pools = λ k inside. let some = ordered.pools k inside in omega (arith, length-lowered plan most);
+  core = λ p inside. let some = ordered.core p (there p inside) in omega (arith, core-lowered plan most p);
+  max = λ p inside. let high = (between p (there p inside)).0 in omega (arith, core-lowered plan most p, max-lowered plan most p (there p inside));
+  most_max = λ p inside.
+      let low = (between p (there p inside)).1 in
+      let few = ordered.most_max p (there p inside) in
+      omega (arith, max-lowered plan most p (there p inside));
+  queue = λ p inside. let some = ordered.queue p (there p inside) in omega (arith, queue-lowered plan most p);
+  most_queue = λ p inside. let few = ordered.most_queue p (there p inside) in omega (arith, queue-lowered plan most p);
+  count = ordered.count;
+  most_count = ordered.most_count;
+}
+  where
+    there : (p : ℕ) → p < length (lowered plan most).pools → p < length plan.pools
+    there p inside = omega (arith, length-lowered plan most)
+
+-- what a state keeps of the plan, it keeps of this one, if no pool has more threads
+pub kept-lowered : (plan : Plan) (most : ℕ → ℕ) (s : State) → Kept plan s → ((p : ℕ) → p < length plan.pools → threads plan s p ≤ most p) → Kept (lowered plan most) s
+kept-lowered plan most s kept within = record {
+  classes = kept.classes;
+  parents = kept.parents;
+  as_many = kept.as_many ∙ sym (length-lowered plan most);
+  pools = λ p is_inside.
+      let inside : p < length plan.pools = omega (arith, length-lowered plan most) in
+      let pool = kept.pools p inside in
+      record {
+        queue = pool.queue;
+        within_max = omega (arith, within p inside, max-lowered plan most p inside);
+        within_queue = omega (arith, pool.within_queue, queue-lowered plan most p);
+        core = λ some. let enough = pool.core some in omega (arith, core-lowered plan most p);
+      };
+  actors = λ a body i stands. kept.actors a body i stands;
+}
+
+-- ---- its steps
+
+-- a pool that starts a thread is below core, or its queue is full
+pub started_when : (pool : PoolView) → answer pool ≡ offer.Started → (pool.threads < pool.core) ⊎ (pool.capacity ≤ length pool.queue)
+started_when pool e = grind (arith, common_steps)
+
+-- only a pool that starts a thread gives this outcome
+started_given : (plan : Plan) (s s' : State) (a : Parent) (i k n : ℕ) (given : Offer) → answered plan s a i k given ≡ (s', outcome.Started n) → given ≡ offer.Started
+started_given plan s s' a i k n offer.Started e = refl
+started_given plan s s' a i k n offer.Queued e = let same : outcome.Queued (length s.jobs) ≡ outcome.Started n = ap (λ (x : State × Outcome). x.1) e in absurd cc
+started_given plan s s' a i k n offer.Refused e = let same : outcome.Refused (pool_of plan k) ≡ outcome.Started n = ap (λ (x : State × Outcome). x.1) e in absurd cc
+
+step_of : (plan : Plan) (s : State) (a : Parent) (body : List Action) (i k : ℕ) → StandsAt plan s a body i (Some (action.Submit k)) → step plan s (event_of a) ≡ Some (submitted plan s a i k)
+step_of plan s (parent.Client c) body i k at = ap (stepped plan s (parent.Client c)) at.stands ∙ ap (acted plan s (parent.Client c) i) at.is_there
+step_of plan s (parent.Job j) body i k at = ap (stepped plan s (parent.Job j)) at.stands ∙ ap (acted plan s (parent.Job j) i) at.is_there
+
+started_answer : (plan : Plan) (s s' : State) (a : Parent) (body : List Action) (i k n : ℕ) → StandsAt plan s a body i (Some (action.Submit k)) → step plan s (event_of a) ≡ Some (s', outcome.Started n) → answer (pool_seen plan s (pool_of plan k)) ≡ offer.Started
+started_answer plan s s' a body i k n at is_step =
+    started_given plan s s' a i k n (answer (pool_seen plan s (pool_of plan k))) (same_Some (submitted plan s a i k) (s', outcome.Started n) (sym (step_of plan s a body i k at) ∙ is_step))
+
+-- where a pool starts a thread, it is below this maximum too
+abbrev pub StartsBelow : Plan → (ℕ → ℕ) → State → Type 0
+StartsBelow plan most s = (a : Parent) (body : List Action) (i k : ℕ) → StandsAt plan s a body i (Some (action.Submit k)) → answer (pool_seen plan s (pool_of plan k)) ≡ offer.Started
+    → (threads plan s (pool_of plan k) < most (pool_of plan k)) ⊎ (threads plan s (pool_of plan k) < (pool_at plan (pool_of plan k)).core)
+
+stands-lowered : (plan : Plan) (most : ℕ → ℕ) (s : State) (a : Parent) (body : List Action) (i : ℕ) (there : Option Action) → StandsAt plan s a body i there → StandsAt (lowered plan most) s a body i there
+stands-lowered plan most s a body i there at = record { stands = at.stands; is_there = at.is_there }
+
+pub happens-lowered : (plan : Plan) (most : ℕ → ℕ) (s s' : State) (e : Event) (o : Outcome) → IsOrdered plan → IsBetween plan most → StartsBelow plan most s → Happens plan s e s' o → step plan s e ≡ Some (s', o) → Happens (lowered plan most) s e s' o
+happens-lowered plan most s s' e o ordered between below (works a body i u at) is_step = works a body i u (stands-lowered plan most s a body i (Some (action.Work u)) at)
+happens-lowered plan most s s' e o ordered between below (starts a body i k at room) is_step =
+    let q = pool_of plan k in
+    let inside = ordered.pools k (class_exists plan s a body i k ordered at) in
+    let max = max-lowered plan most q inside in
+    let core = core-lowered plan most q in
+    starts a body i k (stands-lowered plan most s a body i (Some (action.Submit k)) at)
+    (⊎_elim (λ (few : threads plan s q < most q). inl (omega arith)) (λ (few : threads plan s q < (pool_at plan q).core). inr (omega arith)) (below a body i k at (started_answer plan s s' a body i k (length s.jobs) at is_step)))
+happens-lowered plan most s s' e o ordered between below (queues a body i k at at_core room) is_step =
+    let q = pool_of plan k in
+    queues a body i k (stands-lowered plan most s a body i (Some (action.Submit k)) at) (omega (arith, core-lowered plan most q)) (omega (arith, queue-lowered plan most q))
+happens-lowered plan most s s' e o ordered between below (is_refused a body i k at no_room all_started) is_step =
+    let q = pool_of plan k in
+    let inside = ordered.pools k (class_exists plan s a body i k ordered at) in
+    let low = (between q inside).1 in
+    is_refused a body i k (stands-lowered plan most s a body i (Some (action.Submit k)) at) (omega (arith, queue-lowered plan most q)) (omega (arith, max-lowered plan most q inside))
+happens-lowered plan most s s' e o ordered between below (gets a body i t j at is_child done) is_step = gets a body i t j (stands-lowered plan most s a body i (Some (action.Get t)) at) is_child done
+happens-lowered plan most s s' e o ordered between below (finishes j body i at) is_step = finishes j body i (stands-lowered plan most s (parent.Job j) body i None at)
+happens-lowered plan most s s' e o ordered between below (loops c client body i at is_client repeats) is_step = loops c client body i (stands-lowered plan most s (parent.Client c) body i None at) is_client repeats
+happens-lowered plan most s s' e o ordered between below (takes p j queue idle is_queue is_idle) is_step = takes p j queue idle is_queue is_idle
+happens-lowered plan most s s' e o ordered between below (retires p idle is_idle above_core) is_step = retires p idle is_idle (omega (arith, core-lowered plan most p))

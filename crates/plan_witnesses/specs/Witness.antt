@@ -1,0 +1,53 @@
+-- Lists of events that show that a plan is wrong.
+use Rattle.std.specs.Prelude.{◌≡◌, ℕ, List, [], ◌∷◌, ◌++◌, Some, IsFalse}
+use Rattle.numbered_lists.specs.In.{In}
+use Rattle.job_bodies.specs.Plan.{Plan}
+use Rattle.job_bodies.specs.WellFormed.{IsWellFormed}
+use Rattle.written_machine.specs.declared.event.Event.{Event}
+use Rattle.written_machine.specs.declared.event.Outcome.TheVariants as outcome
+use Rattle.written_machine.specs.State.{State}
+use Rattle.written_machine.specs.Step.{step}
+use Rattle.written_machine.specs.Reach.{start, outcomes, Reaches}
+use Rattle.written_machine.specs.Waiting.{IsWaitingSet}
+use Rattle.written_machine.specs.FullWaitingSets.{IsFullWaitingSet}
+use Rattle.certificates.specs.Cert.{Cert}
+use Rattle.headline.specs.Accepted.{accepted}
+use Rattle.plan_witnesses.specs.declared.ending.Ending.{Ending}
+use Rattle.plan_witnesses.specs.declared.ending.Ending.TheVariants.{Refused, StuckForEver, StuckNow}
+use Rattle.plan_witnesses.specs.declared.ending.Reason.{Reason}
+use Rattle.plan_witnesses.specs.declared.ending.Reason.TheVariants.{PoolsAreFull, PoolsStayAtCore}
+use Rattle.plan_witnesses.specs.Lasting.{IsLastingWaitingSet}
+
+-- the events, each of them possible, lead from the plan's start to a state of which this holds
+abbrev pub LeadsTo : Plan → List Event → (State → Type 0) → Type 0
+LeadsTo plan events holds = (s : State) × Reaches plan events s × holds s
+
+-- what comes of the events is never a refusal
+abbrev pub NoneRefused : Plan → List Event → Type 0
+NoneRefused plan events = (p : ℕ) → ¬ In (Some (outcome.Refused p)) (outcomes plan (Some (start plan)) events)
+
+-- the last event is a submit that pool p refuses; those before it are possible, and none of them is refused
+pub record EndsRefused (plan : Plan) (events : List Event) (p : ℕ) : Type 0 where
+  pub front : List Event
+  pub last : Event
+  pub is_last : events ≡ front ++ last ∷ []
+  pub none_before : NoneRefused plan front
+  pub before : State
+  pub reaches : Reaches plan front before
+  pub after : State
+  pub refused : step plan before last ≡ Some (after, outcome.Refused p)
+
+-- the members are a waiting set for this reason
+abbrev pub StaysFor : Plan → List ℕ → Reason → State → Type 0
+StaysFor plan members PoolsAreFull s = IsFullWaitingSet plan s members
+StaysFor plan members PoolsStayAtCore s = IsLastingWaitingSet plan s members
+
+-- the events end so
+abbrev pub IsWitness : Plan → List Event → Ending → Type 0
+IsWitness plan events (Refused p) = EndsRefused plan events p
+IsWitness plan events (StuckForEver members reason) = LeadsTo plan events (StaysFor plan members.items reason)
+IsWitness plan events (StuckNow members) = LeadsTo plan events (λ s. IsWaitingSet plan s members.items)
+
+-- no certificate accepts a plan that has a witness
+abbrev pub WitnessedPlansAreNotAccepted : Type 0
+WitnessedPlansAreNotAccepted = (plan : Plan) (cert : Cert) (events : List Event) (ending : Ending) → IsWellFormed plan → IsWitness plan events ending → IsFalse (accepted plan cert)
