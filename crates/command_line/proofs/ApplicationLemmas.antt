@@ -3,6 +3,7 @@ use Rattle.std.proofs.Common.{◌≡◌, true, false, refl, subst, inl, inr, Lis
 use Rattle.std.specs.Prelude.{IsErrAnd}
 use Rattle.clap.specs.Words.{App, FailsBy, HasKind, IsAmong, Kinds, Row, Text, fault_of, is_simple, is_simple_and_free, kind_of, subcommand_of}
 use Rattle.clap.specs.Kinds.{or_else}
+use Rattle.clap.specs.declared.error.kind.ErrorKind.TheVariants.{ValueValidation}
 use Rattle.clap.specs.declared.error.Error.{Error}
 use Rattle.clap.specs.declared.error.kind.ErrorKind.{ErrorKind}
 use Rattle.clap.proofs.OnLiterals.{clap_on_literals}
@@ -50,3 +51,17 @@ no_faults {A} made words rows is none same within =
     let rows_are : rows ≡ subcommand_of sizing words = (subst P is same sizing_is_plain).1 in
     let inside : is_out_of_range (subcommand_of sizing words) ≡ false = rw (← rows_are) within in
     rw (none, inside) refl
+
+-- what `clap` makes of the words is what it makes of them by the written application
+pub rows_of_parse : {A : Type 0} (made : App) (words : List Text) (rows : Option (Text × List Row)) → made ≡ sizing
+    → (is_simple made ≡ true → A × (rows ≡ subcommand_of made words)) → rows ≡ subcommand_of sizing words
+rows_of_parse {A} made words rows is same =
+    let P : App → Type 0 = λ a. is_simple a ≡ true → A × (rows ≡ subcommand_of a words) in
+    (subst P is same sizing_is_plain).1
+
+-- where `clap` gives no fault, and a number is out of its range, that is the fault
+pub fails_out_of_range : (words : List Text) (rows : Option (Text × List Row)) (error : Error) → fault_of sizing words ≡ [] → rows ≡ subcommand_of sizing words
+    → is_out_of_range rows ≡ true → kind_of error ≡ ValueValidation → HasKind (faults_of words) error
+fails_out_of_range words rows error none same beyond is =
+    let outside : is_out_of_range (subcommand_of sizing words) ≡ true = rw (← same) beyond in
+    rw (none, outside) (inr (inl is))

@@ -3,7 +3,7 @@ use Rattle.std.specs.Prelude.{ℕ, [], ◌∷◌, true, Some, codes, decimal}
 use Rattle.clap.specs.Words.{App, Rule, Shape, Text, new_app, new_rule, with_rule, with_subcommand}
 use Rattle.clap.specs.declared.builder.action.ArgAction.TheVariants.{Set, SetTrue}
 use Rattle.clap.specs.declared.builder.value_parser.ValueParser.TheVariants as parser
-use Rattle.command_line.specs.declared.command.TheConstants.{DEFAULT_WORKERS, MOST_ROUNDS, MOST_WORKERS}
+use Rattle.command_line.specs.declared.command.TheConstants.{DEFAULT_WORKERS, MOST_ROUNDS, MOST_STATES, MOST_WORKERS}
 
 -- the subcommands that have no option
 abbrev pub replay_shape : Shape
@@ -40,13 +40,22 @@ rounds_option = record (number_option (codes "rounds") 1 MOST_ROUNDS) { required
 abbrev pub run_shape : Shape
 run_shape = (with_rule (new_app (codes "run")) rounds_option).top
 
+-- how many states a search for a witness may go through
+abbrev pub states_option : Rule
+states_option = record (number_option (codes "states") 1 MOST_STATES) { defaults = codes "100000" ∷ [] }
+
+abbrev pub refute_shape : Shape
+refute_shape = (with_rule (with_rule (new_app (codes "refute")) states_option) bundle_option).top
+
 -- the program, with a subcommand for each command
 abbrev pub sizing : App
 sizing =
     with_subcommand
     (with_subcommand
     (with_subcommand
+    (with_subcommand
     (with_subcommand (with_subcommand (with_subcommand (new_app (codes "sizing")) replay_shape) check_shape) explain_shape)
     certify_shape)
     fit_shape)
-    run_shape
+    run_shape)
+    refute_shape

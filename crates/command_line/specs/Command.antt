@@ -9,10 +9,11 @@ use Rattle.clap.specs.ValueTests.{accepts}
 use Rattle.clap.specs.declared.builder.value_parser.ValueParser.TheVariants as parser
 use Rattle.clap.specs.declared.error.kind.ErrorKind.TheVariants.{ValueValidation}
 use Rattle.command_line.specs.Application.{sizing}
-use Rattle.command_line.specs.declared.command.TheConstants.{MOST_ROUNDS, MOST_WORKERS}
+use Rattle.command_line.specs.declared.command.TheConstants.{MOST_ROUNDS, MOST_STATES, MOST_WORKERS}
 use Rattle.command_line.specs.declared.command.Command.{Command}
-use Rattle.command_line.specs.declared.command.Command.TheVariants.{Replay, Check, Explain, Certify, Fit, Run}
+use Rattle.command_line.specs.declared.command.Command.TheVariants.{Replay, Check, Explain, Certify, Fit, Run, Refute}
 use Rattle.command_line.specs.declared.command.Wanted.TheVariants.{Sizes, Bundle}
+use Rattle.command_line.specs.declared.command.Shown.TheVariants as shown
 
 -- the whole number that a text is, where it lies in the range
 abbrev pub number_in : ℕ → ℕ → Text → Option ℕ
@@ -35,15 +36,23 @@ fit_with bundle = Fit (if bundle then Bundle else Sizes)
 abbrev pub run_with : Option ℕ → Option Command
 run_with = option_map (λ rounds. Run rounds)
 
+abbrev pub refute_with : Bool → Option ℕ → Option Command
+refute_with bundle = option_map (λ states. Refute states (if bundle then shown.Bundle else shown.Story))
+
+-- the command that searches or runs, of the subcommand with this name and these rows
+abbrev pub search_named : Text → List Row → Option Command
+search_named name rows =
+    if bytes_eq name (codes "certify") then certify_with (number_of (codes "workers") 1 MOST_WORKERS rows)
+    else (if bytes_eq name (codes "fit") then Some (fit_with (is_set (codes "bundle") rows))
+    else (if bytes_eq name (codes "run") then run_with (number_of (codes "rounds") 1 MOST_ROUNDS rows)
+    else (if bytes_eq name (codes "refute") then refute_with (is_set (codes "bundle") rows) (number_of (codes "states") 1 MOST_STATES rows) else None)))
+
 -- the command of the subcommand with this name and these rows
 abbrev pub command_named : Text × List Row → Option Command
 command_named (name, rows) =
     if bytes_eq name (codes "replay") then Some Replay
     else (if bytes_eq name (codes "check") then Some Check
-    else (if bytes_eq name (codes "explain") then Some Explain
-    else (if bytes_eq name (codes "certify") then certify_with (number_of (codes "workers") 1 MOST_WORKERS rows)
-    else (if bytes_eq name (codes "fit") then Some (fit_with (is_set (codes "bundle") rows))
-    else (if bytes_eq name (codes "run") then run_with (number_of (codes "rounds") 1 MOST_ROUNDS rows) else None)))))
+    else (if bytes_eq name (codes "explain") then Some Explain else search_named name rows))
 
 -- the command of the subcommand that was entered, if one was
 abbrev pub command_among : Option (Text × List Row) → Option Command
@@ -65,4 +74,5 @@ faults_of words = or_else (fault_of sizing words) (if is_out_of_range (subcomman
 abbrev pub IsInRange : Command → Type 0
 IsInRange (Certify workers) = (1 ≤ workers) × (workers ≤ MOST_WORKERS)
 IsInRange (Run rounds) = (1 ≤ rounds) × (rounds ≤ MOST_ROUNDS)
+IsInRange (Refute states shown) = (1 ≤ states) × (states ≤ MOST_STATES)
 IsInRange _ = Unit {0}

@@ -1,10 +1,10 @@
 //! The application that `clap` reads the words by: a subcommand for each command.
-ghost use Rattle.std.specs.Prelude.{◌≡◌, IfOk, false};
+ghost use Rattle.std.specs.Prelude.{◌≡◌, IfOk, false, codes};
 ghost use Rattle.clap.specs.Words.{app_of, new_app, rule_of, shape_of};
 ghost use Rattle.clap.specs.declared.builder.command.Command.TheViews.{out-Command as fields_of};
-ghost use Rattle.command_line.specs.Application.{bundle_option, certify_shape, check_shape, explain_shape, fit_shape, number_option, replay_shape, rounds_option, run_shape, sizing, workers_option};
+ghost use Rattle.command_line.specs.Application.{bundle_option, certify_shape, check_shape, explain_shape, fit_shape, number_option, refute_shape, replay_shape, rounds_option, run_shape, sizing, states_option, workers_option};
 
-use crate::command::{MOST_ROUNDS, MOST_WORKERS};
+use crate::command::{MOST_ROUNDS, MOST_STATES, MOST_WORKERS};
 use crate::help;
 use clap::builder::ValueParser;
 use clap::{Arg, ArgAction, Command};
@@ -14,16 +14,24 @@ use std::alloc::{AllocError, Global};
 pub(crate) fn application<'a>(alloc: Global) -> Result<Command<'a>, AllocError>
     ensures { IfOk result (λ made. app_of made ≡ sizing) }
 {
-    Command::new(alloc, "sizing")
-        .about(help::SIZING_ABOUT)
-        .override_usage(help::SIZING_USAGE)
-        .after_help(help::SIZING_NOTES)
+    program(alloc)
         .subcommand(replay(alloc))?
         .subcommand(check(alloc))?
         .subcommand(explain(alloc))?
         .subcommand(certify(alloc)?)?
         .subcommand(fit(alloc)?)?
-        .subcommand(run(alloc)?)
+        .subcommand(run(alloc)?)?
+        .subcommand(refute(alloc)?)
+}
+
+// The program, with no subcommand yet.
+fn program<'a>(alloc: Global) -> Command<'a>
+    ensures { app_of result ≡ new_app (codes "sizing") }
+{
+    Command::new(alloc, "sizing")
+        .about(help::SIZING_ABOUT)
+        .override_usage(help::SIZING_USAGE)
+        .after_help(help::SIZING_NOTES)
 }
 
 fn replay<'a>(alloc: Global) -> Command<'a>
@@ -133,6 +141,40 @@ fn rounds<'a>(alloc: Global) -> Arg<'a>
     number(alloc, "rounds", 1, MOST_ROUNDS)
         .help("How often each repeating client goes through its body, 1 to 1000000")
         .required(true)
+}
+
+fn refute<'a>(alloc: Global) -> Result<Command<'a>, AllocError>
+    ensures shape { IfOk result (λ made. shape_of made ≡ refute_shape) }
+    ensures local { IfOk result (λ made. (fields_of made).has_globals ≡ false) }
+{
+    subcommand(
+        alloc,
+        "refute",
+        help::REFUTE_ABOUT,
+        help::REFUTE_USAGE,
+        help::REFUTE_NOTES,
+    )
+    .arg(states(alloc))?
+    .arg(events(alloc))
+}
+
+fn states<'a>(alloc: Global) -> Arg<'a>
+    ensures rule { rule_of result ≡ states_option }
+    ensures local { result.global ≡ false }
+{
+    number(alloc, "states", 1, MOST_STATES)
+        .default_value("100000")
+        .help("How many states the search may go through, 1 to 10000000")
+}
+
+fn events<'a>(alloc: Global) -> Arg<'a>
+    ensures rule { rule_of result ≡ bundle_option }
+    ensures local { result.global ≡ false }
+{
+    Arg::new(alloc, "bundle")
+        .long("bundle")
+        .action(ArgAction::SetTrue)
+        .help("Write the plan with the events behind it, for `sizing replay`")
 }
 
 // The option `--ID N`, for one whole number of this range.

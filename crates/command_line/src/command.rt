@@ -19,6 +19,9 @@ pub const DEFAULT_WORKERS: u64 = 4;
 /// The most rounds that a run may have.
 pub const MOST_ROUNDS: u64 = 1_000_000;
 
+/// The most states that a search for a witness may be given.
+pub const MOST_STATES: u64 = 10_000_000;
+
 /// What the program is asked to do.
 #[derive(Clone, Copy, Debug, PartialEq, Eq)]
 pub enum Command {
@@ -43,6 +46,13 @@ pub enum Command {
         /// How often each repeating client goes through its body, 1 to 1,000,000.
         rounds: u64,
     },
+    /// Looks for events that show that a plan is wrong.
+    Refute {
+        /// How many states the search may go through, 1 to 10,000,000, and 100,000 where it is not said.
+        states: usize,
+        /// What is written of a witness.
+        shown: Shown,
+    },
 }
 
 /// What is written of sizes that were found.
@@ -51,6 +61,15 @@ pub enum Wanted {
     /// A line for each pool, which tells what changes.
     Sizes,
     /// The plan with those sizes, and its certificate.
+    Bundle,
+}
+
+/// What is written of a witness.
+#[derive(Clone, Copy, Debug, PartialEq, Eq)]
+pub enum Shown {
+    /// How it ends, and the story that leads there.
+    Story,
+    /// The plan, and its events behind it, as `replay` reads them.
     Bundle,
 }
 
@@ -91,9 +110,20 @@ fn command_among(matches: &ArgMatches<'_>) -> Option<Command>
         ("replay", _) => Some(Command::Replay),
         ("check", _) => Some(Command::Check),
         ("explain", _) => Some(Command::Explain),
-        ("certify", options) => certify(options),
-        ("fit", options) => Some(fit(options)),
-        ("run", options) => run(options),
+        (name, options) => search_among(name, options),
+    }
+}
+
+// The command that searches or runs, of the subcommand of this name.
+fn search_among(name: &str, options: &ArgMatches<'_>) -> Option<Command>
+    ensures command { result ≡ spec.search_named name.now (rows_of (found_of options.now)) }
+    ensures in_range { IfSome result spec.IsInRange }
+{
+    match name {
+        "certify" => certify(options),
+        "fit" => Some(fit(options)),
+        "run" => run(options),
+        "refute" => refute(options),
         _ => None,
     }
 }
@@ -125,4 +155,20 @@ fn run(options: &ArgMatches<'_>) -> Option<Command>
 {
     let rounds = number_of(options, "rounds", 1, MOST_ROUNDS)?;
     Some(Command::Run { rounds })
+}
+
+fn refute(options: &ArgMatches<'_>) -> Option<Command>
+    ensures command { result ≡ spec.refute_with (spec.is_set (codes "bundle") (rows_of (found_of options.now))) (spec.number_of (codes "states") 1 MOST_STATES (rows_of (found_of options.now))) }
+    ensures in_range { IfSome result spec.IsInRange }
+{
+    let states = number_of(options, "states", 1, MOST_STATES)?;
+    let shown = if is_set(options, "bundle") {
+        Shown::Bundle
+    } else {
+        Shown::Story
+    };
+    Some(Command::Refute {
+        states: states as usize,
+        shown,
+    })
 }

@@ -10,8 +10,8 @@ pub(crate) const SIZING_USAGE: &str = "sizing <COMMAND>";
 
 /// What the program reads, where to begin, and what the exit status says.
 pub(crate) const SIZING_NOTES: &str = "\
-sizing reads standard input. For `certify` and `fit` it is a plan. For the others it is a plan, and
-behind it a line that is exactly `%%`, and then
+sizing reads standard input. For `certify`, `fit` and `refute` it is a plan. For the others it is a
+plan, and behind it a line that is exactly `%%`, and then
   for `replay`                      one event a line
   for `check`, `explain` and `run`  a certificate
 It answers on standard output. To begin, paste the example of `sizing certify --help` into a shell.
@@ -21,7 +21,8 @@ Exit status:
   1  no: a condition fails, a job is refused or stuck, an event is not possible, no certificate or no
      sizes were found, or sizes change
   2  bad text in the input, a run that is too large, or bad arguments
-  3  memory ran out, or reading, writing or running failed";
+  3  memory ran out, or reading, writing or running failed
+  4  not decided, of `refute` alone";
 
 /// What `replay` does, in the list of commands and at the top of its own help.
 pub(crate) const REPLAY_ABOUT: &str = "Replays events on a plan, and says what came of each";
@@ -383,3 +384,57 @@ END
 It answers, with status 0:
 
 jobs 6, units 6, refused 0";
+
+/// What `refute` does, in the list of commands and at the top of its own help.
+pub(crate) const REFUTE_ABOUT: &str =
+    "Looks for events by which a submit is refused, or jobs wait for each other for ever";
+
+/// How `refute` is called.
+pub(crate) const REFUTE_USAGE: &str = "sizing refute [--states N] [--bundle] < PLAN";
+
+/// What `refute` reads and answers, with an example.
+pub(crate) const REFUTE_NOTES: &str = "\
+PLAN is a plan in TOML. First a certificate is looked for; where one is found the plan is safe, and
+no such events are there. Else the answer is a witness: events from the plan's start, each of them
+possible, of which the last is a submit that is refused, or behind which jobs wait only for each
+other. Its first line says how it ends:
+  refused by POOL, after N events of M clients
+  stuck for ever: J jobs wait only for each other, after N events of M clients
+  stuck now: J jobs wait only for each other, after N events of M clients
+Behind it stand what happens, with equal turns told once, how the pools then stand, and who waits
+for whom. No certificate accepts a plan that has a witness.
+
+Or the answer is `not decided`: no certificate and no witness was found, which says nothing of the
+plan. A larger N lets the search go further.
+
+With --bundle the plan is written, and behind it a line `%%` and the events, for `sizing replay`.
+
+Exit status:
+  0  a certificate was found, so the plan is safe; with --bundle, a witness was written
+  1  a witness was found; with --bundle, none was written
+  2  bad text in PLAN, or bad arguments
+  3  memory ran out, or reading, writing or a thread failed
+  4  not decided
+
+Example, to be pasted into a shell:
+
+sizing refute <<'END'
+[[pool]]
+name = \"pages\"
+core = 1
+max = 1
+queue = 1
+
+[[class]]
+name = \"render\"
+pool = \"pages\"
+body = [\"work 1\"]
+
+[[client]]
+name = \"browser\"
+count = 2
+repeat = true
+body = [\"submit render as page\", \"get page\"]
+END
+
+It answers, with status 1, that a submit is refused.";

@@ -11,4 +11,6 @@ mod flag;
 mod help;
 mod number;
 
-pub use command::{Command, DEFAULT_WORKERS, MOST_ROUNDS, MOST_WORKERS, Wanted, read_words};
+pub use command::{
+    Command, DEFAULT_WORKERS, MOST_ROUNDS, MOST_STATES, MOST_WORKERS, Shown, Wanted, read_words,
+};

@@ -1,12 +1,12 @@
-use Rattle.std.proofs.Common.{◌≡◌, ◌∙◌, ap₂, codes, rules}
+use Rattle.std.proofs.Common.{◌≡◌, ◌∙◌, ap₂, codes}
 use Rattle.std.proofs.lemmas.Result.{IfOk-weaker}
 use Rattle.clap.specs.Words.{app_of, new_app, with_subcommand}
-use Rattle.command_line.specs.Application.{replay_shape, check_shape, explain_shape, certify_shape, fit_shape}
+use Rattle.command_line.specs.Application.{replay_shape, check_shape, explain_shape, certify_shape, fit_shape, run_shape}
 use Rattle.command_line.proofs.application.application.Goals as goal
 
 pub returns : goal.returns
 returns c =
-    let alone : app_of c.after_help.result ≡ new_app (codes "sizing") = search rules in
+    let alone : app_of c.program.result ≡ new_app (codes "sizing") = c.program.ensures in
     let one : app_of c.in_ok-subcommand.field-0 ≡ with_subcommand (new_app (codes "sizing")) replay_shape =
     c.in_ok-subcommand.ensures.shape c.replay.ensures.local ∙ ap₂ with_subcommand alone c.replay.ensures.shape in
     let two : app_of c.in_ok-subcommand-2.field-0 ≡ with_subcommand (with_subcommand (new_app (codes "sizing")) replay_shape) check_shape =
@@ -17,4 +17,6 @@ returns c =
     c.in_ok-subcommand-4.ensures.shape c.in_ok-certify.ensures.local ∙ ap₂ with_subcommand three c.in_ok-certify.ensures.shape in
     let five : app_of c.in_ok-subcommand-5.field-0 ≡ with_subcommand (with_subcommand (with_subcommand (with_subcommand (with_subcommand (new_app (codes "sizing")) replay_shape) check_shape) explain_shape) certify_shape) fit_shape =
     c.in_ok-subcommand-5.ensures.shape c.in_ok-fit.ensures.local ∙ ap₂ with_subcommand four c.in_ok-fit.ensures.shape in
-    IfOk-weaker c.subcommand-6.result _ _ (λ made adds. adds.shape c.in_ok-run.ensures.local ∙ ap₂ with_subcommand five c.in_ok-run.ensures.shape) c.subcommand-6.ensures
+    let six : app_of c.in_ok-subcommand-6.field-0 ≡ with_subcommand (with_subcommand (with_subcommand (with_subcommand (with_subcommand (with_subcommand (new_app (codes "sizing")) replay_shape) check_shape) explain_shape) certify_shape) fit_shape) run_shape =
+    c.in_ok-subcommand-6.ensures.shape c.in_ok-run.ensures.local ∙ ap₂ with_subcommand five c.in_ok-run.ensures.shape in
+    IfOk-weaker c.subcommand-7.result _ _ (λ made adds. adds.shape c.in_ok-refute.ensures.local ∙ ap₂ with_subcommand six c.in_ok-refute.ensures.shape) c.subcommand-7.ensures

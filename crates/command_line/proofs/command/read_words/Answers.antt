@@ -1,5 +1,6 @@
-use Rattle.std.proofs.Common.{sym, ◌∙◌}
-use Rattle.command_line.proofs.ApplicationLemmas.{fails_by_clap, no_fault, no_faults}
+use Rattle.std.proofs.Common.{sym, ap, ◌∙◌, map}
+use Rattle.command_line.specs.Command.{command_among}
+use Rattle.command_line.proofs.ApplicationLemmas.{fails_by_clap, fails_out_of_range, no_fault, no_faults, rows_of_parse}
 use Rattle.command_line.proofs.command.read_words.Goals as goal
 
 pub returns-in_err-matches-clause-fails : goal.returns-in_err-matches-clause-fails
@@ -10,3 +11,13 @@ pub returns-clause-fails : goal.returns-clause-fails
 returns-clause-fails c =
     no_faults _ _ _ c.in_ok-sizing.ensures (no_fault _ _ c.in_ok-sizing.ensures c.in_ok-matches.ensures.kinds) c.in_ok-matches.ensures.ok.2
     (sym c.is_out_of_range.ensures ∙ c.if-is_out_of_range.false)
+
+pub returns-then-is_out_of_range-clause-fails : goal.returns-then-is_out_of_range-clause-fails
+returns-then-is_out_of_range-clause-fails c =
+    fails_out_of_range (map (λ word. word.now) c.args.words.now) _ c.in_ok-error.field-0 (no_fault _ _ c.in_ok-sizing.ensures c.in_ok-matches.ensures.kinds)
+    (rows_of_parse _ _ _ c.in_ok-sizing.ensures c.in_ok-matches.ensures.ok.2)
+    (sym c.is_out_of_range.ensures ∙ c.if-is_out_of_range.true) c.in_ok-error.ensures.kind
+
+pub returns-clause-command : goal.returns-clause-command
+returns-clause-command c =
+    c.command_among.ensures.command ∙ ap command_among (rows_of_parse _ _ _ c.in_ok-sizing.ensures c.in_ok-matches.ensures.ok.2)
