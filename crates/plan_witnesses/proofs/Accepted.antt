@@ -1,15 +1,13 @@
 -- No certificate accepts a plan that has a witness.
-use Rattle.std.proofs.Common.{◌≡◌, ℕ, ◌+◌, List, true, arith, refl}
+use Rattle.std.proofs.Common.{◌≡◌, ℕ, ◌+◌, List, arith, refl}
 use Rattle.std.proofs.lemmas.Bool.{false_from_ne_true}
 use Rattle.job_bodies.specs.Plan.{Plan}
-use Rattle.job_bodies.specs.WellFormed.{IsWellFormed}
 use Rattle.written_machine.specs.declared.event.Event.{Event}
 use Rattle.written_machine.specs.declared.event.Outcome.TheVariants as outcome
 use Rattle.written_machine.specs.State.{State}
 use Rattle.written_machine.specs.Safe.{Safe}
 use Rattle.written_machine.proofs.Events.{Happens, is_refused, happens}
 use Rattle.live_views.proofs.Reached.{reached_after}
-use Rattle.certificates.specs.Cert.{Cert}
 use Rattle.headline.specs.Accepted.{accepted}
 use Rattle.headline.proofs.Theorem.{accepted_plans_are_safe}
 use Rattle.plan_witnesses.specs.declared.ending.Ending.{Ending}

@@ -1,5 +1,5 @@
 -- Lasting waiting sets stay: with the threads that such a pool has for its maximum the set is full, and the steps are the same.
-use Rattle.std.proofs.Common.{◌≡◌, ℕ, Bool, true, false, cond, eqb, ◌<◌, ◌≤◌, ◌⊎◌, inl, inr, ⊎_elim, List, length, Some, refl, sym, ap, subst, ◌∙◌, arith}
+use Rattle.std.proofs.Common.{◌≡◌, ℕ, Bool, true, false, cond, eqb, ◌<◌, ◌≤◌, ◌⊎◌, inl, inr, ⊎_elim, List, length, refl, sym, ap, subst, ◌∙◌, arith}
 use Rattle.std.specs.List.{list_any}
 use Rattle.std.proofs.lemmas.Bool.{and_parts, eqb-true}
 use Rattle.numbered_lists.proofs.Members.{list_any_at_In, In-from_list_any}
@@ -7,9 +7,8 @@ use Rattle.job_bodies.specs.Plan.{Plan, pool_at}
 use Rattle.job_bodies.specs.WellFormed.{IsWellFormed}
 use Rattle.job_bodies.proofs.Bodies.{IsOrdered, ordered}
 use Rattle.pool_machine.proofs.Events.{started_below}
-use Rattle.written_machine.specs.declared.event.Event.{Event}
 use Rattle.written_machine.specs.State.{Stage, State, job_at, pool_of, pool_seen, is_queued, is_queued_in, threads}
-use Rattle.written_machine.specs.Reach.{replay, IsReached}
+use Rattle.written_machine.specs.Reach.{IsReached}
 use Rattle.written_machine.specs.Waiting.{IsMember}
 use Rattle.written_machine.specs.FullWaitingSets.{IsFullWaitingSet, HasStayed}
 use Rattle.written_machine.proofs.Events.{happens}

@@ -1,5 +1,5 @@
 -- A plan with lower maximums: where no thread is started above them, it makes the same steps.
-use Rattle.std.proofs.Common.{◌≡◌, ℕ, zero, suc, ◌+◌, ◌<◌, ◌≤◌, ◌⊎◌, List, [], ◌∷◌, length, map, get_or, Option, Some, None, inl, inr, ⊎_elim, refl, sym, ap, subst, ◌∙◌, arith}
+use Rattle.std.proofs.Common.{◌≡◌, ℕ, zero, suc, ◌+◌, ◌<◌, ◌≤◌, ◌⊎◌, List, [], ◌∷◌, length, map, get_or, Option, Some, None, inl, inr, ⊎_elim, refl, sym, ap, ◌∙◌, arith}
 use Rattle.std.specs.List.{enumerate_from}
 use Rattle.std.proofs.lemmas.Option.{same_Some}
 use Rattle.std.proofs.lemmas.Grind.{common_steps}
@@ -16,7 +16,7 @@ use Rattle.written_machine.specs.declared.event.Event.{Event}
 use Rattle.written_machine.specs.declared.event.Outcome.{Outcome}
 use Rattle.written_machine.specs.declared.event.Outcome.TheVariants as outcome
 use Rattle.written_machine.specs.State.{State, PoolPart, pool_of, pool_seen, part_of, threads}
-use Rattle.written_machine.specs.Step.{Point, answered, submitted, acted, stepped, step}
+use Rattle.written_machine.specs.Step.{answered, submitted, acted, stepped, step}
 use Rattle.written_machine.specs.Reach.{start}
 use Rattle.written_machine.proofs.Events.{StandsAt, event_of, Happens, works, starts, queues, is_refused, gets, finishes, loops, takes, retires}
 use Rattle.written_machine.proofs.Kept.{Kept}

@@ -1,2 +1,5 @@
 pub mod Lasting
 pub mod Witness
+pub mod Replayed
+pub mod StartingNone
+pub mod Confirmed

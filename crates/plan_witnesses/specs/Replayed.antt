@@ -1,0 +1,27 @@
+-- What a replay of a list of events finds.
+use Rattle.std.specs.Prelude.{◌≡◌, List, take}
+use Rattle.job_bodies.specs.Plan.{Plan}
+use Rattle.written_machine.specs.declared.event.Event.{Event}
+use Rattle.written_machine.specs.State.{State}
+use Rattle.written_machine.specs.Reach.{Reaches}
+use Rattle.live_views.specs.LiveView.{View, live_view}
+use Rattle.plan_witnesses.specs.declared.replaying.Replayed.{Replayed}
+use Rattle.plan_witnesses.specs.declared.replaying.Replayed.TheVariants.{Refused, NotPossible, Whole}
+use Rattle.plan_witnesses.specs.Witness.{NoneRefused, EndsRefused}
+
+-- each event is possible, none is refused, and this is the live view behind the last
+pub record ComesTo (plan : Plan) (events : List Event) (view : View) : Type 0 where
+  pub state : State
+  pub reaches : Reaches plan events state
+  pub seen : live_view plan state ≡ view
+  pub none_refused : NoneRefused plan events
+
+-- some event is not possible, and none before it is refused
+pub record StopsShort (plan : Plan) (events : List Event) : Type 0 where
+  pub none_refused : NoneRefused plan events
+  pub reaches_none : (s : State) → ¬ Reaches plan events s
+
+abbrev pub Finds : Plan → List Event → View → Replayed → Type 0
+Finds plan events view (Refused n p) = EndsRefused plan (take n events) p
+Finds plan events view NotPossible = StopsShort plan events
+Finds plan events view Whole = ComesTo plan events view

@@ -1,0 +1,44 @@
+//! The replay of a list of events.
+
+ghost use Rattle.std.specs.Prelude.{◌≡◌, IfOk};
+ghost use Rattle.written_machine.specs.Reach.{start};
+ghost use Rattle.live_views.specs.LiveView.{live_view};
+ghost use Rattle.plan_witnesses.specs.Replayed.{Finds};
+
+use interleaving::{Event, Outcome, World};
+use job_bodies::Plan;
+use std::alloc::AllocError;
+
+/// What a replay of a list finds.
+pub(crate) enum Replayed {
+    /// The last of so many events is refused by the pool of this number, and none before it.
+    Refused(usize, usize),
+    /// An event is not possible, and none before it is refused.
+    NotPossible,
+    /// Each event is possible, and none is refused.
+    Whole,
+}
+
+/// Replays the events in a new world of the plan, up to the first that is refused or not possible.
+///
+/// # Errors
+///
+/// `AllocError` where the world finds no memory for an event.
+pub(crate) fn replay(
+    plan: &Plan,
+    world: &mut World,
+    events: &[Event],
+) -> Result<Replayed, AllocError>
+    requires { world.old.view ≡ live_view plan.now (start plan.now) }
+    ensures { IfOk result (Finds plan.now events.now world.new.view) }
+{
+    for (index, event) in events.iter().enumerate() {
+        let Some(outcome) = world.step(plan, *event)? else {
+            return Ok(Replayed::NotPossible);
+        };
+        if let Outcome::Refused(pool) = outcome {
+            return Ok(Replayed::Refused(index + 1, pool));
+        }
+    }
+    Ok(Replayed::Whole)
+}
