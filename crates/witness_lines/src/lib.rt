@@ -1,14 +1,17 @@
-//! The story of a list of events, for a person: who did what, equal turns told once, how the pools stand at its end, and which
-//! jobs wait for which.
+//! The texts of a witness: for a person, how it ends and the story that leads there, equal turns told once, how the pools
+//! stand at its end and which jobs wait for which; and its events as lines that `replay` reads.
 //!
-//! Nothing is promised of these texts: that the events happen, and what they end in, is promised where a witness is made.
+//! Of the story nothing is promised: that the events happen, and what they end in, is promised where a witness is made.
 #![tactic(auto)]
 
 mod acts;
+mod event_texts;
 mod names;
 mod standing;
 mod stories;
+mod telling;
 mod turns;
 mod waiting;
 
-pub use stories::story;
+pub use event_texts::push_event_lines;
+pub use telling::told;

@@ -1,9 +1,17 @@
 //! The names of a plan's entries, which are empty where there is no such entry.
 
-use job_bodies::{Action, Client, Plan};
+ghost use Rattle.std.specs.Prelude.{◌≡◌};
+ghost use Rattle.job_bodies.specs.Plan.{pool_at};
 
-pub(crate) fn pool_name(plan: &Plan, pool: usize) -> &str {
-    plan.pool_at(pool).map_or("", |pool| pool.name.as_str())
+use job_bodies::{Client, Plan};
+
+pub(crate) fn pool_name(plan: &Plan, pool: usize) -> &str
+    ensures { result.now ≡ (pool_at plan.now pool).name }
+{
+    match plan.pool_at(pool) {
+        Some(pool) => pool.name.as_str(),
+        None => "",
+    }
 }
 
 pub(crate) fn class_name(plan: &Plan, class: usize) -> &str {
@@ -20,9 +28,4 @@ pub(crate) fn kind_of(plan: &Plan, client: usize) -> Option<&Client> {
         }
     }
     None
-}
-
-/// The action at this position of a body.
-pub(crate) fn action_at(body: &[Action], position: usize) -> Option<Action> {
-    body.get(position).copied()
 }

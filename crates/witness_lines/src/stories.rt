@@ -25,7 +25,7 @@ const LAST_LINES: usize = 10;
 /// # Errors
 ///
 /// [`AllocError`] where memory runs out.
-pub fn story(
+pub(crate) fn story(
     alloc: Global,
     plan: &Plan,
     events: &[Event],
@@ -57,6 +57,19 @@ fn runs_of(
         }
     }
     turns.into_runs()
+}
+
+/// How many clients make an event.
+pub(crate) fn clients_of(alloc: Global, events: &[Event]) -> Result<usize, AllocError> {
+    let mut clients = Vec::new(alloc);
+    for event in events.iter().copied() {
+        if let Event::Client(client) = event {
+            clients.push(client)?;
+        }
+    }
+    clients.sort_unstable();
+    clients.dedup();
+    Ok(clients.len())
 }
 
 fn push_runs(text: &mut String, runs: &[Run]) -> Result<(), AllocError> {
