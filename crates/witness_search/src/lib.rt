@@ -5,7 +5,9 @@
 #![tactic(auto)]
 
 mod kinds;
+mod losses;
 mod machine;
+mod missed;
 mod orders;
 mod pools;
 mod replays;

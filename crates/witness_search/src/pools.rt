@@ -37,21 +37,28 @@ impl PoolNow {
         }
     }
 
+    /// What the pool does with a job that comes now.
+    pub(crate) fn answer(&self) -> Offered {
+        if self.threads < self.core {
+            Offered::Started
+        } else if (self.queue.len() as u64) < self.capacity {
+            Offered::Queued
+        } else if self.threads < self.max {
+            Offered::Started
+        } else {
+            Offered::Refused
+        }
+    }
+
     /// The pool is offered the job of this number.
     pub(crate) fn offer(&mut self, job: usize) -> Result<Offered, AllocError> {
-        if self.threads < self.core {
-            self.threads = self.threads.saturating_add(1);
-            return Ok(Offered::Started);
+        let answer = self.answer();
+        match answer {
+            Offered::Started => self.threads = self.threads.saturating_add(1),
+            Offered::Queued => self.queue.push_back(job)?,
+            Offered::Refused => {}
         }
-        if (self.queue.len() as u64) < self.capacity {
-            self.queue.push_back(job)?;
-            return Ok(Offered::Queued);
-        }
-        if self.threads < self.max {
-            self.threads = self.threads.saturating_add(1);
-            return Ok(Offered::Started);
-        }
-        Ok(Offered::Refused)
+        Ok(answer)
     }
 
     /// The job that an idle thread would take.

@@ -1,6 +1,7 @@
 //! The search.
 
 use crate::kinds::Choices;
+use crate::missed::{Scale, missed_vectors};
 use crate::orders::{Chance, FIXED_ORDERS, fixed_order, shuffle};
 use crate::replays::Replay;
 use crate::scripts::Script;
@@ -11,8 +12,10 @@ use job_bodies::Plan;
 use std::alloc::{AllocError, Global};
 use written_machine::Event;
 
-/// How many walks are made.
-const WALKS: usize = 300;
+/// How many walks are made for each vector that misses its bound.
+const GUIDED_WALKS: usize = 64;
+/// How many walks are made in orders by chance.
+const CHANCE_WALKS: usize = 252;
 /// The most steps of a walk for a state of the budget, all walks together.
 const STEPS_FOR_A_STATE: u64 = 200;
 
@@ -37,56 +40,123 @@ pub fn search_witness(
     plan: &Plan,
     budget: usize,
 ) -> Result<Option<Found>, AllocError> {
-    let choices = Choices::of(alloc, plan)?;
-    let mut left = (budget as u64).saturating_mul(STEPS_FOR_A_STATE);
-    let mut chance = Chance::new();
-    let mut stuck_now = None;
-    for number in 0..WALKS {
-        let mut rules = rules_of(alloc, plan, &choices, number, &mut chance)?;
-        rules.most_steps = rules.most_steps.min(left);
-        let walked = walk_by(alloc, plan, &choices, rules, &mut chance)?;
-        left = left.saturating_sub(walked.steps);
-        match walked.bad {
-            Some(Bad::StuckNow) => {
-                if stuck_now.is_none() {
-                    stuck_now = Some(walked.script);
-                }
-            }
-            Some(bad) => return Ok(Some(answer_of(alloc, plan, walked.script, bad)?)),
-            None => {}
+    let mut search = Search {
+        alloc,
+        plan,
+        choices: Choices::of(alloc, plan)?,
+        chance: Chance::new(),
+        left: (budget as u64).saturating_mul(STEPS_FOR_A_STATE),
+        stuck_now: None,
+    };
+    for number in 0..FIXED_ORDERS {
+        let rules = search.fixed_rules(number)?;
+        if let Some(found) = search.look(rules, None)? {
+            return Ok(Some(found));
         }
     }
-    match stuck_now {
-        Some(script) => Ok(Some(answer_of(alloc, plan, script, Bad::StuckNow)?)),
-        None => Ok(None),
+    for scale in &missed_vectors(alloc, plan)? {
+        for number in 0..GUIDED_WALKS {
+            let rules = search.guided_rules(number)?;
+            if let Some(found) = search.look(rules, Some(scale))? {
+                return Ok(Some(found));
+            }
+        }
     }
+    for number in 0..CHANCE_WALKS {
+        let rules = search.chance_rules(number)?;
+        if let Some(found) = search.look(rules, None)? {
+            return Ok(Some(found));
+        }
+    }
+    search.given_up()
 }
 
-/// The rules of the walk of this number.
-fn rules_of(
+/// A search so far.
+#[derive(Drop)]
+struct Search<'a> {
     alloc: Global,
-    plan: &Plan,
-    choices: &Choices,
-    number: usize,
-    chance: &mut Chance,
-) -> Result<Rules, AllocError> {
-    let mut keys = fixed_order(alloc, &choices.all, number)?;
-    let mut most_movers = usize::MAX;
-    let by_chance = number >= FIXED_ORDERS;
-    if by_chance {
-        shuffle(&mut keys, chance);
-        let turn = number.saturating_sub(FIXED_ORDERS);
-        most_movers = match turn % 8 {
-            7 => usize::MAX,
-            few => few.saturating_add(1).saturating_add(turn / 64),
-        };
+    plan: &'a Plan,
+    choices: Choices,
+    chance: Chance,
+    /// How many steps may still be made.
+    left: u64,
+    /// What is answered where nothing is found that stays.
+    stuck_now: Option<Script>,
+}
+
+impl Search<'_> {
+    /// Makes a walk, and answers what it finds that stays.
+    fn look(&mut self, rules: Rules, scale: Option<&Scale>) -> Result<Option<Found>, AllocError> {
+        let mut rules = rules;
+        rules.most_steps = rules.most_steps.min(self.left);
+        let walked = walk_by(
+            self.alloc,
+            self.plan,
+            &self.choices,
+            rules,
+            scale,
+            &mut self.chance,
+        )?;
+        self.left = self.left.saturating_sub(walked.steps);
+        match walked.bad {
+            Some(Bad::StuckNow) => {
+                if self.stuck_now.is_none() {
+                    self.stuck_now = Some(walked.script);
+                }
+                Ok(None)
+            }
+            Some(bad) => Ok(Some(answer_of(self.alloc, self.plan, walked.script, bad)?)),
+            None => Ok(None),
+        }
     }
-    Ok(Rules {
-        keys,
-        most_movers,
-        most_steps: longest_walk(plan),
-        changing: by_chance && number % 2 == 1,
-    })
+
+    /// What is answered where nothing was found that stays.
+    fn given_up(self) -> Result<Option<Found>, AllocError> {
+        let Search {
+            alloc,
+            plan,
+            stuck_now,
+            choices: _,
+            chance: _,
+            left: _,
+        } = self;
+        match stuck_now {
+            Some(script) => Ok(Some(answer_of(alloc, plan, script, Bad::StuckNow)?)),
+            None => Ok(None),
+        }
+    }
+
+    /// One of the fixed orders.
+    fn fixed_rules(&self, number: usize) -> Result<Rules, AllocError> {
+        Ok(Rules {
+            keys: fixed_order(self.alloc, &self.choices.all, number)?,
+            most_movers: usize::MAX,
+            most_steps: longest_walk(self.plan),
+            changing: false,
+        })
+    }
+
+    /// First the fixed orders, then orders by chance.
+    fn guided_rules(&mut self, number: usize) -> Result<Rules, AllocError> {
+        let mut rules = self.fixed_rules(number)?;
+        if number >= FIXED_ORDERS {
+            shuffle(&mut rules.keys, &mut self.chance);
+            rules.changing = number % 2 == 1;
+        }
+        Ok(rules)
+    }
+
+    /// An order by chance, mostly with few clients.
+    fn chance_rules(&mut self, number: usize) -> Result<Rules, AllocError> {
+        let mut rules = self.fixed_rules(number)?;
+        shuffle(&mut rules.keys, &mut self.chance);
+        rules.changing = number % 2 == 1;
+        rules.most_movers = match number % 8 {
+            7 => usize::MAX,
+            few => few.saturating_add(1).saturating_add(number / 64),
+        };
+        Ok(rules)
+    }
 }
 
 /// How many steps a walk has at most.

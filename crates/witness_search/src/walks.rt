@@ -1,13 +1,19 @@
-//! Walks: of the choices that are possible the first one of an order is made, again and again.
+//! Walks: of the choices that are possible the first one of an order is made, again and again, or of those that lose least of a
+//! vector.
 
 use crate::kinds::{Choice, Choices};
+use crate::losses::Losses;
 use crate::machine::{Came, Machine};
+use crate::missed::Scale;
 use crate::orders::{Chance, shuffle};
 use crate::scripts::Script;
 use crate::waiting::Members;
 use job_bodies::{Action, Plan};
 use std::alloc::{AllocError, Global};
 use written_machine::Parent;
+
+/// More than each key: a choice that loses less of a vector comes first.
+const FOR_A_LOSS: u64 = 10_000_000_000_000;
 
 /// What is bad at the end of some events.
 #[derive(Clone, Copy, Debug, PartialEq, Eq)]
@@ -70,6 +76,7 @@ pub(crate) fn walk_by<'a>(
     plan: &'a Plan,
     choices: &'a Choices,
     rules: Rules,
+    scale: Option<&Scale>,
     chance: &mut Chance,
 ) -> Result<Walked, AllocError> {
     let mut walk = Walk::start(alloc, plan, choices)?;
@@ -82,7 +89,7 @@ pub(crate) fn walk_by<'a>(
         if rules.changing && chance.next_number() % 16 == 0 {
             shuffle(&mut rules.keys, chance);
         }
-        match walk.step(&rules)? {
+        match walk.step(&rules, scale)? {
             Stepped::Went => {}
             Stepped::Refused => return Ok(walk.ended(Some(Bad::Refused), steps)),
             Stepped::Nothing => break,
@@ -146,8 +153,8 @@ impl<'a> Walk<'a> {
     }
 
     /// Makes the first choice that is possible.
-    fn step(&mut self, rules: &Rules) -> Result<Stepped, AllocError> {
-        let Some(place) = self.first_possible(rules) else {
+    fn step(&mut self, rules: &Rules, scale: Option<&Scale>) -> Result<Stepped, AllocError> {
+        let Some(place) = self.first_possible(rules, scale) else {
             return Ok(Stepped::Nothing);
         };
         match self.choices.all.get(place).copied() {
@@ -168,13 +175,22 @@ impl<'a> Walk<'a> {
         }
     }
 
-    fn first_possible(&self, rules: &Rules) -> Option<usize> {
+    /// The choice that is possible and loses least of the vector, and of several the first one.
+    fn first_possible(&self, rules: &Rules, scale: Option<&Scale>) -> Option<usize> {
         let mut best = None;
         let mut least = u64::MAX;
         let choices = self.choices.all.iter().zip(&rules.keys).zip(&self.ready);
         for (place, ((choice, key), ready)) in choices.enumerate() {
-            if *key < least && self.is_possible(rules, *choice, ready) {
-                least = *key;
+            if !self.is_possible(rules, *choice, ready) {
+                continue;
+            }
+            let lost = match scale {
+                Some(scale) => Losses::new(&self.machine, scale).of(*choice, ready.last().copied()),
+                None => 0,
+            };
+            let key = lost.saturating_mul(FOR_A_LOSS).saturating_add(*key);
+            if key < least {
+                least = key;
                 best = Some(place);
             }
         }
