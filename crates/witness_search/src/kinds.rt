@@ -1,0 +1,94 @@
+//! The kinds of choices that a walk has.
+
+use crate::machine::Machine;
+use job_bodies::{Action, Plan};
+use std::alloc::{AllocError, Global};
+use written_machine::Parent;
+
+/// What stands where a position is no submit.
+const NO_CHOICE: usize = usize::MAX;
+
+/// What happens next.
+#[derive(Clone, Copy, Debug, PartialEq, Eq)]
+pub(crate) enum Choice {
+    /// A new client of the kind goes to its first submit.
+    Begin(usize),
+    /// A client of a kind makes the first submit of its body.
+    First(usize),
+    /// A client of the kind makes another submit of its body.
+    Later(usize),
+    /// A job of the class makes a submit.
+    Inner(usize),
+    /// A job of the class is taken from its pool's queue.
+    Take(usize),
+}
+
+/// All choices of a plan, and which one each submit is.
+#[derive(Drop)]
+pub(crate) struct Choices {
+    pub(crate) all: Vec<Choice>,
+    of_kinds: Vec<Vec<usize>>,
+    of_classes: Vec<Vec<usize>>,
+}
+
+impl Choices {
+    /// The choices of the plan.
+    pub(crate) fn of(alloc: Global, plan: &Plan) -> Result<Choices, AllocError> {
+        let mut choices = Choices {
+            all: Vec::new(alloc),
+            of_kinds: Vec::new(alloc),
+            of_classes: Vec::new(alloc),
+        };
+        for (kind, client) in plan.clients().iter().enumerate() {
+            choices.all.push(Choice::Begin(kind))?;
+            let mut places = Vec::new(alloc);
+            let mut is_first = true;
+            for action in &client.body {
+                let choice = if is_first {
+                    Choice::First(kind)
+                } else {
+                    Choice::Later(kind)
+                };
+                let place = choices.add_submit(*action, choice)?;
+                is_first = is_first && place == NO_CHOICE;
+                places.push(place)?;
+            }
+            choices.of_kinds.push(places)?;
+        }
+        for (number, class) in plan.classes().iter().enumerate() {
+            choices.all.push(Choice::Take(number))?;
+            let mut places = Vec::new(alloc);
+            for action in &class.body {
+                let place = choices.add_submit(*action, Choice::Inner(number))?;
+                places.push(place)?;
+            }
+            choices.of_classes.push(places)?;
+        }
+        Ok(choices)
+    }
+
+    fn add_submit(&mut self, action: Action, choice: Choice) -> Result<usize, AllocError> {
+        if let Action::Submit(_) = action {
+            let place = self.all.len();
+            self.all.push(choice)?;
+            Ok(place)
+        } else {
+            Ok(NO_CHOICE)
+        }
+    }
+
+    /// The place of the choice that the actor at this position of its body is.
+    pub(crate) fn place_of(
+        &self,
+        machine: &Machine,
+        actor: Parent,
+        position: usize,
+    ) -> Option<usize> {
+        let kind = machine.kind_of(actor)?;
+        let rows = match actor {
+            Parent::Client(_) => &self.of_kinds,
+            Parent::Job(_) => &self.of_classes,
+        };
+        rows.get(kind)?.get(position).copied()
+    }
+}

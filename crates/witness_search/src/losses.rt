@@ -1,0 +1,192 @@
+//! What choices lose of a vector: the sum of its weights never rises, and where a bound is missed, a walk to what is bad
+//! has little of it to lose.
+
+use crate::kinds::Choice;
+use crate::machine::Machine;
+use crate::missed::Scale;
+use crate::pools::Offered;
+use job_bodies::{Action, MOST_ACTIONS};
+use written_machine::Parent;
+
+/// The most that a loss is told as.
+const MOST_LOST: u64 = 1_000_000;
+/// How many parents are followed that go on when a job is done.
+const MOST_PARENTS: usize = 16;
+
+/// A state, and the vector whose weights are looked at.
+#[derive(Clone, Copy)]
+pub(crate) struct Losses<'a> {
+    machine: &'a Machine<'a>,
+    scale: &'a Scale,
+}
+
+/// A body, what an actor weighs at each position of it, and what it leaves behind at its end.
+#[derive(Clone, Copy)]
+struct Way<'a> {
+    body: &'a [Action],
+    row: &'a [u64],
+    end: u64,
+}
+
+impl Way<'_> {
+    fn weight_at(&self, position: usize) -> u64 {
+        self.row.get(position).copied().unwrap_or(0)
+    }
+
+    /// What the actor weighs once it has done the work from this position on, and whether it is then at its end.
+    fn settled(&self, position: usize) -> (u64, bool) {
+        let mut position = position;
+        for _ in 0..MOST_ACTIONS {
+            match self.body.get(position) {
+                None => return (self.end, true),
+                Some(Action::Work(_)) => position = position.saturating_add(1),
+                Some(_) => break,
+            }
+        }
+        (self.weight_at(position), false)
+    }
+}
+
+impl<'a> Losses<'a> {
+    pub(crate) fn new(machine: &'a Machine<'a>, scale: &'a Scale) -> Losses<'a> {
+        Losses { machine, scale }
+    }
+
+    /// What the choice loses, which is possible; this actor makes it.
+    pub(crate) fn of(&self, choice: Choice, actor: Option<Parent>) -> u64 {
+        let lost = match choice {
+            Choice::Begin(kind) => self.of_begin(kind),
+            Choice::Take(class) => self.of_take(class),
+            Choice::First(_) | Choice::Later(_) | Choice::Inner(_) => match actor {
+                Some(actor) => self.of_actor(actor),
+                None => None,
+            },
+        };
+        lost.unwrap_or(MOST_LOST).min(MOST_LOST)
+    }
+
+    fn way_of_client(&self, kind: usize) -> Option<Way<'a>> {
+        let client = self.machine.plan.client_at(kind)?;
+        let row: &'a [u64] = self.scale.clients.get(kind)?;
+        let end = if client.repeat {
+            row.first().copied().unwrap_or(0)
+        } else {
+            0
+        };
+        Some(Way {
+            body: &client.body,
+            row,
+            end,
+        })
+    }
+
+    fn way_of_class(&self, class: usize) -> Option<Way<'a>> {
+        let body = &self.machine.plan.class_at(class)?.body;
+        let row: &'a [u64] = self.scale.classes.get(class)?;
+        Some(Way {
+            body,
+            row: row.get(1..)?,
+            end: self.done(class).saturating_add(self.worker(class)),
+        })
+    }
+
+    fn way_of(&self, actor: Parent) -> Option<Way<'a>> {
+        let kind = self.machine.kind_of(actor)?;
+        match actor {
+            Parent::Client(_) => self.way_of_client(kind),
+            Parent::Job(_) => self.way_of_class(kind),
+        }
+    }
+
+    /// What a done job of the class weighs.
+    fn done(&self, class: usize) -> u64 {
+        match self.scale.classes.get(class) {
+            Some(row) => row.last().copied().unwrap_or(0),
+            None => 0,
+        }
+    }
+
+    /// What a queued job of the class weighs.
+    fn queued(&self, class: usize) -> u64 {
+        match self.scale.classes.get(class) {
+            Some(row) => row.first().copied().unwrap_or(0),
+            None => 0,
+        }
+    }
+
+    /// What a worker of the class's pool weighs.
+    fn worker(&self, class: usize) -> u64 {
+        match self.machine.plan.class_at(class) {
+            Some(class) => self.scale.workers.get(class.pool).copied().unwrap_or(0),
+            None => 0,
+        }
+    }
+
+    fn of_begin(&self, kind: usize) -> Option<u64> {
+        let way = self.way_of_client(kind)?;
+        let at = way
+            .body
+            .iter()
+            .position(|action| matches!(action, Action::Submit(_)))?;
+        self.of_submit(&way, 0, at)
+    }
+
+    fn of_actor(&self, actor: Parent) -> Option<u64> {
+        let (position, _) = self.machine.point(actor)?;
+        self.of_submit(&self.way_of(actor)?, position, position)
+    }
+
+    /// An actor, which weighs what it does at `from`, makes the submit at `at`.
+    fn of_submit(&self, way: &Way, from: usize, at: usize) -> Option<u64> {
+        let Action::Submit(class) = *way.body.get(at)? else {
+            return None;
+        };
+        let pool = self.machine.plan.class_at(class)?.pool;
+        let before = way.weight_at(from);
+        let (after, _) = way.settled(at.saturating_add(1));
+        match self.machine.pools.get(pool)?.answer() {
+            Offered::Refused => Some(0),
+            Offered::Queued => {
+                let after = after.saturating_add(self.queued(class));
+                Some(before.saturating_sub(after))
+            }
+            Offered::Started => {
+                let before = before.saturating_add(self.worker(class));
+                let (job, _) = self.way_of_class(class)?.settled(0);
+                Some(before.saturating_sub(after.saturating_add(job)))
+            }
+        }
+    }
+
+    /// A job of the class is taken, and where it only works, those go on that wait for it.
+    fn of_take(&self, class: usize) -> Option<u64> {
+        let pool = self.machine.plan.class_at(class)?.pool;
+        let mut job = self.machine.pools.get(pool)?.next_to_take()?;
+        let mut class = class;
+        let mut before = self.queued(class).saturating_add(self.worker(class));
+        let (mut after, mut ends) = self.way_of_class(class)?.settled(0);
+        for _ in 0..MOST_PARENTS {
+            if !ends {
+                break;
+            }
+            let parent = self.machine.jobs.get(job)?.parent;
+            if self.machine.waits_for(parent) != Some(job) {
+                break;
+            }
+            let (position, _) = self.machine.point(parent)?;
+            let way = self.way_of(parent)?;
+            let (goes_on, is_end) = way.settled(position.saturating_add(1));
+            before = before.saturating_add(way.weight_at(position));
+            after = after
+                .saturating_sub(self.done(class))
+                .saturating_add(goes_on);
+            ends = is_end;
+            let Parent::Job(number) = parent else {
+                break;
+            };
+            job = number;
+            class = self.machine.jobs.get(number)?.class;
+        }
+        Some(before.saturating_sub(after))
+    }
+}

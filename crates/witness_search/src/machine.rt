@@ -1,0 +1,281 @@
+//! A light machine of a plan: of clients only those that have moved, and nothing of the past but the jobs.
+
+use crate::pools::{Offered, PoolNow};
+use job_bodies::{Action, MOST_ACTIONS, Plan};
+use std::alloc::{AllocError, Global};
+use written_machine::Parent;
+
+/// How far a job is.
+#[derive(Clone, Copy, Debug, PartialEq, Eq)]
+pub(crate) enum Phase {
+    Queued,
+    At(usize),
+    Done,
+}
+
+/// A job that was made.
+#[derive(Clone, Copy, Debug, PartialEq, Eq)]
+pub(crate) struct Job {
+    pub(crate) class: usize,
+    pub(crate) pool: usize,
+    pub(crate) parent: Parent,
+    pub(crate) phase: Phase,
+    /// The position of the submit in the parent's body.
+    submit: usize,
+    /// The latest job that it made itself.
+    newest: Option<usize>,
+    /// The job that its parent made before it.
+    before: Option<usize>,
+}
+
+/// A client that has moved. Its number here is its place among those.
+#[derive(Clone, Copy, Debug, PartialEq, Eq)]
+pub(crate) struct Mover {
+    kind: usize,
+    position: usize,
+    newest: Option<usize>,
+}
+
+/// What comes of a step.
+#[derive(Clone, Copy, Debug, PartialEq, Eq)]
+pub(crate) enum Came {
+    /// It was not possible, and nothing has changed.
+    Nothing,
+    /// The actor has worked, got a job or begun again.
+    Moved,
+    /// The job of this number was made, and whether a thread starts it.
+    Made { job: usize, started: bool },
+    /// A pool refused a job.
+    Refused,
+    /// The job is done, which this actor made.
+    Finished(Parent),
+}
+
+/// The pools, the jobs that were made, and the clients that have moved.
+#[derive(Drop)]
+pub(crate) struct Machine<'a> {
+    pub(crate) plan: &'a Plan,
+    pub(crate) pools: Vec<PoolNow>,
+    pub(crate) jobs: Vec<Job>,
+    movers: Vec<Mover>,
+}
+
+impl<'a> Machine<'a> {
+    /// The start of the plan.
+    pub(crate) fn start(alloc: Global, plan: &'a Plan) -> Result<Machine<'a>, AllocError> {
+        let pools = plan
+            .pools()
+            .iter()
+            .map(|pool| PoolNow::new(alloc, pool))
+            .collect(alloc)?;
+        Ok(Machine {
+            plan,
+            pools,
+            jobs: Vec::new(alloc),
+            movers: Vec::new(alloc),
+        })
+    }
+
+    /// How many clients have moved.
+    pub(crate) fn movers(&self) -> usize {
+        self.movers.len()
+    }
+
+    /// One more client, of this kind, is among those that move.
+    pub(crate) fn begin(&mut self, kind: usize) -> Result<Parent, AllocError> {
+        let number = self.movers.len();
+        self.movers.push(Mover {
+            kind,
+            position: 0,
+            newest: None,
+        })?;
+        Ok(Parent::Client(number))
+    }
+
+    /// The number of the client's kind, or of the job's class.
+    pub(crate) fn kind_of(&self, actor: Parent) -> Option<usize> {
+        match actor {
+            Parent::Client(number) => self.movers.get(number).map(|mover| mover.kind),
+            Parent::Job(number) => self.jobs.get(number).map(|job| job.class),
+        }
+    }
+
+    /// The position of an actor that can be at an action, and the action there or, at its end, None.
+    pub(crate) fn point(&self, actor: Parent) -> Option<(usize, Option<Action>)> {
+        match actor {
+            Parent::Client(number) => {
+                let mover = self.movers.get(number)?;
+                let body = &self.plan.client_at(mover.kind)?.body;
+                Some((mover.position, body.get(mover.position).copied()))
+            }
+            Parent::Job(number) => {
+                let job = self.jobs.get(number)?;
+                let Phase::At(position) = job.phase else {
+                    return None;
+                };
+                let body = &self.plan.class_at(job.class)?.body;
+                Some((position, body.get(position).copied()))
+            }
+        }
+    }
+
+    /// The latest job that the actor made at this submit.
+    pub(crate) fn child(&self, actor: Parent, submit: usize) -> Option<usize> {
+        let mut next = self.newest(actor);
+        for _ in 0..MOST_ACTIONS {
+            let number = next?;
+            let job = self.jobs.get(number)?;
+            if job.submit == submit {
+                return Some(number);
+            }
+            next = job.before;
+        }
+        None
+    }
+
+    /// The job that the actor stands at a get of.
+    pub(crate) fn waits_for(&self, actor: Parent) -> Option<usize> {
+        match self.point(actor)? {
+            (_, Some(Action::Get(submit))) => self.child(actor, submit),
+            _ => None,
+        }
+    }
+
+    /// Whether the job is done.
+    pub(crate) fn is_done(&self, job: usize) -> bool {
+        self.jobs
+            .get(job)
+            .is_some_and(|job| job.phase == Phase::Done)
+    }
+
+    /// The actor's next step.
+    pub(crate) fn act(&mut self, actor: Parent) -> Result<Came, AllocError> {
+        let Some((position, action)) = self.point(actor) else {
+            return Ok(Came::Nothing);
+        };
+        match action {
+            None => Ok(self.end(actor)),
+            Some(Action::Work(_)) => {
+                self.go_to(actor, position.saturating_add(1));
+                Ok(Came::Moved)
+            }
+            Some(Action::Submit(class)) => self.submit(actor, position, class),
+            Some(Action::Get(submit)) => {
+                let child = self.child(actor, submit);
+                if !child.is_some_and(|child| self.is_done(child)) {
+                    return Ok(Came::Nothing);
+                }
+                self.go_to(actor, position.saturating_add(1));
+                Ok(Came::Moved)
+            }
+        }
+    }
+
+    /// An idle thread of the pool takes the head of its queue.
+    pub(crate) fn take(&mut self, pool: usize) -> Option<usize> {
+        let job = self.pools.get_mut(pool)?.take()?;
+        self.go_to(Parent::Job(job), 0);
+        Some(job)
+    }
+
+    fn submit(&mut self, actor: Parent, position: usize, class: usize) -> Result<Came, AllocError> {
+        let number = self.jobs.len();
+        let Some(pool) = self.plan.class_at(class).map(|class| class.pool) else {
+            return Ok(Came::Nothing);
+        };
+        let Some(offered) = self.pools.get_mut(pool) else {
+            return Ok(Came::Nothing);
+        };
+        let phase = match offered.offer(number)? {
+            Offered::Started => Phase::At(0),
+            Offered::Queued => Phase::Queued,
+            Offered::Refused => return Ok(Came::Refused),
+        };
+        let before = self.newest(actor);
+        self.jobs.push(Job {
+            class,
+            pool,
+            parent: actor,
+            phase,
+            submit: position,
+            newest: None,
+            before,
+        })?;
+        self.set_newest(actor, Some(number));
+        self.go_to(actor, position.saturating_add(1));
+        Ok(Came::Made {
+            job: number,
+            started: phase != Phase::Queued,
+        })
+    }
+
+    fn end(&mut self, actor: Parent) -> Came {
+        match actor {
+            Parent::Client(number) => self.begin_again(number),
+            Parent::Job(number) => {
+                let Some(job) = self.jobs.get_mut(number) else {
+                    return Came::Nothing;
+                };
+                job.phase = Phase::Done;
+                let parent = job.parent;
+                if let Some(pool) = self.pools.get_mut(job.pool) {
+                    pool.finish();
+                }
+                Came::Finished(parent)
+            }
+        }
+    }
+
+    fn begin_again(&mut self, number: usize) -> Came {
+        let Some(mover) = self.movers.get_mut(number) else {
+            return Came::Nothing;
+        };
+        let repeats = self
+            .plan
+            .client_at(mover.kind)
+            .is_some_and(|kind| kind.repeat);
+        if !repeats {
+            return Came::Nothing;
+        }
+        mover.position = 0;
+        mover.newest = None;
+        Came::Moved
+    }
+
+    fn newest(&self, actor: Parent) -> Option<usize> {
+        match actor {
+            Parent::Client(number) => self.movers.get(number)?.newest,
+            Parent::Job(number) => self.jobs.get(number)?.newest,
+        }
+    }
+
+    fn set_newest(&mut self, actor: Parent, newest: Option<usize>) {
+        match actor {
+            Parent::Client(number) => {
+                if let Some(mover) = self.movers.get_mut(number) {
+                    mover.newest = newest;
+                }
+            }
+            Parent::Job(number) => {
+                if let Some(job) = self.jobs.get_mut(number) {
+                    job.newest = newest;
+                }
+            }
+        }
+    }
+
+    fn go_to(&mut self, actor: Parent, position: usize) {
+        match actor {
+            Parent::Client(number) => {
+                if let Some(mover) = self.movers.get_mut(number) {
+                    mover.position = position;
+                }
+            }
+            Parent::Job(number) => {
+                if let Some(job) = self.jobs.get_mut(number) {
+                    job.phase = Phase::At(position);
+                }
+            }
+        }
+    }
+}

@@ -1,0 +1,117 @@
+//! The vectors that miss their bounds in a plan.
+
+use job_bodies::Plan;
+use least_vectors::{Growing, Kind, Levels, reach};
+use std::alloc::{AllocError, Global};
+use weights::Vector;
+
+/// The weights of a vector.
+#[derive(Debug, Drop)]
+pub(crate) struct Scale {
+    pub(crate) workers: Vec<u64>,
+    pub(crate) classes: Vec<Vec<u64>>,
+    pub(crate) clients: Vec<Vec<u64>>,
+}
+
+/// The least vectors of the plan that are heavier than its sizes allow.
+pub(crate) fn missed_vectors(alloc: Global, plan: &Plan) -> Result<Vec<Scale>, AllocError> {
+    let mut missed = Missed {
+        alloc,
+        scales: Vec::new(alloc),
+    };
+    let Some(levels) = Levels::of(alloc, plan)? else {
+        return Ok(missed.scales);
+    };
+    let maxes: Vec<u64> = plan.pools().iter().map(|pool| pool.max).collect(alloc)?;
+    let growing = Growing {
+        plan,
+        levels: &levels,
+        maxes: &maxes,
+    };
+    for (number, pool) in plan.pools().iter().enumerate() {
+        missed.holds(&growing, number, Kind::Standing, pool.queue)?;
+    }
+    let mut ranks = vec![in alloc; None; plan.pools().len()]?;
+    for rank in 0..plan.pools().len() as u64 {
+        if !missed.rank_pools(&growing, &mut ranks, rank)? {
+            break;
+        }
+    }
+    Ok(missed.scales)
+}
+
+/// What is found so far.
+#[derive(Drop)]
+struct Missed {
+    alloc: Global,
+    scales: Vec<Scale>,
+}
+
+impl Missed {
+    /// Whether the pool's vector of this kind weighs so much at most; else it is kept.
+    fn holds(
+        &mut self,
+        growing: &Growing,
+        pool: usize,
+        kind: Kind,
+        limit: u64,
+    ) -> Result<bool, AllocError> {
+        let Some(weighed) = growing.lightest(self.alloc, pool, kind, limit)? else {
+            return Ok(false);
+        };
+        if weighed.total <= limit {
+            return Ok(true);
+        }
+        if let Some(vector) = growing.vector(self.alloc, pool, kind, &weighed.workers)? {
+            let Vector {
+                workers,
+                classes,
+                clients,
+            } = vector;
+            self.scales.push(Scale {
+                workers,
+                classes,
+                clients,
+            })?;
+        }
+        Ok(false)
+    }
+
+    /// Gives this rank to the pools whose blocked vectors hold, and keeps the others where it is given to nobody. Whether a
+    /// pool got it.
+    fn rank_pools(
+        &mut self,
+        growing: &Growing,
+        ranks: &mut Vec<Option<u64>>,
+        rank: u64,
+    ) -> Result<bool, AllocError> {
+        let known: Vec<u64> = ranks
+            .iter()
+            .map(|known| known.unwrap_or(rank))
+            .collect(self.alloc)?;
+        let reach = reach(self.alloc, growing.plan, growing.levels, &known)?;
+        let kept = self.scales.len();
+        let mut moved = false;
+        for (number, pool) in growing.plan.pools().iter().enumerate() {
+            let Some(place) = ranks.get_mut(number) else {
+                continue;
+            };
+            if place.is_some() {
+                continue;
+            }
+            let kind = Kind::Blocked {
+                reach: &reach,
+                rank,
+                lending: true,
+            };
+            if self.holds(growing, number, kind, pool.core.saturating_sub(1))? {
+                *place = Some(rank);
+                moved = true;
+            }
+        }
+        if moved {
+            self.scales.truncate(kept);
+        }
+        Ok(moved)
+    }
+}

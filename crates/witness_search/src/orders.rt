@@ -1,0 +1,108 @@
+//! Orders of the kinds of choices.
+
+use crate::kinds::Choice;
+use std::alloc::{AllocError, Global};
+
+/// How many orders there are that no chance makes.
+pub(crate) const FIXED_ORDERS: usize = 48;
+
+/// The first number of the generator.
+const FIRST: u64 = 0x9e37_79b9_7f4a_7c15;
+
+/// A fixed generator of numbers.
+#[derive(Clone, Copy, Debug)]
+pub(crate) struct Chance {
+    state: u64,
+}
+
+impl Chance {
+    pub(crate) fn new() -> Chance {
+        Chance { state: FIRST }
+    }
+
+    /// The next number.
+    pub(crate) fn next_number(&mut self) -> u64 {
+        self.state = self
+            .state
+            .wrapping_mul(6_364_136_223_846_793_005)
+            .wrapping_add(1_442_695_040_888_963_407);
+        self.state >> 33
+    }
+}
+
+/// For each choice a key: of those that are possible the one with the least key is made.
+pub(crate) fn fixed_order(
+    alloc: Global,
+    choices: &[Choice],
+    number: usize,
+) -> Result<Vec<u64>, AllocError> {
+    let turn = Turn {
+        groups: number % 6,
+        old_first: number / 6 % 2 == 1,
+        places_down: number / 12 % 2 == 1,
+        kinds_down: number / 24 % 2 == 1,
+    };
+    choices
+        .iter()
+        .enumerate()
+        .map(|(place, choice)| turn.key(place as u64, *choice))
+        .collect(alloc)
+}
+
+/// Keys by chance.
+pub(crate) fn shuffle(keys: &mut [u64], chance: &mut Chance) {
+    for key in keys.iter_mut() {
+        *key = chance.next_number();
+    }
+}
+
+/// One of the fixed orders.
+#[derive(Clone, Copy)]
+struct Turn {
+    groups: usize,
+    old_first: bool,
+    places_down: bool,
+    kinds_down: bool,
+}
+
+impl Turn {
+    fn key(&self, place: u64, choice: Choice) -> u64 {
+        let (group, down) = match choice {
+            Choice::Begin(_) | Choice::First(_) => (0, self.kinds_down),
+            Choice::Later(_) | Choice::Inner(_) => (1, self.places_down),
+            Choice::Take(_) => (2, self.places_down),
+        };
+        let late = match choice {
+            Choice::Begin(_) => self.old_first,
+            Choice::First(_) => !self.old_first,
+            _ => false,
+        };
+        // A kind's two choices of the first group stand beside each other.
+        let number = match choice {
+            Choice::Begin(kind) | Choice::First(kind) => kind as u64,
+            _ => place,
+        };
+        let number = if down {
+            1_000_000u64.saturating_sub(number)
+        } else {
+            number
+        };
+        self.rank(group)
+            .saturating_mul(10_000_000)
+            .saturating_add(number.saturating_mul(2))
+            .saturating_add(u64::from(late))
+    }
+
+    /// Where the group stands: 0, 1 or 2.
+    fn rank(&self, group: usize) -> u64 {
+        let ranks = match self.groups {
+            0 => [0, 1, 2],
+            1 => [0, 2, 1],
+            2 => [1, 0, 2],
+            3 => [1, 2, 0],
+            4 => [2, 0, 1],
+            _ => [2, 1, 0],
+        };
+        ranks.get(group).copied().unwrap_or(0)
+    }
+}

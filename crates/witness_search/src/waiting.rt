@@ -1,0 +1,161 @@
+//! Sets of jobs that wait only for each other.
+
+use crate::machine::{Job, Machine, Phase};
+use job_bodies::MOST_POOLS;
+use std::alloc::{AllocError, Global};
+use written_machine::Parent;
+
+/// The most jobs that are looked at to make one set smaller.
+const MOST_LOOKS: usize = 4_000_000;
+
+/// Some jobs of a machine, by number.
+#[derive(Drop)]
+pub(crate) struct Members {
+    is_member: Vec<bool>,
+}
+
+impl Members {
+    /// The greatest set of jobs that wait only for each other, which may be empty; of those that do so for ever, where
+    /// `for_ever` is said.
+    pub(crate) fn greatest(
+        alloc: Global,
+        machine: &Machine,
+        for_ever: bool,
+    ) -> Result<Members, AllocError> {
+        let is_member = machine
+            .jobs
+            .iter()
+            .map(|job| job.phase != Phase::Done)
+            .collect(alloc)?;
+        let mut members = Members { is_member };
+        members.shrink(alloc, machine, for_ever)?;
+        Ok(members)
+    }
+
+    /// A set of such jobs in this one of which none can be left out.
+    pub(crate) fn made_least(
+        self,
+        alloc: Global,
+        machine: &Machine,
+        for_ever: bool,
+    ) -> Result<Members, AllocError> {
+        let mut best = self;
+        let tries = MOST_LOOKS.checked_div(machine.jobs.len()).unwrap_or(0);
+        let mut left = tries;
+        for number in 0..machine.jobs.len() {
+            if !best.has(number) {
+                continue;
+            }
+            if left == 0 {
+                break;
+            }
+            left = left.saturating_sub(1);
+            let mut smaller = Members {
+                is_member: Vec::from_slice(alloc, &best.is_member)?,
+            };
+            smaller.leave_out(number);
+            smaller.shrink(alloc, machine, for_ever)?;
+            if !smaller.is_empty() {
+                best = smaller;
+            }
+        }
+        Ok(best)
+    }
+
+    /// Whether there is no member.
+    pub(crate) fn is_empty(&self) -> bool {
+        !self.is_member.iter().any(|is_member| *is_member)
+    }
+
+    /// The members' numbers, in rising order.
+    pub(crate) fn numbers(&self, alloc: Global) -> Result<Vec<usize>, AllocError> {
+        let mut numbers = Vec::new(alloc);
+        for (number, is_member) in self.is_member.iter().enumerate() {
+            if *is_member {
+                numbers.push(number)?;
+            }
+        }
+        Ok(numbers)
+    }
+
+    fn has(&self, number: usize) -> bool {
+        self.is_member.get(number).copied().unwrap_or(false)
+    }
+
+    fn leave_out(&mut self, number: usize) {
+        if let Some(is_member) = self.is_member.get_mut(number) {
+            *is_member = false;
+        }
+    }
+
+    /// Leaves out who waits for others too, until there is nobody.
+    ///
+    /// Each round but the last finds one pool less whose running jobs are all members.
+    fn shrink(
+        &mut self,
+        alloc: Global,
+        machine: &Machine,
+        for_ever: bool,
+    ) -> Result<(), AllocError> {
+        for _ in 0..MOST_POOLS + 2 {
+            let closed = self.closed_pools(alloc, machine, for_ever)?;
+            if !self.shrink_once(machine, &closed) {
+                break;
+            }
+        }
+        Ok(())
+    }
+
+    /// For each pool, whether a job in its queue waits for members alone.
+    fn closed_pools(
+        &self,
+        alloc: Global,
+        machine: &Machine,
+        for_ever: bool,
+    ) -> Result<Vec<bool>, AllocError> {
+        let mut closed: Vec<bool> = machine
+            .pools
+            .iter()
+            .map(|pool| pool.is_closed(for_ever))
+            .collect(alloc)?;
+        for (job, is_member) in machine.jobs.iter().zip(&self.is_member) {
+            if let Phase::At(_) = job.phase {
+                if !*is_member {
+                    if let Some(closed) = closed.get_mut(job.pool) {
+                        *closed = false;
+                    }
+                }
+            }
+        }
+        Ok(closed)
+    }
+
+    /// Leaves out each member that waits for another one, the latest first: a child is made after its parent. Whether one was
+    /// left out.
+    fn shrink_once(&mut self, machine: &Machine, closed: &[bool]) -> bool {
+        let mut changed = false;
+        for number in (0..machine.jobs.len()).rev() {
+            if self.has(number) {
+                if let Some(job) = machine.jobs.get(number) {
+                    if !self.waits(machine, closed, number, job) {
+                        self.leave_out(number);
+                        changed = true;
+                    }
+                }
+            }
+        }
+        changed
+    }
+
+    /// Whether the job of this number waits for members alone.
+    fn waits(&self, machine: &Machine, closed: &[bool], number: usize, job: &Job) -> bool {
+        match job.phase {
+            Phase::Queued => closed.get(job.pool).copied().unwrap_or(false),
+            Phase::At(_) => match machine.waits_for(Parent::Job(number)) {
+                Some(child) => self.has(child),
+                None => false,
+            },
+            Phase::Done => false,
+        }
+    }
+}
