@@ -4,4 +4,5 @@ pub mod OnLiterals
 pub mod Plain
 pub mod Percent
 pub mod ReadsBack
+pub mod Newline
 mod Samples

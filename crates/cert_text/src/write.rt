@@ -1,6 +1,6 @@
 //! The text of a certificate.
 
-ghost use Rattle.std.specs.Prelude.{◌≡◌, ◌≤◌, false, length, IfOk, IsTrue, Ok};
+ghost use Rattle.std.specs.Prelude.{◌≡◌, ◌<◌, ◌≤◌, ◌∷◌, ◌++◌, [], false, length, IfOk, IsTrue, Ok};
 ghost use Rattle.job_bodies.specs.Plan.{Plan};
 ghost use Rattle.certificates.specs.Cert.{cert_fits};
 ghost use Rattle.cert_text.specs.declared.document.TheConstants.{MOST_TEXT_BYTES};
@@ -15,7 +15,7 @@ use std::alloc::{AllocError, Global};
 /// some pool has a lifetime vector, and else 1.
 ///
 /// Where the certificate fits a plan and the text is not too long, [`read_cert`](crate::read_cert) reads it back for
-/// that plan. No text has a `%`, so that it may stand behind a line `%%`.
+/// that plan, also with a newline behind it. No text has a `%`, so that it may stand behind a line `%%`.
 ///
 /// # Errors
 ///
@@ -23,6 +23,7 @@ use std::alloc::{AllocError, Global};
 pub fn write_cert(alloc: Global, cert: &Cert) -> Result<Vec<u8>, AllocError>
     ensures text { IfOk result (λ text. text.items ≡ spec.cert_text cert.now) }
     ensures reads_back { IfOk result (λ text. (plan : Plan) → IsTrue (cert_fits plan cert.now) → length text.items ≤ MOST_TEXT_BYTES → cert_of text.items plan ≡ Ok cert.now) }
+    ensures line_reads_back { IfOk result (λ text. (plan : Plan) → IsTrue (cert_fits plan cert.now) → length text.items < MOST_TEXT_BYTES → cert_of (text.items ++ 10 ∷ []) plan ≡ Ok cert.now) }
     ensures no_separator { IfOk result (λ text. spec.has_percent text.items ≡ false) }
 {
     let value = cert_value(alloc, cert)?;

@@ -6,3 +6,4 @@ mod KindsOfClients
 mod Through
 mod Capped
 mod Generations
+mod Levels

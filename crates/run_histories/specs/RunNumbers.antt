@@ -3,7 +3,8 @@ use Rattle.std.specs.Prelude.{◌≡◌, ◌<◌, ◌-◌, ◌^◌, ℕ, zero, s
 use Rattle.job_bodies.specs.declared.action.Action.{Action}
 use Rattle.job_bodies.specs.declared.action.Action.TheVariants.{Work, Submit}
 use Rattle.job_bodies.specs.Plan.{Plan, Class, Client, class_at}
-use Rattle.pool_ranks.specs.Ranks.{Ranks}
+use Rattle.weights.specs.Row.{AllHold}
+use Rattle.pool_ranks.specs.Ranks.{Ranks, rank_rows}
 use Rattle.run_histories.specs.declared.numbers.Measure.{Measure}
 use Rattle.run_histories.specs.declared.numbers.Measure.TheVariants.{Jobs, Units, Events}
 use Rattle.run_histories.specs.Complete.{rounds_of, events_of_client}
@@ -68,6 +69,20 @@ units plan ranks rounds = by_jobs plan ranks rounds (own Units) + sum_by (units_
 -- the bound on events, of jobs and clients
 abbrev pub bound : Plan → Ranks → ℕ → ℕ
 bound plan ranks rounds = by_jobs plan ranks rounds (own Events) + sum_by (events_of_clients rounds) plan.clients
+
+-- where the rows of the ranks hold, a job's number is its own with those of the jobs that it submits: it is whole
+abbrev pub CausedIsWhole : Type 0
+CausedIsWhole = (plan : Plan) (ranks : Ranks) (own : Class → ℕ) (k : ℕ) → AllHold (rank_rows plan ranks) → caused plan ranks own k ≡ own (class_at plan k) + submitted (caused plan ranks own) (class_at plan k).body
+
+-- the three numbers of a run are the same by both ranks
+pub record HaveSameNumbers (plan : Plan) (rounds : ℕ) (ranks ranks' : Ranks) : Type 0 where
+  pub jobs : jobs plan ranks rounds ≡ jobs plan ranks' rounds
+  pub units : units plan ranks rounds ≡ units plan ranks' rounds
+  pub bound : bound plan ranks rounds ≡ bound plan ranks' rounds
+
+-- all ranks whose rows hold give the same numbers
+abbrev pub NumbersAreOfThePlan : Type 0
+NumbersAreOfThePlan = (plan : Plan) (rounds : ℕ) (ranks ranks' : Ranks) → AllHold (rank_rows plan ranks) → AllHold (rank_rows plan ranks') → HaveSameNumbers plan rounds ranks ranks'
 
 -- the number, cut off where a u64 ends
 abbrev pub capped : ℕ → ℕ

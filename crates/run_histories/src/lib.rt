@@ -8,6 +8,7 @@
 
 mod completeness;
 mod judging;
+mod laws;
 mod numbers;
 mod owner;
 mod receipts;
@@ -16,6 +17,7 @@ mod report;
 mod rounds;
 
 pub use judging::judge;
+pub use laws::{caused_is_whole, numbers_are_of_the_plan};
 pub use numbers::{RunNumbers, run_numbers};
 pub use owner::{Owner, kinds_of, lists_of};
 pub use report::{Cause, Met, RunFault, RunReport};

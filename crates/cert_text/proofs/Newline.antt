@@ -1,0 +1,109 @@
+-- A text that is written reads as the same value where a newline stands behind it.
+use Rattle.std.proofs.Common.{◌≡◌, ℕ, Bool, true, false, cond, ◌&&◌, List, [], ◌∷◌, ◌++◌, option_and_then, refl, sym, ap, ap₂, subst, ◌∙◌, append_assoc, append-nil}
+use Rattle.std.specs.Str.{chars, is_utf8}
+use lib.Utf8.{encode}
+use Rattle.json.specs.Token.{Token, begin_object, end_object, begin_array, end_array, key, string, number, boolean, null, bad}
+use Rattle.json.specs.Word.{ends_word, word}
+use Rattle.json.specs.Lex.{token, comma, colon, string_token, lex, between, in_word, fresh, punctuate, tokens}
+use Rattle.json.specs.Json as json
+use Rattle.json.specs.Print.{escape, quoted, token_text, begins, ends, separator, print_from, print, IsPrintableOrBad, ArePrintableOrBad}
+use Rattle.json.proofs.Printed.Strings.{content-escape, lex-escape}
+use Rattle.json.proofs.Printed.Numbers.{lex-number, in_word-ended}
+use Rattle.json.proofs.Numbered.{ArePrintableOrBad-tokens}
+use Rattle.serde_json.specs.Read.{of_json, read, max_depth}
+
+-- two texts that are read alike, and before which a word ends
+record AreAlike (r s : List ℕ) : Type 0 where
+  lexed : lex between r ≡ lex between s
+  first : ends_word r ≡ true
+  second : ends_word s ≡ true
+
+quoted_lexed : (t r : List ℕ) → lex between (quoted t ++ r) ≡ token (string t) ∷ lex between r
+unfolding lex
+quoted_lexed t r =
+    ap (λ l. lex between (34 ∷ l)) (append_assoc (escape t) (34 ∷ []) r) ∙ ap₂ (λ o l. token (string_token o) ∷ l) (content-escape t r) (lex-escape t r)
+
+quoted_alike : (t r s : List ℕ) → lex between r ≡ lex between s → lex between (quoted t ++ r) ≡ lex between (quoted t ++ s)
+quoted_alike t r s same = quoted_lexed t r ∙ ap (λ l. token (string t) ∷ l) same ∙ sym (quoted_lexed t s)
+
+key_alike : (t r s : List ℕ) → lex between r ≡ lex between s → lex between ((quoted t ++ 58 ∷ []) ++ r) ≡ lex between ((quoted t ++ 58 ∷ []) ++ s)
+unfolding lex
+key_alike t r s same =
+    ap (lex between) (append_assoc (quoted t) (58 ∷ []) r)
+    ∙ quoted_alike t (58 ∷ r) (58 ∷ s) (ap (λ l. colon ∷ l) same) ∙ sym (ap (lex between) (append_assoc (quoted t) (58 ∷ []) s))
+
+-- a literal, and what stands behind it
+literal_alike : (t : Token) (r s : List ℕ) → AreAlike r s → (token (cond (ends_word r) t bad) ∷ lex in_word r) ≡ (token (cond (ends_word s) t bad) ∷ lex in_word s)
+literal_alike t r s alike =
+    ap₂ (λ b l. token (cond b t bad) ∷ l) (alike.first ∙ sym alike.second) (in_word-ended r alike.first ∙ alike.lexed ∙ sym (in_word-ended s alike.second))
+
+-- the text of a token before each of the two
+token_alike : (t : Token) (r s : List ℕ) → IsPrintableOrBad t → lex between r ≡ lex between s → (ends t ≡ true → AreAlike r s) → lex between (token_text t ++ r) ≡ lex between (token_text t ++ s)
+unfolding lex word
+token_alike begin_object r s h same alike = ap (λ l. token begin_object ∷ l) same
+token_alike end_object r s h same alike = ap (λ l. token end_object ∷ l) same
+token_alike begin_array r s h same alike = ap (λ l. token begin_array ∷ l) same
+token_alike end_array r s h same alike = ap (λ l. token end_array ∷ l) same
+token_alike (key t) r s h same alike = key_alike t r s same
+token_alike (string t) r s h same alike = quoted_alike t r s same
+token_alike (number t) r s h same alike =
+    let ended = alike refl in
+    lex-number t r h ended.first ∙ ap (λ l. token (number t) ∷ l) same ∙ sym (lex-number t s h ended.second)
+token_alike (boolean true) r s h same alike = literal_alike (boolean true) r s (alike refl)
+token_alike (boolean false) r s h same alike = literal_alike (boolean false) r s (alike refl)
+token_alike null r s h same alike = literal_alike null r s (alike refl)
+token_alike bad r s h same alike = same
+
+-- behind a value stands a comma, a closing bracket or what comes behind all
+value_ends : (ts : List Token) (r : List ℕ) → ends_word r ≡ true → ends_word (print_from true ts ++ r) ≡ true
+unfolding print_from
+value_ends [] r ended = ended
+value_ends (begin_object ∷ ts) r ended = refl
+value_ends (end_object ∷ ts) r ended = refl
+value_ends (begin_array ∷ ts) r ended = refl
+value_ends (end_array ∷ ts) r ended = refl
+value_ends (key s ∷ ts) r ended = refl
+value_ends (string s ∷ ts) r ended = refl
+value_ends (number s ∷ ts) r ended = refl
+value_ends (boolean b ∷ ts) r ended = refl
+value_ends (null ∷ ts) r ended = refl
+value_ends (bad ∷ ts) r ended = refl
+
+separator_alike : (b : Bool) (r s : List ℕ) → lex between r ≡ lex between s → lex between (cond b (44 ∷ []) [] ++ r) ≡ lex between (cond b (44 ∷ []) [] ++ s)
+unfolding lex
+separator_alike true r s same = ap (λ l. comma ∷ l) same
+separator_alike false r s same = same
+
+-- the text of tokens before each of the two
+tokens_alike : (later : Bool) (ts : List Token) (r s : List ℕ) → ArePrintableOrBad ts → AreAlike r s → lex between (print_from later ts ++ r) ≡ lex between (print_from later ts ++ s)
+unfolding print_from
+tokens_alike later [] r s h alike = alike.lexed
+tokens_alike later (t ∷ ts) r s h alike =
+    let rest = print_from (ends t) ts in
+    let same = tokens_alike (ends t) ts r s h.1 alike in
+    let ended : ends t ≡ true → AreAlike (rest ++ r) (rest ++ s) = λ e. record {
+      lexed = same;
+      first = rw e (value_ends ts r alike.first);
+      second = rw e (value_ends ts s alike.second);
+    } in
+    let around : (u : List ℕ) → (separator later t ++ (token_text t ++ rest)) ++ u ≡ separator later t ++ (token_text t ++ (rest ++ u)) = λ u. simp append_assoc in
+    ap (lex between) (around r) ∙ separator_alike (later && begins t) _ _ (token_alike t (rest ++ r) (rest ++ s) h.0 same ended) ∙ sym (ap (lex between) (around s))
+
+newline_alike : AreAlike (10 ∷ []) []
+unfolding lex
+newline_alike = record { lexed = refl; first = refl; second = refl }
+
+tokens_before_newline : (text : List ℕ) → text ≡ print (tokens text) → tokens (text ++ 10 ∷ []) ≡ tokens text
+tokens_before_newline text compact =
+    let ts = tokens text in
+    let same = tokens_alike false ts (10 ∷ []) [] (ArePrintableOrBad-tokens text) newline_alike in
+    ap (punctuate fresh) (subst (λ (t : List ℕ). lex between (t ++ 10 ∷ []) ≡ lex between (t ++ [])) (sym compact) same ∙ ap (lex between) (append-nil text))
+
+-- a text with no space between its tokens
+pub read_before_newline : (text : List ℕ) → text ≡ print (tokens text) → read (text ++ 10 ∷ []) ≡ read text
+read_before_newline text compact =
+    ap (λ ts. option_and_then of_json (option_and_then (λ p. json.if_last p.0 p.1) (json.value max_depth ts))) (tokens_before_newline text compact)
+
+pub newline_is_utf8 : is_utf8 (10 ∷ []) ≡ true
+unfolding chars is_utf8 encode
+newline_is_utf8 = refl
