@@ -63,19 +63,25 @@ class Bug:
         self.texts[file] = text.replace(old, new)
 
 
-def with_those_below(crate):
-    """The crate, and the crates of this repository that it stands on."""
+def with_those_below(crates):
+    """The crates, and all crates of this repository that they stand on, by way of others too."""
     below = {}
     for line in (TOP / "crates.txt").read_text().splitlines():
         if line and not line.startswith("#"):
             name, _, others = line.partition(":")
             below[name.split()[0]] = others.split()
-    return {crate} | {name for name in below[crate] if name in below}
+    found, still = set(), list(crates)
+    while still:
+        crate = still.pop()
+        if crate in below and crate not in found:
+            found.add(crate)
+            still += below[crate]
+    return found
 
 
 def copy(bug, folder):
     """A copy of the repository, rewritten. What is proved of the crates that are checked goes with it."""
-    checked = set().union(*map(with_those_below, [*bug.proves, bug.refuses]))
+    checked = with_those_below([*bug.proves, bug.refuses])
 
     def left_out(inside, names):
         here = Path(inside)

@@ -31,7 +31,10 @@ ONE_LESS = {
     "cross-pools-two-threads": {"p": 2, "q": 2},
     # six sections, while two reports run and all other threads are idle
     "report-fan-out-core-3": {"reports": 6},
+    # both jobs, while the prestarted thread is idle
+    "fan-out-of-two": {"p": 2},
     # one place is enough
+    "one-report-prestarted": {},
     "nested-two-workers": {},
     "one-client-loops": {},
     "one-burst": {},

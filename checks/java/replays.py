@@ -18,7 +18,10 @@ LISTS = 1000
 SLIPPED = 100
 # How many jobs of an example's end never finish, where all jobs and threads run on and no client acts: by hand. Of all
 # other examples it is none.
-NEVER_FINISH = {"cross-pools": 4, "nested-one-worker": 2, "nested-unused-max": 2, "report-fan-out": 8, "there-and-back": 3}
+NEVER_FINISH = {
+    "cross-pools": 4, "nested-one-worker": 2, "nested-unused-max": 2, "report-fan-out": 8, "stuck-by-a-dropped-get": 4,
+    "there-and-back": 3,
+}
 PART_LEFT_OUT = 0.3
 
 

@@ -1,7 +1,7 @@
 -- Certificates of which the standing vectors are asked about: what is found is what is said, and their plans refuse nothing.
-use Rattle.std.proofs.Common.{◌≡◌, ℕ, Bool, true, false, ◌&&◌, not, cond, List, [], ◌∷◌, Option, Some, is_some, refl, zero-add}
+use Rattle.std.proofs.Common.{◌≡◌, ◌<◌, ◌≤◌, ℕ, Bool, true, false, ◌&&◌, not, cond, List, [], ◌∷◌, length, Option, Some, is_some, IsTrue, refl, sym, zero-add}
 use Rattle.std.specs.List.{list_all, enumerate_from}
-use Rattle.std.proofs.lemmas.Bool.{and_parts, ltb-false}
+use Rattle.std.proofs.lemmas.Bool.{and_from, and_parts, ltb-false}
 use Rattle.std.proofs.lemmas.Option.{slice_get-get_or}
 use Rattle.numbered_lists.proofs.Members.{In-enumerate_from, list_all_at_In}
 use Rattle.job_bodies.specs.Plan.{Plan, no_pool, pool_at}
@@ -10,12 +10,15 @@ use Rattle.weights.specs.declared.row.Row.{Row}
 use Rattle.weights.specs.declared.bound.Bound.{Bound}
 use Rattle.weights.specs.declared.bound.Bound.TheVariants.{Standing, Lifetime}
 use Rattle.weights.specs.Row.{fails, first_failing, AllHold}
-use Rattle.weights.specs.Bound.{bound_rows}
+use Rattle.weights.specs.Vector.{vector_fits}
+use Rattle.weights.specs.Bound.{bound_vector, bound_rows}
 use Rattle.certificates.specs.Cert.{Cert, cert_fits, pool_cert_at}
 use Rattle.certificates.proofs.Fitting.{parts_fit}
-use Rattle.headline.specs.Headline.{RefusesNothing}
+use Rattle.headline.specs.Headline.{RefusesNothing, JavaRefusesNothing}
 use Rattle.headline.proofs.Bounded.{bounded_plans_refuse_nothing}
+use Rattle.headline.proofs.JavaBounded.{bounded_plans_java_refuse_nothing}
 use Rattle.cert_check.specs.Standing.{stands, accepted_standing}
+use Rattle.cert_check.proofs.Pools.{rest_passes, passes_all}
 
 -- the row's left is at most its right
 abbrev holds : Row → Bool
@@ -43,13 +46,28 @@ stands_hold : (plan : Plan) (p : ℕ) (bound : Bound) → stands plan p bound �
 stands_hold plan p (Standing v) e = λ x i. ltb-false x.right x.left (not_failing (fails x) (list_all_at_In holds e i))
 stands_hold plan p (Lifetime v) e = absurd cc
 
--- where each pool stands nothing is refused
-pub standing_refuses_nothing : (plan : Plan) (cert : Cert) → IsWellFormed plan → accepted_standing plan cert ≡ true → RefusesNothing plan
-standing_refuses_nothing plan cert well_formed e =
+-- where all pools passed the test, the certificate is accepted
+pub passed_all : (plan : Plan) (cert : Cert) (i : ℕ) → IsTrue (cert_fits plan cert) → length plan.pools ≤ i
+    → rest_passes (λ p. stands plan p (pool_cert_at cert p).bound) plan.pools i ≡ rest_passes (λ p. stands plan p (pool_cert_at cert p).bound) plan.pools 0 → accepted_standing plan cert ≡ true
+passed_all plan cert i fits past so_far =
+    let test : ℕ → Bool = λ p. stands plan p (pool_cert_at cert p).bound in
+    and_from (cert_fits plan cert) (list_all (λ entry. test entry.0) (enumerate_from 0 plan.pools)) fits (sym (passes_all test plan.pools i _ past so_far))
+
+-- then each pool has a bound that holds
+bounds_hold : (plan : Plan) (cert : Cert) → accepted_standing plan cert ≡ true → (p : ℕ) → p < length plan.pools → IsTrue (vector_fits plan (bound_vector (pool_cert_at cert p).bound)) × AllHold (bound_rows plan p (pool_cert_at cert p).bound)
+bounds_hold plan cert e p inside =
     let test = λ (p : ℕ). stands plan p (pool_cert_at cert p).bound in
     let parts = and_parts (cert_fits plan cert) (list_all (λ entry. test entry.0) (enumerate_from 0 plan.pools)) e in
-    bounded_plans_refuse_nothing plan (λ p. (pool_cert_at cert p).bound) well_formed (λ p inside. (
+    (
       ((parts_fit plan cert parts.0).pools p inside).bound,
       stands_hold plan p (pool_cert_at cert p).bound
           (list_all_at_In (λ entry. test entry.0) parts.1 (In-enumerate_from 0 plan.pools p (pool_at plan p) p (slice_get-get_or plan.pools p no_pool inside) (zero-add p))),
-    ))
+    )
+
+-- so nothing is refused
+pub standing_refuses_nothing : (plan : Plan) (cert : Cert) → IsWellFormed plan → accepted_standing plan cert ≡ true → RefusesNothing plan
+standing_refuses_nothing plan cert well_formed e = bounded_plans_refuse_nothing plan (λ p. (pool_cert_at cert p).bound) well_formed (bounds_hold plan cert e)
+
+-- nor is it in Java's steps
+pub standing_java_refuses_nothing : (plan : Plan) (cert : Cert) → IsWellFormed plan → accepted_standing plan cert ≡ true → JavaRefusesNothing plan
+standing_java_refuses_nothing plan cert well_formed e = bounded_plans_java_refuse_nothing plan (λ p. (pool_cert_at cert p).bound) well_formed (bounds_hold plan cert e)

@@ -7,7 +7,7 @@ ghost use Rattle.weights.specs.Bound.{bound_vector};
 ghost use Rattle.certificates.specs.Cert.{cert_fits, pool_cert_at};
 ghost use Rattle.headline.specs.Conditions.{failing};
 ghost use Rattle.headline.specs.Accepted.{is_nil, accepted};
-ghost use Rattle.headline.specs.Headline.{Promises, RefusesNothing};
+ghost use Rattle.headline.specs.Headline.{Promises, RefusesNothing, JavaRefusesNothing};
 ghost use Rattle.cert_check.specs.Holding.{pool_holds};
 ghost use Rattle.cert_check.specs.Standing as spec;
 
@@ -55,11 +55,12 @@ pub(crate) fn pool_holds(plan: &Plan, cert: &Cert, pool: usize) -> bool
 }
 
 /// Whether the certificate fits the plan and each pool has a standing vector of which each condition holds, whatever its
-/// blocked vectors and its ranks say. Then no submit is ever refused. That is enough for services whose jobs never wait
-/// for jobs. It takes no memory.
+/// blocked vectors and its ranks say. Then no submit is ever refused, also where it is the steps of Java's `execute`. That is
+/// enough for services whose jobs never wait for jobs. It takes no memory.
 pub fn accepts_standing(plan: &Plan, cert: &Cert) -> bool
     ensures exact { result ≡ spec.accepted_standing plan.now cert.now }
     ensures refuses_nothing { IsTrue result → RefusesNothing plan.now }
+    ensures java_refuses_nothing { IsTrue result → JavaRefusesNothing plan.now }
 {
     cert.fits(plan) && all_pools_stand(plan, cert)
 }
@@ -68,6 +69,7 @@ fn all_pools_stand(plan: &Plan, cert: &Cert) -> bool
     requires { IsTrue (cert_fits plan.now cert.now) }
     ensures exact { result ≡ list_all (λ entry. spec.stands plan.now entry.0 (pool_cert_at cert.now entry.0).bound) (enumerate_from 0 plan.now.pools) }
     ensures refuses_nothing { IsTrue result → RefusesNothing plan.now }
+    ensures java_refuses_nothing { IsTrue result → JavaRefusesNothing plan.now }
 {
     for pool in 0..plan.pools().len() {
         if !stands(plan, pool, &cert.pool_at(pool).bound) {

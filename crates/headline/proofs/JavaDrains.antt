@@ -7,19 +7,19 @@ use Rattle.std.proofs.lemmas.Option.{same_Some}
 use Rattle.job_bodies.specs.Plan.{Plan}
 use Rattle.job_bodies.proofs.Bodies.{IsOrdered, ordered}
 use Rattle.written_machine.specs.declared.event.Event.{Event}
-use Rattle.written_machine.specs.declared.event.Event.TheVariants as event
 use Rattle.written_machine.specs.State.{job_at, is_unfinished}
 use Rattle.written_machine.specs.Reach.{start}
 use Rattle.written_machine.specs.Safe.{is_of_job_or_pool}
 use Rattle.written_machine.proofs.Busy.{one_if}
 use Rattle.certificates.specs.Cert.{Cert}
-use Rattle.starvation_laws.specs.Drain.{todo}
+use Rattle.starvation_laws.specs.Drain.{todo, is_of_no_client}
+use Rattle.starvation_laws.proofs.Draining.{ends_thread, no_client_cases, not_counted}
 use Rattle.java_steps.specs.Execute.{JavaState, java_step, java_replay, between_calls}
-use Rattle.java_steps.specs.JavaSafe.{IsJavaReached, is_of_no_client}
+use Rattle.java_steps.specs.JavaSafe.{IsJavaReached}
 use Rattle.java_steps.proofs.JavaEvents.{java_happens}
 use Rattle.java_steps.proofs.JavaReplays.{java_replay_none, java_replay_keeps}
 use Rattle.java_steps.proofs.JobCalls.{JobCalls, job_calls_start, job_calls_step}
-use Rattle.java_steps.proofs.Costs.{calls_done, calls_done-le, costs, costs_nothing, ends_thread, no_client_cases}
+use Rattle.java_steps.proofs.Costs.{calls_done, calls_done-le, costs, costs_nothing}
 use Rattle.headline.specs.Headline.{AcceptedPlansJavaDrain}
 use Rattle.headline.proofs.CertLaws.{CertLaws, cert_laws}
 use Rattle.headline.proofs.JavaTheorem.{JavaSound, java_sound_start, java_sound_step, java_goes_on}
@@ -50,13 +50,6 @@ java_held plan cert ordered laws s reached =
 -- so many job events and takings, paid from three times what is to do, the steps of calls counted
 abbrev pub Pays : Plan → Cert → ℕ → JavaState → JavaState → Type 0
 Pays plan cert n s s' = n + 3 * todo plan cert.ranks s'.machine + calls_done s ≤ 3 * todo plan cert.ranks s.machine + calls_done s'
-
--- the end of a thread is none of them
-not_counted : (e : Event) → ends_thread e ≡ true → is_of_job_or_pool e ≡ false
-not_counted (event.Client c) is_end = refl
-not_counted (event.Job j) is_end = absurd cc
-not_counted (event.Take p) is_end = absurd cc
-not_counted (event.Retire p) is_end = refl
 
 -- one event
 pub event_pays : (plan : Plan) (cert : Cert) (s : JavaState) (e : Event) (s' : JavaState) → IsOrdered plan → CertLaws plan cert → JavaHeld plan cert s → JavaHeld plan cert s' → is_of_no_client e ≡ true → java_step plan s e ≡ Some s' → Pays plan cert (one_if (is_of_job_or_pool e)) s s'

@@ -11,10 +11,11 @@ use Rattle.written_machine.specs.Reach.{start}
 use Rattle.written_machine.specs.Safe.{is_of_job_or_pool}
 use Rattle.written_machine.proofs.Busy.{one_if}
 use Rattle.certificates.specs.Cert.{Cert}
+use Rattle.starvation_laws.specs.Drain.{is_of_no_client}
+use Rattle.starvation_laws.proofs.Draining.{ends_thread, no_client_cases}
 use Rattle.java_steps.specs.Execute.{JavaState, java_step, between_calls}
-use Rattle.java_steps.specs.JavaSafe.{is_of_no_client}
 use Rattle.java_steps.proofs.JobCalls.{job_calls_start}
-use Rattle.java_steps.proofs.Costs.{calls_done-le, ends_thread, no_client_cases}
+use Rattle.java_steps.proofs.Costs.{calls_done-le}
 use Rattle.leaving_out.specs.LeavingOut.{Choice, choice_step, choices_replay, ChoicesReach, event_in, is_of_jobs}
 use Rattle.leaving_out.specs.LeavingOut.Choice.{Acts, LeavesOut}
 use Rattle.leaving_out.proofs.Choices.{is_left_out, choices_none, choices_keep}

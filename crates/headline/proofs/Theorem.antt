@@ -1,7 +1,8 @@
 -- Accepted plans are safe, go on, and drain.
-use Rattle.std.proofs.Common.{◌≡◌, ℕ, ◌<◌, ◌≤◌, true, false, List, [], ◌∷◌, length, IsTrue, Option, Some, None, is_some, refl, ap, arith}
-use Rattle.std.specs.List.{list_all}
+use Rattle.std.proofs.Common.{◌≡◌, ℕ, ◌+◌, ◌<◌, ◌≤◌, ⊎_elim, true, false, List, [], ◌∷◌, length, IsTrue, Option, Some, None, is_some, refl, ap, arith}
+use Rattle.std.specs.List.{list_all, count_by}
 use Rattle.std.proofs.lemmas.Bool.{and_parts, false_from_ne_true}
+use Rattle.std.proofs.lemmas.List.Sums.{sum_by-cons}
 use Rattle.job_bodies.specs.Plan.{Plan}
 use Rattle.job_bodies.specs.WellFormed.{IsWellFormed}
 use Rattle.job_bodies.proofs.Bodies.{IsOrdered, ordered}
@@ -12,6 +13,7 @@ use Rattle.written_machine.specs.Step.{step}
 use Rattle.written_machine.specs.Reach.{start, state_after, replay, IsReached}
 use Rattle.written_machine.specs.Waiting.{IsWaitingSet}
 use Rattle.written_machine.specs.Safe.{IsSafe, Safe, is_of_job_or_pool, GoesOn}
+use Rattle.written_machine.proofs.Busy.{one_if}
 use Rattle.written_machine.proofs.Events.{Happens, happens}
 use Rattle.written_machine.proofs.Reached.{replay_none, replay_keeps, reached_keeps}
 use Rattle.written_machine.proofs.Progress.{goes_on}
@@ -20,10 +22,10 @@ use Rattle.weights.specs.declared.at_get.AtGet.TheVariants.{GivesBack}
 use Rattle.pool_ranks.specs.Ranks.{is_counted}
 use Rattle.certificates.specs.Cert.{Cert, pool_cert_at}
 use Rattle.weight_laws.proofs.NeverRises.{IsBalanced, balanced_start, never_rises, balanced_step}
-use Rattle.starvation_laws.specs.Drain.{todo, Drains}
+use Rattle.starvation_laws.specs.Drain.{todo, is_of_no_client, Drains}
 use Rattle.starvation_laws.proofs.BlockedCounts.{blocked-below_core}
 use Rattle.starvation_laws.proofs.Descent.{none_waits}
-use Rattle.starvation_laws.proofs.Draining.{lowers}
+use Rattle.starvation_laws.proofs.Draining.{lowers, ends_thread, no_client_cases, not_counted, same_todo}
 use Rattle.headline.specs.Accepted.{accepted}
 use Rattle.headline.specs.Headline.{AcceptedPlansAreSafe, AcceptedPlansGoOn, AcceptedPlansDrain}
 use Rattle.headline.proofs.CertLaws.{CertLaws, cert_laws}
@@ -96,25 +98,33 @@ goes_on_everywhere plan cert well_formed is_accepted events s reached j still =
 
 -- ---- draining
 
+-- a job event and a taking lower what is to do, and the end of a thread leaves it as it is
+lowers_or_leaves : (plan : Plan) (cert : Cert) (s s' : State) (o : Outcome) (e : Event) → CertLaws plan cert → Sound plan cert s → Sound plan cert s' → is_of_no_client e ≡ true → Happens plan s e s' o
+    → todo plan cert.ranks s' + one_if (is_of_job_or_pool e) ≤ todo plan cert.ranks s
+lowers_or_leaves plan cert s s' o e laws held held' of_no_client happened =
+    ⊎_elim
+    (λ (counted : is_of_job_or_pool e ≡ true).
+    omega (arith, ap one_if counted, lowers plan cert.ranks s s' o e laws.ranks held.bounded.kept held.bounded.none_refused held'.bounded.none_refused counted happened))
+    (λ (is_end : ends_thread e ≡ true). omega (arith, ap one_if (not_counted e is_end), same_todo plan cert.ranks s s' o is_end happened))
+    (no_client_cases e of_no_client)
+
 -- what follows the first of several events
-after_first : (plan : Plan) (cert : Cert) (s : State) (e : Event) (events : List Event) (s' : State) → IsOrdered plan → CertLaws plan cert → Sound plan cert s → is_of_job_or_pool e ≡ true
-    → ((next : State) → Sound plan cert next → replay plan (Some next) events ≡ Some s' → length events ≤ todo plan cert.ranks next)
-    → (found : Option (State × Outcome)) → step plan s e ≡ found → replay plan (state_after found) events ≡ Some s' → length (e ∷ events) ≤ todo plan cert.ranks s
-after_first plan cert s e events s' ordered laws held of_job_or_pool onward None is_step replayed =
+after_first : (plan : Plan) (cert : Cert) (s : State) (e : Event) (events : List Event) (s' : State) → IsOrdered plan → CertLaws plan cert → Sound plan cert s → is_of_no_client e ≡ true
+    → ((next : State) → Sound plan cert next → replay plan (Some next) events ≡ Some s' → count_by is_of_job_or_pool events ≤ todo plan cert.ranks next)
+    → (found : Option (State × Outcome)) → step plan s e ≡ found → replay plan (state_after found) events ≡ Some s' → count_by is_of_job_or_pool (e ∷ events) ≤ todo plan cert.ranks s
+after_first plan cert s e events s' ordered laws held of_no_client onward None is_step replayed =
     let none : replay plan None events ≡ None = replay_none plan events in
     absurd cc
-after_first plan cert s e events s' ordered laws held of_job_or_pool onward (Some (next, o)) is_step replayed =
+after_first plan cert s e events s' ordered laws held of_no_client onward (Some (next, o)) is_step replayed =
     let happened = happens plan s e next o is_step in
     let held' = sound_step plan cert s next o ordered laws held happened in
-    let rest = onward next held' replayed in
-    let less = lowers plan cert.ranks s next o e laws.ranks held.bounded.kept held.bounded.none_refused held'.bounded.none_refused of_job_or_pool happened in
-    omega arith
+    omega (arith, lowers_or_leaves plan cert s next o e laws held held' of_no_client happened, onward next held' replayed, sum_by-cons (λ (x : Event). one_if (is_of_job_or_pool x)) e events)
 
 -- job events and takings are no more than what is to do
-no_more_events : (plan : Plan) (cert : Cert) (events : List Event) (s s' : State) → IsOrdered plan → CertLaws plan cert → Sound plan cert s → list_all is_of_job_or_pool events ≡ true → replay plan (Some s) events ≡ Some s' → length events ≤ todo plan cert.ranks s
+no_more_events : (plan : Plan) (cert : Cert) (events : List Event) (s s' : State) → IsOrdered plan → CertLaws plan cert → Sound plan cert s → list_all is_of_no_client events ≡ true → replay plan (Some s) events ≡ Some s' → count_by is_of_job_or_pool events ≤ todo plan cert.ranks s
 no_more_events plan cert [] s s' ordered laws held each replayed = omega arith
 no_more_events plan cert (e ∷ events) s s' ordered laws held each replayed =
-    let parts = and_parts (is_of_job_or_pool e) (list_all is_of_job_or_pool events) each in
+    let parts = and_parts (is_of_no_client e) (list_all is_of_no_client events) each in
     after_first plan cert s e events s' ordered laws held parts.0 (λ next held' rest. no_more_events plan cert events next s' ordered laws held' parts.1 rest) (step plan s e) refl replayed
 
 -- so job events and takings come to an end, and where none is possible no job is unfinished
@@ -123,7 +133,7 @@ drains plan cert well_formed is_accepted =
     let is_ordered = ordered plan well_formed in
     let laws = cert_laws plan cert is_accepted in
     record {
-      bounded = λ s s' events leads. no_more_events plan cert events s s' is_ordered laws (sound plan cert s is_ordered laws leads.reached) leads.of_jobs_and_pools leads.replayed;
+      bounded = λ s s' events leads. no_more_events plan cert events s s' is_ordered laws (sound plan cert s is_ordered laws leads.reached) leads.of_no_client leads.replayed;
       drained = λ s s' events leads rests j.
           let held : Sound plan cert s' = replay_keeps plan (Sound plan cert) (λ s₁ e s₂ o before happened. sound_step plan cert s₁ s₂ o is_ordered laws before happened) events s s' (sound plan cert s is_ordered laws leads.reached) leads.replayed in
           false_from_ne_true (is_unfinished (job_at s' j).stage)

@@ -25,8 +25,9 @@ pub fn accepted_plans_go_on()
     ensures { AcceptedPlansGoOn }
 {}
 
-/// Where a certificate accepts a well-formed plan, no more job events and takings can follow a reached state than its jobs
-/// have still to do, and where none is possible any more no job is unfinished.
+/// Where a certificate accepts a well-formed plan: while no client acts, though threads above core may end, no more job events
+/// and takings can follow a reached state than its jobs have still to do, and where none is possible any more no job is
+/// unfinished.
 pub fn accepted_plans_drain()
     ensures { AcceptedPlansDrain }
 {}

@@ -1,5 +1,5 @@
 -- What a job event or a taking costs of what jobs have still to do, the steps of calls counted.
-use Rattle.std.proofs.Common.{◌≡◌, ◌≢◌, ℕ, ◌+◌, ◌*◌, ◌<◌, ◌≤◌, ◌⊎◌, inl, inr, ⊎_elim, Bool, true, false, List, ◌∷◌, length, get_or, slice_get, sum_by, Some, refl, sym, ap, ap₂, subst, ◌∙◌, arith, zero-add}
+use Rattle.std.proofs.Common.{◌≡◌, ◌≢◌, ℕ, ◌+◌, ◌*◌, ◌<◌, ◌≤◌, ⊎_elim, Bool, true, false, List, ◌∷◌, length, get_or, slice_get, Some, refl, sym, ap, ap₂, subst, ◌∙◌, arith, zero-add}
 use Rattle.std.specs.List.{enumerate_from}
 use Rattle.std.proofs.lemmas.Bool.{false≢true, false_from_ne_true, cases_eq, ne_eqb}
 use Rattle.std.proofs.lemmas.List.{length_push, get_or_default}
@@ -9,7 +9,6 @@ use Rattle.job_bodies.specs.declared.action.Action.{Action}
 use Rattle.job_bodies.specs.declared.action.Action.TheVariants as action
 use Rattle.job_bodies.specs.Plan.{Plan, class_at}
 use Rattle.pool_ranks.specs.Ranks.{Ranks}
-use Rattle.written_machine.specs.declared.parent.Parent.{Parent}
 use Rattle.written_machine.specs.declared.parent.Parent.TheVariants as parent
 use Rattle.written_machine.specs.declared.event.Event.{Event}
 use Rattle.written_machine.specs.declared.event.Event.TheVariants as event
@@ -17,15 +16,14 @@ use Rattle.written_machine.specs.declared.event.Outcome.{Outcome}
 use Rattle.written_machine.specs.State.{Stage, State, Made, no_job, job_at, pool_of}
 use Rattle.written_machine.specs.Step.{moved_jobs, new_job}
 use Rattle.written_machine.specs.Safe.{is_of_job_or_pool}
-use Rattle.written_machine.proofs.Events.{StandsAt, event_of, Happens, works, starts, queues, is_refused, gets, finishes, loops, takes, retires}
+use Rattle.written_machine.proofs.Events.{StandsAt, Happens, works, starts, queues, is_refused, gets, finishes, loops, takes, retires}
 use Rattle.written_machine.proofs.Standing.{standing_made}
 use Rattle.written_machine.proofs.Kept.{Kept}
 use Rattle.written_machine.proofs.Stages.{length-staged, length-moved}
 use Rattle.starvation_laws.specs.Drain.{stage_todo, todo}
 use Rattle.starvation_laws.proofs.RankLaws.{RankLaws}
-use Rattle.starvation_laws.proofs.Draining.{lowers}
+use Rattle.starvation_laws.proofs.Draining.{lowers, ends_thread, no_actor, same_jobs, same_todo}
 use Rattle.java_steps.specs.Execute.{Call, JavaState, is_calling, of_others}
-use Rattle.java_steps.specs.JavaSafe.{is_of_no_client}
 use Rattle.java_steps.proofs.JavaEvents.{JavaHappens, is_written, ends, finds_core, finds_full, finds_all}
 use Rattle.java_steps.proofs.JobCalls.{StandsBefore, stands_before, JobCalls}
 use Rattle.java_steps.proofs.Marks.{makes, steps_done, mark, steps_done-le, mark-le, mark-le_two, makes_to, others_make, more_make, new_makes, by_place, by_place-longer, by_place-more, by_place-but_one, sum_of_elements}
@@ -134,40 +132,11 @@ costs plan ranks s s' e laws kept none none' calls of_job_or_pool (finds_all a b
 
 -- ---- the end of a thread
 
--- only the end of a thread is an event of no client, no job and no taking
-abbrev pub ends_thread : Event → Bool
-ends_thread (event.Retire p) = true
-ends_thread _ = false
-
-pub no_client_cases : (e : Event) → is_of_no_client e ≡ true → (is_of_job_or_pool e ≡ true) ⊎ (ends_thread e ≡ true)
-no_client_cases (event.Client c) of_no_client = absurd cc
-no_client_cases (event.Job j) of_no_client = inl refl
-no_client_cases (event.Take p) of_no_client = inl refl
-no_client_cases (event.Retire p) of_no_client = inr refl
-
--- no actor's event is the end of a thread
-no_actor : (a : Parent) → ends_thread (event_of a) ≢ true
-no_actor (parent.Client c) is_end = cc
-no_actor (parent.Job j) is_end = cc
-
--- the jobs are what they were
-same_jobs : (plan : Plan) (s s' : State) (o : Outcome) {e : Event} → ends_thread e ≡ true → Happens plan s e s' o → s'.jobs ≡ s.jobs
-same_jobs plan s s' o is_end (works a body i u at) = absurd (no_actor a is_end)
-same_jobs plan s s' o is_end (starts a body i k at below) = absurd (no_actor a is_end)
-same_jobs plan s s' o is_end (queues a body i k at at_core room) = absurd (no_actor a is_end)
-same_jobs plan s s' o is_end (is_refused a body i k at no_room all_started) = absurd (no_actor a is_end)
-same_jobs plan s s' o is_end (gets a body i t j at is_child done) = absurd (no_actor a is_end)
-same_jobs plan s s' o is_end (finishes j body i at) = absurd cc
-same_jobs plan s s' o is_end (loops c client body i at is_client repeats) = absurd cc
-same_jobs plan s s' o is_end (takes p j queue idle is_queue is_idle) = absurd cc
-same_jobs plan s s' o is_end (retires p idle is_idle above_core) = refl
-
--- so it costs nothing
+-- it costs nothing
 pub costs_nothing : (plan : Plan) (ranks : Ranks) (s s' : JavaState) (e : Event) → ends_thread e ≡ true → JavaHappens plan s e s' → 3 * todo plan ranks s'.machine + calls_done s ≤ 3 * todo plan ranks s.machine + calls_done s'
 costs_nothing plan ranks s s' e is_end (is_written f after o no_submit happened) =
-    let same = same_jobs plan s.machine after o is_end happened in
-    let todo_is : todo plan ranks after ≡ todo plan ranks s.machine = ap (λ (jobs : List Made). sum_by (λ (job : Made). stage_todo plan ranks job.class job.stage) jobs) same in
-    let done_is : calls_done (record s { machine = after }) ≡ calls_done s = ap (λ (jobs : List Made). by_place (mark s) 0 jobs) same in
+    let todo_is = same_todo plan ranks s.machine after o is_end happened in
+    let done_is : calls_done (record s { machine = after }) ≡ calls_done s = ap (λ (jobs : List Made). by_place (mark s) 0 jobs) (same_jobs plan s.machine after o is_end happened) in
     omega arith
 costs_nothing plan ranks s s' e is_end (ends a body i k after o at happened) = absurd (no_actor a is_end)
 costs_nothing plan ranks s s' e is_end (finds_core a body i k at not_asking not_offering at_core) = absurd (no_actor a is_end)

@@ -1,14 +1,13 @@
 -- What a team wants of a plan whose submits are the steps of Java's execute.
-use Rattle.std.specs.Prelude.{◌≡◌, ◌≤◌, ◌*◌, ℕ, Bool, true, false, IsTrue, IsFalse, is_some, List, Some, None, count_by}
+use Rattle.std.specs.Prelude.{◌≡◌, ◌≤◌, ◌*◌, ℕ, IsTrue, IsFalse, is_some, List, Some, None, count_by}
 use Rattle.std.specs.List.{list_all}
 use Rattle.job_bodies.specs.Plan.{Plan}
 use Rattle.pool_ranks.specs.Ranks.{Ranks}
 use Rattle.written_machine.specs.declared.event.Event.{Event}
-use Rattle.written_machine.specs.declared.event.Event.TheVariants.{Client}
 use Rattle.written_machine.specs.State.{State, job_at, is_unfinished}
 use Rattle.written_machine.specs.Reach.{start, IsReached}
 use Rattle.written_machine.specs.Safe.{IsSafe, is_of_job_or_pool}
-use Rattle.starvation_laws.specs.Drain.{todo}
+use Rattle.starvation_laws.specs.Drain.{todo, is_of_no_client}
 use Rattle.java_steps.specs.Execute.{JavaState, java_step, java_replay, between_calls}
 
 -- the list of events reaches the state
@@ -34,11 +33,7 @@ pub record JavaCanGoOn (plan : Plan) (s : JavaState) : Type 0 where
 abbrev pub JavaGoesOn : Plan → Type 0
 JavaGoesOn plan = (events : List Event) (s : JavaState) → JavaReaches plan events s → (j : ℕ) → IsTrue (is_unfinished (job_at s.machine j).stage) → JavaCanGoOn plan s
 
-abbrev pub is_of_no_client : Event → Bool
-is_of_no_client (Client c) = false
-is_of_no_client _ = true
-
--- the list has no event of a client, and leads from the reached state s to s'
+-- no client acts in the list, and it leads from the reached state s to s'
 pub record JavaLeadsTo (plan : Plan) (s : JavaState) (events : List Event) (s' : JavaState) : Type 0 where
   pub reached : IsJavaReached plan s
   pub of_no_client : IsTrue (list_all is_of_no_client events)

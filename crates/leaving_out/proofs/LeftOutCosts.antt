@@ -17,11 +17,11 @@ use Rattle.written_machine.proofs.Events.{StandsAt, event_of}
 use Rattle.written_machine.proofs.Standing.{job_made}
 use Rattle.written_machine.proofs.Stages.{length-moved}
 use Rattle.starvation_laws.specs.Drain.{stage_todo, todo}
-use Rattle.starvation_laws.proofs.Draining.{todo-passed}
+use Rattle.starvation_laws.proofs.Draining.{todo-passed, ends_thread}
 use Rattle.java_steps.specs.Execute.{Call, JavaState, is_calling}
 use Rattle.java_steps.proofs.JobCalls.{StandsBefore, stands_before, pushed_leaves, JobCalls}
 use Rattle.java_steps.proofs.Marks.{mark, by_place-longer}
-use Rattle.java_steps.proofs.Costs.{one_pool, calls_done, ends_thread}
+use Rattle.java_steps.proofs.Costs.{one_pool, calls_done}
 use Rattle.leaving_out.proofs.LeftOut.{left}
 use Rattle.leaving_out.proofs.Choices.{IsLeftOut, leaves}
 

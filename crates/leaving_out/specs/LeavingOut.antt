@@ -14,9 +14,9 @@ use Rattle.written_machine.specs.State.{Stage, State, job_at, pool_of, is_unfini
 use Rattle.written_machine.specs.Step.{with_position, with_job, new_job}
 use Rattle.written_machine.specs.Reach.{start}
 use Rattle.written_machine.specs.Safe.{IsSafe, is_of_job_or_pool}
-use Rattle.starvation_laws.specs.Drain.{todo}
+use Rattle.starvation_laws.specs.Drain.{todo, is_of_no_client}
 use Rattle.java_steps.specs.Execute.{JavaState, Submission, is_calling, submission, java_step, between_calls}
-use Rattle.java_steps.specs.JavaSafe.{JavaCanGoOn, is_of_no_client, IsJavaAtRest}
+use Rattle.java_steps.specs.JavaSafe.{JavaCanGoOn, IsJavaAtRest}
 
 -- an event; or in its place its actor, before a submit, leaves that out
 pub data Choice : Type 0 where

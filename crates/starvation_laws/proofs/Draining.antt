@@ -1,24 +1,26 @@
--- Each job event and each taking lowers what a state has to do.
-use Rattle.std.proofs.Common.{◌≡◌, ℕ, zero, suc, ◌+◌, ◌<◌, ◌≤◌, true, List, [], ◌∷◌, ◌++◌, length, get_or, slice_get, sum_by, Some, None, refl, sym, ap, ◌∙◌, add-one, arith}
+-- Each job event and each taking lowers what a state has to do, and the end of a thread leaves it as it is.
+use Rattle.std.proofs.Common.{◌≡◌, ◌≢◌, ℕ, zero, suc, ◌+◌, ◌<◌, ◌≤◌, ◌⊎◌, inl, inr, Bool, true, false, List, [], ◌∷◌, ◌++◌, length, get_or, slice_get, sum_by, Some, None, refl, sym, ap, ◌∙◌, add-one, arith}
 use Rattle.std.proofs.lemmas.List.Sums.{sum_by-cons, sum_by_push, sum_by-set, sum_by-drop_more}
 use Rattle.std.proofs.lemmas.Option.{slice_get_within, get_or_from_slice_get}
 use Rattle.job_bodies.specs.declared.action.Action.{Action}
 use Rattle.job_bodies.specs.declared.action.Action.TheVariants as action
 use Rattle.job_bodies.specs.Plan.{Plan, class_at}
+use Rattle.written_machine.specs.declared.parent.Parent.{Parent}
 use Rattle.written_machine.specs.declared.parent.Parent.TheVariants as parent
 use Rattle.written_machine.specs.declared.event.Event.{Event}
+use Rattle.written_machine.specs.declared.event.Event.TheVariants as event
 use Rattle.written_machine.specs.declared.event.Outcome.{Outcome}
 use Rattle.written_machine.specs.State.{Stage, State, Made, no_job, job_at, pool_part, pool_of}
 use Rattle.written_machine.specs.Step.{with_stage, with_position, new_job, finished_job}
 use Rattle.written_machine.specs.Safe.{is_of_job_or_pool}
-use Rattle.written_machine.proofs.Events.{StandsAt, with_part, Happens, works, starts, queues, is_refused, gets, finishes, loops, takes, retires}
+use Rattle.written_machine.proofs.Events.{StandsAt, event_of, with_part, Happens, works, starts, queues, is_refused, gets, finishes, loops, takes, retires}
 use Rattle.written_machine.proofs.Standing.{stage_of_standing, job_made, standing_made}
 use Rattle.written_machine.proofs.Kept.{Kept}
 use Rattle.written_machine.proofs.Stages.{staged}
 use Rattle.written_machine.proofs.Queues.{head_of_queue}
 use Rattle.written_machine.proofs.KeptStep.{done_still}
 use Rattle.pool_ranks.specs.Ranks.{Ranks, level}
-use Rattle.starvation_laws.specs.Drain.{of_submit, full_within, full, FullIsWhole, FullIsOfThePlan, stage_todo, todo}
+use Rattle.starvation_laws.specs.Drain.{of_submit, full_within, full, FullIsWhole, FullIsOfThePlan, stage_todo, todo, is_of_no_client}
 use Rattle.starvation_laws.proofs.RankLaws.{RankLaws, rank_laws}
 
 -- ---- whole jobs
@@ -164,3 +166,44 @@ lowers plan ranks s s' o e laws kept none none' of_job_or_pool (finishes j body 
 lowers plan ranks s s' o e laws kept none none' of_job_or_pool (loops c client body i at is_client repeats) = absurd cc
 lowers plan ranks s s' o e laws kept none none' of_job_or_pool (takes p j queue idle is_queue is_idle) = lowers_takes plan ranks s p j queue idle laws kept is_queue
 lowers plan ranks s s' o e laws kept none none' of_job_or_pool (retires p idle is_idle above_core) = absurd cc
+
+-- ---- the end of a thread
+
+-- only the end of a thread is an event of no client, no job and no taking
+abbrev pub ends_thread : Event → Bool
+ends_thread (event.Retire p) = true
+ends_thread _ = false
+
+pub no_client_cases : (e : Event) → is_of_no_client e ≡ true → (is_of_job_or_pool e ≡ true) ⊎ (ends_thread e ≡ true)
+no_client_cases (event.Client c) of_no_client = absurd cc
+no_client_cases (event.Job j) of_no_client = inl refl
+no_client_cases (event.Take p) of_no_client = inl refl
+no_client_cases (event.Retire p) of_no_client = inr refl
+
+-- it is no job event and no taking
+pub not_counted : (e : Event) → ends_thread e ≡ true → is_of_job_or_pool e ≡ false
+not_counted (event.Client c) is_end = refl
+not_counted (event.Job j) is_end = absurd cc
+not_counted (event.Take p) is_end = absurd cc
+not_counted (event.Retire p) is_end = refl
+
+-- no actor's event is the end of a thread
+pub no_actor : (a : Parent) → ends_thread (event_of a) ≢ true
+no_actor (parent.Client c) is_end = cc
+no_actor (parent.Job j) is_end = cc
+
+-- the jobs are what they were
+pub same_jobs : (plan : Plan) (s s' : State) (o : Outcome) {e : Event} → ends_thread e ≡ true → Happens plan s e s' o → s'.jobs ≡ s.jobs
+same_jobs plan s s' o is_end (works a body i u at) = absurd (no_actor a is_end)
+same_jobs plan s s' o is_end (starts a body i k at below) = absurd (no_actor a is_end)
+same_jobs plan s s' o is_end (queues a body i k at at_core room) = absurd (no_actor a is_end)
+same_jobs plan s s' o is_end (is_refused a body i k at no_room all_started) = absurd (no_actor a is_end)
+same_jobs plan s s' o is_end (gets a body i t j at is_child done) = absurd (no_actor a is_end)
+same_jobs plan s s' o is_end (finishes j body i at) = absurd cc
+same_jobs plan s s' o is_end (loops c client body i at is_client repeats) = absurd cc
+same_jobs plan s s' o is_end (takes p j queue idle is_queue is_idle) = absurd cc
+same_jobs plan s s' o is_end (retires p idle is_idle above_core) = refl
+
+-- so they have the same to do
+pub same_todo : (plan : Plan) (ranks : Ranks) (s s' : State) (o : Outcome) {e : Event} → ends_thread e ≡ true → Happens plan s e s' o → todo plan ranks s' ≡ todo plan ranks s
+same_todo plan ranks s s' o is_end happened = ap (jobs_todo plan ranks) (same_jobs plan s s' o is_end happened)

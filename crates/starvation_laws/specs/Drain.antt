@@ -1,5 +1,5 @@
 -- How many job events and takings can follow.
-use Rattle.std.specs.Prelude.{◌≡◌, ◌≤◌, ℕ, zero, suc, ◌+◌, ◌-◌, IsTrue, IsFalse, List, length, drop, sum_by, Some, None}
+use Rattle.std.specs.Prelude.{◌≡◌, ◌≤◌, ℕ, zero, suc, ◌+◌, ◌-◌, Bool, true, false, IsTrue, IsFalse, List, length, drop, sum_by, count_by, Some, None}
 use Rattle.std.specs.List.{list_all}
 use Rattle.job_bodies.specs.declared.action.Action.{Action}
 use Rattle.job_bodies.specs.declared.action.Action.TheVariants.{Submit}
@@ -7,6 +7,7 @@ use Rattle.job_bodies.specs.Plan.{Plan, class_at}
 use Rattle.weights.specs.Row.{AllHold}
 use Rattle.pool_ranks.specs.Ranks.{Ranks, level, rank_rows}
 use Rattle.written_machine.specs.declared.event.Event.{Event}
+use Rattle.written_machine.specs.declared.event.Event.TheVariants.{Client}
 use Rattle.written_machine.specs.State.{Stage, State, job_at, is_unfinished}
 use Rattle.written_machine.specs.State.Stage.{Queued, At}
 use Rattle.written_machine.specs.Step.{step}
@@ -45,17 +46,22 @@ stage_todo plan ranks k _ = 0
 abbrev pub todo : Plan → Ranks → State → ℕ
 todo plan ranks s = sum_by (λ job. stage_todo plan ranks job.class job.stage) s.jobs
 
--- the list has only job events and takings, and leads from the reached state s to s'
+abbrev pub is_of_no_client : Event → Bool
+is_of_no_client (Client c) = false
+is_of_no_client _ = true
+
+-- no client acts in the list, and it leads from the reached state s to s'
 pub record LeadsTo (plan : Plan) (s : State) (events : List Event) (s' : State) : Type 0 where
   pub reached : IsReached plan s
-  pub of_jobs_and_pools : IsTrue (list_all is_of_job_or_pool events)
+  pub of_no_client : IsTrue (list_all is_of_no_client events)
   pub replayed : replay plan (Some s) events ≡ Some s'
 
 -- no job event and no taking is possible
 abbrev pub IsAtRest : Plan → State → Type 0
 IsAtRest plan s = (event : Event) → IsTrue (is_of_job_or_pool event) → step plan s event ≡ None
 
--- such a list has at most as many events as its first state has to do, and where it comes to rest no job is unfinished
+-- where no client acts, though threads above core may end: at most as many job events and takings follow as the first state has
+-- to do, and where none is possible any more no job is unfinished
 pub record Drains (plan : Plan) (ranks : Ranks) : Type 0 where
-  pub bounded : (s s' : State) (events : List Event) → LeadsTo plan s events s' → length events ≤ todo plan ranks s
+  pub bounded : (s s' : State) (events : List Event) → LeadsTo plan s events s' → count_by is_of_job_or_pool events ≤ todo plan ranks s
   pub drained : (s s' : State) (events : List Event) → LeadsTo plan s events s' → IsAtRest plan s' → (j : ℕ) → IsFalse (is_unfinished (job_at s' j).stage)
