@@ -13,9 +13,9 @@ use std::alloc::{AllocError, Global};
 use written_machine::Event;
 
 /// How many walks are made for each vector that misses its bound.
-const GUIDED_WALKS: usize = 64;
+const GUIDED_WALKS: usize = 256;
 /// How many walks are made in orders by chance.
-const CHANCE_WALKS: usize = 252;
+const CHANCE_WALKS: usize = 1500;
 /// The most steps for a state of the budget, all walks together.
 const STEPS_FOR_A_STATE: u64 = 200;
 
