@@ -13,11 +13,14 @@ use std::alloc::{AllocError, Global};
 use written_machine::Event;
 
 /// How many walks are made for each vector that misses its bound.
-const GUIDED_WALKS: usize = 64;
+const GUIDED_WALKS: usize = 256;
 /// How many walks are made in orders by chance.
-const CHANCE_WALKS: usize = 252;
-/// The most steps of a walk for a state of the budget, all walks together.
+const CHANCE_WALKS: usize = 1500;
+/// The most steps for a state of the budget, all walks together.
 const STEPS_FOR_A_STATE: u64 = 200;
+
+/// Each step looks at all choices, and so many cost as much as the rest of it.
+const CHOICES_FOR_A_STEP: u64 = 64;
 
 /// Events that are thought to be a witness.
 #[derive(Debug, Drop)]
@@ -54,6 +57,9 @@ pub fn search_witness(
             return Ok(Some(found));
         }
     }
+    // The walks by chance have half of what is left.
+    let kept = search.left / 2;
+    search.left = search.left.saturating_sub(kept);
     for scale in &missed_vectors(alloc, plan)? {
         for number in 0..GUIDED_WALKS {
             let rules = search.guided_rules(number)?;
@@ -62,6 +68,7 @@ pub fn search_witness(
             }
         }
     }
+    search.left = search.left.saturating_add(kept);
     for number in 0..CHANCE_WALKS {
         let rules = search.chance_rules(number)?;
         if let Some(found) = search.look(rules, None)? {
@@ -87,8 +94,14 @@ struct Search<'a> {
 impl Search<'_> {
     /// Makes a walk, and answers what it finds that stays.
     fn look(&mut self, rules: Rules, scale: Option<&Scale>) -> Result<Option<Found>, AllocError> {
+        let price = 1u64.saturating_add(self.choices.all.len() as u64 / CHOICES_FOR_A_STEP);
         let mut rules = rules;
-        rules.most_steps = rules.most_steps.min(self.left);
+        rules.most_steps = rules
+            .most_steps
+            .min(self.left.checked_div(price).unwrap_or(0));
+        if rules.most_steps == 0 {
+            return Ok(None);
+        }
         let walked = walk_by(
             self.alloc,
             self.plan,
@@ -97,7 +110,7 @@ impl Search<'_> {
             scale,
             &mut self.chance,
         )?;
-        self.left = self.left.saturating_sub(walked.steps);
+        self.left = self.left.saturating_sub(walked.steps.saturating_mul(price));
         match walked.bad {
             Some(Bad::StuckNow) => {
                 if self.stuck_now.is_none() {

@@ -43,6 +43,7 @@ pub(crate) fn shortened(
     };
     for _ in 0..MOST_ROUNDS {
         let before = shorter.script.acts.len();
+        shorter.without_kinds()?;
         shorter.without_clients()?;
         shorter.without_chunks()?;
         shorter.with_actors_still()?;
@@ -54,6 +55,12 @@ pub(crate) fn shortened(
 }
 
 impl Shorter<'_> {
+    /// Leaves out all steps of jobs, and all that is taken.
+    fn without_kinds(&mut self) -> Result<(), AllocError> {
+        self.try_without(|_, event| matches!(event, Event::Job(_)))?;
+        self.try_without(|_, event| matches!(event, Event::Take(_)))
+    }
+
     /// Leaves out many clients, and then fewer ones.
     fn without_clients(&mut self) -> Result<(), AllocError> {
         let mut size = self.script.kinds.len();

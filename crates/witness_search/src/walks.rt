@@ -85,7 +85,7 @@ pub(crate) fn walk_by<'a>(
     let mut due = 8;
     let mut steps = 0u64;
     for step in 0..rules.most_steps {
-        steps = step;
+        steps = step.saturating_add(1);
         if rules.changing && chance.next_number() % 16 == 0 {
             shuffle(&mut rules.keys, chance);
         }

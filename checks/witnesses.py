@@ -1,0 +1,136 @@
+#!/usr/bin/env python3
+"""Replays each witness that `sizing refute` finds against plans made by chance, on the machine of small_plans.py, which is
+written apart from the crates.
+
+Of each plan for which the second search of found_certs.py finds no certificate:
+
+- A witness has events that are possible, each of them, and no submit is refused but by the last one. Behind the last one, either
+  that one was refused, or the jobs that are named are unfinished and wait only for each other.
+- A plan that is told safe is visited state by state, if it has few of them: none is bad.
+
+It also tells how many plans stay open, how many events the witnesses have, and how many plans without a witness are safe
+here, are not, or have too many states.
+
+    python3 checks/witnesses.py [PLANS [SEED [STATES]]]     # 3,000 plans, seed 1 and 10,000 states where nothing is said
+
+The program is crates/sizing/out/sizing, or the one that the environment variable SIZING names.
+
+Exit status: 0 where all is so, 1 where something is not, 2 where there is no program.
+"""
+
+import random
+import subprocess
+import sys
+from collections import Counter
+
+sys.dont_write_bytecode = True
+
+import small_plans
+from asking import SECONDS, built_program, each
+from found_certs import NONE, answer, plan_by_chance, text
+from read_plans import read_plan
+from small_plans import DONE, Machine, explored
+
+SAFE, OPEN = 0, 4
+# A plan without a witness that has more states is left where it is.
+small_plans.MOST_STATES = 3_000
+
+
+def main():
+    if not (program := built_program()):
+        return 2
+    words = [int(word) for word in sys.argv[1:]]
+    count, seed, states = (words + [3000, 1, 10_000][len(words):])[:3]
+    plans = uncertified(count, random.Random(seed))
+    came, events, wrong = Counter(), Counter(), 0
+    for plan, (kind, length, fault) in zip(plans, each(lambda plan: judged(program, plan, states), plans)):
+        came[kind] += 1
+        events[kind] += length
+        if fault:
+            wrong += 1
+            print(f"{plan}%%\n{kind}: {fault}")
+    for kind, number in sorted(came.items()):
+        print(f"{kind}: {number}" + (f", {events[kind] / number:.1f} events each" if events[kind] else ""))
+    print(f"{len(plans)} plans without a certificate, {wrong} wrong")
+    return 1 if wrong else 0
+
+
+def uncertified(count, chance):
+    """The texts of so many plans without a certificate."""
+    texts = []
+    while len(texts) < count:
+        plan = plan_by_chance(chance)
+        if answer(plan) == NONE:
+            texts.append(text(plan))
+    return texts
+
+
+def judged(program, plan, states):
+    """What is said of the plan, how many events a witness has, and what is wrong with it or None."""
+    status, said = refuted(program, plan, states, "--bundle")
+    if status == 0:
+        copied, _, rest = said.partition("\n%%\n")
+        if copied.rstrip("\n") != plan.rstrip("\n"):
+            return "witness", 0, "the plan is another one"
+        return replayed(plan, rest.split("\n") if rest else [])
+    status, said = refuted(program, plan, states)
+    if status not in (SAFE, OPEN):
+        return "no witness", 0, f"status {status}: {said}"
+    _, bad, cut = explored(read_plan(plan))
+    told = "told safe" if status == SAFE else "open"
+    found = "not safe here" if bad else "too many states here" if cut else "safe here"
+    return f"{told}, {found}", 0, bad if status == SAFE else None
+
+
+def refuted(program, plan, states, *words):
+    """The status and the answer of `refute`."""
+    command = [program, "refute", "--states", str(states), *words]
+    done = subprocess.run(command, input=plan, capture_output=True, text=True, timeout=SECONDS, check=False)
+    return done.returncode, done.stdout
+
+
+def replayed(text_of_plan, lines):
+    """The kind of a witness, how many events it has, and what is wrong with it or None."""
+    plan = read_plan(text_of_plan)
+    pools = {pool.name: number for number, pool in enumerate(plan.pools)}
+    machine = Machine(plan)
+    state, made, told, members = machine.start(), 0, "", None
+    lines = [line for line in lines if line]
+    for number, line in enumerate(lines, 1):
+        word, *operands = line.split()
+        if told.startswith("refused"):
+            return "witness", len(lines), f"a submit before line {number} is refused"
+        if word == "stuck":
+            members = {int(operand) for operand in operands}
+            if number < len(lines):
+                return "witness", len(lines), "events behind the jobs that wait"
+            continue
+        event = (word, pools[operands[0]] if word in ("take", "retire") else int(operands[0]))
+        done = machine.step(state, event, made) if event[0] != "client" or event[1] < len(machine.kinds) else None
+        if done is None:
+            return "witness", len(lines), f"line {number} is not possible: {line}"
+        state, told = done
+        made += told.startswith(("started", "queued"))
+    if members is None:
+        return "refused", len(lines), None if told.startswith("refused") else "nothing is refused"
+    if not wait_for_each_other(machine, state, members):
+        return "stuck", len(lines), "the jobs do not wait only for each other"
+    is_full = all(machine.threads(state, of) == plan.pools[of].max for of in queued_in(machine, state, members))
+    return "stuck, pools at max" if is_full else "stuck below max", len(lines), None
+
+
+def wait_for_each_other(machine, state, members):
+    jobs = dict(state.jobs)
+    return bool(members) and all(
+        number in jobs and jobs[number].phase != DONE and machine.waits(state, jobs, number, members)
+        for number in members
+    )
+
+
+def queued_in(machine, state, members):
+    """The pools in whose queues members wait."""
+    return {machine.pool_of(job) for number, job in state.jobs if number in members and job.phase == small_plans.QUEUED}
+
+
+if __name__ == "__main__":
+    sys.exit(main())
