@@ -50,11 +50,12 @@ const SERVED: [&str; 10] = [
     "served_words",
 ];
 
-const ON_THREADS: [&str; 6] = [
+const ON_THREADS: [&str; 7] = [
     "threads_certify",
     "threads_checks",
     "threads_fits",
     "threads_runs",
+    "threads_refutes",
     "found_certs",
     "found_sizes",
 ];

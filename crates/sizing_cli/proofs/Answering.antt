@@ -13,7 +13,7 @@ use Rattle.event_lines.specs.declared.reply.Reply.{Reply}
 use Rattle.event_lines.specs.declared.reply.Reply.TheVariants as reply
 use Rattle.event_lines.specs.EventLine.{Line, all_from}
 use Rattle.sizing_cli.specs.declared.status.Status.{Status}
-use Rattle.sizing_cli.specs.declared.status.Status.TheVariants.{Done, Refused, BadText}
+use Rattle.sizing_cli.specs.declared.status.Status.TheVariants.{Done, Refused, BadText, Undecided}
 use Rattle.sizing_cli.specs.Answer.{Answer, then_status, followed_by, bad_event}
 use Rattle.sizing_cli.specs.Transcript.{is_last, replied, happened, ending, reply_to, transcript}
 use Rattle.sizing_cli.specs.Report.{replay_of_lines}
@@ -48,6 +48,7 @@ then_status-assoc : (a b c : Status) → then_status (then_status a b) c ≡ the
 then_status-assoc a b Done = refl
 then_status-assoc a b Refused = refl
 then_status-assoc a b BadText = refl
+then_status-assoc a b Undecided = refl
 
 followed_by-assoc : (a b c : Answer) → followed_by (followed_by a b) c ≡ followed_by a (followed_by b c)
 followed_by-assoc a b c = ap₂ (λ (t : List ℕ) (s : Status). record { text = t; status = s }) (append_assoc a.text b.text c.text) (then_status-assoc a.status b.status c.status)
@@ -75,6 +76,7 @@ so_far_start plan lines world live = record { state = start plan; reached = ([],
     nothing_before Done = refl
     nothing_before Refused = refl
     nothing_before BadText = refl
+    nothing_before Undecided = refl
 
     from_nothing : (all : Result (List Line) ℕ) → replay_behind plan (start plan) (record { text = []; status = Done }) 0 false all ≡ replay_of_lines plan all
     from_nothing (Err bad) = refl

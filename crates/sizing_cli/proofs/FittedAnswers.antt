@@ -28,12 +28,12 @@ use Rattle.sizing_cli.specs.Fit.{no_sizes_answer, text_too_long, AnswersFound, A
 use Rattle.sizing_cli.proofs.SafeInputs.{yes_from_done}
 
 -- an answer with another status is none
-refused_is_not_done : (answer other : Answer) → answer ≡ other → other.status ≡ Refused → answer.status ≡ Done → ⊥
+pub refused_is_not_done : (answer other : Answer) → answer ≡ other → other.status ≡ Refused → answer.status ≡ Done → ⊥
 refused_is_not_done answer other same refused done =
     let no : Refused ≡ Done = sym refused ∙ (sym (ap (λ (a : Answer). a.status) same) ∙ done) in
     absurd cc
 
-bad_text_is_not_done : (answer other : Answer) → answer ≡ other → other.status ≡ BadText → answer.status ≡ Done → ⊥
+pub bad_text_is_not_done : (answer other : Answer) → answer ≡ other → other.status ≡ BadText → answer.status ≡ Done → ⊥
 bad_text_is_not_done answer other same bad done =
     let no : BadText ≡ Done = sym bad ∙ (sym (ap (λ (a : Answer). a.status) same) ∙ done) in
     absurd cc

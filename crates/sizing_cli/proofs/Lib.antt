@@ -6,5 +6,6 @@ pub mod LastSeparator
 pub mod SafeInputs
 pub mod Certified
 pub mod FittedAnswers
+pub mod RefutedAnswers
 pub mod ServedAnswers
 mod Runs

@@ -4,7 +4,7 @@ use Rattle.std.specs.Fmt.{decimal}
 use Rattle.faults.specs.Name.{head}
 use Rattle.faults.specs.declared.number.TheConstants.{NO_SEPARATOR, BAD_EVENT, INPUT_TOO_LONG}
 use Rattle.sizing_cli.specs.declared.status.Status.{Status}
-use Rattle.sizing_cli.specs.declared.status.Status.TheVariants.{Done, Refused, BadText}
+use Rattle.sizing_cli.specs.declared.status.Status.TheVariants.{Done, Refused, BadText, Undecided}
 
 pub record Answer : Type 0 where
   pub text : List ℕ
@@ -15,12 +15,14 @@ abbrev pub code : Status → ℕ
 code Done = 0
 code Refused = 1
 code BadText = 2
+code Undecided = 4
 
 -- the status of two parts of an answer: that of the second, unless it is Done
 abbrev pub then_status : Status → Status → Status
 then_status status Done = status
 then_status status Refused = Refused
 then_status status BadText = BadText
+then_status status Undecided = Undecided
 
 -- of a question
 abbrev pub yes_or_no : Bool → Status

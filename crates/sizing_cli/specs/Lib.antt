@@ -5,8 +5,10 @@ pub mod Report
 pub mod SafeInput
 pub mod Certify
 pub mod Fit
+pub mod Refute
 pub mod SplitAt
 pub mod Served
 pub mod ServeFault
 pub mod SoFar
 pub mod Laws
+pub mod Numbers

@@ -20,7 +20,7 @@ use Rattle.run_histories.specs.RunNumbers.{jobs, units}
 use Rattle.locked_runner.specs.Limits.{is_too_large}
 use Rattle.event_lines.specs.EventLine.{Line, event_lines}
 use Rattle.command_line.specs.declared.command.Command.{Command}
-use Rattle.command_line.specs.declared.command.Command.TheVariants.{Replay, Check, Explain, Certify, Fit, Run}
+use Rattle.command_line.specs.declared.command.Command.TheVariants.{Replay, Check, Explain, Certify, Fit, Run, Refute}
 use Rattle.sizing_cli.specs.declared.limits.TheConstants.{MOST_INPUT_BYTES, MOST_EVENT_BYTES}
 use Rattle.sizing_cli.specs.declared.status.Status.TheVariants.{Done, Refused}
 use Rattle.sizing_cli.specs.Answer.{Answer, fault, no_separator, input_too_long, bad_event, yes_or_no}
@@ -95,6 +95,7 @@ is_alone Explain = true
 is_alone (Certify workers) = false
 is_alone (Fit wanted) = false
 is_alone (Run rounds) = false
+is_alone (Refute states shown) = false
 
 -- the command has a report
 abbrev pub has_report : Command → Bool
@@ -104,6 +105,7 @@ has_report Explain = true
 has_report (Certify workers) = false
 has_report (Fit wanted) = false
 has_report (Run rounds) = true
+has_report (Refute states shown) = false
 
 -- what stands where there is no report
 abbrev nothing : Answer
@@ -117,6 +119,7 @@ answer_of_plan Explain second (Ok plan) = explain plan second
 answer_of_plan (Certify workers) second (Ok plan) = nothing
 answer_of_plan (Fit wanted) second (Ok plan) = nothing
 answer_of_plan (Run rounds) second (Ok plan) = run plan rounds second
+answer_of_plan (Refute states shown) second (Ok plan) = nothing
 
 -- the plan's fault comes before what the second part has to say
 abbrev pub answer_of_bundle : Command → Option Bundle → Answer

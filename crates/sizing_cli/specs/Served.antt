@@ -5,14 +5,16 @@ use Rattle.byte_streams.specs.Writing.{AppendsFront}
 use Rattle.job_bodies.specs.Plan.{Plan}
 use Rattle.plan_text.specs.PlanOf.{plan_of}
 use Rattle.command_line.specs.declared.command.Command.{Command}
-use Rattle.command_line.specs.declared.command.Command.TheVariants.{Replay, Check, Explain, Certify, Fit, Run}
+use Rattle.command_line.specs.declared.command.Command.TheVariants.{Replay, Check, Explain, Certify, Fit, Run, Refute}
 use Rattle.command_line.specs.declared.command.Wanted.TheVariants.{Sizes, Bundle}
+use Rattle.command_line.specs.declared.command.Shown.TheVariants as shown
 use Rattle.sizing_cli.specs.declared.status.Status.{Status}
 use Rattle.sizing_cli.specs.Answer.{Answer}
 use Rattle.sizing_cli.specs.Report.{report}
 use Rattle.sizing_cli.specs.SafeInput.{IsSafeInput, IsSafePlan}
 use Rattle.sizing_cli.specs.Certify.{IsCertifyAnswer, IsCertifiedBundle, whole_lines}
 use Rattle.sizing_cli.specs.Fit.{IsFitAnswer, IsFittedBundle}
+use Rattle.sizing_cli.specs.Refute.{IsRefuteAnswer}
 
 -- the answer is one that the command may give to the input
 abbrev pub IsAnswer : Command → List ℕ → Answer → Type 0
@@ -22,6 +24,7 @@ IsAnswer Explain input answer = answer ≡ report Explain input
 IsAnswer (Certify workers) input answer = IsCertifyAnswer input answer
 IsAnswer (Fit wanted) input answer = IsFitAnswer wanted input answer
 IsAnswer (Run rounds) input answer = answer ≡ report (Run rounds) input
+IsAnswer (Refute states shown) input answer = IsRefuteAnswer shown input answer
 
 -- such an answer was written, and the status is its
 pub record WritesAnswer (command : Command) (input : List ℕ) (status : Status) (old new : Option (List ℕ)) : Type 0 where
@@ -51,8 +54,8 @@ pub record WritesFitted (input : List ℕ) (old new : Option (List ℕ)) : Type 
   pub fitted : IsFittedBundle plan text
   pub written : Appends old new text
 
--- what status 0 means: of `check`, `run` and the sizes of `fit`, that the input's plan is safe; of `certify` and the bundle of
--- `fit`, that what was written is a plan that is
+-- what status 0 means: of `check`, `run`, the sizes of `fit` and the story of `refute`, that the input's plan is safe; of `certify`
+-- and the bundle of `fit`, that what was written is a plan that is
 abbrev pub MeansSafe : Command → List ℕ → Option (List ℕ) → Option (List ℕ) → Type 0
 MeansSafe Replay input old new = Unit {0}
 MeansSafe Check input old new = IsSafeInput input
@@ -61,3 +64,5 @@ MeansSafe (Certify workers) input old new = WritesCertified input old new
 MeansSafe (Fit Sizes) input old new = IsSafePlan input
 MeansSafe (Fit Bundle) input old new = WritesFitted input old new
 MeansSafe (Run rounds) input old new = IsSafeInput input
+MeansSafe (Refute states shown.Story) input old new = IsSafePlan (whole_lines input)
+MeansSafe (Refute states shown.Bundle) input old new = Unit {0}

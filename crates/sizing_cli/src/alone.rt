@@ -17,7 +17,7 @@ use faults::number::{READ_FAILED, WRITE_FAILED};
 use std::alloc::Global;
 
 /// Reads an input, and writes the answer to it of a command that waits for nobody, which is any but [`Command::Certify`],
-/// [`Command::Fit`] and [`Command::Run`]. The whole answer is made before its first byte is written.
+/// [`Command::Fit`], [`Command::Run`] and [`Command::Refute`]. The whole answer is made before its first byte is written.
 ///
 /// It reads at most 2,097,156 bytes, one at least in each turn but the last, so it returns whatever the source and the
 /// sink do.

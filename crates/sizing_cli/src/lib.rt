@@ -13,18 +13,21 @@ mod judging;
 mod laws;
 mod limits;
 mod output;
+mod refuting;
 mod replaying;
 mod report;
 mod running;
 mod serving;
 mod status;
 mod transcript;
+mod witness;
 
 pub use alone::serve_alone;
 pub use byte_streams::{IoFault, MemorySink, MemorySource, Sink, Source, StdSink, StdSource};
-pub use command_line::{Command, Wanted, read_words};
+pub use command_line::{Command, Shown, Wanted, read_words};
 pub use laws::{
-    a_yes_means_safe, inputs_split_at_the_last_separator, no_bundle_without_a_separator,
+    a_yes_means_safe, inputs_split_at_the_last_separator, limits_and_fault_numbers_are_stated,
+    no_bundle_without_a_separator,
 };
 pub use limits::{MOST_EVENT_BYTES, MOST_INPUT_BYTES};
 pub use serving::serve;

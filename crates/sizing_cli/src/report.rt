@@ -37,6 +37,9 @@ fn answer_of_plan(
         Command::Replay => replay(alloc, plan, second),
         Command::Check => check(alloc, plan, second),
         Command::Explain => explain(alloc, plan, second),
-        Command::Certify { .. } | Command::Fit { .. } | Command::Run { .. } => unreachable!(),
+        Command::Certify { .. }
+        | Command::Fit { .. }
+        | Command::Run { .. }
+        | Command::Refute { .. } => unreachable!(),
     }
 }

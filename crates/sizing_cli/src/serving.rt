@@ -13,6 +13,7 @@ use crate::certify::certify;
 use crate::fitting::fit;
 use crate::limits::MOST_INPUT_BYTES;
 use crate::output::Output;
+use crate::refuting::refute;
 use crate::running::run_report;
 use crate::status::{ServeFault, Status};
 use byte_streams::{Sink, Source, read_up_to, write_all};
@@ -26,12 +27,12 @@ use std::thread::Threads;
 /// numbers of the command lie in their ranges.
 ///
 /// It reads at most 2,097,156 bytes, one at least in each turn but the last. For [`Command::Certify`],
-/// [`Command::Fit`] and [`Command::Run`] it starts threads, and waits for them.
+/// [`Command::Fit`], [`Command::Run`] and [`Command::Refute`] it starts threads, and waits for them.
 ///
 /// # Errors
 ///
 /// Of any command fault 20 where memory ran out, 60 where the source failed in this call, and 61 where the sink did. Of
-/// [`Command::Certify`] and [`Command::Fit`] also 20 where a thread could not be started, 42 of
+/// [`Command::Certify`], [`Command::Fit`] and [`Command::Refute`] also 20 where a thread could not be started, 42 of
 /// [`search`](cert_search::search), and 43 of it and of [`check_on`](cert_check::check_on); of [`Command::Run`] also 20 where a thread could not be started, and 41, 42 and 43 of
 /// [`run`](locked_runner::run). After 61 a front of the answer was written, and after any other nothing.
 pub fn serve<R: Threads + Wait + Sync, S: Source, K: Sink>(
@@ -47,11 +48,11 @@ pub fn serve<R: Threads + Wait + Sync, S: Source, K: Sink>(
     ensures front { IfErr result (λ fault. fault.number ≡ WRITE_FAILED → IfSome (S.remaining source.old) (λ input. WritesFront command input (K.written sink.old) (K.written sink.new))) }
     ensures nothing { IfErr result (λ fault. fault.number ≢ WRITE_FAILED → Keeps (K.written sink.old) (K.written sink.new)) }
 
-    // Where `check` answers yes, a run went through, or `fit` changes nothing, the plan is safe; and `check` answers yes to a
-    // bundle of `certify` or `fit`.
+    // Where `check` answers yes, a run went through, `fit` changes nothing, or `refute` finds a certificate, the plan is safe; and
+    // `check` answers yes to a bundle of `certify` or `fit`.
     ensures safe { IfOk result (λ status. status ≡ Status.Done → IfSome (S.remaining source.old) (λ input. MeansSafe command input (K.written sink.old) (K.written sink.new))) }
 
-    // No fault comes but 20, 60 and 61, of `certify` and `fit` 42 and 43 too, and of `run` 41, 42 and 43; and 60 and 61 just
+    // No fault comes but 20, 60 and 61, of `certify`, `fit` and `refute` 42 and 43 too, and of `run` 41, 42 and 43; and 60 and 61 just
     // where the source and the sink failed.
     ensures known { IfErr result (λ fault. IsTrue (is_known_of command fault.number)) }
     ensures read_failed { S.failures source.new ≡ S.failures source.old + count_of READ_FAILED result }
@@ -63,9 +64,10 @@ pub fn serve<R: Threads + Wait + Sync, S: Source, K: Sink>(
         Command::Replay | Command::Check | Command::Explain => {
             serve_alone(alloc, command, source, sink)
         }
-        Command::Certify { .. } | Command::Fit { .. } | Command::Run { .. } => {
-            serve_on_threads(rt, alloc, command, source, sink)
-        }
+        Command::Certify { .. }
+        | Command::Fit { .. }
+        | Command::Run { .. }
+        | Command::Refute { .. } => { serve_on_threads(rt, alloc, command, source, sink) }
     }
 }
 
@@ -109,6 +111,7 @@ fn answer_on_threads<R: Threads + Wait + Sync>(
         Command::Certify { workers } => certify(rt, alloc, workers, input),
         Command::Fit { wanted } => fit(rt, alloc, wanted, &input),
         Command::Run { rounds } => Ok(Output::of(run_report(rt, alloc, rounds, &input)?)),
+        Command::Refute { states, shown } => refute(rt, alloc, states, shown, input),
         Command::Replay | Command::Check | Command::Explain => unreachable!(),
     }
 }

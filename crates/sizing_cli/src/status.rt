@@ -24,6 +24,8 @@ pub enum Status {
     Refused,
     /// The input has a fault, which the answer tells.
     BadText,
+    /// Neither a certificate nor a witness was found: nothing is said of the plan.
+    Undecided,
 }
 
 impl Status {
@@ -34,7 +36,7 @@ impl Status {
         if yes { Status::Done } else { Status::Refused }
     }
 
-    /// The program's exit status: 0, 1 for a no, or 2 for a fault of the input.
+    /// The program's exit status: 0, 1 for a no, 2 for a fault of the input, or 4 where nothing was decided.
     pub fn code(self) -> u8
         ensures { result ≡ code self }
     {
@@ -42,6 +44,7 @@ impl Status {
             Status::Done => 0,
             Status::Refused => 1,
             Status::BadText => 2,
+            Status::Undecided => 4,
         }
     }
 }

@@ -7,7 +7,7 @@ use job_bodies::{Plan, Pool};
 use pool_machine::PoolState;
 use std::alloc::AllocError;
 
-/// A line for each pool, as `pool db: 10 threads of 10, 0 idle, 190 queued of 190`.
+/// A line for each pool, as `pool db: threads 10 of 10, idle 0, queued 190 of 190`.
 pub(crate) fn push_pools(text: &mut String, plan: &Plan, world: &World) -> Result<(), AllocError>
     requires { IsOf plan.now world.now.view }
 {
@@ -39,6 +39,6 @@ fn push_pool(text: &mut String, pool: &Pool, state: &PoolState) -> Result<(), Al
     let capacity = pool.queue;
     writeln!(
         text,
-        "pool {name}: {threads} threads of {max}, {idle} idle, {queued} queued of {capacity}"
+        "pool {name}: threads {threads} of {max}, idle {idle}, queued {queued} of {capacity}"
     )
 }

@@ -60,7 +60,7 @@ pub fn fitted_and_checked<R: Threads + Wait + Sync>(
 
 // What the command answers; and where the plan is short, whether it answers otherwise a byte at a time, or to a source or a
 // sink that fails.
-fn served<R: Threads + Wait + Sync>(
+pub(crate) fn served<R: Threads + Wait + Sync>(
     rt: &R,
     alloc: Global,
     command: Command,

@@ -21,6 +21,7 @@ impl Ended {
             Ok(Status::Done) => text.push_str("status 0")?,
             Ok(Status::Refused) => text.push_str("status 1")?,
             Ok(Status::BadText) => text.push_str("status 2")?,
+            Ok(Status::Undecided) => text.push_str("status 4")?,
             Err(fault) => write!(text, "{fault}")?,
         }
         Ok(text)

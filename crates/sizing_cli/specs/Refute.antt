@@ -1,0 +1,88 @@
+-- What `refute` may answer to an input: a relation, since nothing is said of which witness is found, or that one is.
+use Rattle.std.specs.Prelude.{◌≡◌, ◌⊎◌, ◌≤◌, ◌<◌, ℕ, nat_lt, List, [], ◌∷◌, ◌++◌, length, codes, Result, Ok, Err, IsTrue, MatchBool}
+use Rattle.job_bodies.specs.Plan.{Plan}
+use Rattle.job_bodies.specs.FaultText.{fault_line}
+use Rattle.job_bodies.specs.declared.fault.PlanFault.{PlanFault}
+use Rattle.plan_text.specs.PlanOf.{plan_of}
+use Rattle.certificates.specs.Cert.{Cert}
+use Rattle.headline.specs.Accepted.{accepted}
+use Rattle.event_lines.specs.LineText.{lines_text}
+use Rattle.plan_witnesses.specs.declared.witness.Witness.{Witness}
+use Rattle.plan_witnesses.specs.Witness.{IsWitness}
+use Rattle.witness_lines.specs.EventLines.{witness_lines}
+use Rattle.witness_lines.specs.Told.{IsTold}
+use Rattle.command_line.specs.declared.command.Shown.{Shown}
+use Rattle.command_line.specs.declared.command.Shown.TheVariants.{Story, Bundle}
+use Rattle.sizing_cli.specs.declared.limits.TheConstants.{MOST_INPUT_BYTES, MOST_EVENT_BYTES}
+use Rattle.sizing_cli.specs.declared.status.Status.{Status}
+use Rattle.sizing_cli.specs.declared.status.Status.TheVariants.{Done, Refused, Undecided}
+use Rattle.sizing_cli.specs.Answer.{Answer, fault, input_too_long}
+use Rattle.sizing_cli.specs.Certify.{whole_lines}
+
+-- a certificate accepts the plan
+pub record HasCertificate (plan : Plan) : Type 0 where
+  pub cert : Cert
+  pub accepts : IsTrue (accepted plan cert)
+
+-- the plan has this witness
+abbrev pub IsWitnessOf : Plan → Witness → Type 0
+IsWitnessOf plan witness = IsWitness plan witness.events.items witness.ending
+
+-- ---- the lines where no witness is shown, with the status that each has
+
+-- what a status is where a bundle is wanted: a no, since none is written
+abbrev pub without_bundle : Shown → Status → Status
+without_bundle Story status = status
+without_bundle Bundle status = Refused
+
+abbrev pub safe_answer : Shown → Answer
+safe_answer shown = record { text = codes "safe: a certificate was found" ++ 10 ∷ []; status = without_bundle shown Done }
+
+abbrev pub not_decided : Shown → Answer
+not_decided shown = record { text = codes "not decided" ++ 10 ∷ []; status = without_bundle shown Undecided }
+
+abbrev pub events_too_long : Answer
+events_too_long = record { text = codes "no bundle: too many events" ++ 10 ∷ []; status = Refused }
+
+-- ---- the witness
+
+-- the witness is told: how it ends, and a story behind that
+pub record TellsWitness (plan : Plan) (witness : Witness) (answer : Answer) : Type 0 where
+  pub told : IsTold plan witness answer.text
+  pub status : answer.status ≡ Refused
+
+-- the lines of its events
+abbrev pub event_lines_of : Plan → Witness → List ℕ
+event_lines_of plan witness = lines_text plan (witness_lines witness)
+
+-- the plan's text, a line `%%`, and the lines of its events, which are not too long to be read
+pub record BundlesWitness (text : List ℕ) (plan : Plan) (witness : Witness) (answer : Answer) : Type 0 where
+  pub bundle : answer.text ≡ text ++ (codes "%%" ++ 10 ∷ event_lines_of plan witness)
+  pub short : length (event_lines_of plan witness) ≤ MOST_EVENT_BYTES
+  pub status : answer.status ≡ Done
+
+abbrev pub ShowsWitness : Shown → List ℕ → Plan → Witness → Answer → Type 0
+ShowsWitness Story text plan witness answer = TellsWitness plan witness answer
+ShowsWitness Bundle text plan witness answer =
+    ((answer ≡ events_too_long) × (MOST_EVENT_BYTES < length (event_lines_of plan witness))) ⊎ BundlesWitness text plan witness answer
+
+-- the plan has a witness, and it is shown
+pub record Refutes (shown : Shown) (text : List ℕ) (plan : Plan) (answer : Answer) : Type 0 where
+  pub witness : Witness
+  pub is_witness : IsWitnessOf plan witness
+  pub shows : ShowsWitness shown text plan witness answer
+
+-- ---- the whole
+
+-- to the text of a plan: that it is safe, where some certificate accepts it; that nothing is known; or a witness
+abbrev pub AnswersPlan : Shown → List ℕ → Plan → Answer → Type 0
+AnswersPlan shown text plan answer = ((answer ≡ safe_answer shown) × HasCertificate plan) ⊎ ((answer ≡ not_decided shown) ⊎ Refutes shown text plan answer)
+
+abbrev pub AnswersReading : Shown → List ℕ → Result Plan PlanFault → Answer → Type 0
+AnswersReading shown text (Err f) answer = answer ≡ fault (fault_line f)
+AnswersReading shown text (Ok plan) answer = AnswersPlan shown text plan answer
+
+-- to an input
+abbrev pub IsRefuteAnswer : Shown → List ℕ → Answer → Type 0
+IsRefuteAnswer shown input answer =
+    MatchBool (nat_lt MOST_INPUT_BYTES (length input)) (answer ≡ input_too_long) (AnswersReading shown (whole_lines input) (plan_of (whole_lines input)) answer)

@@ -1,0 +1,168 @@
+//! The search for a witness, from the bytes of a plan to its story or to a bundle.
+
+ghost use Rattle.std.specs.Prelude.{◌≡◌, ◌++◌, ◌∷◌, IfOk, IfErr, IsTrue, codes};
+ghost use Rattle.sizing_cli.specs.Refute as spec;
+ghost use Rattle.sizing_cli.specs.ServeFault.{is_of_search};
+
+use crate::answer::{Answer, input_too_long, plan_fault};
+use crate::at_once::AtOnce;
+use crate::certify::whole_lines;
+use crate::limits::{MOST_EVENT_BYTES, MOST_INPUT_BYTES};
+use crate::output::Output;
+use crate::witness::witness_of;
+use crate::{ServeFault, Status};
+use cert_search::search;
+use command_line::{DEFAULT_WORKERS, Shown};
+use faults::number::MEMORY;
+use job_bodies::{Plan, PlanFault};
+use plan_text::read_plan;
+use plan_witnesses::Witness;
+use std::alloc::{AllocError, Global};
+use std::sync::Wait;
+use std::thread::Threads;
+use witness_lines::{push_event_lines, told};
+
+/// In how many threads a certificate is looked for.
+const WORKERS: usize = DEFAULT_WORKERS as usize;
+
+/// The answer to an input, which is a plan's text: that it is safe, where a certificate was found; else a witness, as a story
+/// or as a bundle with its events; else that it is not decided.
+///
+/// # Errors
+///
+/// Fault 20 where memory ran out or a thread could not be started, and 42 and 43 of the search for a certificate.
+pub fn refute<R: Threads + Wait + Sync>(
+    rt: &R,
+    alloc: Global,
+    states: usize,
+    shown: Shown,
+    input: Vec<u8>,
+) -> Result<Output, ServeFault>
+    ensures answer { IfOk result (spec.IsRefuteAnswer shown input.items) }
+    ensures fault { IfErr result (λ fault. IsTrue (is_of_search fault.number)) }
+{
+    if input.len() > MOST_INPUT_BYTES {
+        return Ok(Output::of(input_too_long(alloc)?));
+    }
+    let text = whole_lines(input)?;
+    match read_plan(alloc, &text) {
+        Ok(plan) => refute_plan(rt, alloc, states, shown, &plan, text),
+        Err(fault) if fault == PlanFault::at_text(MEMORY) => Err(ServeFault::from(AllocError)),
+        Err(fault) => Ok(Output::of(plan_fault(alloc, fault)?)),
+    }
+}
+
+/// The answer to the text of this plan.
+fn refute_plan<R: Threads + Wait + Sync>(
+    rt: &R,
+    alloc: Global,
+    states: usize,
+    shown: Shown,
+    plan: &Plan,
+    text: Vec<u8>,
+) -> Result<Output, ServeFault>
+    ensures answer { IfOk result (spec.AnswersPlan shown text.items plan.now) }
+    ensures fault { IfErr result (λ fault. IsTrue (is_of_search fault.number)) }
+{
+    if search(rt, alloc, plan, WORKERS, &AtOnce)?.is_some() {
+        return Ok(Output::of(safe(alloc, shown)?));
+    }
+    match witness_of(alloc, plan, states)? {
+        Some(witness) => Ok(refuted(alloc, shown, plan, &witness, text)?),
+        None => Ok(Output::of(not_decided(alloc, shown)?)),
+    }
+}
+
+/// The witness, as it is wanted.
+fn refuted(
+    alloc: Global,
+    shown: Shown,
+    plan: &Plan,
+    witness: &Witness,
+    text: Vec<u8>,
+) -> Result<Output, AllocError>
+    ensures { IfOk result (spec.ShowsWitness shown text.items plan.now witness.now) }
+{
+    match shown {
+        Shown::Story => Ok(Output::of(story(alloc, plan, witness)?)),
+        Shown::Bundle => bundle(alloc, plan, witness, text),
+    }
+}
+
+fn story(alloc: Global, plan: &Plan, witness: &Witness) -> Result<Answer, AllocError>
+    ensures { IfOk result (spec.TellsWitness plan.now witness.now) }
+{
+    let text = told(alloc, plan, witness)?;
+    Ok(Answer {
+        text,
+        status: Status::Refused,
+    })
+}
+
+/// The plan's text, and the events behind it.
+fn bundle(
+    alloc: Global,
+    plan: &Plan,
+    witness: &Witness,
+    mut text: Vec<u8>,
+) -> Result<Output, AllocError>
+    ensures { IfOk result (spec.ShowsWitness Shown.Bundle text.items plan.now witness.now) }
+{
+    let mut events = String::new(alloc);
+    push_event_lines(&mut events, plan, witness)?;
+    if events.len() > MOST_EVENT_BYTES {
+        return Ok(Output::of(events_too_long(alloc)?));
+    }
+    text.extend_from_slice(b"%%\n")?;
+    text.extend_from_slice(events.as_bytes())?;
+    Ok(Output {
+        bytes: text,
+        status: Status::Done,
+    })
+}
+
+/// The line of a plan that a certificate accepts.
+fn safe(alloc: Global, shown: Shown) -> Result<Answer, AllocError>
+    ensures { IfOk result (λ answer. answer ≡ spec.safe_answer shown) }
+{
+    line(
+        alloc,
+        "safe: a certificate was found\n",
+        without_bundle(shown, Status::Done),
+    )
+}
+
+/// The line where neither a certificate nor a witness was found.
+fn not_decided(alloc: Global, shown: Shown) -> Result<Answer, AllocError>
+    ensures { IfOk result (λ answer. answer ≡ spec.not_decided shown) }
+{
+    line(
+        alloc,
+        "not decided\n",
+        without_bundle(shown, Status::Undecided),
+    )
+}
+
+fn events_too_long(alloc: Global) -> Result<Answer, AllocError>
+    ensures { IfOk result (λ answer. answer ≡ spec.events_too_long) }
+{
+    Answer::no(alloc, "no bundle: too many events\n")
+}
+
+/// The status where no bundle is written though one may be wanted.
+fn without_bundle(shown: Shown, status: Status) -> Status
+    ensures { result ≡ spec.without_bundle shown status }
+{
+    match shown {
+        Shown::Story => status,
+        Shown::Bundle => Status::Refused,
+    }
+}
+
+fn line(alloc: Global, words: &str, status: Status) -> Result<Answer, AllocError>
+    ensures { IfOk result (λ answer. answer ≡ record { text = words.now; status = status }) }
+{
+    let mut text = String::new(alloc);
+    text.push_str(words)?;
+    Ok(Answer { text, status })
+}

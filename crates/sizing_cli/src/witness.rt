@@ -1,0 +1,51 @@
+//! A witness against a plan: what the search finds, confirmed.
+
+ghost use Rattle.std.specs.Prelude.{IfOk, IfSome};
+ghost use Rattle.sizing_cli.specs.Refute.{IsWitnessOf};
+
+use job_bodies::Plan;
+use least_vectors::{Levels, pool_bound};
+use plan_witnesses::{Witness, confirmed};
+use std::alloc::{AllocError, Global};
+use weights::{Bound, Vector};
+use witness_search::search_witness;
+
+/// A witness against the plan, if the search finds one in so many states. What was found is replayed.
+pub(crate) fn witness_of(
+    alloc: Global,
+    plan: &Plan,
+    states: usize,
+) -> Result<Option<Witness>, AllocError>
+    ensures { IfOk result (λ found. IfSome found (IsWitnessOf plan.now)) }
+{
+    let Some(found) = search_witness(alloc, plan, states)? else {
+        return Ok(None);
+    };
+    let standing = if found.members.is_empty() {
+        Vec::new(alloc)
+    } else {
+        standing_vectors(alloc, plan)?
+    };
+    confirmed(alloc, plan, found.events, found.members, &standing)
+}
+
+/// A vector for each pool, which may show that it never has more than core threads; one without weights, which shows nothing,
+/// where none is found.
+fn standing_vectors(alloc: Global, plan: &Plan) -> Result<Vec<Vector>, AllocError> {
+    let mut vectors = Vec::new(alloc);
+    let Some(levels) = Levels::of(alloc, plan)? else {
+        return Ok(vectors);
+    };
+    for pool in 0..plan.pools().len() {
+        let vector = match pool_bound(alloc, plan, &levels, pool)? {
+            Some(Bound::Standing(vector)) => vector,
+            _ => Vector {
+                workers: Vec::new(alloc),
+                classes: Vec::new(alloc),
+                clients: Vec::new(alloc),
+            },
+        };
+        vectors.push(vector)?;
+    }
+    Ok(vectors)
+}
