@@ -48,6 +48,7 @@ checks: program
 	python3 checks/small_plans.py
 	python3 checks/runs.py
 	python3 checks/fit.py
+	python3 checks/witnesses.py
 	python3 checks/java/check.py
 
 # Times a replay beside a plain program that only splits and counts the same lines, the reading of a plan beside the
