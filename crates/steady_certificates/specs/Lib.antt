@@ -1,0 +1,3 @@
+pub mod Submitted
+pub mod Steady
+pub mod SteadyLaws
