@@ -25,7 +25,7 @@ use Rattle.steady_certificates.proofs.Holding.{at_number}
 
 -- ---- lengths
 
-as_many_jobs : (plan : Plan) (n : ℕ) → n ≡ length plan.classes → length (jobs_within plan n).classes ≡ length plan.classes
+pub as_many_jobs : (plan : Plan) (n : ℕ) → n ≡ length plan.classes → length (jobs_within plan n).classes ≡ length plan.classes
 as_many_jobs plan zero is = is
 as_many_jobs plan (suc n) is = length-map plan.classes (λ (class : Class). class_row plan (jobs_within plan n) class.body)
 

@@ -5,5 +5,7 @@ mod Depths
 mod Rounds
 mod Steadiness
 mod Holding
+mod Reckoning
 mod Fitting
+mod Settling
 pub mod Accepting

@@ -113,8 +113,12 @@ steady_levels plan = levels_within plan (length plan.classes)
 
 -- ---- the certificate
 
+-- the vector serves a pool in both its parts
+abbrev pub pool_of : Vector → PoolCert
+pool_of v = record { bound = Standing v; blocked = v }
+
 abbrev pub steady_pool : Plan → PoolCert
-steady_pool plan = record { bound = Standing (steady_vector plan); blocked = steady_vector plan }
+steady_pool plan = pool_of (steady_vector plan)
 
 abbrev pub steady_ranks : Plan → Ranks
 steady_ranks plan = record { pools = map (λ (pool : Pool). 0) plan.pools; reach = map (λ (class : Class). 0) plan.classes; levels = steady_levels plan }
