@@ -2,3 +2,4 @@ mod Circles
 mod Losses
 mod Repeats
 pub mod BeyondSizes
+pub mod SizesExist

@@ -1,10 +1,14 @@
 -- Plans for which no sizes will do.
-use Rattle.std.specs.Prelude.{◌≡◌, ℕ, IsTrue}
+use Rattle.std.specs.Prelude.{◌≡◌, ◌<◌, ◌↔◌, ℕ, IsTrue}
+use Rattle.job_bodies.specs.declared.limits.TheConstants.{MOST_UNITS}
 use Rattle.job_bodies.specs.Plan.{Plan}
 use Rattle.job_bodies.specs.WellFormed.{IsWellFormed}
+use Rattle.weights.specs.Vector.{has_small_numbers}
 use Rattle.certificates.specs.Cert.{Cert}
 use Rattle.headline.specs.Accepted.{accepted}
 use Rattle.fitted_sizes.specs.Widened.{outline}
+use Rattle.steady_certificates.specs.Submitted.{IsWithoutCause}
+use Rattle.steady_certificates.specs.Steady.{steady_vector, steady_total}
 use Rattle.size_search.specs.declared.found.NoSizes.TheVariants.{Circle, ClientNeverGets, ClassNeverGets}
 use Rattle.size_search.specs.Submitted.{IsCause}
 
@@ -20,3 +24,18 @@ pub record NoSizesHelp : Type 0 where
   pub client_never_gets : (plan : Plan) (c i : ℕ) → IsCause plan (ClientNeverGets c i) → IsBeyondSizes plan
   -- jobs do so that clients that repeat cause to be submitted, at whatever remove
   pub class_never_gets : (plan : Plan) (k i : ℕ) → IsCause plan (ClassNeverGets k i) → IsBeyondSizes plan
+
+-- ---- and where none of them holds
+
+-- sizes with which some certificate accepts the plan
+pub record HasSizes (plan : Plan) : Type 0 where
+  pub other : Plan
+  pub cert : Cert
+  pub well_formed : IsWellFormed other
+  pub same_outline : outline other ≡ outline plan
+  pub accepts : IsTrue (accepted other cert)
+
+-- a plan has sizes exactly where no cause holds of it, if its steady weights are within their limit, and its steady total leaves
+-- room below the limit of sizes
+abbrev pub SizesExist : Type 0
+SizesExist = (plan : Plan) → IsWellFormed plan → IsTrue (has_small_numbers (steady_vector plan)) → steady_total plan < MOST_UNITS → HasSizes plan ↔ IsWithoutCause plan

@@ -1,7 +1,7 @@
-//! Plans for which no sizes will do, whatever the certificate. The statement stands in `specs/`; nothing here runs, and
-//! the function of `laws` has its contract alone.
+//! Plans for which no sizes will do, whatever the certificate, and that all others have sizes. The statements stand in
+//! `specs/`; nothing here runs, and the functions of `laws` have their contracts alone.
 #![tactic(auto)]
 
 mod laws;
 
-pub use laws::no_sizes_help;
+pub use laws::{no_sizes_help, sizes_exist};

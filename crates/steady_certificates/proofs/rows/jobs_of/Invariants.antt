@@ -1,0 +1,6 @@
+-- The levels below this one are settled.
+use Rattle.steady_certificates.specs.Settled.{IsSettled}
+use Rattle.steady_certificates.proofs.rows.jobs_of.Given as goal
+
+abbrev pub invariant-loop-level : goal.invariant-loop-level
+invariant-loop-level l = IsSettled l.plan l.jobs l.level 0

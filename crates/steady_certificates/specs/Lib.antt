@@ -1,0 +1,5 @@
+pub mod Submitted
+pub mod Steady
+pub mod Small
+pub mod Settled
+pub mod SteadyLaws

@@ -1,0 +1,42 @@
+-- Jobs that are submitted, at whatever remove, and never got.
+use Rattle.std.specs.Prelude.{◌≡◌, ℕ, List, [], ◌∷◌, map, filter, slice_get, true, false}
+use Rattle.numbered_lists.specs.In.{In}
+use Rattle.job_bodies.specs.declared.action.Action.{Action}
+use Rattle.job_bodies.specs.declared.action.Action.TheVariants.{Submit}
+use Rattle.job_bodies.specs.Plan.{Client, Plan, class_at, client_at, submits, is_got}
+
+-- one of the bodies submits the class, or a class does that is submitted itself
+pub data IsSubmitted (plan : Plan) (bodies : List (List Action)) : ℕ → Type 0 where
+  begins : {k : ℕ} {body : List Action} → In body bodies → In (Submit k) body → IsSubmitted plan bodies k
+  follows : {j k : ℕ} → IsSubmitted plan bodies j → In (Submit k) (class_at plan j).body → IsSubmitted plan bodies k
+
+-- the classes that the body submits are
+pub record SubmitsOnly (plan : Plan) (bodies : List (List Action)) (body : List Action) : Type 0 where
+  pub submitted : (k : ℕ) → In (Submit k) body → IsSubmitted plan bodies k
+
+-- the action at this position is a submit, and no action gets it
+pub record IsNeverGot (body : List Action) (i : ℕ) : Type 0 where
+  pub is_submit : submits (slice_get body i) ≡ true
+  pub not_got : is_got body i ≡ false
+
+-- what clients do that begin again
+abbrev pub repeated_bodies : Plan → List (List Action)
+repeated_bodies plan = map (λ (client : Client). client.body) (filter (λ (client : Client). client.repeat) plan.clients)
+
+pub record NeverGotByClients (plan : Plan) (c i : ℕ) : Type 0 where
+  pub repeats : (client_at plan c).repeat ≡ true
+  pub never_got : IsNeverGot (client_at plan c).body i
+
+pub record NeverGotByJobs (plan : Plan) (k i : ℕ) : Type 0 where
+  pub submitted : IsSubmitted plan (repeated_bodies plan) k
+  pub never_got : IsNeverGot (class_at plan k).body i
+
+-- no class submits itself, at whatever remove
+abbrev pub NoCircle : Plan → Type 0
+NoCircle plan = (k : ℕ) → ¬ IsSubmitted plan ((class_at plan k).body ∷ []) k
+
+-- nor is a submit never got in what a repeating client causes
+pub record IsWithoutCause (plan : Plan) : Type 0 where
+  pub no_circle : NoCircle plan
+  pub clients_get : (c i : ℕ) → ¬ NeverGotByClients plan c i
+  pub jobs_get : (k i : ℕ) → ¬ NeverGotByJobs plan k i

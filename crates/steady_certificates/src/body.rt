@@ -1,0 +1,169 @@
+//! What an actor weighs over its body, given what the jobs weigh that it submits.
+
+ghost use Rattle.std.specs.Prelude.{◌≡◌, ◌≤◌, ◌<◌, ◌+◌, ◌*◌, IfOk, length, slice_index};
+ghost use Rattle.job_bodies.proofs.Bodies.{IsLawful};
+ghost use Rattle.job_bodies.specs.declared.limits.TheConstants.{MOST_ACTIONS};
+ghost use Rattle.weights.specs.declared.limits.TheConstants.{MOST_WEIGHT};
+ghost use Rattle.weights.specs.Vector as vector_spec;
+ghost use Rattle.steady_certificates.specs.Small.{JobsAreSmall};
+ghost use Rattle.steady_certificates.specs.Steady as spec;
+
+use crate::levels::number_at;
+use job_bodies::{Action, Client, Plan, is_got};
+use std::alloc::{AllocError, Global};
+use weights::{Vector, class_got};
+
+/// The number at this place of the class's row; 0 where there is none.
+fn number_of(vector: &Vector, class: usize, place: usize) -> u64
+    ensures { result ≡ slice_index (vector_spec.class_weights vector.now class) place }
+{
+    if class < vector.classes.len() {
+        number_at(vector.class_weights(class), place)
+    } else {
+        0
+    }
+}
+
+/// What a job of the class weighs in its queue.
+fn queued(vector: &Vector, class: usize) -> u64
+    ensures { result ≡ vector_spec.queued_weight vector.now class }
+{
+    number_of(vector, class, 0)
+}
+
+/// What a job of the class weighs that is done.
+fn done(plan: &Plan, vector: &Vector, class: usize) -> u64
+    ensures { result ≡ vector_spec.done_weight plan.now vector.now class }
+{
+    let actions = match plan.class_at(class) {
+        Some(class) => class.body.len(),
+        None => 0,
+    };
+    number_of(vector, class, actions + 2)
+}
+
+/// What is open behind the action at this position, where so much is open before it.
+fn opened(plan: &Plan, vector: &Vector, body: &[Action], position: usize, so_far: u64) -> u64
+    requires lawful { IsLawful plan.now body.now }
+    requires small { JobsAreSmall vector.now }
+    requires inside { position < length body.now }
+    requires so_far { so_far ≡ spec.open_weight vector.now body.now position }
+    ensures { result ≡ spec.open_weight vector.now body.now (position + 1) }
+{
+    match body[position] {
+        Action::Work(_) => so_far,
+        Action::Submit(class) => {
+            if is_got(body, position) {
+                so_far + queued(vector, class)
+            } else {
+                so_far
+            }
+        }
+        Action::Get(submit) => so_far - queued(vector, class_got(body, submit)),
+    }
+}
+
+/// The most that is open at a position of the body.
+fn most(plan: &Plan, vector: &Vector, body: &[Action]) -> u64
+    requires lawful { IsLawful plan.now body.now }
+    requires small { JobsAreSmall vector.now }
+    ensures value { result ≡ spec.most vector.now body.now }
+    ensures bound { result ≤ MOST_ACTIONS * MOST_WEIGHT }
+{
+    let mut so_far = 0;
+    let mut most = 0;
+    for position in 0..body.len() {
+        so_far = opened(plan, vector, body, position, so_far);
+        most = most.max(so_far);
+    }
+    most
+}
+
+/// What the actor weighs before the action, if it weighs so much behind it.
+fn before(
+    plan: &Plan,
+    vector: &Vector,
+    least: u64,
+    body: &[Action],
+    action: Action,
+    behind: u64,
+) -> u64
+    requires small { JobsAreSmall vector.now }
+    requires behind { behind ≤ 2 + (MOST_ACTIONS + MOST_ACTIONS) * MOST_WEIGHT }
+    ensures { result ≡ spec.weight_before plan.now vector.now least body.now action behind }
+{
+    match action {
+        Action::Work(_) => behind,
+        Action::Submit(class) => behind + queued(vector, class),
+        Action::Get(submit) => {
+            let given_back = done(plan, vector, class_got(body, submit));
+            least.max(behind.saturating_sub(given_back))
+        }
+    }
+}
+
+/// What the actor weighs at each position of its body, found from its end backwards.
+fn weights(
+    alloc: Global,
+    plan: &Plan,
+    vector: &Vector,
+    least: u64,
+    body: &[Action],
+    last: u64,
+) -> Result<Vec<u64>, AllocError>
+    requires lawful { IsLawful plan.now body.now }
+    requires small { JobsAreSmall vector.now }
+    requires least { least ≤ 1 }
+    requires last { last ≤ 1 + MOST_ACTIONS * MOST_WEIGHT }
+    ensures { IfOk result (λ weights. weights.items ≡ spec.weights_from plan.now vector.now least body.now last body.now) }
+{
+    let mut weights = Vec::with_capacity(alloc, body.len() + 1)?;
+    let mut weight = last;
+    weights.push(weight)?;
+    for behind in 0..body.len() {
+        let position = body.len() - 1 - behind;
+        weight = before(plan, vector, least, body, body[position], weight);
+        weights.push(weight)?;
+    }
+    weights.reverse();
+    Ok(weights)
+}
+
+/// What a job of this body weighs queued, at each position, and done.
+pub(crate) fn class_row(
+    alloc: Global,
+    plan: &Plan,
+    vector: &Vector,
+    body: &[Action],
+) -> Result<Vec<u64>, AllocError>
+    requires lawful { IsLawful plan.now body.now }
+    requires small { JobsAreSmall vector.now }
+    ensures { IfOk result (λ row. row.items ≡ spec.class_row plan.now vector.now body.now) }
+{
+    let last = most(plan, vector, body) + 1;
+    let mut positions = weights(alloc, plan, vector, 1, body, last)?;
+    let mut row = Vec::with_capacity(alloc, body.len() + 3)?;
+    row.push(number_at(&positions, 0))?;
+    row.append(&mut positions)?;
+    row.push(last)?;
+    Ok(row)
+}
+
+/// What a client weighs at each position of its body.
+pub(crate) fn client_row(
+    alloc: Global,
+    plan: &Plan,
+    vector: &Vector,
+    client: &Client,
+) -> Result<Vec<u64>, AllocError>
+    requires lawful { IsLawful plan.now client.now.body }
+    requires small { JobsAreSmall vector.now }
+    ensures { IfOk result (λ row. row.items ≡ spec.client_row plan.now vector.now client.now) }
+{
+    let last = if client.repeat {
+        most(plan, vector, &client.body)
+    } else {
+        0
+    };
+    weights(alloc, plan, vector, 0, &client.body, last)
+}
