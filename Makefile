@@ -62,6 +62,7 @@ bench: program plan_reader
 	python3 bench/check.py
 	python3 bench/certify.py
 	python3 bench/fit.py
+	python3 bench/refute.py
 	python3 bench/run.py
 
 # Proves and builds the program that reads the texts alone.
