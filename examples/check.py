@@ -4,8 +4,8 @@
 An example is a plan NAME.toml with events NAME.events, a certificate NAME.json, or both. NAME.replay is what `sizing
 replay` must answer to the plan, a line `%%` and the events; NAME.check and NAME.explain are what those commands must
 answer to the plan, a line `%%` and the certificate, and NAME.run is what `sizing run --rounds 3` must. NAME.fit is what
-`sizing fit` must answer to the plan alone. The last line of each tells the exit status. The program is
-crates/sizing/out/sizing, or the one that the environment variable SIZING names.
+`sizing fit` must answer to the plan alone, and NAME.refute what `sizing refute` must. The last line of each tells the
+exit status. The program is crates/sizing/out/sizing, or the one that the environment variable SIZING names.
 
 Exit status: 0 where all examples agree, 1 where one differs, 2 where the program isn't there.
 """
@@ -19,7 +19,7 @@ from pathlib import Path
 HERE = Path(__file__).resolve().parent
 BUILT = HERE.parent / "crates" / "sizing" / "out" / "sizing"
 # What stands behind the line `%%`, by its file; None where the plan is all.
-SECOND_PARTS = {"replay": "events", "check": "json", "explain": "json", "run": "json", "fit": None}
+SECOND_PARTS = {"replay": "events", "check": "json", "explain": "json", "run": "json", "fit": None, "refute": None}
 # The words behind the command.
 OPTIONS = {"run": ["--rounds", "3"]}
 SECONDS = 60
