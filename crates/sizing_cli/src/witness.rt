@@ -38,14 +38,26 @@ fn standing_vectors(alloc: Global, plan: &Plan) -> Result<Vec<Vector>, AllocErro
     };
     for pool in 0..plan.pools().len() {
         let vector = match pool_bound(alloc, plan, &levels, pool)? {
-            Some(Bound::Standing(vector)) => vector,
-            _ => Vector {
-                workers: Vec::new(alloc),
-                classes: Vec::new(alloc),
-                clients: Vec::new(alloc),
-            },
+            Some(bound) => standing_of(alloc, bound),
+            None => no_weights(alloc),
         };
         vectors.push(vector)?;
     }
     Ok(vectors)
+}
+
+/// The vector of a standing bound.
+fn standing_of(alloc: Global, bound: Bound) -> Vector {
+    match bound {
+        Bound::Standing(vector) => vector,
+        Bound::Lifetime(_vector) => no_weights(alloc),
+    }
+}
+
+fn no_weights(alloc: Global) -> Vector {
+    Vector {
+        workers: Vec::new(alloc),
+        classes: Vec::new(alloc),
+        clients: Vec::new(alloc),
+    }
 }
