@@ -57,8 +57,7 @@ passed_all plan cert i fits past so_far =
 bounds_hold : (plan : Plan) (cert : Cert) → accepted_standing plan cert ≡ true → (p : ℕ) → p < length plan.pools → IsTrue (vector_fits plan (bound_vector (pool_cert_at cert p).bound)) × AllHold (bound_rows plan p (pool_cert_at cert p).bound)
 bounds_hold plan cert e p inside =
     let test = λ (p : ℕ). stands plan p (pool_cert_at cert p).bound in
-    let parts = and_parts (cert_fits plan cert) (list_all (λ entry. test entry.0) (enumerate_from 0 plan.pools)) e in
-    (
+    let parts = and_parts (cert_fits plan cert) (list_all (λ entry. test entry.0) (enumerate_from 0 plan.pools)) e in (
       ((parts_fit plan cert parts.0).pools p inside).bound,
       stands_hold plan p (pool_cert_at cert p).bound
           (list_all_at_In (λ entry. test entry.0) parts.1 (In-enumerate_from 0 plan.pools p (pool_at plan p) p (slice_get-get_or plan.pools p no_pool inside) (zero-add p))),
