@@ -1,6 +1,7 @@
 """The gate with a clock: `rt ci`, run by rt's own code, and what each check, build and run of it took of processor time.
 
-rt starts a process for each of them, and the system tells what a process took when it ends. So nothing is sampled."""
+rt starts a process for each of them, and the system tells what a process took when it ends. So nothing is sampled, and
+each line is written as its process ends."""
 import importlib.machinery
 import importlib.util
 import os
@@ -12,7 +13,7 @@ import threading
 import time
 
 here = threading.local()
-started, taken = {}, []
+started, written = {}, []
 
 
 def rt_module():
@@ -48,12 +49,17 @@ class Popen(subprocess.Popen):
         started[self.pid] = kind_of(words), time.monotonic()
 
 
+def write(crate, kind, name, seconds, wall):
+    for file in written:
+        file.write(f"{crate}\t{kind}\t{name}\t{seconds:.2f}\t{wall:.2f}\n")
+
+
 def measured_wait(pid, options):
     pid, status, used = os.wait4(pid, options)
     if pid in started:
         (crate, kind, name), since = started.pop(pid)
         if kind:
-            taken.append((crate, kind, name, used.ru_utime + used.ru_stime, time.monotonic() - since))
+            write(crate, kind, name, used.ru_utime + used.ru_stime, time.monotonic() - since)
     return pid, status
 
 
@@ -86,17 +92,17 @@ def processor_seconds():
     return sum(it.ru_utime + it.ru_stime for it in both)
 
 
-def main(words, written):
+def main(words, path):
     """Runs rt with these words, and writes a line for each process of rattle's, and one for the whole, with the number of processors."""
-    os.makedirs(os.path.dirname(written), exist_ok=True)
+    os.makedirs(os.path.dirname(path), exist_ok=True)
     rt = rt_module()
     measure(rt)
     since, used = time.monotonic(), processor_seconds()
-    status = rt.main(words)
-    whole = str(os.cpu_count()), "whole", " ".join(words), processor_seconds() - used, time.monotonic() - since
-    with open(written, "w", encoding="utf-8") as file:
-        for crate, kind, name, seconds, wall in [*taken, whole]:
-            file.write(f"{crate}\t{kind}\t{name}\t{seconds:.2f}\t{wall:.2f}\n")
+    with open(path, "w", buffering=1, encoding="utf-8") as file:
+        written.append(file)
+        status = rt.main(words)
+        write(os.cpu_count(), "whole", " ".join(words), processor_seconds() - used, time.monotonic() - since)
+        written.clear()
     return status
 
 

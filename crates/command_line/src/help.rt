@@ -19,7 +19,7 @@ It answers on standard output. To begin, paste the example of `sizing certify --
 Exit status:
   0  yes, or done
   1  no: a condition fails, a job is refused or stuck, an event is not possible, no certificate or no
-     sizes were found, or sizes change
+     sizes were found, sizes change, or a witness was found
   2  bad text in the input, a run that is too large, or bad arguments
   3  memory ran out, or reading, writing or running failed
   4  not decided, of `refute` alone";
@@ -416,7 +416,8 @@ Exit status:
   3  memory ran out, or reading, writing or a thread failed
   4  not decided
 
-Example, to be pasted into a shell:
+Example, to be pasted into a shell. The last submit is refused although the pool's worker is idle:
+it has not yet taken the job that is queued.
 
 sizing refute <<'END'
 [[pool]]
@@ -437,4 +438,12 @@ repeat = true
 body = [\"submit render as page\", \"get page\"]
 END
 
-It answers, with status 1, that a submit is refused.";
+It answers, with status 1:
+
+refused by pages, after 7 events of 2 clients
+  client browser: submits render (a new thread starts it)
+  job render: works, is done
+  client browser: gets its result, begins again
+  client browser: submits render (queued)
+  client browser: submits render (refused by pages)
+pool pages: threads 1 of 1, idle 1, queued 1 of 1";
