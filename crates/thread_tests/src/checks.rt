@@ -1,6 +1,9 @@
 //! Gates of a check on threads.
 
 use cert_check::{CheckFault, PoolGate, check_on};
+use cert_search::{SearchFault, search};
+use plan_text::read_plan;
+use std::alloc::{AllocError, Global};
 use std::sync::atomic::{AtomicU64, Ordering};
 use std::test::*;
 use std::thread;
@@ -98,6 +101,102 @@ fn a_no_of_the_gate(rt: HostRuntime) -> Result<(), Fail> {
             };
             assert_eq!(rt; fault, CheckFault::Gate);
         }
+    }
+    Ok(())
+}
+
+/// Lets every pool but one be looked at.
+#[derive(Drop)]
+struct AllBut(usize);
+
+impl PoolGate for AllBut {
+    fn begin(&self, pool: usize) -> bool {
+        pool != self.0
+    }
+}
+
+/// How many pools a plan may have at most.
+const MANY: usize = 64;
+
+/// So many pools, and nobody who submits to them.
+fn many_pools(alloc: Global) -> Result<String, AllocError> {
+    let mut text = String::new(alloc);
+    for pool in 0..MANY {
+        writeln!(
+            text,
+            "[[pool]]\nname = 'p{pool}'\ncore = 1\nmax = 1\nqueue = 1"
+        )?;
+    }
+    Ok(text)
+}
+
+/// So many zeros with commas between.
+fn zeros(alloc: Global) -> Result<String, AllocError> {
+    let mut text = String::new(alloc);
+    text.push_str("0")?;
+    for _ in 1..MANY {
+        text.push_str(",0")?;
+    }
+    Ok(text)
+}
+
+/// The certificate of those pools: nobody weighs anything.
+fn cert_of_many(alloc: Global) -> Result<String, AllocError> {
+    let zeros = zeros(alloc)?;
+    let nobody = format!(in alloc; "{{\"workers\":[{zeros}],\"classes\":[],\"clients\":[]}}")?;
+    let mut text = String::new(alloc);
+    text.push_str("{\"version\":1,\"pools\":[")?;
+    for pool in 0..MANY {
+        text.push_str(if pool == 0 { "" } else { "," })?;
+        write!(text, "{{\"standing\":{nobody},\"blocked\":{nobody}}}")?;
+    }
+    write!(
+        text,
+        "],\"ranks\":{{\"pools\":[{zeros}],\"reach\":[],\"levels\":[]}}}}"
+    )?;
+    Ok(text)
+}
+
+/// Whichever of 64 pools the gate refuses, the check and the search say so, with a worker for each pool too.
+#[test]
+fn a_no_for_each_of_many_pools(rt: HostRuntime) -> Result<(), Fail> {
+    let plan = many_pools(rt.alloc()).expect(&rt, "there is memory");
+    let cert = cert_of_many(rt.alloc()).expect(&rt, "there is memory");
+    let read = read_plan(rt.alloc(), plan.as_bytes()).expect(&rt, "the plan is read");
+    for workers in [1, 64] {
+        for pool in 0..MANY {
+            let gate = AllBut(pool);
+            let checked = check_on(
+                &rt,
+                rt.alloc(),
+                workers,
+                plan.as_bytes(),
+                cert.as_bytes(),
+                &gate,
+            );
+            assert!(rt;
+                matches!(checked, Err(CheckFault::Gate)),
+                "the check, at {pool}"
+            );
+            let found = search(&rt, rt.alloc(), &read, workers, &gate);
+            assert!(rt;
+                matches!(found, Err(SearchFault::Gate)),
+                "the search, at {pool}"
+            );
+        }
+        let none = AllBut(MANY);
+        let checked = check_on(
+            &rt,
+            rt.alloc(),
+            workers,
+            plan.as_bytes(),
+            cert.as_bytes(),
+            &none,
+        );
+        assert!(rt;
+            checked.is_ok_and(|verdict| verdict.yes),
+            "no pool is refused"
+        );
     }
     Ok(())
 }
