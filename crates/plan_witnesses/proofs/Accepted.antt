@@ -13,7 +13,7 @@ use Rattle.headline.proofs.Theorem.{accepted_plans_are_safe}
 use Rattle.plan_witnesses.specs.declared.ending.Ending.{Ending}
 use Rattle.plan_witnesses.specs.declared.ending.Ending.TheVariants.{Refused, StuckForEver, StuckNow}
 use Rattle.plan_witnesses.specs.declared.ending.Reason.TheVariants.{PoolsAreFull, PoolsStayAtCore}
-use Rattle.plan_witnesses.specs.Witness.{EndsRefused, IsWitness, WitnessedPlansAreNotAccepted}
+use Rattle.plan_witnesses.specs.Witness.{EndsRefused, IsWitness, WitnessedPlansAreNotAccepted, WitnessedPlansAreNotSafe}
 
 pub refusal_counts : (plan : Plan) (s s' : State) (p : ℕ) {e : Event} → Happens plan s e s' (outcome.Refused p) → s'.refusals ≡ s.refusals + 1
 refusal_counts plan s s' p (is_refused a body i k at within full) = refl
@@ -35,3 +35,6 @@ no_witness plan events (StuckNow members) safe led = (safe events led.0 led.1).n
 pub not_accepted : WitnessedPlansAreNotAccepted
 not_accepted plan cert events ending well_formed is_witness =
     false_from_ne_true (accepted plan cert) (λ accepts. no_witness plan events ending (accepted_plans_are_safe plan cert well_formed accepts) is_witness)
+
+pub not_safe : WitnessedPlansAreNotSafe
+not_safe plan events ending is_witness safe = no_witness plan events ending safe is_witness

@@ -15,7 +15,7 @@ use Rattle.plan_witnesses.specs.declared.ending.Reason.{Reason}
 use Rattle.plan_witnesses.specs.declared.ending.Reason.TheVariants.{PoolsAreFull, PoolsStayAtCore}
 use Rattle.plan_witnesses.specs.Witness.{LeadsTo, EndsRefused, StaysFor, IsWitness}
 use Rattle.plan_witnesses.specs.Replayed.{ComesTo}
-use Rattle.plan_witnesses.specs.Confirmed.{GivenStanding, IsReason, IsStuck, BeginsWith, EndsSo}
+use Rattle.plan_witnesses.specs.Confirmed.{GivenStanding, IsReason, IsStuck, BeginsWith, EndsSo, are_rising}
 
 -- ---- it is a witness
 
@@ -47,9 +47,9 @@ ends_refused plan events members standing front n p is_front ends =
     subst (λ (list : List Event). BeginsWith events list × EndsRefused plan list p) (sym is_front) ((drop n events, sym (take-append-drop n events)), ends)
 
 -- members that wait only for each other
-pub is_stuck : (plan : Plan) (events : List Event) (members : List ℕ) (standing : List Vector) (view : View) (reason : Option Reason) → (comes : ComesTo plan events view) → IsWaitingSet plan comes.state members → IsReason plan members standing comes.state reason
+pub is_stuck : (plan : Plan) (events : List Event) (members : List ℕ) (standing : List Vector) (view : View) (reason : Option Reason) → (comes : ComesTo plan events view) → IsTrue (are_rising members) → IsWaitingSet plan comes.state members → IsReason plan members standing comes.state reason
     → IsStuck plan events members standing reason
-is_stuck plan events members standing view reason comes waits shown = record { none_refused = comes.none_refused; leads = (comes.state, comes.reaches, (waits, shown)) }
+is_stuck plan events members standing view reason comes rising waits shown = record { rising = rising; none_refused = comes.none_refused; leads = (comes.state, comes.reaches, (waits, shown)) }
 
 -- what a world says of the state that the events come to
 pub in_words_at : (plan : Plan) (events : List Event) (members : List ℕ) (view : View) (stuck : Bool) → (comes : ComesTo plan events view)

@@ -1,5 +1,5 @@
 -- What the call that confirms a witness answers.
-use Rattle.std.specs.Prelude.{◌≡◌, ◌⊎◌, ℕ, IsTrue, List, ◌++◌, Option, Some, None, slice_get}
+use Rattle.std.specs.Prelude.{◌≡◌, ◌⊎◌, ℕ, nat_lt, Bool, true, ◌&&◌, IsTrue, List, [], ◌∷◌, ◌++◌, Option, Some, None, slice_get}
 use Rattle.job_bodies.specs.Plan.{Plan}
 use Rattle.written_machine.specs.declared.event.Event.{Event}
 use Rattle.written_machine.specs.State.{State}
@@ -40,8 +40,19 @@ IsReason plan members standing s None = ¬ AreShown plan s members standing
 
 -- ---- the answer
 
+-- the first number is above this one, and each other one above the one before it
+abbrev pub rise_above : ℕ → List ℕ → Bool
+rise_above last [] = true
+rise_above last (n ∷ rest) = nat_lt last n && rise_above n rest
+
+-- each number is above the one before it
+abbrev pub are_rising : List ℕ → Bool
+are_rising [] = true
+are_rising (n ∷ rest) = rise_above n rest
+
 -- the members wait only for each other behind all the events, of which none is refused, for this reason
 pub record IsStuck (plan : Plan) (events : List Event) (members : List ℕ) (standing : List Vector) (reason : Option Reason) : Type 0 where
+  pub rising : IsTrue (are_rising members)
   pub none_refused : NoneRefused plan events
   pub leads : LeadsTo plan events (λ s. IsWaitingSet plan s members × IsReason plan members standing s reason)
 
@@ -55,7 +66,8 @@ EndsSo plan events members standing front (Refused p) = BeginsWith events front 
 EndsSo plan events members standing front (StuckForEver stuck reason) = (front ≡ events) × (stuck.items ≡ members) × IsStuck plan events members standing (Some reason)
 EndsSo plan events members standing front (StuckNow stuck) = (front ≡ events) × (stuck.items ≡ members) × IsStuck plan events members standing None
 
--- there is no witness exactly where none of the events is refused and they do not lead to members that wait only for each other
+-- there is no witness exactly where none of the events is refused, and they do not lead to members, in rising order, that wait
+-- only for each other
 abbrev pub IsAnswer : Plan → List Event → List ℕ → List Vector → Option Witness → Type 0
-IsAnswer plan events members standing None = NoneRefused plan events × (¬ LeadsTo plan events (λ s. IsWaitingSet plan s members))
+IsAnswer plan events members standing None = NoneRefused plan events × (IsTrue (are_rising members) → ¬ LeadsTo plan events (λ s. IsWaitingSet plan s members))
 IsAnswer plan events members standing (Some witness) = EndsSo plan events members standing witness.events.items witness.ending

@@ -8,6 +8,7 @@ use Rattle.written_machine.specs.declared.event.Outcome.TheVariants as outcome
 use Rattle.written_machine.specs.State.{State}
 use Rattle.written_machine.specs.Step.{step}
 use Rattle.written_machine.specs.Reach.{start, outcomes, Reaches}
+use Rattle.written_machine.specs.Safe.{Safe}
 use Rattle.written_machine.specs.Waiting.{IsWaitingSet}
 use Rattle.written_machine.specs.FullWaitingSets.{IsFullWaitingSet}
 use Rattle.certificates.specs.Cert.{Cert}
@@ -51,3 +52,7 @@ IsWitness plan events (StuckNow members) = LeadsTo plan events (λ s. IsWaitingS
 -- no certificate accepts a plan that has a witness
 abbrev pub WitnessedPlansAreNotAccepted : Type 0
 WitnessedPlansAreNotAccepted = (plan : Plan) (cert : Cert) (events : List Event) (ending : Ending) → IsWellFormed plan → IsWitness plan events ending → IsFalse (accepted plan cert)
+
+-- a plan that has a witness is not safe
+abbrev pub WitnessedPlansAreNotSafe : Type 0
+WitnessedPlansAreNotSafe = (plan : Plan) (events : List Event) (ending : Ending) → IsWitness plan events ending → ¬ Safe plan

@@ -11,6 +11,7 @@ ghost use Rattle.plan_witnesses.specs.Replayed.{ComesTo};
 ghost use Rattle.plan_witnesses.specs.Confirmed.{IsAnswer, IsReason};
 
 use crate::replaying::{Replayed, replay};
+use crate::rising::are_rising;
 use crate::starting_none::all_start_none;
 use crate::{Ending, Reason, Witness};
 use interleaving::{Event, World};
@@ -20,6 +21,8 @@ use weights::Vector;
 
 /// The witness that this list of events is, with these jobs where it ends in jobs that wait only for each other, and with
 /// these vectors, one for each pool, to show of a pool that it never has more than core threads.
+///
+/// The jobs are given by their numbers in rising order, so none of them twice; jobs in another order are no witness.
 ///
 /// Nothing is assumed of the events, the jobs and the vectors: a vector that is no standing vector of its pool, or that fails
 /// one of the conditions, shows nothing, and none need be given. A witness ends at the first submit that is refused: events
@@ -71,6 +74,9 @@ fn stuck(
     ensures witness { IfSome result (λ witness. IsWitness plan.now witness.events.items witness.ending) }
     ensures answer { IsAnswer plan.now events.items members.items standing.now result }
 {
+    if !are_rising(&members) {
+        return None;
+    }
     if !world.stuck(plan, &members) {
         return None;
     }
@@ -86,6 +92,7 @@ fn reason(plan: &Plan, world: &World, members: &[usize], standing: &[Vector]) ->
     requires { IsOf plan.now world.now.view }
     ensures { (s : State) → IsReached plan.now s → live_view plan.now s ≡ world.now.view → IsReason plan.now members.now standing.now s result }
 {
+    // A plan is well formed, which the contract of this call says.
     let _pools = plan.pools();
     if all_start_none(plan, world, members, &[]) {
         Some(Reason::PoolsAreFull)

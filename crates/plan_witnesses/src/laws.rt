@@ -1,11 +1,17 @@
 //! Laws of witnesses, each the contract of a function with nothing to do.
 
-ghost use Rattle.plan_witnesses.specs.Witness.{WitnessedPlansAreNotAccepted};
+ghost use Rattle.plan_witnesses.specs.Witness.{WitnessedPlansAreNotAccepted, WitnessedPlansAreNotSafe};
 ghost use Rattle.plan_witnesses.specs.Lasting.{StandingPoolsStayAtCore, LastingWaitingSetsStay};
 
 /// No certificate accepts a well-formed plan that has a witness, however that ends.
 pub fn witnessed_plans_are_not_accepted()
     ensures { WitnessedPlansAreNotAccepted }
+{}
+
+/// A plan that has a witness is not safe: in some state that a list of events reaches, a submit was refused, or unfinished
+/// jobs wait only for each other.
+pub fn witnessed_plans_are_not_safe()
+    ensures { WitnessedPlansAreNotSafe }
 {}
 
 /// Where a vector keeps the conditions of a pool's standing vector, that pool never has more than core threads, whatever the

@@ -9,6 +9,7 @@ mod confirming;
 mod ending;
 mod laws;
 mod replaying;
+mod rising;
 mod starting_none;
 mod witness;
 
@@ -17,6 +18,7 @@ pub use ending::{Ending, Reason};
 pub use interleaving::Event;
 pub use laws::{
     lasting_waiting_sets_stay, standing_pools_stay_at_core, witnessed_plans_are_not_accepted,
+    witnessed_plans_are_not_safe,
 };
 pub use weights::Vector;
 pub use witness::Witness;

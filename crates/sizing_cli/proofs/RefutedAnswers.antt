@@ -1,19 +1,27 @@
--- What status 0 means of a story of `refute`.
-use Rattle.std.proofs.Common.{◌≡◌, ℕ, inl, inr, Bool, true, false, List, length, Result, Ok, Err, refl, sym, ap, ◌∙◌}
-use Rattle.std.specs.Prelude.{MatchBool, nat_lt}
+-- What status 0 means of a story and of a bundle of `refute`.
+use Rattle.std.proofs.Common.{◌≡◌, ℕ, inl, inr, ⊎_elim, Bool, true, false, List, length, Result, Ok, Err, refl, sym, ap, ◌∙◌}
+use Rattle.std.specs.Prelude.{MatchBool, nat_lt, Option, Some, None, IfSome, IfNone}
+use Rattle.plan_witnesses.specs.declared.witness.Witness.{Witness}
+use Rattle.command_line.specs.declared.command.Shown.{Shown}
 use Rattle.job_bodies.specs.Plan.{Plan}
 use Rattle.job_bodies.specs.declared.fault.PlanFault.{PlanFault}
 use Rattle.plan_text.specs.PlanOf.{plan_of}
 use Rattle.headline.proofs.Promised.{promises}
 use Rattle.cert_check.proofs.Yes.{plans_read_are_well_formed}
-use Rattle.command_line.specs.declared.command.Shown.TheVariants.{Story}
+use Rattle.command_line.specs.declared.command.Shown.TheVariants.{Story, Bundle}
 use Rattle.sizing_cli.specs.declared.limits.TheConstants.{MOST_INPUT_BYTES}
 use Rattle.sizing_cli.specs.declared.status.Status.TheVariants.{Done, Refused, Undecided}
 use Rattle.sizing_cli.specs.Answer.{Answer, input_too_long}
 use Rattle.sizing_cli.specs.SafeInput.{IsSafePlan}
 use Rattle.sizing_cli.specs.Certify.{whole_lines}
-use Rattle.sizing_cli.specs.Refute.{not_decided, AnswersPlan, AnswersReading, IsRefuteAnswer}
+use Rattle.sizing_cli.specs.Refute.{not_decided, event_lines_of, AnswersPlan, AnswersReading, BundlesWitness, IsRefuteAnswer, IsWitnessBundle, IsWitnessOf, Refutes, ShowsWitness}
 use Rattle.sizing_cli.proofs.FittedAnswers.{bad_text_is_not_done}
+
+-- the answer to a plan that no certificate was found for, by the witness that was found
+pub answered_by : (shown : Shown) (text : List ℕ) (plan : Plan) (answer : Answer) (found : Option Witness) → IfSome found (IsWitnessOf plan)
+    → IfSome found (λ witness. ShowsWitness shown text plan witness answer) → IfNone found (answer ≡ not_decided shown) → AnswersPlan shown text plan answer
+answered_by shown text plan answer (Some witness) is_witness shows nothing = inr (inr (record { witness = witness; is_witness = is_witness; shows = shows }))
+answered_by shown text plan answer None is_witness shows nothing = inr (inl nothing)
 
 pub refuted_means_safe : (input : List ℕ) (answer : Answer) → IsRefuteAnswer Story input answer → answer.status ≡ Done → IsSafePlan (whole_lines input)
 refuted_means_safe input answer is done = by_length (nat_lt MOST_INPUT_BYTES (length input)) is
@@ -38,5 +46,36 @@ refuted_means_safe input answer is done = by_length (nat_lt MOST_INPUT_BYTES (le
     by_plan (Ok plan) is_plan answers = by_answer plan is_plan answers
 
     by_length : (long : Bool) → MatchBool long (answer ≡ input_too_long) (AnswersReading Story (whole_lines input) (plan_of (whole_lines input)) answer) → IsSafePlan (whole_lines input)
+    by_length true too_long = absurd (bad_text_is_not_done answer input_too_long too_long refl done)
+    by_length false answers = by_plan (plan_of (whole_lines input)) refl answers
+
+-- the plan's text with the events of a witness
+abbrev Shows : List ℕ → Answer → Type 0
+Shows input answer = IsWitnessBundle input answer.text
+
+pub bundle_means_witness : (input : List ℕ) (answer : Answer) → IsRefuteAnswer Bundle input answer → answer.status ≡ Done → Shows input answer
+bundle_means_witness input answer is done = by_length (nat_lt MOST_INPUT_BYTES (length input)) is
+  where
+    by_shown : (plan : Plan) → plan_of (whole_lines input) ≡ Ok plan → (refutes : Refutes Bundle (whole_lines input) plan answer) → Shows input answer
+    by_shown plan is_plan refutes =
+        ⊎_elim (λ too_long. let no : Refused ≡ Done = sym (ap (λ (a : Answer). a.status) too_long.0) ∙ done in absurd cc)
+        (λ (bundles : BundlesWitness (whole_lines input) plan refutes.witness answer).
+          record { plan = plan; is_plan = is_plan; witness = refutes.witness; is_witness = refutes.is_witness; bundle = bundles.bundle })
+        refutes.shows
+
+    by_answer : (plan : Plan) → plan_of (whole_lines input) ≡ Ok plan → AnswersPlan Bundle (whole_lines input) plan answer → Shows input answer
+    by_answer plan is_plan (inl safe) =
+        let no : Refused ≡ Done = sym (ap (λ (a : Answer). a.status) safe.0) ∙ done in
+        absurd cc
+    by_answer plan is_plan (inr (inl nothing)) =
+        let no : Refused ≡ Done = sym (ap (λ (a : Answer). a.status) nothing) ∙ done in
+        absurd cc
+    by_answer plan is_plan (inr (inr refutes)) = by_shown plan is_plan refutes
+
+    by_plan : (read : Result Plan PlanFault) → plan_of (whole_lines input) ≡ read → AnswersReading Bundle (whole_lines input) read answer → Shows input answer
+    by_plan (Err fault) is_fault bad = absurd (bad_text_is_not_done answer _ bad refl done)
+    by_plan (Ok plan) is_plan answers = by_answer plan is_plan answers
+
+    by_length : (long : Bool) → MatchBool long (answer ≡ input_too_long) (AnswersReading Bundle (whole_lines input) (plan_of (whole_lines input)) answer) → Shows input answer
     by_length true too_long = absurd (bad_text_is_not_done answer input_too_long too_long refl done)
     by_length false answers = by_plan (plan_of (whole_lines input)) refl answers

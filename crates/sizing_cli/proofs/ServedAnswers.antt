@@ -26,7 +26,7 @@ use Rattle.sizing_cli.specs.Served.{IsAnswer, WritesAnswer, WritesFront, MeansSa
 use Rattle.sizing_cli.proofs.PastTheLimit.{answered_whole}
 use Rattle.sizing_cli.proofs.SafeInputs.{yes_means_safe, run_means_safe}
 use Rattle.sizing_cli.proofs.FittedAnswers.{sizes_mean_safe, bundle_means_fitted}
-use Rattle.sizing_cli.proofs.RefutedAnswers.{refuted_means_safe}
+use Rattle.sizing_cli.proofs.RefutedAnswers.{refuted_means_safe, bundle_means_witness}
 
 -- ---- an answer to what was read is one to the whole input
 
@@ -143,7 +143,8 @@ means_safe (Fit Bundle) input status old new writes done =
     record { plan = fitted.plan; is_plan = fitted.is_plan; text = writes.answer.text; fitted = fitted.bundle; written = writes.written }
 means_safe (Run rounds) input status old new writes done = run_means_safe rounds input (sym (ap (λ (a : Answer). a.status) writes.is_answer) ∙ (sym writes.status_is ∙ done))
 means_safe (Refute states shown.Story) input status old new writes done = refuted_means_safe input writes.answer writes.is_answer (sym writes.status_is ∙ done)
-means_safe (Refute states shown.Bundle) input status old new writes done = tt
+means_safe (Refute states shown.Bundle) input status old new writes done =
+    record { text = writes.answer.text; shows = bundle_means_witness input writes.answer writes.is_answer (sym writes.status_is ∙ done); written = writes.written }
 means_safe (Certify workers) input status old new writes done =
     record { text = writes.answer.text; certified = certified_answer input writes.answer writes.is_answer (sym writes.status_is ∙ done); written = writes.written }
 

@@ -72,6 +72,14 @@ pub record Refutes (shown : Shown) (text : List ℕ) (plan : Plan) (answer : Ans
   pub is_witness : IsWitnessOf plan witness
   pub shows : ShowsWitness shown text plan witness answer
 
+-- the text is that of the input's plan, and behind it the events of a witness against it
+pub record IsWitnessBundle (input text : List ℕ) : Type 0 where
+  pub plan : Plan
+  pub is_plan : plan_of (whole_lines input) ≡ Ok plan
+  pub witness : Witness
+  pub is_witness : IsWitnessOf plan witness
+  pub bundle : text ≡ whole_lines input ++ (codes "%%" ++ 10 ∷ event_lines_of plan witness)
+
 -- ---- the whole
 
 -- to the text of a plan: that it is safe, where some certificate accepts it; that nothing is known; or a witness

@@ -14,7 +14,7 @@ use Rattle.sizing_cli.specs.Report.{report}
 use Rattle.sizing_cli.specs.SafeInput.{IsSafeInput, IsSafePlan}
 use Rattle.sizing_cli.specs.Certify.{IsCertifyAnswer, IsCertifiedBundle, whole_lines}
 use Rattle.sizing_cli.specs.Fit.{IsFitAnswer, IsFittedBundle}
-use Rattle.sizing_cli.specs.Refute.{IsRefuteAnswer}
+use Rattle.sizing_cli.specs.Refute.{IsRefuteAnswer, IsWitnessBundle}
 
 -- the answer is one that the command may give to the input
 abbrev pub IsAnswer : Command → List ℕ → Answer → Type 0
@@ -54,8 +54,14 @@ pub record WritesFitted (input : List ℕ) (old new : Option (List ℕ)) : Type 
   pub fitted : IsFittedBundle plan text
   pub written : Appends old new text
 
+-- a bundle was written that is the input's plan with a witness against it
+pub record WritesWitness (input : List ℕ) (old new : Option (List ℕ)) : Type 0 where
+  pub text : List ℕ
+  pub shows : IsWitnessBundle input text
+  pub written : Appends old new text
+
 -- what status 0 means: of `check`, `run`, the sizes of `fit` and the story of `refute`, that the input's plan is safe; of `certify`
--- and the bundle of `fit`, that what was written is a plan that is
+-- and the bundle of `fit`, that what was written is a plan that is; of the bundle of `refute`, that what was written has a witness
 abbrev pub MeansSafe : Command → List ℕ → Option (List ℕ) → Option (List ℕ) → Type 0
 MeansSafe Replay input old new = Unit {0}
 MeansSafe Check input old new = IsSafeInput input
@@ -65,4 +71,4 @@ MeansSafe (Fit Sizes) input old new = IsSafePlan input
 MeansSafe (Fit Bundle) input old new = WritesFitted input old new
 MeansSafe (Run rounds) input old new = IsSafeInput input
 MeansSafe (Refute states shown.Story) input old new = IsSafePlan (whole_lines input)
-MeansSafe (Refute states shown.Bundle) input old new = Unit {0}
+MeansSafe (Refute states shown.Bundle) input old new = WritesWitness input old new

@@ -57,7 +57,11 @@ pub fn certify<R: Threads + Wait + Sync>(
 }
 
 /// The text with a newline at its end, unless it is empty or has one there.
-pub(crate) fn whole_lines(mut text: Vec<u8>) -> Result<Vec<u8>, AllocError>
+///
+/// # Errors
+///
+/// [`AllocError`] where memory runs out.
+pub fn whole_lines(mut text: Vec<u8>) -> Result<Vec<u8>, AllocError>
     ensures { IfOk result (λ lines. lines.items ≡ spec.whole_lines text.items) }
 {
     if text.is_empty() || text.ends_with(b"\n") {

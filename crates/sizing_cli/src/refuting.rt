@@ -1,6 +1,6 @@
 //! The search for a witness, from the bytes of a plan to its story or to a bundle.
 
-ghost use Rattle.std.specs.Prelude.{◌≡◌, ◌++◌, ◌∷◌, IfOk, IfErr, IsTrue, codes};
+ghost use Rattle.std.specs.Prelude.{◌≡◌, ◌++◌, ◌∷◌, IfOk, IfErr, IfSome, IfNone, IsTrue, codes};
 ghost use Rattle.sizing_cli.specs.Refute as spec;
 ghost use Rattle.sizing_cli.specs.ServeFault.{is_of_search};
 
@@ -67,8 +67,23 @@ fn refute_plan<R: Threads + Wait + Sync>(
     if search(rt, alloc, plan, WORKERS, &AtOnce)?.is_some() {
         return Ok(Output::of(safe(alloc, shown)?));
     }
-    match witness_of(alloc, plan, states)? {
-        Some(witness) => Ok(refuted(alloc, shown, plan, &witness, text)?),
+    let found = witness_of(alloc, plan, states)?;
+    Ok(answer_of(alloc, shown, plan, found, text)?)
+}
+
+/// The answer to a plan that no certificate was found for, by the witness that was found.
+fn answer_of(
+    alloc: Global,
+    shown: Shown,
+    plan: &Plan,
+    found: Option<Witness>,
+    text: Vec<u8>,
+) -> Result<Output, AllocError>
+    ensures some { IfSome found (λ witness. IfOk result (spec.ShowsWitness shown text.items plan.now witness)) }
+    ensures none { IfNone found (IfOk result (λ answer. answer ≡ spec.not_decided shown)) }
+{
+    match found {
+        Some(witness) => refuted(alloc, shown, plan, &witness, text),
         None => Ok(Output::of(not_decided(alloc, shown)?)),
     }
 }

@@ -26,7 +26,10 @@ pub(crate) fn witness_of(
     } else {
         standing_vectors(alloc, plan)?
     };
-    confirmed(alloc, plan, found.events, found.members, &standing)
+    let mut members = found.members;
+    members.sort_unstable();
+    members.dedup();
+    confirmed(alloc, plan, found.events, members, &standing)
 }
 
 /// A vector for each pool, which may show that it never has more than core threads; one without weights, which shows nothing,

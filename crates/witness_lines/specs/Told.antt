@@ -1,8 +1,9 @@
 -- What is told of a witness.
-use Rattle.std.specs.Prelude.{◌≡◌, ℕ, List, ◌++◌, length, codes, decimal}
+use Rattle.std.specs.Prelude.{◌≡◌, ℕ, List, [], ◌∷◌, ◌++◌, length, codes, decimal}
 use Rattle.job_bodies.specs.Plan.{Plan, pool_at}
 use Rattle.plan_witnesses.specs.declared.ending.Ending.{Ending}
 use Rattle.plan_witnesses.specs.declared.ending.Ending.TheVariants.{Refused, StuckForEver, StuckNow}
+use Rattle.plan_witnesses.specs.declared.ending.Reason.TheVariants.{PoolsAreFull, PoolsStayAtCore}
 use Rattle.plan_witnesses.specs.declared.witness.Witness.{Witness}
 
 -- so many jobs wait only for each other
@@ -19,7 +20,14 @@ ending_text plan (StuckNow members) = codes "stuck now: " ++ jobs_wait members.i
 abbrev pub head : Plan → Witness → List ℕ
 head plan witness = ending_text plan witness.ending ++ codes ", after " ++ decimal (length witness.events.items) ++ codes " events"
 
--- the head, and a story behind it of which nothing is said
+-- the last line: why jobs wait only for each other for ever, or what may end it
+abbrev pub why_text : Ending → List ℕ
+why_text (Refused p) = []
+why_text (StuckForEver members PoolsAreFull) = codes "for ever: each pool in whose queue one waits has all its threads" ++ 10 ∷ []
+why_text (StuckForEver members PoolsStayAtCore) = codes "for ever: each pool in whose queue one waits has all its threads, or never has more than core" ++ 10 ∷ []
+why_text (StuckNow members) = codes "until a pool in whose queue one waits starts a thread above core" ++ 10 ∷ []
+
+-- the head, a story of which nothing is said, and the last line
 pub record IsTold (plan : Plan) (witness : Witness) (text : List ℕ) : Type 0 where
   pub story : List ℕ
-  pub is : text ≡ head plan witness ++ story
+  pub is : text ≡ (head plan witness ++ story) ++ why_text witness.ending

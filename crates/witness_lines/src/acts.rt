@@ -7,7 +7,7 @@ use interleaving::{Event, Outcome, Phase, World};
 use job_bodies::{Action, Plan};
 use std::alloc::{AllocError, Global};
 
-/// Makes the event, and tells what it was as `client web: ` and `submits page (queued)`. None where it is not possible.
+/// Makes the event, and tells what it was as `client web` and `submits page (queued)`. None where it is not possible.
 pub(crate) fn told_step(
     alloc: Global,
     world: &mut World,
@@ -34,7 +34,7 @@ pub(crate) fn told_step(
     Ok(Some((who, act)))
 }
 
-/// Who acts, as `client web`, `page` or `pool db`: a job is told by its class.
+/// Who acts, as `client web`, `job page` or `pool db`: a job by its class.
 fn actor(alloc: Global, world: &World, plan: &Plan, event: Event) -> Result<String, AllocError> {
     let mut text = String::new(alloc);
     match event {

@@ -10,8 +10,8 @@ use job_bodies::Plan;
 use plan_witnesses::{Ending, Reason, Witness};
 use std::alloc::{AllocError, Global};
 
-/// Tells a witness: `refused by db, after 7 events of 2 clients`, and behind that line what happens in them, how the pools
-/// stand, and who waits for whom.
+/// Tells a witness: `refused by db, after 7 events of 2 clients`, and after that line what happens in them, how the pools
+/// stand, who waits for whom, and on a last line why they do so for ever, or what may end it.
 ///
 /// # Errors
 ///
@@ -21,8 +21,9 @@ pub fn told(alloc: Global, plan: &Plan, witness: &Witness) -> Result<String, All
 {
     let mut text = String::new(alloc);
     push_head(&mut text, plan, witness)?;
-    let behind = behind_head(alloc, plan, witness)?;
-    text.push_str(&behind)?;
+    let story = behind_head(alloc, plan, witness)?;
+    text.push_str(&story)?;
+    push_why(&mut text, &witness.ending)?;
     Ok(text)
 }
 
@@ -69,19 +70,20 @@ fn behind_head(alloc: Global, plan: &Plan, witness: &Witness) -> Result<String, 
     }
     let story = story(alloc, plan, &witness.events, stuck_members(&witness.ending))?;
     text.push_str(&story)?;
-    push_why(&mut text, &witness.ending)?;
     Ok(text)
 }
 
 /// Why it stays so, or what may end it.
-fn push_why(text: &mut String, ending: &Ending) -> Result<(), AllocError> {
+fn push_why(text: &mut String, ending: &Ending) -> Result<(), AllocError>
+    ensures { OnOk result (string_bytes text.new ≡ string_bytes text.old ++ spec.why_text ending.now) }
+{
     match ending {
         Ending::Refused(_) => Ok(()),
         Ending::StuckForEver(_, Reason::PoolsAreFull) => {
-            text.push_str("for ever: the pools in whose queues they wait have all their threads\n")
+            text.push_str("for ever: each pool in whose queue one waits has all its threads\n")
         }
         Ending::StuckForEver(_, Reason::PoolsStayAtCore) => text.push_str(
-            "for ever: the pools in whose queues they wait never have more than core threads\n",
+            "for ever: each pool in whose queue one waits has all its threads, or never has more than core\n",
         ),
         Ending::StuckNow(_) => {
             text.push_str("until a pool in whose queue one waits starts a thread above core\n")

@@ -41,7 +41,7 @@ fn push_wait(
             let pool = pool_name(plan, plan.class_at(job.class).map_or(0, |class| class.pool));
             writeln!(
                 text,
-                "job {number} ({class}) waits in the queue of {pool}, whose threads are all at work for jobs named here"
+                "job {number} ({class}) waits in the queue of {pool}, whose threads all run jobs of these"
             )
         }
         Phase::At(position) => match child_at(plan, world, members, number, job, position) {

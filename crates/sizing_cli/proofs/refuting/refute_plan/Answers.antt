@@ -1,10 +1,6 @@
-use Rattle.std.proofs.Common.{inr}
+use Rattle.sizing_cli.proofs.RefutedAnswers.{answered_by}
 use Rattle.sizing_cli.proofs.refuting.refute_plan.Goals as goal
 
-pub returns-in_ok-refuted-in-Some-clause-answer : goal.returns-in_ok-refuted-in-Some-clause-answer
-returns-in_ok-refuted-in-Some-clause-answer g c =
-    inr (inr (record {
-      witness = c.in-Some.witness;
-      is_witness = rw c.in-Some.is at c.in_ok-witness.ensures;
-      shows = c.in_ok-refuted-in-Some.ensures;
-    }))
+pub returns-clause-answer : goal.returns-clause-answer
+returns-clause-answer g c =
+    answered_by c.args.shown c.args.text.items c.args.plan.now c.in_ok-answer_of.field-0 c.in_ok-found.found c.in_ok-found.ensures c.in_ok-answer_of.ensures.some c.in_ok-answer_of.ensures.none

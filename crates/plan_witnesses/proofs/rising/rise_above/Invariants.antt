@@ -1,0 +1,10 @@
+use Rattle.std.proofs.Common.{◌≡◌, length}
+use Rattle.plan_witnesses.specs.Confirmed.{rise_above}
+use Rattle.plan_witnesses.proofs.rising.rise_above.Given as goal
+
+-- what is left tells whether all rise
+abbrev pub invariant-loop-first : goal.invariant-loop-first
+invariant-loop-first l = rise_above l.last l.numbers ≡ rise_above l.fn.last l.fn.numbers
+
+abbrev pub decreases-loop-first : goal.decreases-loop-first
+decreases-loop-first l = length l.numbers

@@ -1,0 +1,28 @@
+//! Numbers in rising order.
+
+ghost use Rattle.std.specs.Prelude.{◌≡◌};
+ghost use Rattle.plan_witnesses.specs.Confirmed.{are_rising, rise_above};
+
+/// Whether each number is above the one before it.
+pub(crate) fn are_rising(numbers: &[usize]) -> bool
+    ensures { result ≡ are_rising numbers.now }
+{
+    match numbers.split_first() {
+        Some((first, rest)) => rise_above(*first, rest),
+        None => true,
+    }
+}
+
+/// Whether the first number is above `last`, and each other one above the one before it.
+fn rise_above(mut last: usize, mut numbers: &[usize]) -> bool
+    ensures { result ≡ rise_above last numbers.now }
+{
+    while let Some((first, rest)) = numbers.split_first() {
+        if *first <= last {
+            return false;
+        }
+        last = *first;
+        numbers = rest;
+    }
+    true
+}
