@@ -26,6 +26,8 @@ COMMANDS = [
     (["certify"], ["two-clients.toml"]),
     (["fit"], ["two-clients.toml"]),
     (["fit", "--bundle"], ["two-clients.toml"]),
+    (["refute"], ["two-clients.toml"]),
+    (["refute", "--bundle"], ["two-clients.toml"]),
     (["run", "--rounds", "3"], ["two-clients-queue-of-two.toml", "two-clients-queue-of-two.json"]),
 ]
 BAD_ROUNDS = [[], ["--rounds"], *(["--rounds", word] for word in ("0", "1000001", "-1", "three", "18446744073709551617"))]
@@ -33,6 +35,7 @@ SECONDS = 20
 
 NOT_WRITTEN = (3, b"", b"fault 61 WriteFailed\n")
 NOT_READ = (3, b"", b"fault 60 ReadFailed\n")
+TWICE = (2, b"", b"standard input has one of the two texts, not both: name a file for the other\n")
 NO_COMMAND = (2, b"", b"no command\n")
 NOT_UTF_8 = (2, b"", b"the words of the command line are to be UTF-8\n")
 
@@ -61,7 +64,8 @@ def cases(program, folder):
         yield f"{title}, a pipe that nobody reads", lambda: broken_pipe(words, given), NOT_WRITTEN
         yield f"{title}, a directory as standard input", lambda: ends(words, folder), NOT_READ
         yield f"{title}, a closed standard input", lambda: ends(words, given, close=0), NOT_READ
-        yield f"{title}, a word too many", lambda: ends([*words, "now"], given), None
+        yield f"{title}, words too many", lambda: ends([*words, "a", "b", "c"], given), None
+        yield from cases_of_files(title, words, parts, folder)
         yield f"help of {title}", lambda: ends([*words, "--help"], given), None
     for options in BAD_ROUNDS:
         yield " ".join(["run", *options]), lambda: ends([program, "run", *options], folder / "run"), None
@@ -70,6 +74,18 @@ def cases(program, folder):
     yield "a bad word", lambda: ends([program, "chek"], given), None
     yield "help", lambda: ends([program, "--help"], given), None
     yield "words that are not UTF-8", lambda: ends([program, b"check\xff"], given), NOT_UTF_8
+
+
+def cases_of_files(title, words, parts, folder):
+    """The same where one of the files that are named is not one that can be read, or standard input is named for both."""
+    files = [EXAMPLES / part for part in parts]
+    for number, part in enumerate(parts):
+        for what, path in (("a directory", folder), (f"no file {part}", folder / "none" / part)):
+            named = [*files[:number], path, *files[number + 1 :]]
+            told = (3, b"", b"fault 60 ReadFailed at %s\n" % bytes(path))
+            yield f"{title}, {what} as a file", lambda named=named: ends([*words, *named], folder), told
+    if len(parts) == 2:
+        yield f"{title}, standard input as both files", lambda: ends([*words, "-", "-"], files[0]), TWICE
 
 
 def shown(name, run, wanted):

@@ -5,7 +5,8 @@ An example is a plan NAME.toml with events NAME.events, a certificate NAME.json,
 replay` must answer to the plan, a line `%%` and the events; NAME.check and NAME.explain are what those commands must
 answer to the plan, a line `%%` and the certificate, and NAME.run is what `sizing run --rounds 3` must. NAME.fit is what
 `sizing fit` must answer to the plan alone, and NAME.refute what `sizing refute` must. The last line of each tells the
-exit status. The program is crates/sizing/out/sizing, or the one that the environment variable SIZING names.
+exit status. Each is asked twice: with the texts on standard input, and with the files named. The program is
+crates/sizing/out/sizing, or the one that the environment variable SIZING names.
 
 Exit status: 0 where all examples agree, 1 where one differs, 2 where the program isn't there.
 """
@@ -43,15 +44,25 @@ def main():
 def compare(program, answer):
     """What is wrong with the program's answer to an example; None where it agrees."""
     command = answer.suffix[1:]
+    files = [answer.with_suffix(".toml")]
+    if SECOND_PARTS[command]:
+        files.append(answer.with_suffix("." + SECOND_PARTS[command]))
     try:
-        given = answer.with_suffix(".toml").read_bytes()
-        if SECOND_PARTS[command]:
-            given += b"%%\n" + answer.with_suffix("." + SECOND_PARTS[command]).read_bytes()
+        given = b"%%\n".join(file.read_bytes() for file in files)
         wanted = answer.read_bytes()
     except OSError as error:
         return f"the example can't be read: {error}"
+    words = [program, command, *OPTIONS.get(command, [])]
+    if difference := answered(words, given, wanted):
+        return difference
+    if difference := answered([*words, *files], b"", wanted):
+        return f"with the files named: {difference}"
+    return None
+
+
+def answered(words, given, wanted):
+    """What is wrong with the answer to these words and this standard input; None where it is the one that is wanted."""
     try:
-        words = [program, command, *OPTIONS.get(command, [])]
         ended = subprocess.run(words, input=given, capture_output=True, timeout=SECONDS)
     except subprocess.TimeoutExpired:
         return f"no answer within {SECONDS} seconds"

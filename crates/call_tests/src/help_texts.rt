@@ -6,7 +6,7 @@ use std::test::*;
 /// What help prints says where to begin, and the help of each command has an example with its answer.
 #[test]
 fn words_that_ask_for_help(rt: HostRuntime) -> Result<(), Fail> {
-    let table: [(&[&str], [&str; 6]); 7] = [
+    let table: [(&[&str], [&str; 6]); 8] = [
         (
             &["sizing", "--help"],
             [
@@ -14,14 +14,14 @@ fn words_that_ask_for_help(rt: HostRuntime) -> Result<(), Fail> {
                 "\n  replay   Replays events on a plan",
                 "\n  check    Says whether a certificate shows",
                 "\n  explain  Lists the conditions of a certificate that fail",
-                "a line that is exactly `%%`",
+                "where there is a line between them that is exactly `%%`",
                 "\nExit status:\n  0  ",
             ],
         ),
         (
             &["sizing", "replay", "--help"],
             [
-                "\nUsage: sizing replay < INPUT\n",
+                "\nUsage: sizing replay PLAN EVENTS\n       sizing replay < INPUT\n",
                 "\nsizing replay <<'END'\n[[pool]]\n",
                 "\n%%\nclient 0\n",
                 "\nEND\n\nIt answers, with status 1:\n",
@@ -32,7 +32,7 @@ fn words_that_ask_for_help(rt: HostRuntime) -> Result<(), Fail> {
         (
             &["sizing", "check", "--help"],
             [
-                "\nUsage: sizing check < INPUT\n",
+                "\nUsage: sizing check PLAN CERTIFICATE\n       sizing check < INPUT\n",
                 "\nsizing check <<'END'\n[[pool]]\n",
                 "\nqueue = 2\n",
                 "\n%%\n{\"version\":1,\n",
@@ -43,7 +43,7 @@ fn words_that_ask_for_help(rt: HostRuntime) -> Result<(), Fail> {
         (
             &["sizing", "explain", "--help"],
             [
-                "\nUsage: sizing explain < INPUT\n",
+                "\nUsage: sizing explain PLAN CERTIFICATE\n       sizing explain < INPUT\n",
                 "\nsizing explain <<'END'\n[[pool]]\n",
                 "\nqueue = 1\n",
                 "\n%%\n{\"version\":1,\n",
@@ -54,7 +54,7 @@ fn words_that_ask_for_help(rt: HostRuntime) -> Result<(), Fail> {
         (
             &["sizing", "certify", "--help"],
             [
-                "\nUsage: sizing certify [--workers N] < PLAN\n",
+                "\nUsage: sizing certify [--workers N] PLAN\n       sizing certify [--workers N] < PLAN\n",
                 "--workers <N>",
                 "1 to 64 [default: 4]",
                 "\nsizing certify <<'END' | sizing check\n[[pool]]\n",
@@ -65,7 +65,7 @@ fn words_that_ask_for_help(rt: HostRuntime) -> Result<(), Fail> {
         (
             &["sizing", "fit", "--help"],
             [
-                "\nUsage: sizing fit [--bundle] < PLAN\n",
+                "\nUsage: sizing fit [--bundle] PLAN\n       sizing fit [--bundle] < PLAN\n",
                 "--bundle",
                 "\nsizing fit <<'END'\n[[pool]]\n",
                 "\nqueue = 1\n",
@@ -76,12 +76,23 @@ fn words_that_ask_for_help(rt: HostRuntime) -> Result<(), Fail> {
         (
             &["sizing", "run", "--help"],
             [
-                "\nUsage: sizing run --rounds N < INPUT\n",
+                "\nUsage: sizing run --rounds N PLAN CERTIFICATE\n       sizing run --rounds N < INPUT\n",
                 "--rounds <N>",
                 "\nsizing run --rounds 3 <<'END'\n[[pool]]\n",
                 "\n%%\n{\"version\":1,\n",
                 "\nEND\n\nIt answers, with status 0:\n",
                 "\njobs 6, units 6, refused 0\n",
+            ],
+        ),
+        (
+            &["sizing", "refute", "--help"],
+            [
+                "\nUsage: sizing refute [--states N] [--bundle] PLAN\n       sizing refute [--states N] [--bundle] < PLAN\n",
+                "--states <N>",
+                "\nsizing refute <<'END'\n[[pool]]\n",
+                "\nEND\n\nIt answers, with status 1:\n",
+                "\nrefused by pages, after 7 events of 2 clients\n",
+                "\npool pages: threads 1 of 1, idle 1, queued 1 of 1\n",
             ],
         ),
     ];

@@ -21,3 +21,7 @@ mod pools;
 mod stairs;
 #[cfg(test)]
 mod told_notes;
+#[cfg(test)]
+mod witnesses;
+#[cfg(test)]
+mod words_and_files;

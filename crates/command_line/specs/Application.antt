@@ -5,15 +5,34 @@ use Rattle.clap.specs.declared.builder.action.ArgAction.TheVariants.{Set, SetTru
 use Rattle.clap.specs.declared.builder.value_parser.ValueParser.TheVariants as parser
 use Rattle.command_line.specs.declared.command.TheConstants.{DEFAULT_WORKERS, MOST_ROUNDS, MOST_STATES, MOST_WORKERS}
 
--- the subcommands that have no option
+-- an argument that names a file
+abbrev pub file_argument : Text → Rule
+file_argument id = record (new_rule id) { action = Some Set; value_names = 1 }
+
+-- the file of the plan, or of all texts
+abbrev pub plan_argument : Rule
+plan_argument = file_argument (codes "PLAN")
+
+-- the file of what stands behind the plan
+abbrev pub second_argument : Rule
+second_argument = file_argument (codes "SECOND")
+
+-- a subcommand that reads a plan
+abbrev pub of_plan : Text → App
+of_plan name = with_rule (new_app name) plan_argument
+
+-- a subcommand that reads a plan and what stands behind it
+abbrev pub of_both : Text → App
+of_both name = with_rule (of_plan name) second_argument
+
 abbrev pub replay_shape : Shape
-replay_shape = (new_app (codes "replay")).top
+replay_shape = (of_both (codes "replay")).top
 
 abbrev pub check_shape : Shape
-check_shape = (new_app (codes "check")).top
+check_shape = (of_both (codes "check")).top
 
 abbrev pub explain_shape : Shape
-explain_shape = (new_app (codes "explain")).top
+explain_shape = (of_both (codes "explain")).top
 
 -- the option `--ID N`, for one whole number of this range
 abbrev pub number_option : Text → ℕ → ℕ → Rule
@@ -24,28 +43,28 @@ abbrev pub workers_option : Rule
 workers_option = record (number_option (codes "workers") 1 MOST_WORKERS) { defaults = decimal DEFAULT_WORKERS ∷ [] }
 
 abbrev pub certify_shape : Shape
-certify_shape = (with_rule (new_app (codes "certify")) workers_option).top
+certify_shape = (with_rule (of_plan (codes "certify")) workers_option).top
 
 -- whether to write a bundle
 abbrev pub bundle_option : Rule
 bundle_option = record (new_rule (codes "bundle")) { long = Some (codes "bundle"); action = Some SetTrue }
 
 abbrev pub fit_shape : Shape
-fit_shape = (with_rule (new_app (codes "fit")) bundle_option).top
+fit_shape = (with_rule (of_plan (codes "fit")) bundle_option).top
 
 -- how often each repeating client goes through its body, which must be said
 abbrev pub rounds_option : Rule
 rounds_option = record (number_option (codes "rounds") 1 MOST_ROUNDS) { required = true }
 
 abbrev pub run_shape : Shape
-run_shape = (with_rule (new_app (codes "run")) rounds_option).top
+run_shape = (with_rule (of_both (codes "run")) rounds_option).top
 
 -- how many states a search for a witness may go through
 abbrev pub states_option : Rule
 states_option = record (number_option (codes "states") 1 MOST_STATES) { defaults = codes "100000" ∷ [] }
 
 abbrev pub refute_shape : Shape
-refute_shape = (with_rule (with_rule (new_app (codes "refute")) states_option) bundle_option).top
+refute_shape = (with_rule (with_rule (of_plan (codes "refute")) states_option) bundle_option).top
 
 -- the program, with a subcommand for each command
 abbrev pub sizing : App

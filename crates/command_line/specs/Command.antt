@@ -10,6 +10,7 @@ use Rattle.clap.specs.declared.builder.value_parser.ValueParser.TheVariants as p
 use Rattle.clap.specs.declared.error.kind.ErrorKind.TheVariants.{ValueValidation}
 use Rattle.command_line.specs.Application.{sizing}
 use Rattle.command_line.specs.declared.command.TheConstants.{MOST_ROUNDS, MOST_STATES, MOST_WORKERS}
+use Rattle.command_line.specs.declared.command.Asked.{Asked}
 use Rattle.command_line.specs.declared.command.Command.{Command}
 use Rattle.command_line.specs.declared.command.Command.TheVariants.{Replay, Check, Explain, Certify, Fit, Run, Refute}
 use Rattle.command_line.specs.declared.command.Wanted.TheVariants.{Sizes, Bundle}
@@ -61,6 +62,23 @@ command_among = option_and_then command_named
 -- the command that `clap` makes of the words
 abbrev pub command_of : List Text → Option Command
 command_of words = command_among (subcommand_of sizing words)
+
+-- the two files that the rows of a subcommand name, where one was entered
+abbrev pub files_in : Option (List Row) → Option Text × Option Text
+files_in None = (None, None)
+files_in (Some rows) = (first_of (codes "PLAN") rows, first_of (codes "SECOND") rows)
+
+-- those of the subcommand that was entered
+abbrev pub files_among : Option (Text × List Row) → Option Text × Option Text
+files_among entered = files_in (option_map (λ entry. entry.1) entered)
+
+-- the files that the words name: of the plan, or of all texts, and of what stands behind the plan
+abbrev pub files_of : List Text → Option Text × Option Text
+files_of words = files_among (subcommand_of sizing words)
+
+-- those that were read from the words
+abbrev pub files_asked : Asked → Option Text × Option Text
+files_asked asked = (option_map (λ name. name.now) asked.first, option_map (λ name. name.now) asked.second)
 
 -- a subcommand was entered that names no command with the numbers that it has
 abbrev pub is_out_of_range : Option (Text × List Row) → Bool

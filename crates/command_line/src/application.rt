@@ -2,10 +2,10 @@
 ghost use Rattle.std.specs.Prelude.{◌≡◌, IfOk, false, codes};
 ghost use Rattle.clap.specs.Words.{app_of, new_app, rule_of, shape_of};
 ghost use Rattle.clap.specs.declared.builder.command.Command.TheViews.{out-Command as fields_of};
-ghost use Rattle.command_line.specs.Application.{bundle_option, certify_shape, check_shape, explain_shape, fit_shape, number_option, refute_shape, replay_shape, rounds_option, run_shape, sizing, states_option, workers_option};
+ghost use Rattle.command_line.specs.Application.{bundle_option, certify_shape, check_shape, explain_shape, file_argument, fit_shape, number_option, refute_shape, replay_shape, rounds_option, run_shape, sizing, states_option, workers_option};
 
 use crate::command::{MOST_ROUNDS, MOST_STATES, MOST_WORKERS};
-use crate::help;
+use crate::{help, search_help};
 use clap::builder::ValueParser;
 use clap::{Arg, ArgAction, Command};
 use std::alloc::{AllocError, Global};
@@ -15,9 +15,9 @@ pub(crate) fn application<'a>(alloc: Global) -> Result<Command<'a>, AllocError>
     ensures { IfOk result (λ made. app_of made ≡ sizing) }
 {
     program(alloc)
-        .subcommand(replay(alloc))?
-        .subcommand(check(alloc))?
-        .subcommand(explain(alloc))?
+        .subcommand(replay(alloc)?)?
+        .subcommand(check(alloc)?)?
+        .subcommand(explain(alloc)?)?
         .subcommand(certify(alloc)?)?
         .subcommand(fit(alloc)?)?
         .subcommand(run(alloc)?)?
@@ -34,9 +34,9 @@ fn program<'a>(alloc: Global) -> Command<'a>
         .after_help(help::SIZING_NOTES)
 }
 
-fn replay<'a>(alloc: Global) -> Command<'a>
-    ensures shape { shape_of result ≡ replay_shape }
-    ensures local { (fields_of result).has_globals ≡ false }
+fn replay<'a>(alloc: Global) -> Result<Command<'a>, AllocError>
+    ensures shape { IfOk result (λ made. shape_of made ≡ replay_shape) }
+    ensures local { IfOk result (λ made. (fields_of made).has_globals ≡ false) }
 {
     subcommand(
         alloc,
@@ -45,11 +45,13 @@ fn replay<'a>(alloc: Global) -> Command<'a>
         help::REPLAY_USAGE,
         help::REPLAY_NOTES,
     )
+    .arg(plan(alloc))?
+    .arg(second(alloc))
 }
 
-fn check<'a>(alloc: Global) -> Command<'a>
-    ensures shape { shape_of result ≡ check_shape }
-    ensures local { (fields_of result).has_globals ≡ false }
+fn check<'a>(alloc: Global) -> Result<Command<'a>, AllocError>
+    ensures shape { IfOk result (λ made. shape_of made ≡ check_shape) }
+    ensures local { IfOk result (λ made. (fields_of made).has_globals ≡ false) }
 {
     subcommand(
         alloc,
@@ -58,11 +60,13 @@ fn check<'a>(alloc: Global) -> Command<'a>
         help::CHECK_USAGE,
         help::CHECK_NOTES,
     )
+    .arg(plan(alloc))?
+    .arg(second(alloc))
 }
 
-fn explain<'a>(alloc: Global) -> Command<'a>
-    ensures shape { shape_of result ≡ explain_shape }
-    ensures local { (fields_of result).has_globals ≡ false }
+fn explain<'a>(alloc: Global) -> Result<Command<'a>, AllocError>
+    ensures shape { IfOk result (λ made. shape_of made ≡ explain_shape) }
+    ensures local { IfOk result (λ made. (fields_of made).has_globals ≡ false) }
 {
     subcommand(
         alloc,
@@ -71,6 +75,34 @@ fn explain<'a>(alloc: Global) -> Command<'a>
         help::EXPLAIN_USAGE,
         help::EXPLAIN_NOTES,
     )
+    .arg(plan(alloc))?
+    .arg(second(alloc))
+}
+
+// The file of the plan, or of all texts.
+fn plan<'a>(alloc: Global) -> Arg<'a>
+    ensures rule { rule_of result ≡ file_argument (codes "PLAN") }
+    ensures local { result.global ≡ false }
+{
+    file(alloc, "PLAN").help(
+        "The file of the plan, or of all that standard input would give; `-` is standard input",
+    )
+}
+
+// The file of what stands behind the plan.
+fn second<'a>(alloc: Global) -> Arg<'a>
+    ensures rule { rule_of result ≡ file_argument (codes "SECOND") }
+    ensures local { result.global ≡ false }
+{
+    file(alloc, "SECOND").help("The file of what comes after the plan")
+}
+
+// The argument that names a file.
+fn file<'a>(alloc: Global, id: &'a str) -> Arg<'a>
+    ensures rule { rule_of result ≡ file_argument id.entry.now }
+    ensures local { result.global ≡ false }
+{
+    Arg::new(alloc, id).value_name(id).action(ArgAction::Set)
 }
 
 fn certify<'a>(alloc: Global) -> Result<Command<'a>, AllocError>
@@ -80,10 +112,11 @@ fn certify<'a>(alloc: Global) -> Result<Command<'a>, AllocError>
     subcommand(
         alloc,
         "certify",
-        help::CERTIFY_ABOUT,
-        help::CERTIFY_USAGE,
-        help::CERTIFY_NOTES,
+        search_help::CERTIFY_ABOUT,
+        search_help::CERTIFY_USAGE,
+        search_help::CERTIFY_NOTES,
     )
+    .arg(plan(alloc))?
     .arg(workers(alloc))
 }
 
@@ -103,21 +136,26 @@ fn fit<'a>(alloc: Global) -> Result<Command<'a>, AllocError>
     subcommand(
         alloc,
         "fit",
-        help::FIT_ABOUT,
-        help::FIT_USAGE,
-        help::FIT_NOTES,
+        search_help::FIT_ABOUT,
+        search_help::FIT_USAGE,
+        search_help::FIT_NOTES,
     )
-    .arg(bundle(alloc))
+    .arg(plan(alloc))?
+    .arg(bundle(
+        alloc,
+        "Write the plan with those sizes, and its certificate behind it",
+    ))
 }
 
-fn bundle<'a>(alloc: Global) -> Arg<'a>
+// The option `--bundle`, with what it writes.
+fn bundle<'a>(alloc: Global, help: &'a str) -> Arg<'a>
     ensures rule { rule_of result ≡ bundle_option }
     ensures local { result.global ≡ false }
 {
     Arg::new(alloc, "bundle")
         .long("bundle")
         .action(ArgAction::SetTrue)
-        .help("Write the plan with those sizes, and its certificate behind it")
+        .help(help)
 }
 
 fn run<'a>(alloc: Global) -> Result<Command<'a>, AllocError>
@@ -127,10 +165,12 @@ fn run<'a>(alloc: Global) -> Result<Command<'a>, AllocError>
     subcommand(
         alloc,
         "run",
-        help::RUN_ABOUT,
-        help::RUN_USAGE,
-        help::RUN_NOTES,
+        search_help::RUN_ABOUT,
+        search_help::RUN_USAGE,
+        search_help::RUN_NOTES,
     )
+    .arg(plan(alloc))?
+    .arg(second(alloc))?
     .arg(rounds(alloc))
 }
 
@@ -150,12 +190,16 @@ fn refute<'a>(alloc: Global) -> Result<Command<'a>, AllocError>
     subcommand(
         alloc,
         "refute",
-        help::REFUTE_ABOUT,
-        help::REFUTE_USAGE,
-        help::REFUTE_NOTES,
+        search_help::REFUTE_ABOUT,
+        search_help::REFUTE_USAGE,
+        search_help::REFUTE_NOTES,
     )
+    .arg(plan(alloc))?
     .arg(states(alloc))?
-    .arg(events(alloc))
+    .arg(bundle(
+        alloc,
+        "Write the plan with the events behind it, for `sizing replay`",
+    ))
 }
 
 fn states<'a>(alloc: Global) -> Arg<'a>
@@ -164,17 +208,7 @@ fn states<'a>(alloc: Global) -> Arg<'a>
 {
     number(alloc, "states", 1, MOST_STATES)
         .default_value("100000")
-        .help("How many states the search may go through, 1 to 10000000")
-}
-
-fn events<'a>(alloc: Global) -> Arg<'a>
-    ensures rule { rule_of result ≡ bundle_option }
-    ensures local { result.global ≡ false }
-{
-    Arg::new(alloc, "bundle")
-        .long("bundle")
-        .action(ArgAction::SetTrue)
-        .help("Write the plan with the events behind it, for `sizing replay`")
+        .help("How much work the search may do, in states of some 200 steps each, 1 to 10000000")
 }
 
 // The option `--ID N`, for one whole number of this range.

@@ -1,6 +1,6 @@
 //! The commands, and the words that name them.
-ghost use Rattle.std.specs.Prelude.{◌≡◌, IfOk, IfSome, codes, map};
-ghost use Rattle.clap.specs.Words.{FailsBy, found_of, rows_of, subcommand_rows_of};
+ghost use Rattle.std.specs.Prelude.{◌≡◌, IfOk, IfSome, codes, map, option_map};
+ghost use Rattle.clap.specs.Words.{FailsBy, first_of, found_of, rows_of, subcommand_rows_of};
 ghost use Rattle.command_line.specs.Command as spec;
 
 use crate::application::application;
@@ -19,7 +19,7 @@ pub const DEFAULT_WORKERS: u64 = 4;
 /// The most rounds that a run may have.
 pub const MOST_ROUNDS: u64 = 1_000_000;
 
-/// The most states that a search for a witness may be given.
+/// The most states whose work a search for a witness may be given.
 pub const MOST_STATES: u64 = 10_000_000;
 
 /// What the program is asked to do.
@@ -48,11 +48,23 @@ pub enum Command {
     },
     /// Looks for events that show that a plan is wrong.
     Refute {
-        /// How many states the search may go through, 1 to 10,000,000, and 100,000 where it is not said.
+        /// How much work the search may do, in states of some 200 steps each, 1 to 10,000,000, and 100,000 where it is not said.
         states: usize,
         /// What is written of a witness.
         shown: Shown,
     },
+}
+
+/// What the words of a command line ask.
+#[derive(Clone, Copy, Debug, PartialEq, Eq)]
+pub struct Asked<'a> {
+    /// What to do.
+    pub command: Command,
+    /// The file of the command's texts, or, where there is a second one, of the plan. Standard input has them where it is not
+    /// said, and where it is `-`.
+    pub first: Option<&'a str>,
+    /// The file of what stands behind the plan.
+    pub second: Option<&'a str>,
 }
 
 /// What is written of sizes that were found.
@@ -81,9 +93,10 @@ pub enum Shown {
 ///
 /// Words that `clap` refuses, and a request for help: the `Display` of the error is `clap`'s own
 /// text for the user. Out of memory, where the error's `kind` is `ErrorKind::OutOfMemory`.
-pub fn read_words(alloc: Global, words: &[&str]) -> Result<Option<Command>, Error>
-    ensures command { IfOk result (λ found. found ≡ spec.command_of (map (λ word. word.now) words.now)) }
-    ensures in_range { IfOk result (λ found. IfSome found spec.IsInRange) }
+pub fn read_words<'a>(alloc: Global, words: &'a [&'a str]) -> Result<Option<Asked<'a>>, Error>
+    ensures command { IfOk result (λ found. option_map (λ asked. asked.command) found ≡ spec.command_of (map (λ word. word.now) words.now)) }
+    ensures files { IfOk result (λ found. IfSome found (λ asked. spec.files_asked asked ≡ spec.files_of (map (λ word. word.now) words.now))) }
+    ensures in_range { IfOk result (λ found. IfSome found (λ asked. spec.IsInRange asked.command)) }
     ensures fails { FailsBy (spec.faults_of (map (λ word. word.now) words.now)) result }
 {
     let mut sizing = application(alloc)?;
@@ -91,7 +104,29 @@ pub fn read_words(alloc: Global, words: &[&str]) -> Result<Option<Command>, Erro
     if is_out_of_range(&matches) {
         return Err(sizing.error(ErrorKind::ValueValidation, "a number is out of its range")?);
     }
-    Ok(command_among(&matches))
+    Ok(asked_among(&matches))
+}
+
+// What the subcommand that the parse entered asks.
+fn asked_among<'a>(matches: &ArgMatches<'a>) -> Option<Asked<'a>>
+    ensures command { option_map (λ asked. asked.command) result ≡ spec.command_among (subcommand_rows_of matches.now) }
+    ensures files { IfSome result (λ asked. spec.files_asked asked ≡ spec.files_among (subcommand_rows_of matches.now)) }
+    ensures in_range { IfSome result (λ asked. spec.IsInRange asked.command) }
+{
+    let command = command_among(matches)?;
+    let (_, options) = matches.subcommand()?;
+    Some(Asked {
+        command,
+        first: file_named(options, "PLAN"),
+        second: file_named(options, "SECOND"),
+    })
+}
+
+// The file that this argument names, where it was given.
+fn file_named<'a>(options: &ArgMatches<'a>, id: &str) -> Option<&'a str>
+    ensures { option_map (λ name. name.now) result ≡ first_of id.now (rows_of (found_of options.now)) }
+{
+    options.get_str(id)
 }
 
 // Whether the parse entered a subcommand, and a number of it is out of its range.

@@ -10,11 +10,13 @@ pub(crate) const SIZING_USAGE: &str = "sizing <COMMAND>";
 
 /// What the program reads, where to begin, and what the exit status says.
 pub(crate) const SIZING_NOTES: &str = "\
-sizing reads standard input. For `certify`, `fit` and `refute` it is a plan. For the others it is a
-plan, and behind it a line that is exactly `%%`, and then
+sizing reads files, or standard input where none is named and where the name is `-`. For `certify`,
+`fit` and `refute` it reads a plan. For the others it reads a plan and a second text, which is
   for `replay`                      one event a line
   for `check`, `explain` and `run`  a certificate
-It answers on standard output. To begin, paste the example of `sizing certify --help` into a shell.
+Both are in one text where there is a line between them that is exactly `%%`, and standard input has
+them so. Answers go to standard output. To begin, paste the example of `sizing certify --help` into
+a shell.
 
 Exit status:
   0  yes, or done
@@ -28,7 +30,9 @@ Exit status:
 pub(crate) const REPLAY_ABOUT: &str = "Replays events on a plan, and says what came of each";
 
 /// How `replay` is called.
-pub(crate) const REPLAY_USAGE: &str = "sizing replay < INPUT";
+pub(crate) const REPLAY_USAGE: &str = "\
+sizing replay PLAN EVENTS
+       sizing replay < INPUT";
 
 /// What `replay` reads and answers, with an example.
 pub(crate) const REPLAY_NOTES: &str = "\
@@ -96,7 +100,9 @@ pub(crate) const CHECK_ABOUT: &str =
     "Says whether a certificate shows that no submit is ever refused and no jobs starve";
 
 /// How `check` is called.
-pub(crate) const CHECK_USAGE: &str = "sizing check < INPUT";
+pub(crate) const CHECK_USAGE: &str = "\
+sizing check PLAN CERTIFICATE
+       sizing check < INPUT";
 
 /// What `check` reads and answers, with an example.
 pub(crate) const CHECK_NOTES: &str = "\
@@ -164,7 +170,9 @@ pub(crate) const EXPLAIN_ABOUT: &str =
     "Lists the conditions of a certificate that fail, each with both its sides";
 
 /// How `explain` is called.
-pub(crate) const EXPLAIN_USAGE: &str = "sizing explain < INPUT";
+pub(crate) const EXPLAIN_USAGE: &str = "\
+sizing explain PLAN CERTIFICATE
+       sizing explain < INPUT";
 
 /// What `explain` reads and answers, with an example.
 pub(crate) const EXPLAIN_NOTES: &str = "\
@@ -213,237 +221,3 @@ It answers, with status 1:
 
 pool pages standing, total: S2 2 above 1
 failing 1";
-
-/// What `certify` does, in the list of commands and at the top of its own help.
-pub(crate) const CERTIFY_ABOUT: &str =
-    "Looks for a certificate that shows that no submit is ever refused and no jobs starve";
-
-/// How `certify` is called.
-pub(crate) const CERTIFY_USAGE: &str = "sizing certify [--workers N] < PLAN";
-
-/// What `certify` reads and answers, with an example.
-pub(crate) const CERTIFY_NOTES: &str = "\
-PLAN is a plan in TOML, and nothing behind it.
-
-The answer is the plan, a line that is exactly `%%`, and a certificate in JSON, to which
-`sizing check` answers yes. Or it is one line:
-  no certificate found           none was found, which does not say that the plan is unsafe
-  no certificate: text too long  one was found, and its text has more bytes than a certificate may
-
-Exit status:
-  0  a certificate was found
-  1  none was, or its text is too long
-  2  bad text in PLAN, or bad arguments
-  3  memory ran out, or reading, writing or a thread failed
-
-Example, to be pasted into a shell:
-
-sizing certify <<'END' | sizing check
-[[pool]]
-name = \"pages\"
-core = 1
-max = 1
-queue = 2
-
-[[class]]
-name = \"render\"
-pool = \"pages\"
-body = [\"work 1\"]
-
-[[client]]
-name = \"browser\"
-count = 2
-repeat = true
-body = [\"submit render as page\", \"get page\"]
-END
-
-It answers, with status 0:
-
-yes
-pool pages: standing 2 of 2, blocked 0 of 0";
-
-/// What `fit` does, in the list of commands and at the top of its own help.
-pub(crate) const FIT_ABOUT: &str = "Says which sizes to change so that there is a certificate";
-
-/// How `fit` is called.
-pub(crate) const FIT_USAGE: &str = "sizing fit [--bundle] < PLAN";
-
-/// What `fit` reads and answers, with an example.
-pub(crate) const FIT_NOTES: &str = "\
-PLAN is a plan in TOML, and nothing behind it.
-
-The answer has a line for each pool, as
-  pool NAME: core C, max M, queue Q
-with ` (now X)` behind each number that changes, where X is what PLAN says. The last line is
-`changes N`, where N is how many numbers change. With `--bundle` it is the plan of those sizes, a
-line that is exactly `%%`, and a certificate in JSON, to which `sizing check` answers yes.
-
-No number falls. Of sizes that are not below those of PLAN, no smaller core or maximum would do for
-the certificate that was found, and with these maximums no smaller queue; another certificate may
-need less.
-
-Or the answer is the line `no fitting sizes found`, and one that says why:
-  class NAME submits itself
-  client NAME action I: submits for ever, never got
-  class NAME action I: submits for ever, never got
-  pool NAME: core above 1000000
-  pool NAME: queue above 1000000
-  no cause was found
-That no sizes were found does not say that the plan is unsafe. Actions are numbered from 0. With
-`--bundle` it may also be the line
-  no bundle: text too long
-
-Exit status:
-  0  no number changes, or a bundle was written
-  1  numbers change, or there is a line that says why nothing was found or written
-  2  bad text in PLAN, or bad arguments
-  3  memory ran out, or reading, writing or a thread failed
-
-Example, to be pasted into a shell. Both clients can submit while the pool's worker is idle and has
-taken neither job, and the queue has room for one.
-
-sizing fit <<'END'
-[[pool]]
-name = \"pages\"
-core = 1
-max = 1
-queue = 1
-
-[[class]]
-name = \"render\"
-pool = \"pages\"
-body = [\"work 1\"]
-
-[[client]]
-name = \"browser\"
-count = 2
-repeat = true
-body = [\"submit render as page\", \"get page\"]
-END
-
-It answers, with status 1:
-
-pool pages: core 1, max 1, queue 2 (now 1)
-changes 1";
-
-/// What `run` does, in the list of commands and at the top of its own help.
-pub(crate) const RUN_ABOUT: &str =
-    "Runs a certified plan on threads, and counts its jobs and their units of work";
-
-/// How `run` is called.
-pub(crate) const RUN_USAGE: &str = "sizing run --rounds N < INPUT";
-
-/// What `run` reads and answers, with an example.
-pub(crate) const RUN_NOTES: &str = "\
-INPUT is what `sizing check` reads: a plan in TOML, a line that is exactly `%%`, and a certificate
-in JSON. Where `sizing check` answers yes, there is a thread for each client, and for each pool as
-many as its maximum, and they make the events of the plan: each repeating client goes through its
-body N times, the others once, and every job is finished. No submit is refused, whatever the
-threads do. A unit of work is counted and takes no time. A run has at most 64 clients, at most 64
-threads of pools, and at most 1000000 events, of which a job has one for each of its actions and 2
-more, and a client one for each of its actions and one between two rounds.
-
-The answer is one line:
-  jobs N, units N, refused 0   how many jobs there were, and how much work of clients and jobs
-  no                           `sizing check` answers no
-  fault 40 RunTooLarge         the run would have more than it may have, and was not begun
-
-Exit status:
-  0  the plan was run
-  1  no
-  2  bad text in INPUT, a run that is too large, or bad arguments
-  3  memory ran out, or reading, writing or running failed
-
-Example, to be pasted into a shell. It is that of `sizing check --help`: each of the two clients
-submits a job in each of its rounds.
-
-sizing run --rounds 3 <<'END'
-[[pool]]
-name = \"pages\"
-core = 1
-max = 1
-queue = 2
-
-[[class]]
-name = \"render\"
-pool = \"pages\"
-body = [\"work 1\"]
-
-[[client]]
-name = \"browser\"
-count = 2
-repeat = true
-body = [\"submit render as page\", \"get page\"]
-%%
-{\"version\":1,
- \"pools\":[{\"standing\":{\"workers\":[0],\"classes\":[[1,1,1,1]],\"clients\":[[1,0,1]]},
-           \"blocked\":{\"workers\":[0],\"classes\":[[0,0,0,0]],\"clients\":[[0,0,0]]}}],
- \"ranks\":{\"pools\":[0],\"reach\":[0],\"levels\":[0]}}
-END
-
-It answers, with status 0:
-
-jobs 6, units 6, refused 0";
-
-/// What `refute` does, in the list of commands and at the top of its own help.
-pub(crate) const REFUTE_ABOUT: &str =
-    "Looks for events by which a submit is refused, or jobs wait for each other for ever";
-
-/// How `refute` is called.
-pub(crate) const REFUTE_USAGE: &str = "sizing refute [--states N] [--bundle] < PLAN";
-
-/// What `refute` reads and answers, with an example.
-pub(crate) const REFUTE_NOTES: &str = "\
-PLAN is a plan in TOML. First a certificate is looked for; where one is found the plan is safe, and
-no such events are there. Else the answer is a witness: events from the plan's start, each of them
-possible, of which the last is a submit that is refused, or behind which jobs wait only for each
-other. Its first line says how it ends:
-  refused by POOL, after N events of M clients
-  stuck for ever: J jobs wait only for each other, after N events of M clients
-  stuck now: J jobs wait only for each other, after N events of M clients
-Behind it stand what happens, with equal turns told once, how the pools then stand, and who waits
-for whom. No certificate accepts a plan that has a witness.
-
-Or the answer is `not decided`: no certificate and no witness was found, which says nothing of the
-plan. A larger N lets the search go further.
-
-With --bundle the plan is written, and behind it a line `%%` and the events, for `sizing replay`.
-
-Exit status:
-  0  a certificate was found, so the plan is safe; with --bundle, a witness was written
-  1  a witness was found; with --bundle, none was written
-  2  bad text in PLAN, or bad arguments
-  3  memory ran out, or reading, writing or a thread failed
-  4  not decided
-
-Example, to be pasted into a shell. The last submit is refused although the pool's worker is idle:
-it has not yet taken the job that is queued.
-
-sizing refute <<'END'
-[[pool]]
-name = \"pages\"
-core = 1
-max = 1
-queue = 1
-
-[[class]]
-name = \"render\"
-pool = \"pages\"
-body = [\"work 1\"]
-
-[[client]]
-name = \"browser\"
-count = 2
-repeat = true
-body = [\"submit render as page\", \"get page\"]
-END
-
-It answers, with status 1:
-
-refused by pages, after 7 events of 2 clients
-  client browser: submits render (a new thread starts it)
-  job render: works, is done
-  client browser: gets its result, begins again
-  client browser: submits render (queued)
-  client browser: submits render (refused by pages)
-pool pages: threads 1 of 1, idle 1, queued 1 of 1";

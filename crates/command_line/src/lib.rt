@@ -10,7 +10,9 @@ mod command;
 mod flag;
 mod help;
 mod number;
+mod search_help;
 
 pub use command::{
-    Command, DEFAULT_WORKERS, MOST_ROUNDS, MOST_STATES, MOST_WORKERS, Shown, Wanted, read_words,
+    Asked, Command, DEFAULT_WORKERS, MOST_ROUNDS, MOST_STATES, MOST_WORKERS, Shown, Wanted,
+    read_words,
 };

@@ -1,78 +1,73 @@
 //! `sizing`: what the bounded thread pools of a plan do.
 #![tactic(auto)]
 
-ghost use Rattle.std.specs.Prelude.{IfOk};
-ghost use Rattle.command_line.specs.Command.{IsInRange};
-
 use clap::error::ErrorKind;
-use sizing_cli::{Command, ServeFault, Status, StdSink, StdSource, read_words, serve};
+use faults::Head;
+use faults::number::READ_FAILED;
+use sizing_cli::{ServeFault, StdSink, StdSource};
+use sizing_words::{StdFiles, WordsFault, serve_words};
 use std::alloc::AllocError;
 use std::process::ExitCode;
 use std::{env, io};
 
-/// The exit status of bad arguments or bad text.
+/// The exit status of words that are no text.
 const USAGE: u8 = 2;
-/// The exit status where there is no answer.
-const NO_ANSWER: u8 = 3;
 
 fn main(rt: HostRuntime) -> ExitCode {
-    match asked(&rt) {
-        Ok(Ok(command)) => {
-            let mut source = StdSource::new(rt.stdin());
-            let mut sink = StdSink::new(rt.stdout());
-            ended(&rt, serve(&rt, rt.alloc(), command, &mut source, &mut sink))
+    let words = match words_of(&rt) {
+        Ok(words) => words,
+        Err(error) => return unread_words(&rt, error.kind()),
+    };
+    let mut parts: Vec<&str> = Vec::new(rt.alloc());
+    for word in &words {
+        if parts.push(word.as_str()).is_err() {
+            return ended(&rt, &WordsFault::from(AllocError));
         }
-        Ok(Err(status)) => status,
-        Err(error) => unread_words(&rt, error.kind()),
+    }
+    let mut source = StdSource::new(rt.stdin());
+    let mut sink = StdSink::new(rt.stdout());
+    let files = StdFiles::new(&rt);
+    match serve_words(&rt, rt.alloc(), &parts, &files, &mut source, &mut sink) {
+        Ok(status) => ExitCode::from(status.code()),
+        Err(fault) => ended(&rt, &fault),
     }
 }
 
-/// Reads the words of the command line: the command, or the exit status where they name none.
-fn asked(rt: &HostRuntime) -> io::Result<Result<Command, ExitCode>>
-    ensures { IfOk result (λ asked. IfOk asked IsInRange) }
-{
+/// The words of the command line.
+fn words_of(rt: &HostRuntime) -> io::Result<Vec<String>> {
     let mut words: Vec<String> = Vec::new(rt.alloc());
     for word in env::args(rt)? {
         words.push(word)?;
     }
-    let mut parts: Vec<&str> = Vec::new(rt.alloc());
-    for word in &words {
-        parts.push(word.as_str())?;
-    }
-    match read_words(rt.alloc(), &parts) {
-        Ok(Some(command)) => Ok(Ok(command)),
-        Ok(None) => {
-            let _ = eprintln!(rt; "no command");
-            Ok(Err(ExitCode::from(USAGE)))
-        }
-        Err(error) if error.kind() == ErrorKind::OutOfMemory => Ok(Err(out_of_memory(rt))),
-        Err(error) => {
-            let _ = eprint!(rt; "{error}");
-            Ok(Err(ExitCode::from(USAGE)))
-        }
-    }
+    Ok(words)
 }
 
 /// The exit status where the words themselves could not be had.
 fn unread_words(rt: &impl Eprint, kind: io::ErrorKind) -> ExitCode {
     if kind == io::ErrorKind::OutOfMemory {
-        return out_of_memory(rt);
+        return ended(rt, &WordsFault::from(AllocError));
     }
     let _ = eprintln!(rt; "the words of the command line are to be UTF-8");
     ExitCode::from(USAGE)
 }
 
-fn out_of_memory(rt: &impl Eprint) -> ExitCode {
-    ended(rt, Err(ServeFault::from(AllocError)))
+/// The exit status of a fault, which is told. Where standard error fails too, the status tells it alone.
+fn ended(rt: &impl Eprint, fault: &WordsFault<'_>) -> ExitCode {
+    let _ = tell(rt, fault);
+    ExitCode::from(fault.code())
 }
 
-/// The exit status of what was served. A fault is told; where standard error fails too, the status tells it alone.
-fn ended(rt: &impl Eprint, served: Result<Status, ServeFault>) -> ExitCode {
-    match served {
-        Ok(status) => ExitCode::from(status.code()),
-        Err(fault) => {
-            let _ = eprintln!(rt; "{fault}");
-            ExitCode::from(NO_ANSWER)
+fn tell(rt: &impl Eprint, fault: &WordsFault<'_>) -> io::Result<()> {
+    match fault {
+        WordsFault::Words(error) if error.kind() == ErrorKind::OutOfMemory => {
+            eprintln!(rt; "{}", ServeFault::from(AllocError))
         }
+        WordsFault::Words(error) => eprint!(rt; "{error}"),
+        WordsFault::NoCommand => eprintln!(rt; "no command"),
+        WordsFault::InputTwice => {
+            eprintln!(rt; "standard input has one of the two texts, not both: name a file for the other")
+        }
+        WordsFault::Unread(name) => eprintln!(rt; "{} at {name}", Head(READ_FAILED)),
+        WordsFault::Served(fault) => eprintln!(rt; "{fault}"),
     }
 }

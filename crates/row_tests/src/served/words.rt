@@ -1,14 +1,26 @@
 //! The words of the command line.
 
-use sizing_cli::read_words;
+use command_line::{Asked, read_words};
 use std::alloc::{AllocError, Global};
 
-/// What the words ask for, each with a newline behind it: a command, none, or how they are refused.
+/// What the words ask for, each with a newline behind it: a command and the files that are named, none, or how they are refused.
 pub fn asked(alloc: Global, lines: &[u8]) -> Result<String, AllocError> {
     let lines = String::from_utf8_lossy(alloc, lines)?;
     let words = lines.lines().collect::<Vec<&str>>(alloc)?;
     match read_words(alloc, &words) {
-        Ok(command) => format!(in alloc; "{command:?}"),
+        Ok(Some(asked)) => told(alloc, &asked),
+        Ok(None) => String::from_str(alloc, "None"),
         Err(error) => format!(in alloc; "{:?}", error.kind()),
     }
+}
+
+fn told(alloc: Global, asked: &Asked<'_>) -> Result<String, AllocError> {
+    let mut text = format!(in alloc; "Some({:?})", asked.command)?;
+    if let Some(first) = asked.first {
+        write!(text, ", first {first}")?;
+    }
+    if let Some(second) = asked.second {
+        write!(text, ", second {second}")?;
+    }
+    Ok(text)
 }

@@ -8,11 +8,11 @@ pub returns : goal.returns
 returns c =
     let alone : app_of c.program.result ≡ new_app (codes "sizing") = c.program.ensures in
     let one : app_of c.in_ok-subcommand.field-0 ≡ with_subcommand (new_app (codes "sizing")) replay_shape =
-    c.in_ok-subcommand.ensures.shape c.replay.ensures.local ∙ ap₂ with_subcommand alone c.replay.ensures.shape in
+    c.in_ok-subcommand.ensures.shape c.in_ok-replay.ensures.local ∙ ap₂ with_subcommand alone c.in_ok-replay.ensures.shape in
     let two : app_of c.in_ok-subcommand-2.field-0 ≡ with_subcommand (with_subcommand (new_app (codes "sizing")) replay_shape) check_shape =
-    c.in_ok-subcommand-2.ensures.shape c.check.ensures.local ∙ ap₂ with_subcommand one c.check.ensures.shape in
+    c.in_ok-subcommand-2.ensures.shape c.in_ok-check.ensures.local ∙ ap₂ with_subcommand one c.in_ok-check.ensures.shape in
     let three : app_of c.in_ok-subcommand-3.field-0 ≡ with_subcommand (with_subcommand (with_subcommand (new_app (codes "sizing")) replay_shape) check_shape) explain_shape =
-    c.in_ok-subcommand-3.ensures.shape c.explain.ensures.local ∙ ap₂ with_subcommand two c.explain.ensures.shape in
+    c.in_ok-subcommand-3.ensures.shape c.in_ok-explain.ensures.local ∙ ap₂ with_subcommand two c.in_ok-explain.ensures.shape in
     let four : app_of c.in_ok-subcommand-4.field-0 ≡ with_subcommand (with_subcommand (with_subcommand (with_subcommand (new_app (codes "sizing")) replay_shape) check_shape) explain_shape) certify_shape =
     c.in_ok-subcommand-4.ensures.shape c.in_ok-certify.ensures.local ∙ ap₂ with_subcommand three c.in_ok-certify.ensures.shape in
     let five : app_of c.in_ok-subcommand-5.field-0 ≡ with_subcommand (with_subcommand (with_subcommand (with_subcommand (with_subcommand (new_app (codes "sizing")) replay_shape) check_shape) explain_shape) certify_shape) fit_shape =

@@ -1,0 +1,146 @@
+//! Which lists of events are a witness, and how it ends.
+
+use plan_text::read_plan;
+use plan_witnesses::{Event, Vector, Witness, confirmed};
+use std::alloc::{AllocError, Global};
+use std::test::*;
+
+const TWO_CLIENTS: &str = "
+    pool = [{ name = 'p', core = 1, max = 1, queue = 1 }]
+    class = [{ name = 'a', pool = 'p', body = ['work 1'] }]
+    client = [{ name = 'c', count = 2, repeat = true, body = ['submit a as x', 'get x'] }]
+";
+
+// A job that waits for another one of its own pool, which has one thread.
+const NESTED: &str = "
+    pool = [{ name = 'p', core = 1, max = 1, queue = 5 }]
+    class = [
+        { name = 'outer', pool = 'p', body = ['submit inner as x', 'get x'] },
+        { name = 'inner', pool = 'p', body = ['work 1'] },
+    ]
+    client = [{ name = 'c', count = 1, repeat = true, body = ['submit outer as x', 'get x'] }]
+";
+
+// The same in a pool that may have eight threads, with so many clients.
+fn unused_max(alloc: Global, count: u64) -> Result<String, AllocError> {
+    format!(in alloc;
+        "
+        pool = [{{ name = 'p', core = 1, max = 8, queue = 5 }}]
+        class = [
+            {{ name = 'outer', pool = 'p', body = ['submit inner as x', 'get x'] }},
+            {{ name = 'inner', pool = 'p', body = ['work 1'] }},
+        ]
+        client = [{{ name = 'c', count = {count}, repeat = true, body = ['submit outer as x', 'get x'] }}]
+    "
+    )
+}
+
+// A round of client 0, its next submit, which is queued, and that of client 1, which is refused while the thread is idle.
+const REFUSED: [Event; 7] = [
+    Event::Client(0),
+    Event::Job(0),
+    Event::Job(0),
+    Event::Client(0),
+    Event::Client(0),
+    Event::Client(0),
+    Event::Client(1),
+];
+
+// The outer job starts, and submits the inner one, which is queued.
+const STUCK: [Event; 2] = [Event::Client(0), Event::Job(0)];
+
+// The weights of a standing vector of the nested plans: 2 in all, of a queue of 5.
+fn standing(alloc: Global, client: u64) -> Result<Vector, AllocError> {
+    let mut classes = Vec::new(alloc);
+    classes.push(Vec::from_slice(alloc, &[2, 2, 1, 2, 2])?)?;
+    classes.push(Vec::from_slice(alloc, &[1, 1, 1, 1])?)?;
+    let mut clients = Vec::new(alloc);
+    clients.push(Vec::from_slice(alloc, &[client, 0, client])?)?;
+    Ok(Vector {
+        workers: Vec::from_slice(alloc, &[0])?,
+        classes,
+        clients,
+    })
+}
+
+fn told(alloc: Global, found: Option<Witness>) -> Result<String, AllocError> {
+    match found {
+        Some(witness) => {
+            let events = witness.events.len();
+            format!(in alloc; "{:?} after {events}", witness.ending)
+        }
+        None => String::from_str(alloc, "none"),
+    }
+}
+
+/// A list is a witness where its last event is refused, or where the jobs that are named, in rising order, wait only for each
+/// other behind it; and for ever where the pool is full, or a standing vector is given that shows that it stays at core.
+#[test]
+fn lists_that_are_witnesses(rt: HostRuntime) -> Result<(), Fail> {
+    let alloc = rt.alloc();
+    let unused_max = unused_max(alloc, 1)?;
+    let cases: [(&str, &[Event], &[usize], &str); 10] = [
+        (TWO_CLIENTS, &REFUSED, &[], "Refused(0) after 7"),
+        (TWO_CLIENTS, &REFUSED[..6], &[], "none"),
+        (TWO_CLIENTS, &REFUSED[1..], &[], "none"),
+        (
+            NESTED,
+            &STUCK,
+            &[0, 1],
+            "StuckForEver([0, 1], PoolsAreFull) after 2",
+        ),
+        (NESTED, &STUCK, &[1, 0], "none"),
+        (NESTED, &STUCK, &[0, 1, 1], "none"),
+        (NESTED, &STUCK, &[0], "none"),
+        (NESTED, &STUCK, &[], "none"),
+        (NESTED, &STUCK[..1], &[0, 1], "none"),
+        (&unused_max, &STUCK, &[0, 1], "StuckNow([0, 1]) after 2"),
+    ];
+    for (text, events, members, wanted) in cases {
+        let plan = read_plan(alloc, text.as_bytes())?;
+        let events = Vec::from_slice(alloc, events)?;
+        let members = Vec::from_slice(alloc, members)?;
+        let found = confirmed(alloc, &plan, events, members, &[])?;
+        assert_eq!(rt; told(alloc, found)?.as_str(), wanted);
+    }
+    Ok(())
+}
+
+/// Events behind the first refusal are left out.
+#[test]
+fn a_witness_ends_at_its_first_refusal(rt: HostRuntime) -> Result<(), Fail> {
+    let plan = read_plan(rt.alloc(), TWO_CLIENTS.as_bytes())?;
+    let mut events = Vec::from_slice(rt.alloc(), &REFUSED)?;
+    events.push(Event::Take(0))?;
+    events.push(Event::Take(5))?;
+    let found = confirmed(rt.alloc(), &plan, events, Vec::new(rt.alloc()), &[])?;
+    assert_eq!(rt; told(rt.alloc(), found)?.as_str(), "Refused(0) after 7");
+    Ok(())
+}
+
+/// A vector whose conditions hold shows that the pool never has more than its one core thread. One whose total is above the
+/// queue of 5, as of three clients that weigh 2, or that breaks a rule, shows nothing.
+#[test]
+fn a_standing_vector_shows_that_jobs_wait_for_ever(rt: HostRuntime) -> Result<(), Fail> {
+    let alloc = rt.alloc();
+    for (count, client, wanted) in [
+        (1, 2, "StuckForEver([0, 1], PoolsStayAtCore) after 2"),
+        (2, 2, "StuckForEver([0, 1], PoolsStayAtCore) after 2"),
+        (3, 2, "StuckNow([0, 1]) after 2"),
+        (1, 3, "StuckNow([0, 1]) after 2"),
+        (1, 1, "StuckNow([0, 1]) after 2"),
+    ] {
+        let plan = read_plan(alloc, unused_max(alloc, count)?.as_bytes())?;
+        let mut vectors = Vec::new(alloc);
+        vectors.push(standing(alloc, client)?)?;
+        let events = Vec::from_slice(alloc, &STUCK)?;
+        let members = Vec::from_slice(alloc, &[0, 1])?;
+        let found = confirmed(alloc, &plan, events, members, &vectors)?;
+        assert_eq!(rt;
+            told(alloc, found)?.as_str(),
+            wanted,
+            "{count} clients that weigh {client}"
+        );
+    }
+    Ok(())
+}

@@ -1,0 +1,186 @@
+//! The words of a command line, the files that they name, and what is answered.
+
+ghost use Rattle.std.specs.Prelude.{None};
+
+use byte_streams::InputError;
+use sizing_cli::{MemorySink, MemorySource, ServeFault, Status};
+use sizing_words::{TextFiles, WordsFault, serve_words};
+use std::alloc::Global;
+use std::test::*;
+
+const PLAN: &str = "pool = [{ name = 'p', core = 1, max = 1, queue = 2 }]
+class = [{ name = 'a', pool = 'p', body = ['work 1'] }]
+client = [{ name = 'c', count = 2, repeat = true, body = ['submit a as x', 'get x'] }]";
+
+const CERT: &str = r#"{"version": 1, "pools": [
+    {"standing": {"workers": [0], "classes": [[1, 1, 1, 1]], "clients": [[1, 0, 1]]},
+     "blocked": {"workers": [0], "classes": [[0, 0, 0, 0]], "clients": [[0, 0, 0]]}}],
+    "ranks": {"pools": [0], "reach": [0], "levels": [0]}}"#;
+
+const EVENTS: &str = "client 0\nclient 0\n";
+
+// The plan has no newline at its end, and a line with `%%` gets one before it.
+const PLAN_AND_EVENTS: &str = "pool = [{ name = 'p', core = 1, max = 1, queue = 2 }]
+class = [{ name = 'a', pool = 'p', body = ['work 1'] }]
+client = [{ name = 'c', count = 2, repeat = true, body = ['submit a as x', 'get x'] }]
+%%
+client 0
+client 0
+";
+
+/// Some files, by their names.
+#[derive(Clone, Copy)]
+struct Kept;
+
+impl TextFiles for Kept {
+    ghost content = { λ _ _. None };
+
+    fn read(&self, alloc: Global, name: &str, limit: usize) -> Result<Vec<u8>, InputError> {
+        let text = match name {
+            "plan.toml" => PLAN,
+            "cert.json" => CERT,
+            "events" => EVENTS,
+            "both" => PLAN_AND_EVENTS,
+            _ => return Err(InputError::Fault),
+        };
+        let bytes = text.as_bytes();
+        Ok(Vec::from_slice(alloc, &bytes[..bytes.len().min(limit)])?)
+    }
+}
+
+const YES: &str = "yes\npool p: standing 2 of 2, blocked 0 of 0\n";
+
+const NO_STEP: &str = "1: started job 0\n2: not possible\nrefusals 0, unfinished 1\n";
+
+const SAFE: &str = "safe: a certificate was found\n";
+
+const NO_CHANGE: &str = "pool p: core 1, max 1, queue 2\nchanges 0\n";
+
+const RUN: &str = "jobs 4, units 4, refused 0\n";
+
+/// Words after the program's name, standard input, the status and what is written.
+type Case = (&'static [&'static str], &'static str, Status, &'static str);
+
+/// Texts come from the files that the words name, and from standard input where they name none, or `-`.
+#[test]
+fn texts_come_from_files(rt: HostRuntime) -> Result<(), Fail> {
+    let cases: [Case; 12] = [
+        (
+            &["sizing", "check", "plan.toml", "cert.json"],
+            "",
+            Status::Done,
+            YES,
+        ),
+        (
+            &["sizing", "check", "-", "cert.json"],
+            PLAN,
+            Status::Done,
+            YES,
+        ),
+        (
+            &["sizing", "check", "plan.toml", "-"],
+            CERT,
+            Status::Done,
+            YES,
+        ),
+        (
+            &["sizing", "explain", "plan.toml", "cert.json"],
+            "",
+            Status::Done,
+            "failing 0\n",
+        ),
+        (
+            &["sizing", "replay", "plan.toml", "events"],
+            "",
+            Status::Refused,
+            NO_STEP,
+        ),
+        (&["sizing", "replay", "both"], "", Status::Refused, NO_STEP),
+        (
+            &["sizing", "replay"],
+            PLAN_AND_EVENTS,
+            Status::Refused,
+            NO_STEP,
+        ),
+        (
+            &["sizing", "replay", "-"],
+            PLAN_AND_EVENTS,
+            Status::Refused,
+            NO_STEP,
+        ),
+        (
+            &["sizing", "replay", "plan.toml"],
+            "",
+            Status::BadText,
+            "fault 50 NoSeparator\n",
+        ),
+        (
+            &["sizing", "run", "--rounds", "2", "plan.toml", "cert.json"],
+            "",
+            Status::Done,
+            RUN,
+        ),
+        (&["sizing", "fit", "plan.toml"], "", Status::Done, NO_CHANGE),
+        (&["sizing", "refute", "plan.toml"], "", Status::Done, SAFE),
+    ];
+    for (words, given, status, written) in cases {
+        let mut source = MemorySource::new(given.as_bytes());
+        let mut sink = MemorySink::new(rt.alloc());
+        let ended = serve_words(&rt, rt.alloc(), words, &Kept, &mut source, &mut sink);
+        let text = String::from_utf8_lossy(rt.alloc(), sink.written())?;
+        assert_eq!(rt; text.as_str(), written, "{words:?}");
+        assert!(rt; matches!(ended, Ok(found) if found == status), "{words:?}");
+    }
+    Ok(())
+}
+
+/// What is told where there is no answer, with its exit status.
+#[test]
+fn words_without_an_answer(rt: HostRuntime) -> Result<(), Fail> {
+    let cases: [(&[&str], &str, u8); 9] = [
+        (
+            &["sizing", "check", "none.toml", "cert.json"],
+            "unread none.toml",
+            3,
+        ),
+        (
+            &["sizing", "check", "plan.toml", "none.json"],
+            "unread none.json",
+            3,
+        ),
+        (&["sizing", "certify", "none.toml"], "unread none.toml", 3),
+        (&["sizing", "check", "-", "-"], "input twice", 2),
+        (&["sizing", "fit", "--bundle", "--", "-x"], "unread -x", 3),
+        (&["sizing"], "no command", 2),
+        (
+            &["sizing", "chek", "plan.toml"],
+            "words InvalidSubcommand",
+            2,
+        ),
+        (
+            &["sizing", "run", "plan.toml", "cert.json"],
+            "words MissingRequiredArgument",
+            2,
+        ),
+        (&["sizing", "--help"], "words DisplayHelp", 2),
+    ];
+    for (words, wanted, code) in cases {
+        let mut source = MemorySource::new(b"");
+        let mut sink = MemorySink::new(rt.alloc());
+        let ended = serve_words(&rt, rt.alloc(), words, &Kept, &mut source, &mut sink);
+        let Err(fault) = ended else {
+            return Err(Fail::from("an answer"));
+        };
+        let told = match &fault {
+            WordsFault::Words(error) => format!(in rt.alloc(); "words {:?}", error.kind())?,
+            WordsFault::NoCommand => String::from_str(rt.alloc(), "no command")?,
+            WordsFault::InputTwice => String::from_str(rt.alloc(), "input twice")?,
+            WordsFault::Unread(name) => format!(in rt.alloc(); "unread {name}")?,
+            WordsFault::Served(ServeFault { number }) => format!(in rt.alloc(); "fault {number}")?,
+        };
+        assert_eq!(rt; told.as_str(), wanted, "{words:?}");
+        assert_eq!(rt; fault.code(), code, "{words:?}");
+        assert!(rt; sink.written().is_empty(), "{words:?}");
+    }
+    Ok(())
+}

@@ -1,0 +1,2 @@
+mod JoinedTexts
+mod KnownTexts

@@ -1,0 +1,17 @@
+//! The program from the words of its command line to its answer: which command they name, on which texts, of files or of
+//! standard input, and what is written.
+#![tactic(auto)]
+
+mod fault;
+mod joining;
+mod laws;
+mod serving;
+mod std_files;
+mod text_files;
+
+pub use fault::WordsFault;
+pub use joining::joined;
+pub use laws::joined_texts_split_again;
+pub use serving::serve_words;
+pub use std_files::StdFiles;
+pub use text_files::TextFiles;

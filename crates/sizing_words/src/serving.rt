@@ -1,0 +1,163 @@
+//! Serves the words of a command line.
+
+ghost use Rattle.std.specs.Prelude.{◌≡◌, ◌≢◌, ℕ, IfOk, IfErr, IfSome, map, take, option_map, [], is_some, true, false, None};
+ghost use Rattle.std.specs.Io.KnownBytes.{Keeps};
+ghost use Rattle.command_line.specs.Command.{IsInRange, command_of, faults_of, files_asked, files_of};
+ghost use Rattle.sizing_cli.specs.Served.{MeansSafe, WritesAnswer};
+ghost use Rattle.command_line.specs.declared.command.Command.{Command as CommandValue};
+ghost use Rattle.sizing_words.specs.Texts as spec;
+ghost use Rattle.sizing_words.specs.WordsFault.{IsFaultOf, IsOfFile, IsOfReading, IsOfTexts, is_of_sink};
+
+use crate::fault::WordsFault;
+use crate::joining::joined;
+use crate::text_files::TextFiles;
+use byte_streams::{InputError, MemorySource, Sink, Source, read_up_to};
+use command_line::{Asked, Command};
+use sizing_cli::{MOST_INPUT_BYTES, ServeFault, Status, read_words, serve};
+use std::alloc::Global;
+use std::sync::Wait;
+use std::thread::Threads;
+
+/// The name of standard input among files.
+const STANDARD_INPUT: &str = "-";
+
+/// Reads the words of a command line, of which the first is the program's name, then the texts that they name, and writes the
+/// answer of the command that they name. Texts are those of standard input, `input`, where no file is named or its name is
+/// `-`, and else of `files`: one file has all that standard input would have; of two, the first one is the plan and the second
+/// one what comes after the line `%%`.
+///
+/// # Errors
+///
+/// What each [`WordsFault`] says. Nothing was written then but a front of the answer where the sink failed.
+pub fn serve_words<'a, R: Threads + Wait + Sync, F: TextFiles, S: Source, K: Sink>(
+    rt: &R,
+    alloc: Global,
+    words: &'a [&'a str],
+    files: &F,
+    input: &mut S,
+    sink: &mut K,
+) -> Result<Status, WordsFault<'a>>
+    // What was written, and the status, are an answer that the command of the words may give to the texts that they name.
+    ensures named { IfOk result (λ _. (is_some (command_of (map (λ word. word.now) words.now)) ≡ true) × (faults_of (map (λ word. word.now) words.now) ≡ [])) }
+    ensures answered { IfOk result (λ status. IfSome (command_of (map (λ word. word.now) words.now)) (λ command. IfSome (spec.input_named (F.content files.now) (S.remaining input.old) (files_of (map (λ word. word.now) words.now))) (λ text. WritesAnswer command text status (K.written sink.old) (K.written sink.new)))) }
+    ensures safe { IfOk result (λ status. status ≡ Status.Done → IfSome (command_of (map (λ word. word.now) words.now)) (λ command. IfSome (spec.input_named (F.content files.now) (S.remaining input.old) (files_of (map (λ word. word.now) words.now))) (λ text. MeansSafe command text (K.written sink.old) (K.written sink.new)))) }
+    ensures fault { IfErr result (IsFaultOf (map (λ word. word.now) words.now)) }
+    ensures nothing { IfErr result (λ fault. is_of_sink fault ≡ false → Keeps (K.written sink.old) (K.written sink.new)) }
+{
+    let Some(asked) = read_words(alloc, words)? else {
+        return Err(WordsFault::NoCommand);
+    };
+    serve_asked(rt, alloc, asked, files, input, sink)
+}
+
+/// The same, once the words were read.
+fn serve_asked<'a, R: Threads + Wait + Sync, F: TextFiles, S: Source, K: Sink>(
+    rt: &R,
+    alloc: Global,
+    asked: Asked<'a>,
+    files: &F,
+    input: &mut S,
+    sink: &mut K,
+) -> Result<Status, WordsFault<'a>>
+    requires { IsInRange asked.command }
+    ensures answered { IfOk result (λ status. IfSome (spec.input_named (F.content files.now) (S.remaining input.old) (files_asked asked.entry)) (λ text. WritesAnswer asked.entry.command text status (K.written sink.old) (K.written sink.new))) }
+    ensures safe { IfOk result (λ status. status ≡ Status.Done → IfSome (spec.input_named (F.content files.now) (S.remaining input.old) (files_asked asked.entry)) (λ text. MeansSafe asked.entry.command text (K.written sink.old) (K.written sink.new))) }
+    ensures fault { IfErr result (IsOfTexts asked.entry.command (files_asked asked.entry)) }
+    ensures nothing { IfErr result (λ fault. is_of_sink fault ≡ false → Keeps (K.written sink.old) (K.written sink.new)) }
+{
+    match asked.second {
+        Some(second) => {
+            let text = read_both(alloc, files, input, asked.first, second)?;
+            serve_text(rt, alloc, asked.command, &text, sink)
+        }
+        None => match file_named(asked.first) {
+            Some(name) => {
+                let text = read_file(alloc, files, name)?;
+                serve_text(rt, alloc, asked.command, &text, sink)
+            }
+            None => Ok(serve(rt, alloc, asked.command, input, sink)?),
+        },
+    }
+}
+
+/// The name of the file, where it is not standard input that is named.
+fn file_named(name: Option<&str>) -> Option<&str>
+    ensures { option_map (λ name. name.now) result ≡ spec.file_named (option_map (λ name. name.now) name.entry) }
+{
+    name.filter(|name| *name != STANDARD_INPUT)
+}
+
+/// Serves a text that was read.
+fn serve_text<'a, R: Threads + Wait + Sync, K: Sink>(
+    rt: &R,
+    alloc: Global,
+    command: Command,
+    text: &[u8],
+    sink: &mut K,
+) -> Result<Status, WordsFault<'a>>
+    requires { IsInRange command }
+    ensures answered { IfOk result (λ status. WritesAnswer command text.now status (K.written sink.old) (K.written sink.new)) }
+    ensures safe { IfOk result (λ status. status ≡ Status.Done → MeansSafe command text.now (K.written sink.old) (K.written sink.new)) }
+    ensures known { IfErr result (IsOfTexts command (None, None)) }
+    ensures nothing { IfErr result (λ fault. is_of_sink fault ≡ false → Keeps (K.written sink.old) (K.written sink.new)) }
+{
+    let mut source = MemorySource::new(text);
+    Ok(serve(rt, alloc, command, &mut source, sink)?)
+}
+
+/// Reads two texts, and joins them.
+fn read_both<'a, F: TextFiles, S: Source>(
+    alloc: Global,
+    files: &F,
+    input: &mut S,
+    first: Option<&'a str>,
+    second: &'a str,
+) -> Result<Vec<u8>, WordsFault<'a>>
+    ensures text { IfOk result (λ text. IfSome (spec.input_named (F.content files.now) (S.remaining input.old) (option_map (λ name. name.now) first.entry, Some second.now)) (λ known. text.items ≡ known)) }
+    ensures fault { IfErr result (λ fault. (command : CommandValue) → IsOfTexts command (option_map (λ name. name.now) first.entry, Some second.now) fault) }
+    ensures before { IfErr result (λ fault. is_of_sink fault ≡ false) }
+{
+    let (plan, behind) = match (file_named(first), file_named(Some(second))) {
+        (None, None) => return Err(WordsFault::InputTwice),
+        (Some(first), Some(second)) => {
+            let plan = read_file(alloc, files, first)?;
+            (plan, read_file(alloc, files, second)?)
+        }
+        (Some(first), None) => {
+            let plan = read_file(alloc, files, first)?;
+            (plan, read_input(alloc, input)?)
+        }
+        (None, Some(second)) => {
+            let plan = read_input(alloc, input)?;
+            (plan, read_file(alloc, files, second)?)
+        }
+    };
+    Ok(joined(plan, &behind)?)
+}
+
+/// Reads standard input.
+fn read_input<'a, S: Source>(alloc: Global, input: &mut S) -> Result<Vec<u8>, WordsFault<'a>>
+    ensures text { IfOk result (λ text. IfSome (S.remaining input.old) (λ known. text.items ≡ spec.front known)) }
+    ensures fault { IfErr result IsOfReading }
+{
+    match read_up_to(alloc, input, MOST_INPUT_BYTES + 1) {
+        Ok(text) => Ok(text),
+        Err(error) => Err(WordsFault::Served(ServeFault::from(error))),
+    }
+}
+
+/// Reads a file.
+fn read_file<'a, F: TextFiles>(
+    alloc: Global,
+    files: &F,
+    name: &'a str,
+) -> Result<Vec<u8>, WordsFault<'a>>
+    ensures text { IfOk result (λ text. IfSome (F.content files.now name.now) (λ known. text.items ≡ spec.front known)) }
+    ensures fault { IfErr result (IsOfFile name.now) }
+{
+    match files.read(alloc, name, MOST_INPUT_BYTES + 1) {
+        Ok(text) => Ok(text),
+        Err(InputError::Fault) => Err(WordsFault::Unread(name)),
+        Err(error) => Err(WordsFault::Served(ServeFault::from(error))),
+    }
+}

@@ -1,0 +1,32 @@
+//! The files of the system.
+
+ghost use Rattle.std.specs.Prelude.{None};
+
+use crate::text_files::TextFiles;
+use byte_streams::{InputError, StdSource, read_up_to};
+use std::alloc::Global;
+use std::fs::{File, Files};
+
+/// The files of the system, of which contracts know nothing.
+#[derive(Clone, Copy)]
+pub struct StdFiles<'a, R> {
+    files: &'a R,
+}
+
+impl<'a, R: Files> StdFiles<'a, R> {
+    /// The files that `files` opens.
+    pub fn new(files: &'a R) -> StdFiles<'a, R> {
+        StdFiles { files }
+    }
+}
+
+impl<R: Files> TextFiles for StdFiles<'_, R> {
+    ghost content = { λ _ _. None };
+
+    fn read(&self, alloc: Global, name: &str, limit: usize) -> Result<Vec<u8>, InputError> {
+        match File::open(self.files, name) {
+            Ok(file) => read_up_to(alloc, &mut StdSource::new(file), limit),
+            Err(_) => Err(InputError::Fault),
+        }
+    }
+}
