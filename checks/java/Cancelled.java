@@ -11,6 +11,7 @@ import java.util.concurrent.RejectedExecutionException;
 final class Cancelled {
     private static final int PERMITS = 2;
     private final Permits permits;
+    private int served;
 
     private Cancelled(Permits.Way way) {
         permits = new Permits(way, PERMITS, 1, new ArrayBlockingQueue<>(PERMITS));
@@ -41,8 +42,9 @@ final class Cancelled {
         jobs.clear();
         told.append("; C ").append(submits(jobs, () -> {})).append(", D ").append(submits(jobs, () -> {}));
         held.countDown();
-        while (permits.pool.getCompletedTaskCount() < permits.pool.getTaskCount()) {
-            Thread.onSpinWait();
+        for (long turns = 0; permits.pool.getCompletedTaskCount() < served; turns++) {
+            Rest.within(turns);
+            Thread.sleep(1);
         }
         for (Permits.LetsGo job : jobs) {
             job.letsGo();
@@ -60,6 +62,7 @@ final class Cancelled {
         }
         try {
             jobs.add(permits.submit(body));
+            served++;
             return "served";
         } catch (RejectedExecutionException refused) {
             permits.permits.release();

@@ -17,6 +17,7 @@ final class PermitLoops {
     private final Permits permits;
     private final boolean untilRefused;
     private final AtomicInteger roundsLeft;
+    private final LongAdder served = new LongAdder();
     private final LongAdder letGo = new LongAdder();
     private final LongAdder refused = new LongAdder();
 
@@ -45,7 +46,7 @@ final class PermitLoops {
         for (Thread submitter : submitters) {
             submitter.join();
         }
-        for (long turns = 0; permits.pool.getCompletedTaskCount() < permits.pool.getTaskCount(); turns++) {
+        for (long turns = 0; permits.pool.getCompletedTaskCount() < served.sum(); turns++) {
             Rest.within(turns);
             Thread.sleep(1);
         }
@@ -53,7 +54,7 @@ final class PermitLoops {
         while (permits.tryAcquire()) {
             back++;
         }
-        return "jobs " + permits.pool.getCompletedTaskCount() + ", let go " + letGo + ", refused " + refused + ", back " + back;
+        return "jobs " + served + ", let go " + letGo + ", refused " + refused + ", back " + back;
     }
 
     private void submitter() {
@@ -61,6 +62,7 @@ final class PermitLoops {
             try {
                 permits.acquire();
                 Permits.LetsGo job = permits.submit(PermitLoops::work);
+                served.increment();
                 if (ThreadLocalRandom.current().nextBoolean()) {
                     letGo.increment();
                     job.letsGo();

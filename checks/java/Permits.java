@@ -79,14 +79,14 @@ final class Permits {
         return switch (way) {
             case JOB -> {
                 FutureTask<Void> task = new FutureTask<>(body, null);
-                pool.execute(behind(task));
+                pool.execute(givingBack(task));
                 yield () -> task.cancel(true);
             }
             case HOOK -> cancels(pool.submit(body));
             case COMPLETION_SERVICE -> cancels(completed.submit(body, null));
             case COPIED_STAGE -> cancels(givesBack(CompletableFuture.runAsync(body, pool)).copy());
-            case BODY -> cancels(pool.submit(behind(body)));
-            case SUPPLIER -> cancels(CompletableFuture.runAsync(behind(body), pool));
+            case BODY -> cancels(pool.submit(givingBack(body)));
+            case SUPPLIER -> cancels(CompletableFuture.runAsync(givingBack(body), pool));
             case LAST_STAGE -> cancels(givesBack(CompletableFuture.runAsync(body, pool)));
             case DONE -> {
                 FutureTask<Void> task = new FutureTask<>(body, null) {
@@ -107,7 +107,7 @@ final class Permits {
         };
     }
 
-    private Runnable behind(Runnable body) {
+    private Runnable givingBack(Runnable body) {
         return () -> {
             try {
                 body.run();
