@@ -1,13 +1,13 @@
 #!/usr/bin/env python3
 """Holds unmodified executors of java.util.concurrent to what the plans, the rules of docs/GUIDE.md and the promises say.
 
-    python3 checks/java/check.py [PART ..]     # replays, interleavings, bursts, loops; all where nothing is said
+    python3 checks/java/check.py [PART ..]     # replays, interleavings, bursts, loops, permits; all where nothing is said
 
 README.md says what each part shows. Each part also has planted slips, which it must find. It needs a JDK (`javac` and
 `java`, of JAVA_HOME where that is set): where there is none it says so, and nothing is shown.
 
-The program is crates/sizing/out/sizing, or the one that the environment variable SIZING names; `interleavings`, `bursts`
-and `loops` need none.
+The program is crates/sizing/out/sizing, or the one that the environment variable SIZING names; `interleavings`, `bursts`,
+`loops` and `permits` need none.
 
 Exit status: 0 where all is as it should be, or there is no JDK; 1 where something is not; 2 where there is no program.
 """
@@ -26,10 +26,12 @@ sys.path[:0] = [str(HERE), str(HERE.parent)]
 import bursts
 import interleavings
 import loops
+import permits
 import replays
 from refused_growths import Unable, built
 
-PARTS = {"replays": replays.part, "interleavings": interleavings.part, "bursts": bursts.part, "loops": loops.part}
+PARTS = {"replays": replays.part, "interleavings": interleavings.part, "bursts": bursts.part, "loops": loops.part,
+         "permits": permits.part}
 SECONDS = 1800
 
 

@@ -1,0 +1,72 @@
+import java.util.ArrayList;
+import java.util.List;
+import java.util.concurrent.ArrayBlockingQueue;
+import java.util.concurrent.CountDownLatch;
+import java.util.concurrent.RejectedExecutionException;
+
+/**
+ * One thread, a queue of two, and two permits. Job A is at work, B is queued, and nobody waits for them any more: they are
+ * cancelled, or a `get` has waited long enough. C and D want a permit then. A cancelled job that is at work goes on.
+ */
+final class Cancelled {
+    private static final int PERMITS = 2;
+    private final Permits permits;
+    private int served;
+
+    private Cancelled(Permits.Way way) {
+        permits = new Permits(way, PERMITS, 1, new ArrayBlockingQueue<>(PERMITS));
+    }
+
+    /** The ways, a line for each. */
+    public static void main(String[] words) throws InterruptedException {
+        for (String way : words) {
+            System.out.println(new Cancelled(Permits.Way.valueOf(way)).told());
+        }
+        System.exit(0);
+    }
+
+    private String told() throws InterruptedException {
+        CountDownLatch begun = new CountDownLatch(1);
+        CountDownLatch held = new CountDownLatch(1);
+        StringBuilder told = new StringBuilder();
+        List<Permits.LetsGo> jobs = new ArrayList<>();
+        told.append("A ").append(submits(jobs, () -> {
+            begun.countDown();
+            Permits.await(held);
+        }));
+        Permits.await(begun);
+        told.append(", B ").append(submits(jobs, () -> {}));
+        for (Permits.LetsGo job : jobs) {
+            job.letsGo();
+        }
+        jobs.clear();
+        told.append("; C ").append(submits(jobs, () -> {})).append(", D ").append(submits(jobs, () -> {}));
+        held.countDown();
+        for (long turns = 0; permits.pool.getCompletedTaskCount() < served; turns++) {
+            Rest.within(turns);
+            Thread.sleep(1);
+        }
+        for (Permits.LetsGo job : jobs) {
+            job.letsGo();
+        }
+        int back = 0;
+        while (permits.tryAcquire()) {
+            back++;
+        }
+        return told + "; " + back + " of " + PERMITS + " permits come back";
+    }
+
+    private String submits(List<Permits.LetsGo> jobs, Runnable body) {
+        if (!permits.tryAcquire()) {
+            return "waits";
+        }
+        try {
+            jobs.add(permits.submit(body));
+            served++;
+            return "served";
+        } catch (RejectedExecutionException refused) {
+            permits.permits.release();
+            return "refused";
+        }
+    }
+}

@@ -1,0 +1,66 @@
+"""Permits that bound how many jobs of a pool are about, and the ways by which the permit of a job comes back.
+
+docs/PERMITS.md says which ways are right. By hand, with one thread, a queue of two and two permits, where job A is at work, B
+is queued, and both are cancelled (or a `get` has waited long enough): where a permit comes back when a thread of the pool is
+through with its job, C and D wait, and in the end both permits are back. Where the body gives it back, B's is lost, as a
+cancelled job that is queued has no body; a stage that is cancelled does nothing, so there both are lost. Where a permit comes
+back when the submitter lets go, A is still at work and B in the queue: C takes the second place, and D is refused.
+
+With as many places as permits no submit is ever refused, whatever is cancelled: each queued job has a permit, and so has
+whoever offers. With one place less, all three can be queued while both threads are idle.
+"""
+
+WAITS = "A served, B served; C waits, D waits; {} of 2 permits come back"
+REFUSED = "A served, B served; C served, D refused; 2 of 2 permits come back"
+RIGHT = ("JOB", "HOOK", "COMPLETION_SERVICE", "COPIED_STAGE")
+BY_HAND = {
+    **{way: WAITS.format(2) for way in RIGHT},
+    "BODY": WAITS.format(1),
+    "SUPPLIER": WAITS.format(1),
+    "LAST_STAGE": WAITS.format(0),
+    "DONE": REFUSED,
+    "STAGE": REFUSED,
+    "TIMED_GET": REFUSED,
+}
+PERMITS = 3
+ROUNDS = 1000
+# Where some round refuses, so many are tried at most.
+MOST_ROUNDS = 50_000
+KINDS = ("array", "linked")
+SLIPS = ("DONE", "STAGE")
+
+
+def part(tools):
+    return [*cancelled(tools), *loops(tools)]
+
+
+def cancelled(tools):
+    told = dict(zip(BY_HAND, tools.run_java("Cancelled", *BY_HAND), strict=True))
+    wrong = [f"permits, {way}: {told[way]}, wanted {wanted}" for way, wanted in BY_HAND.items() if told[way] != wanted]
+    print(f"permits: {len(BY_HAND)} ways by which they come back, with {len(wrong)} wrong", flush=True)
+    return wrong
+
+
+def loops(tools):
+    """A right way with a place for each permit, and with one less; and a wrong way with a place for each."""
+    wrong, jobs, less, slips = [], 0, [], []
+    for way in RIGHT:
+        for kind in KINDS:
+            told = looped(tools, way, kind, PERMITS, ROUNDS, False)
+            jobs += told["jobs"]
+            if told["refused"] or told["jobs"] != ROUNDS or told["back"] != PERMITS:
+                wrong.append(f"permits, {way}, {kind}: {told}")
+        told = looped(tools, way, KINDS[0], PERMITS - 1, MOST_ROUNDS, True)
+        less.append(told["jobs"])
+        if not told["refused"]:
+            wrong.append(f"permits, {way}, one place less: {told}")
+    for way in SLIPS:
+        slips.append(looped(tools, way, KINDS[1], PERMITS, MOST_ROUNDS, True)["refused"] > 0)
+    print(f"permits: {len(RIGHT)} ways, {jobs} jobs, with {len(wrong)} wrong; with one place less refused after "
+          f"{', '.join(map(str, less))} jobs; slips {', '.join(SLIPS)}: found {sum(slips)} of {len(SLIPS)}", flush=True)
+    return wrong + ([] if all(slips) else ["permits: a slip is not found"])
+
+
+def looped(tools, way, kind, places, rounds, until_refused):
+    told = tools.run_java("PermitLoops", way, kind, places, rounds, str(until_refused).lower())[0]
+    return {what: int(number) for what, number in (words.rsplit(" ", 1) for words in told.split(", "))}
