@@ -5,7 +5,8 @@ import java.util.Set;
 
 /** Whoever submits and gets: a job while it runs, or a round of a thread outside. */
 final class Actor {
-    final String name;
+    /** What its class or kind is named after: see {@link Names#of}. To make the name is left to the thread that writes. */
+    final Object source;
     /** The pool of a job, null of a round. */
     final Pool pool;
     /** Given by the thread that writes, when it comes to the first line, and known to that thread alone. */
@@ -21,14 +22,14 @@ final class Actor {
     /** Of a round without a label: the futures that it holds. Known to its own thread, null of all others. */
     private final Set<Actor> held;
 
-    private Actor(String name, Pool pool, Set<Actor> held) {
-        this.name = name;
+    private Actor(Object source, Pool pool, Set<Actor> held) {
+        this.source = source;
         this.pool = pool;
         this.held = held;
     }
 
-    static Actor job(String name, Pool pool) {
-        return new Actor(name, pool, null);
+    static Actor job(Object source, Pool pool) {
+        return new Actor(source, pool, null);
     }
 
     static Actor round(String kind) {
@@ -36,7 +37,7 @@ final class Actor {
     }
 
     static Actor roundWithoutLabel(Thread thread) {
-        return new Actor(Names.of(thread), null, new HashSet<>());
+        return new Actor(new Names.OfThread(thread.getName()), null, new HashSet<>());
     }
 
     boolean hasLabel() {

@@ -2,10 +2,15 @@ package sizing;
 
 import java.io.IOException;
 import java.io.Writer;
+import java.util.HashMap;
+import java.util.Map;
 
 /** The lines of a recording, each as docs/RECORDING.md has it. Their numbers are given as they are written. */
 final class Lines {
+    private static final int MOST_NAMES = 10_000;
     private final Tape tape;
+    /** Those that were made before, by what they are made of. */
+    private final Map<Object, String> names = new HashMap<>();
     private int jobs;
     private int rounds;
 
@@ -21,7 +26,7 @@ final class Lines {
     void begins(Actor round) {
         tape.add(() -> {
             round.number = rounds++;
-            return round + " begin " + round.name;
+            return round + " begin " + nameOf(round);
         });
     }
 
@@ -33,7 +38,7 @@ final class Lines {
         tape.add(() -> {
             String by = actor.toString();
             job.number = jobs++;
-            return by + " submit " + job.number + " " + job.name + " " + job.pool.name;
+            return by + " submit " + job.number + " " + nameOf(job) + " " + job.pool.name;
         });
     }
 
@@ -77,6 +82,13 @@ final class Lines {
     /** The executor has run so many jobs since the recording began. */
     void counts(Pool pool, long completed) {
         tape.add(() -> completed > pool.seen ? "unseen " + pool.name + " " + (completed - pool.seen) : null);
+    }
+
+    private String nameOf(Actor actor) {
+        if (names.size() > MOST_NAMES) {
+            names.clear();
+        }
+        return names.computeIfAbsent(actor.source, Names::of);
     }
 
     void close() throws IOException {

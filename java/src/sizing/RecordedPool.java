@@ -29,7 +29,7 @@ final class RecordedPool extends AbstractExecutorService {
     }
 
     RecordedPool labelled(String other) {
-        return new RecordedPool(recorder, lines, pool, Names.of(other));
+        return new RecordedPool(recorder, lines, pool, Objects.requireNonNull(other));
     }
 
     @Override
@@ -58,7 +58,7 @@ final class RecordedPool extends AbstractExecutorService {
 
     private Actor job(Object task) {
         Objects.requireNonNull(task);
-        return Actor.job(label == null ? Labelled.classOf(task) : label, pool);
+        return Actor.job(label == null ? Labelled.sourceOf(task) : label, pool);
     }
 
     private <T> Future<T> submitted(RecordedTask<T> task) {

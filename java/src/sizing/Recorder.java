@@ -91,7 +91,7 @@ public final class Recorder implements AutoCloseable {
         if (around != null) {
             lines.ends(around);
         }
-        return new Round(this, begun(Actor.round(Names.of(kind))));
+        return new Round(this, begun(Actor.round(Objects.requireNonNull(kind))));
     }
 
     /** The task as a job of this class. */

@@ -72,7 +72,7 @@ final class ManyThreadsTests {
         }
         frontExecutor.shutdown();
         backExecutor.shutdown();
-        Tests.same(frontExecutor.awaitTermination(10, TimeUnit.SECONDS) && backExecutor.awaitTermination(10, TimeUnit.SECONDS), true);
+        Tests.same(frontExecutor.awaitTermination(60, TimeUnit.SECONDS) && backExecutor.awaitTermination(60, TimeUnit.SECONDS), true);
     }
 
     private void round(String label) {

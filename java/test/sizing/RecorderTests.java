@@ -122,6 +122,7 @@ final class RecorderTests {
             Recording recording = new Recording();
             ThreadPoolExecutor executor = Recording.executor(1, 1, 4);
             executor.submit(() -> 0).get();
+            waitUntilDone(executor, 1);
             ExecutorService pool = recording.pool("p", executor);
             executor.submit(() -> 1).get();
             executor.submit(() -> 2).get();
@@ -133,9 +134,9 @@ final class RecorderTests {
         });
     }
 
-    /** The count of an executor is late. */
+    /** The counts of an executor are late: a job that is done may be at work, by them, or both. */
     static void waitUntilDone(ThreadPoolExecutor executor, long jobs) throws InterruptedException {
-        for (int turn = 0; executor.getCompletedTaskCount() < jobs && turn < 10_000; turn++) {
+        for (int turn = 0; (executor.getCompletedTaskCount() < jobs || executor.getActiveCount() > 0) && turn < 10_000; turn++) {
             Thread.sleep(1);
         }
     }
@@ -181,9 +182,10 @@ final class RecorderTests {
             try (Recorder.Round round = recording.recorder.round("c")) {
                 pool.execute(new PriceQuery());
                 waitUntilDone(executor, 1);
-                pool.execute(Recorder.label("bad", () -> {
+                Runnable bad = () -> {
                     throw new IllegalStateException("bad");
-                }));
+                };
+                pool.execute(Recorder.label("bad", bad));
                 waitUntilDone(executor, 2);
             }
             Tests.sameLines(recording.acts(), "round 0 begin c", "round 0 submit 0 price_query p", "job 0 start", "job 0 end",

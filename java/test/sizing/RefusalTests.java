@@ -123,7 +123,7 @@ final class RefusalTests {
             }
             List<String> lines = recording.lines();
             Tests.sameLines(lines.subList(6, lines.size()), "round 0 got 0", "shutdown p", "round 0 submit 1 a p", "round 0 refused 1", "round 0 end", "end");
-            Tests.same(pool.isShutdown() && pool.awaitTermination(10, java.util.concurrent.TimeUnit.SECONDS) && pool.isTerminated(), true);
+            Tests.same(pool.isShutdown() && pool.awaitTermination(60, java.util.concurrent.TimeUnit.SECONDS) && pool.isTerminated(), true);
         });
         tests.test("shutdownNow takes what is queued", () -> {
             Recording recording = new Recording();

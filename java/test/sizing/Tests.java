@@ -1,6 +1,5 @@
 package sizing;
 
-import java.util.ArrayList;
 import java.util.Arrays;
 import java.util.List;
 import java.util.Objects;
@@ -11,8 +10,8 @@ final class Tests {
         void run() throws Exception;
     }
 
-    private final List<String> failed = new ArrayList<>();
     private int passed;
+    private int failed;
 
     public static void main(String[] none) {
         Tests tests = new Tests();
@@ -24,9 +23,8 @@ final class Tests {
         ManyThreadsTests.all(tests);
         PlanTomlTests.all(tests);
         PlanCheckTests.all(tests);
-        tests.failed.forEach(System.out::println);
-        System.out.println("java: " + tests.passed + " passed, " + tests.failed.size() + " failed");
-        System.exit(tests.failed.isEmpty() ? 0 : 1);
+        System.out.println("java: " + tests.passed + " passed, " + tests.failed + " failed");
+        System.exit(tests.failed == 0 ? 0 : 1);
     }
 
     void test(String name, Test test) {
@@ -34,7 +32,8 @@ final class Tests {
             test.run();
             passed++;
         } catch (Exception | AssertionError wrong) {
-            failed.add("FAILED: " + name + ": " + wrong + at(wrong));
+            failed++;
+            System.out.println("FAILED: " + name + ": " + wrong + at(wrong));
         }
     }
 
