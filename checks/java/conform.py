@@ -71,17 +71,21 @@ class Comparison:
         return [number for number in self.family(self.plan.classes, job.name) if self.plan.pools[self.plan.classes[number].pool].name == job.pool]
 
     def walk(self, actor, body):
-        """None where the actor's path is of the body, else the step that is not, or `end`, and what the body has come to."""
+        """None where the actor's path is of the body, else the first step that is not, or `end`, and how far the path came."""
         gets = {operand: position for position, (what, operand) in enumerate(body) if what == "get"}
-        places = {Place(0, frozenset())}
-        for step in self.paths[actor]:
-            after = {new for place in places for new in self.stepped(place, step, body, gets)}
-            if not after:
-                return step, furthest(places)
-            places = after
-        if actor.last is not None and all(place.held for place in places):
-            return "end", furthest(places)
-        return None
+        path, tried, furthest = self.paths[actor], set(), (0, Place(0, frozenset()))
+        left = [furthest]
+        while left:
+            at, place = left.pop()
+            furthest = max(furthest, (at, place), key=lambda one: (one[0], one[1].position))
+            if at == len(path):
+                if actor.last is None or not place.held:
+                    return None
+            elif (at, place) not in tried:
+                tried.add((at, place))
+                left += [(at + 1, new) for new in self.stepped(place, path[at], body, gets)][::-1]
+        at, place = furthest
+        return path[at] if at < len(path) else "end", place
 
     def stepped(self, place, step, body, gets):
         """The places behind the step, where each submit that is passed is left out with its get."""
@@ -111,7 +115,7 @@ class Comparison:
 
     def pools(self):
         planned = {pool.name: pool for pool in self.plan.pools}
-        for name in planned.keys() - self.recording.pools.keys():
+        for name in sorted(planned.keys() - self.recording.pools.keys()) if self.recording.closed else []:
             self.deviates(("pool", name), 0, f"pool {name}: in the plan alone")
         for name, lines in self.recording.pools.items():
             if name not in planned:
@@ -202,10 +206,6 @@ class Comparison:
         entries = self.plan.classes if actor.sort == "job" else self.plan.clients
         numbers = self.classes_of(actor) if actor.sort == "job" else self.family(entries, actor.name)
         return any(self.walk(actor, entries[number].body) is None for number in numbers)
-
-
-def furthest(places):
-    return max(places, key=lambda place: place.position)
 
 
 def described(actor):

@@ -8,12 +8,12 @@ NUMBER = "(?:0|[1-9][0-9]{0,8}|1000000000)"
 NAME = "[a-z][a-z0-9_]{0,31}"
 SIZES = (f"core {NUMBER} max {NUMBER} queue (?:array|linked|synchronous|priority|other) {NUMBER} timeout (?:yes|no) "
          f"prestarted {NUMBER} handler (?:abort|caller_runs|discard|discard_oldest|other)")
-FORMS = [re.compile(form) for form in (
+FORMS = re.compile("|".join((
     "recording 1", "end", f"pool {NAME} {SIZES}", f"round {NUMBER} begin {NAME}", f"round {NUMBER} end",
     f"job {NUMBER} (?:start|end|threw)", f"(?:job|round) {NUMBER} submit {NUMBER} {NAME} {NAME}",
     f"(?:job|round) {NUMBER} (?:refused|got|timeout|interrupted|cancel) {NUMBER}", f"(?:job|round) {NUMBER} any {NAME}",
     f"removed {NUMBER}", f"shutdown {NAME}", f"unseen {NAME} {NUMBER}",
-)]
+)))
 
 
 class BadLine(Exception):
@@ -89,7 +89,7 @@ class Reader:
 
     def line(self, number, line):
         self.number = number
-        self.hold(any(form.fullmatch(line) for form in FORMS), "form")
+        self.hold(FORMS.fullmatch(line), "form")
         self.hold((number == 1) == (line == "recording 1") and not self.recording.closed, "O1")
         words = line.split(" ")
         if words[0] in ("job", "round"):

@@ -27,6 +27,9 @@ VOIDS = {
     "hurried-prices": ["cancel of round N of kind hurried"],
 }
 RUNS = 4
+FIRST_PARTS = 10
+# Of longer recordings no lines are taken away one by one.
+MOST_LINES = 200
 # What must be said of each slip in a service.
 SLIPS = {
     "path": r"the body has no such (submit|get) |ended; the body gets ",
@@ -62,7 +65,7 @@ def as_planned(texts):
             wrong.append(f"services, {name}: {deviations} {voids}")
         lines += text.count("\n")
         jobs += len(read(text).jobs)
-        for cut in range(len("recording 1\n"), len(text), max(1, len(text) // 40)):
+        for cut in range(len("recording 1\n"), len(text), len(text) // FIRST_PARTS):
             parts += 1
             deviations, _ = compared(plan_of(name), text[:cut])
             if deviations:
@@ -127,7 +130,7 @@ def slips_of_recordings(texts):
     missed, tried = [], Counter()
     for name in VOIDS:
         lines = texts[name, "none", 0].splitlines(keepends=True)
-        for at, line in enumerate(lines):
+        for at, line in enumerate(lines if len(lines) <= MOST_LINES else []):
             word = word_of(line)
             if word in ("recording", "pool", "begin", "submit", "start") or word == "end" and is_got(line, lines):
                 tried[word] += 1

@@ -6,20 +6,22 @@ import java.util.HashSet;
 import java.util.List;
 import java.util.Map;
 import java.util.Set;
+import java.util.regex.Pattern;
+import java.util.stream.Stream;
 
 /** Holds a recording to the forms and to the rules O1 to O8 of docs/RECORDING.md. */
 final class RecordingCheck {
     private static final String NUMBER = "(0|[1-9][0-9]{0,9})";
     private static final String NAME = "[a-z][a-z0-9_]{0,31}";
     private static final String ACTOR = "(job|round) " + NUMBER;
-    private static final List<String> FORMS = List.of(
+    private static final List<Pattern> FORMS = Stream.of(
             "recording 1", "end",
             "pool " + NAME + " core " + NUMBER + " max " + NUMBER + " queue (array|linked|synchronous|priority|other) " + NUMBER
                     + " timeout (yes|no) prestarted " + NUMBER + " handler (abort|caller_runs|discard|discard_oldest|other)",
             "round " + NUMBER + " begin " + NAME, "round " + NUMBER + " end", "job " + NUMBER + " (start|end|threw)",
             ACTOR + " submit " + NUMBER + " " + NAME + " " + NAME,
             ACTOR + " (refused|got|timeout|interrupted|cancel) " + NUMBER, ACTOR + " any " + NAME,
-            "removed " + NUMBER, "shutdown " + NAME, "unseen " + NAME + " " + NUMBER);
+            "removed " + NUMBER, "shutdown " + NAME, "unseen " + NAME + " " + NUMBER).map(Pattern::compile).toList();
     private static final long LARGEST = 1_000_000_000;
 
     private final List<String> wrong = new ArrayList<>();
@@ -46,7 +48,7 @@ final class RecordingCheck {
         hold(number == 1 == line.equals("recording 1") && !isClosed, "O1");
         isClosed = isClosed || line.equals("end");
         String[] words = line.split(" ");
-        if (FORMS.stream().noneMatch(line::matches) || !numbersAreLawful(words)) {
+        if (FORMS.stream().noneMatch(form -> form.matcher(line).matches()) || !numbersAreLawful(words)) {
             wrong.add("line " + number + ": form");
             return;
         }
@@ -65,7 +67,7 @@ final class RecordingCheck {
 
     private static boolean numbersAreLawful(String[] words) {
         for (String word : words) {
-            if (word.matches("[0-9]+") && Long.parseLong(word) > LARGEST) {
+            if (Character.isDigit(word.charAt(0)) && Long.parseLong(word) > LARGEST) {
                 return false;
             }
         }
