@@ -2,7 +2,7 @@
 plan that stands beside the service.
 
 Planted slips must be found: in the service (another path, one client more, a pool with one thread more, or with one more later
-on), in the plan (a size or a count that is another one, a submit or a get that is not there), and in the recording (a line that is
+on; four users instead of three take all threads of the reports' pool and wait for ever, and so that recording is cut off), in the plan (a size or a count that is another one, a submit or a get that is not there), and in the recording (a line that is
 not there).
 """
 

@@ -23,6 +23,8 @@ final class Run {
     }
 
     private static final long SECONDS = 60;
+    /** With a slip jobs may wait for each other for ever, and the recording is then cut off. */
+    private static final long SECONDS_OF_A_SLIP = 30;
     final Recorder recorder;
     private final String slip;
     private final Map<String, ThreadPoolExecutor> executors = new LinkedHashMap<>();
@@ -57,23 +59,26 @@ final class Run {
         for (int number = 0; number < all; number++) {
             int client = number;
             clients.add(new Thread(() -> {
-                for (int round = 0; round < rounds; round++) {
-                    round(kind, client, round, within, body);
+                for (int round = 0; round < rounds && round(kind, client, round, within, body); round++) {
+                    continue;
                 }
             }, kind + "-" + client));
         }
     }
 
-    private void round(String kind, int client, int round, CountDownLatch within, Round body) {
+    /** Whether it came to its end. */
+    private boolean round(String kind, int client, int round, CountDownLatch within, Round body) {
         try (Recorder.Round recorded = recorder.round(kind)) {
             within.countDown();
             await(within);
             body.go(client, round);
+            return true;
         } catch (Exception | AssertionError wrong) {
             // with a slip a submit may be refused
             if (slip.equals("none")) {
                 failed.add(wrong);
             }
+            return false;
         }
     }
 
@@ -90,18 +95,35 @@ final class Run {
             ThreadPoolExecutor first = executors.values().iterator().next();
             first.setMaximumPoolSize(first.getMaximumPoolSize() + 1);
         }
-        for (Thread client : clients) {
-            client.join();
+        if (slip.equals("none")) {
+            end();
+            recorder.close();
+        } else {
+            awaitClients(SECONDS_OF_A_SLIP);
+            recorder.close();
+            executors.values().forEach(ThreadPoolExecutor::shutdownNow);
+            clients.forEach(Thread::interrupt);
+            end();
         }
-        for (ThreadPoolExecutor executor : executors.values()) {
-            executor.shutdown();
-            if (!executor.awaitTermination(SECONDS, TimeUnit.SECONDS)) {
-                throw new AssertionError("a pool does not end");
-            }
-        }
-        recorder.close();
         if (!failed.isEmpty()) {
             throw new AssertionError(failed.peek());
+        }
+    }
+
+    private void end() throws InterruptedException {
+        awaitClients(SECONDS);
+        for (ThreadPoolExecutor executor : executors.values()) {
+            executor.shutdown();
+            if (clients.stream().anyMatch(Thread::isAlive) || !executor.awaitTermination(SECONDS, TimeUnit.SECONDS)) {
+                throw new AssertionError("the service does not come to its end");
+            }
+        }
+    }
+
+    private void awaitClients(long seconds) throws InterruptedException {
+        long end = System.nanoTime() + TimeUnit.SECONDS.toNanos(seconds);
+        for (Thread client : clients) {
+            client.join(Math.max(1, TimeUnit.NANOSECONDS.toMillis(end - System.nanoTime())));
         }
     }
 }

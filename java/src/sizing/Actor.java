@@ -1,8 +1,5 @@
 package sizing;
 
-import java.util.HashSet;
-import java.util.Set;
-
 /** Whoever submits and gets: a job while it runs, or a round of a thread outside. */
 final class Actor {
     /** What its class or kind is named after: see {@link Names#of}. To make the name is left to the thread that writes. */
@@ -19,46 +16,51 @@ final class Actor {
     boolean refused;
     /** Of a job: it began to run. Known to the thread that runs it. */
     boolean started;
-    /** Of a round without a label: the futures that it holds. Known to its own thread, null of all others. */
-    private final Set<Actor> held;
+    private final boolean hasLabel;
+    /** Of a round without a label: how many futures it holds. Known to its own thread. */
+    private int held;
+    /** Of a job: the round without a label that holds its future, or null. A round finds itself here, or any other value. */
+    private Actor holder;
 
-    private Actor(Object source, Pool pool, Set<Actor> held) {
+    private Actor(Object source, Pool pool, boolean hasLabel) {
         this.source = source;
         this.pool = pool;
-        this.held = held;
+        this.hasLabel = hasLabel;
     }
 
     static Actor job(Object source, Pool pool) {
-        return new Actor(source, pool, null);
+        return new Actor(source, pool, true);
     }
 
     static Actor round(String kind) {
-        return new Actor(kind, null, null);
+        return new Actor(kind, null, true);
     }
 
     static Actor roundWithoutLabel(Thread thread) {
-        return new Actor(new Names.OfThread(thread.getName()), null, new HashSet<>());
+        return new Actor(new Names.OfThread(thread.getName()), null, false);
     }
 
     boolean hasLabel() {
-        return held == null;
+        return hasLabel;
     }
 
     void holds(Actor job) {
-        if (held != null) {
-            held.add(job);
+        if (!hasLabel) {
+            job.holder = this;
+            held++;
         }
     }
 
     void leaves(Actor job) {
-        if (held != null) {
-            held.remove(job);
+        if (job.holder == this) {
+            job.holder = null;
+            held--;
         }
     }
 
     /** Without a label a round is over where it holds no future. */
     boolean isOver() {
-        return held != null && held.isEmpty();
+        return !hasLabel && held == 0;
     }
 
     @Override
