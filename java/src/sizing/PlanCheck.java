@@ -23,7 +23,8 @@ import java.util.concurrent.ThreadPoolExecutor;
  * and no handler is ever called.
  *
  * <p>Call it when the pools are made (and prestarted), and before the first submit: later nobody can see whether a pool was
- * prestarted. Give it the executors themselves, and not what {@link Recorder#pool} made of them.
+ * prestarted. (In its first moment a thread that is prestarted looks as if it had a job, so against a plan without
+ * {@code prestart} it may have no line yet.) Give it the executors themselves, and not what {@link Recorder#pool} made of them.
  *
  * <p>Of a plan it reads the pools alone. It reads {@code [[pool]]} tables as well as {@code pool = [{name = "web", ..}]}, and skips
  * classes and clients. It wants whole numbers, {@code true} and {@code false}, and texts in single or double quotes; on texts in

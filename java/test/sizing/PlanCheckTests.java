@@ -73,6 +73,7 @@ final class PlanCheckTests {
         tests.test("prestarted threads", () -> {
             Map<String, ThreadPoolExecutor> executors = executors();
             executors.get("web").prestartCoreThread();
+            RecorderTests.waitUntilDone(executors.get("web"), 0);
             executors.put("db", Recording.executor(1, 1, 3));
             same(executors, "pool web: threads 1 before the first job, plan no prestart", "pool db: threads 0, plan prestart");
             executors.get("db").prestartAllCoreThreads();
