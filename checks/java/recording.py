@@ -1,4 +1,4 @@
-"""Reads a recording, as docs/RECORDING.md has it, and holds it to the forms and to the rules O1 to O8 of that page."""
+"""Reads a recording, as docs/RECORDING.md has it, and holds it to the forms and to the rules O1 to O7 of that page."""
 
 import re
 from dataclasses import dataclass, field
@@ -81,7 +81,7 @@ def read(text):
 
 class Reader:
     def __init__(self):
-        self.recording, self.number, self.done, self.cancelled, self.taken = Recording(), 0, set(), set(), set()
+        self.recording, self.number, self.done, self.cancelled = Recording(), 0, set(), set()
 
     def hold(self, holds, rule):
         if not holds:
@@ -115,8 +115,6 @@ class Reader:
 
     def removed(self, number):
         job = self.named(number)
-        self.hold(job.started is None, "O8")
-        self.taken.add(job)
         self.recording.notes.append((self.number, "removed", job))
 
     def named(self, number):
@@ -138,7 +136,6 @@ class Reader:
         if word == "start":
             job = self.named(number)
             self.hold(job.started is None, "O5")
-            self.hold(job not in self.taken, "O8")
             job.started = self.number
             return
         jobs = self.recording.jobs

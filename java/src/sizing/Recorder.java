@@ -94,7 +94,7 @@ public final class Recorder implements AutoCloseable {
         return new Round(this, begun(Actor.round(Objects.requireNonNull(kind))));
     }
 
-    /** The task as a job of this class. */
+    /** The task as a job of this class. (For {@code execute} give a lambda that has a value its braces: else it is a Callable.) */
     public static Runnable label(String label, Runnable task) {
         return new Labelled.Command(Objects.requireNonNull(label), Objects.requireNonNull(task));
     }
