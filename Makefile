@@ -7,7 +7,7 @@ READER = crates/plan_reader/out/plan_reader
 PROGRAM_SOURCES := $(shell python3 tools/crates.py sizing)
 READER_SOURCES := $(shell python3 tools/crates.py plan_reader)
 
-.PHONY: demo program install test gate refused examples checks bench plan_reader
+.PHONY: demo program install test gate refused examples checks java bench plan_reader
 
 # Runs the program on its first example as it is written, before any proof: about a minute on a fresh machine.
 demo:
@@ -50,6 +50,10 @@ checks: program
 	python3 checks/fit.py
 	python3 checks/witnesses.py
 	python3 checks/java/check.py
+
+# Compiles the recorder and the check of executors, and runs their tests: seconds, and a JDK (17 or later) is all it needs.
+java:
+	@tools/java
 
 # Times a replay beside a plain program that only splits and counts the same lines, the reading of a plan beside the
 # reading of its TOML alone, check and explain beside the reading of their two texts alone, certify beside the reading of

@@ -1,13 +1,13 @@
 #!/usr/bin/env python3
 """Holds unmodified executors of java.util.concurrent to what the plans, the rules of docs/GUIDE.md and the promises say.
 
-    python3 checks/java/check.py [PART ..]     # replays, interleavings, bursts, loops, permits; all where nothing is said
+    python3 checks/java/check.py [PART ..]     # replays, interleavings, bursts, loops, permits, services; all where nothing is said
 
 README.md says what each part shows. Each part also has planted slips, which it must find. It needs a JDK (`javac` and
 `java`, of JAVA_HOME where that is set): where there is none it says so, and nothing is shown.
 
 The program is crates/sizing/out/sizing, or the one that the environment variable SIZING names; `interleavings`, `bursts`,
-`loops` and `permits` need none.
+`loops`, `permits` and `services` need none.
 
 Exit status: 0 where all is as it should be, or there is no JDK; 1 where something is not; 2 where there is no program.
 """
@@ -28,10 +28,12 @@ import interleavings
 import loops
 import permits
 import replays
+import services
 from refused_growths import Unable, built
 
 PARTS = {"replays": replays.part, "interleavings": interleavings.part, "bursts": bursts.part, "loops": loops.part,
-         "permits": permits.part}
+         "permits": permits.part, "services": services.part}
+LIBRARY = HERE.parent.parent / "java" / "src" / "sizing"
 SECONDS = 1800
 
 
@@ -69,8 +71,9 @@ def main():
         print(why, file=sys.stderr)
         return 2
     with tempfile.TemporaryDirectory() as classes:
-        sources = sorted(map(str, HERE.glob("*.java")))
-        subprocess.run([javac, "-Xlint:all", "-Werror", "-d", classes, *sources], check=True)
+        sources = sorted(map(str, [*HERE.glob("*.java"), *HERE.glob("services/*.java"), *LIBRARY.glob("*.java")]))
+        # with a round of a recording nothing is done but to close it
+        subprocess.run([javac, "-Xlint:all,-try", "-Werror", "-d", classes, *sources], check=True)
         version = subprocess.run([java, "-version"], capture_output=True, text=True).stderr.splitlines()[0]
         print(f"{version}, {os.cpu_count()} processors", flush=True)
         tools = Tools(program, java, classes)

@@ -1,0 +1,165 @@
+"""Services of a few pools, each run with the recorder of java/: what is recorded keeps the rules of docs/RECORDING.md, and is the
+plan that stands beside the service.
+
+Planted slips must be found: in the service (another path, one client more, a pool with one thread more, or with one more later
+on; four users instead of three take all threads of the reports' pool and wait for ever, and so that recording is cut off), in the plan (a size or a count that is another one, a submit or a get that is not there), and in the recording (a line that is
+not there).
+"""
+
+import re
+import tempfile
+from collections import Counter
+from pathlib import Path
+
+from conform import Comparison, compared
+from conform_rows import wrong_rows
+from read_plans import read_plan
+from recording import BadLine, read
+
+HERE = Path(__file__).resolve().parent / "services"
+EXAMPLE = Path(__file__).resolve().parent.parent.parent / "examples" / "recordings" / "web-and-database"
+# Of each service, what voids a yes in each run of it, by hand: one of the hurried clients cancels, and only that.
+VOIDS = {
+    "web-and-database": [],
+    "example": [],
+    "reports": [],
+    "orders": [],
+    "importer": [],
+    "hurried-prices": ["cancel of round N of kind hurried"],
+}
+RUNS = 4
+FIRST_PARTS = 10
+# Of longer recordings no lines are taken away one by one.
+MOST_LINES = 200
+# What must be said of each slip in a service.
+SLIPS = {
+    "path": r"the body has no such (submit|get) |ended; the body gets ",
+    "count": r" actors of kind ",
+    "size": r"^line 2: pool .*: max ",
+    "change": r"pool .*: max ",
+}
+
+
+def part(tools):
+    runs = [(name, slip, number) for name in VOIDS for slip, number in [*(("none", number) for number in range(RUNS)), *((slip, 0) for slip in SLIPS)]]
+    with tempfile.TemporaryDirectory() as folder:
+        files = {run: Path(folder) / f"{run[0]}-{run[1]}-{run[2]}.recording" for run in runs}
+        tools.run_java("services.Services", *(word for run, file in files.items() for word in (run[0], run[1], file)))
+        texts = {run: file.read_text() for run, file in files.items()}
+    texts["example", "none", "checked in"] = EXAMPLE.with_suffix(".recording").read_text()
+    return [*wrong_rows(), *as_planned(texts), *slips_of_services(texts), *slips_of_plans(texts), *slips_of_recordings(texts), *certified(tools)]
+
+
+def plan_of(name):
+    return (EXAMPLE.with_suffix(".toml") if name == "example" else HERE / f"{name}.toml").read_text()
+
+
+def as_planned(texts):
+    """Each recording conforms, whole and cut off anywhere."""
+    wrong, lines, jobs, parts = [], 0, 0, 0
+    for (name, slip, _), text in texts.items():
+        if slip != "none":
+            continue
+        deviations, voids = compared(plan_of(name), text)
+        said = [re.sub(r"^line \d+: void, ", "", re.sub(r"round \d+", "round N", line)) for line in voids]
+        if deviations or said != VOIDS[name] or not read(text).closed:
+            wrong.append(f"services, {name}: {deviations} {voids}")
+        lines += text.count("\n")
+        jobs += len(read(text).jobs)
+        for cut in range(len("recording 1\n"), len(text), len(text) // FIRST_PARTS):
+            parts += 1
+            deviations, _ = compared(plan_of(name), text[:cut])
+            if deviations:
+                wrong.append(f"services, {name}, cut off behind {cut} bytes: {deviations}")
+    print(f"services: {len(VOIDS)} with {RUNS} runs each, and a recording of examples/, {lines} lines of {jobs} jobs, and {parts} first parts of them, with {len(wrong)} wrong", flush=True)
+    return wrong
+
+
+def slips_of_services(texts):
+    missed = []
+    for (name, slip, _), text in texts.items():
+        if slip != "none":
+            deviations, _ = compared(plan_of(name), text)
+            if not any(re.search(SLIPS[slip], line) for line in deviations):
+                missed.append(f"services, {name}: the slip '{slip}' is not found: {deviations}")
+    print(f"slips of services: {len(VOIDS) * len(SLIPS)}, of which {len(missed)} were not found", flush=True)
+    return missed
+
+
+def slips_of_plans(texts):
+    missed, tried = [], 0
+    for name in VOIDS:
+        recording, plan = read(texts[name, "none", 0]), read_plan(plan_of(name))
+        for what, other in other_plans(plan):
+            tried += 1
+            if not Comparison(other, recording).all():
+                missed.append(f"services, {name}: the slip of the plan '{what}' is not found")
+    print(f"slips of plans: {tried}, of which {len(missed)} were not found", flush=True)
+    return missed
+
+
+def other_plans(plan):
+    """Plans that the service is not: it has these sizes, comes to these counts, and takes each path that is covered."""
+    for at, pool in enumerate(plan.pools):
+        for key, value in (("core", pool.core + 1), ("max", pool.max + 1), ("queue", pool.queue - 1), ("prestart", True)):
+            yield f"{pool.name} {key} {value}", plan._replace(pools=put(plan.pools, at, pool._replace(**{key: value})))
+    for at, client in enumerate(plan.clients):
+        yield f"{client.name} count {client.count - 1}", plan._replace(clients=put(plan.clients, at, client._replace(count=client.count - 1)))
+        if client.repeat:
+            yield f"{client.name} does not repeat", plan._replace(clients=put(plan.clients, at, client._replace(repeat=False)))
+        for position, body in shorter(client.body):
+            yield f"{client.name} without action {position}", plan._replace(clients=put(plan.clients, at, client._replace(body=body)))
+    for at, one in enumerate(plan.classes):
+        for position, body in shorter(one.body):
+            yield f"{one.name} without action {position}", plan._replace(classes=put(plan.classes, at, one._replace(body=body)))
+
+
+def put(entries, at, entry):
+    return [*entries[:at], entry, *entries[at + 1:]]
+
+
+def shorter(body):
+    """The body without a get, and without a submit and its get."""
+    for position, (what, _) in enumerate(body):
+        gone = {position} | ({at for at, action in enumerate(body) if action == ("get", position)} if what == "submit" else set())
+        kept = [at for at in range(len(body)) if at not in gone]
+        yield position, [(what, kept.index(operand) if what == "get" else operand) for what, operand in (body[at] for at in kept)]
+
+
+def slips_of_recordings(texts):
+    """Without any one line of these a recording breaks a rule. (Of a job that nobody gets the end may be missing.)"""
+    missed, tried = [], Counter()
+    for name in VOIDS:
+        lines = texts[name, "none", 0].splitlines(keepends=True)
+        for at, line in enumerate(lines if len(lines) <= MOST_LINES else []):
+            word = word_of(line)
+            if word in ("recording", "pool", "begin", "submit", "start") or word == "end" and is_got(line, lines):
+                tried[word] += 1
+                try:
+                    read("".join(lines[:at] + lines[at + 1:]))
+                    missed.append(f"services, {name}: nobody misses line {at + 1}, {line!r}")
+                except BadLine:
+                    continue
+    print(f"slips of recordings: lines that are not there, {', '.join(f'{word} {number}' for word, number in tried.items())}, of which {len(missed)} "
+          "were not found", flush=True)
+    return missed
+
+
+def word_of(line):
+    words = line.split()
+    return words[2] if words[0] in ("job", "round") else words[0]
+
+
+def is_got(line, lines):
+    words = line.split()
+    return words[0] == "job" and any(re.fullmatch(rf"\S+ \d+ got {words[1]}\n", other) for other in lines)
+
+
+def certified(tools):
+    """Where the program is at hand: each plan has a certificate, so it is one that a team would hold its service to."""
+    if not tools.program:
+        return []
+    answers = {name: tools.sizing("certify", plan_of(name))[0] for name in VOIDS}
+    wrong = [f"services, {name}: certify ends with {status}" for name, status in answers.items() if status]
+    print(f"plans of services: {len(answers)}, of which {len(wrong)} have no certificate", flush=True)
+    return wrong

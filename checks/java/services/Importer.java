@@ -1,0 +1,35 @@
+package services;
+
+import static sizing.Recorder.label;
+
+import java.util.ArrayDeque;
+import java.util.concurrent.ExecutorService;
+import java.util.concurrent.Future;
+
+/** An importer that reads up to eight rows a round, and has three of them in its window at most. */
+final class Importer implements Services.Service {
+    private static final int WINDOW = 3;
+    private static final int MOST = 8;
+
+    @Override
+    public void begin(Run run) {
+        ExecutorService rows = run.pool("rows", 2, 2, 3);
+        run.clients("importer", 1, 12, (client, round) -> importRows(rows, 1 + round % MOST, run.takesAnotherPath()));
+    }
+
+    private static int importRows(ExecutorService rows, int number, boolean newestFirst) throws Exception {
+        ArrayDeque<Future<Integer>> window = new ArrayDeque<>();
+        int sum = 0;
+        for (int row = 0; row < number; row++) {
+            if (window.size() == WINDOW) {
+                // the slip: the newest one is got
+                sum += (newestFirst ? window.removeLast() : window.removeFirst()).get();
+            }
+            window.add(rows.submit(label("row", () -> 1)));
+        }
+        while (!window.isEmpty()) {
+            sum += window.removeFirst().get();
+        }
+        return sum;
+    }
+}

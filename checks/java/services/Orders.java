@@ -1,0 +1,47 @@
+package services;
+
+import static sizing.Recorder.label;
+
+import java.util.concurrent.Callable;
+import java.util.concurrent.CompletableFuture;
+import java.util.concurrent.ExecutorService;
+
+/**
+ * Three pools. An order asks the stock for goods, or has them ordered where there are none; when they are reserved, a callback
+ * sends a mail, for which nobody waits. Each buyer orders once.
+ */
+final class Orders implements Services.Service {
+    private ExecutorService stock;
+    private ExecutorService mail;
+    private boolean takesAnotherPath;
+
+    @Override
+    public void begin(Run run) {
+        ExecutorService front = run.pool("front", 2, 2, 10);
+        stock = run.pool("stock", 1, 1, 2);
+        mail = label("letter", run.pool("mail", 1, 2, 8));
+        takesAnotherPath = run.takesAnotherPath();
+        run.clients("buyer", 10, 1, (client, round) -> front.submit(label("order", () -> order(client % 3 > 0))).get());
+    }
+
+    private int order(boolean isThere) throws Exception {
+        int first = stock(isThere);
+        // the slip: both branches, the later one first
+        return takesAnotherPath && !isThere ? stock(true) : first;
+    }
+
+    private int stock(boolean isThere) throws Exception {
+        Callable<Integer> reserve = this::reserve;
+        Callable<Integer> reorder = () -> 0;
+        Callable<Integer> task = isThere ? label("reserve", reserve) : label("reorder", reorder);
+        return stock.submit(task).get();
+    }
+
+    /** The callback runs in the mail pool as soon as the goods are reserved. */
+    private int reserve() {
+        CompletableFuture<Integer> reserved = new CompletableFuture<>();
+        reserved.thenAcceptAsync(goods -> { }, mail);
+        reserved.complete(1);
+        return 1;
+    }
+}
