@@ -1,8 +1,8 @@
 //! The conditions of a certificate, and the answers of `check` and `explain`.
 
+use crate::answer::Answer;
 use crate::certificate::{Bound, Certificate, Ranks, Vector};
 use crate::plan::{Action, Body, Plan};
-use crate::Answer;
 use std::fmt::{self, Write};
 use std::ops::ControlFlow;
 
@@ -78,7 +78,7 @@ pub fn check(plan: &Plan, certificate: &Certificate) -> Answer {
         let (name, limit) = (&pool.name, pool.core - 1);
         writeln!(text, "pool {name}: {kind} {bounded} of {most}, blocked {blocked} of {limit}").unwrap();
     }
-    Answer { text, is_no: !is_accepted }
+    Answer { text: text.into_bytes(), is_no: !is_accepted }
 }
 
 pub fn explain(plan: &Plan, certificate: &Certificate) -> Answer {
@@ -92,7 +92,7 @@ pub fn explain(plan: &Plan, certificate: &Certificate) -> Answer {
         ControlFlow::Continue(())
     });
     writeln!(text, "failing {failing}").unwrap();
-    Answer { text, is_no: failing > 0 }
+    Answer { text: text.into_bytes(), is_no: failing > 0 }
 }
 
 /// Whether each condition holds.

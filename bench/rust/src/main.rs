@@ -1,5 +1,6 @@
 //! A plain Rust program that gives the answers of `sizing replay`, `check`, `explain` and `certify`, for the benchmarks.
 
+mod answer;
 mod certificate;
 mod conditions;
 mod faults;
@@ -11,15 +12,16 @@ mod plan_text;
 mod replay;
 mod search;
 
+use answer::Answer;
 use certificate::Certificate;
 use clap::{Parser, Subcommand};
 use faults::{Fault, Kind};
+use memchr::memrchr;
 use plan::Plan;
 use std::io::{self, Read, Write};
 use std::process::ExitCode;
 
 const MOST_BYTES: usize = 2_097_155;
-const SEPARATOR: &[u8] = b"%%\n";
 
 #[derive(Parser)]
 #[command(name = "plain", about = "A plain Rust program that gives the answers of `sizing`")]
@@ -40,13 +42,6 @@ enum Command {
     Certify,
 }
 
-/// What is written, and whether it says no.
-#[derive(Default)]
-pub struct Answer {
-    text: String,
-    is_no: bool,
-}
-
 fn main() -> ExitCode {
     let Words { command } = Words::parse();
     match serve(command) {
@@ -64,9 +59,9 @@ fn serve(command: Command) -> io::Result<u8> {
     io::stdin().lock().take(MOST_BYTES as u64 + 1).read_to_end(&mut input)?;
     let (text, status) = match answer(command, input) {
         Ok(Answer { text, is_no }) => (text, u8::from(is_no)),
-        Err(fault) => (format!("{fault}\n"), 2),
+        Err(fault) => (format!("{fault}\n").into_bytes(), 2),
     };
-    io::stdout().write_all(text.as_bytes())?;
+    io::stdout().write_all(&text)?;
     Ok(status)
 }
 
@@ -88,15 +83,17 @@ fn answer(command: Command, input: Vec<u8>) -> Result<Answer, Fault> {
 
 /// What stands before and behind the last line that is exactly `%%`. The end of the input may stand for its newline.
 fn split(input: &[u8]) -> Option<(&[u8], &[u8])> {
-    let mut end = input.len();
+    let mut front = input;
     loop {
-        let start = input[..end].iter().rposition(|byte| *byte == b'\n').map_or(0, |newline| newline + 1);
-        if let Some(second) = input[start..].strip_prefix(SEPARATOR) {
-            return Some((&input[..start], second));
+        let percent = memrchr(b'%', front)?;
+        let start = memrchr(b'\n', &front[..percent]).map_or(0, |newline| newline + 1);
+        let (plan, rest) = input.split_at(start);
+        if let Some(second) = rest.strip_prefix(b"%%\n") {
+            return Some((plan, second));
         }
-        if &input[start..] == b"%%" {
-            return Some((&input[..start], &[]));
+        if rest == b"%%" {
+            return Some((plan, &[]));
         }
-        end = start.checked_sub(1)?;
+        front = plan;
     }
 }

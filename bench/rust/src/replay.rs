@@ -1,10 +1,10 @@
 //! The replay of a text of event lines.
 
+use crate::answer::Answer;
 use crate::faults::{Fault, Kind};
 use crate::machine::{Event, Machine, Outcome};
 use crate::plan::Plan;
-use crate::Answer;
-use std::fmt::Write;
+use std::io::Write;
 
 const MOST_BYTES: usize = 1_048_576;
 const MOST_NUMBER: usize = 1_000_000_000;
@@ -23,44 +23,47 @@ pub fn replay(plan: &Plan, text: &[u8]) -> Result<Answer, Fault> {
     let mut machine = Machine::new(plan);
     let mut answer = Answer::default();
     for (number, line) in (1..).zip(lines) {
+        answer.push_number(number);
         match line {
-            Line::Stuck(members) if machine.is_stuck(&members) => {
-                answer.is_no = true;
-                writeln!(answer.text, "{number}: stuck yes").unwrap();
-            }
-            Line::Stuck(_) => writeln!(answer.text, "{number}: stuck no").unwrap(),
+            Line::Stuck(members) if machine.is_stuck(&members) => answer.push_no(": stuck yes\n"),
+            Line::Stuck(_) => answer.push(": stuck no\n"),
             Line::Happens(event) => match machine.step(event) {
-                Some(outcome) => tell(&mut answer, plan, number, outcome),
+                Some(outcome) => tell(&mut answer, plan, outcome),
                 None => {
-                    answer.is_no = true;
-                    writeln!(answer.text, "{number}: not possible").unwrap();
+                    answer.push_no(": not possible\n");
                     break;
                 }
             },
         }
     }
-    writeln!(answer.text, "refusals {}, unfinished {}", machine.refusals(), machine.unfinished()).unwrap();
+    let (refusals, unfinished) = (machine.refusals(), machine.unfinished());
+    writeln!(answer.text, "refusals {refusals}, unfinished {unfinished}").unwrap();
     Ok(answer)
 }
 
 /// Tells what came of the event of a line.
-fn tell(answer: &mut Answer, plan: &Plan, number: usize, outcome: Outcome) {
-    let text = &mut answer.text;
-    let told = match outcome {
-        Outcome::Started(job) => writeln!(text, "{number}: started job {job}"),
-        Outcome::Queued(job) => writeln!(text, "{number}: queued job {job}"),
+fn tell(answer: &mut Answer, plan: &Plan, outcome: Outcome) {
+    match outcome {
+        Outcome::Started(job) => push_numbered(answer, ": started job ", job as u64),
+        Outcome::Queued(job) => push_numbered(answer, ": queued job ", job as u64),
         Outcome::Refused(pool) => {
-            answer.is_no = true;
-            writeln!(text, "{number}: refused by {}", plan.pools[pool].name)
+            answer.push_no(": refused by ");
+            answer.push(&plan.pools[pool].name);
+            answer.push("\n");
         }
-        Outcome::Worked(units) => writeln!(text, "{number}: worked {units}"),
-        Outcome::Got(job) => writeln!(text, "{number}: got job {job}"),
-        Outcome::Looped => writeln!(text, "{number}: looped"),
-        Outcome::Finished(job) => writeln!(text, "{number}: finished job {job}"),
-        Outcome::Took(job) => writeln!(text, "{number}: took job {job}"),
-        Outcome::Retired => writeln!(text, "{number}: retired"),
-    };
-    told.unwrap();
+        Outcome::Worked(units) => push_numbered(answer, ": worked ", u64::from(units)),
+        Outcome::Got(job) => push_numbered(answer, ": got job ", job as u64),
+        Outcome::Looped => answer.push(": looped\n"),
+        Outcome::Finished(job) => push_numbered(answer, ": finished job ", job as u64),
+        Outcome::Took(job) => push_numbered(answer, ": took job ", job as u64),
+        Outcome::Retired => answer.push(": retired\n"),
+    }
+}
+
+fn push_numbered(answer: &mut Answer, words: &str, number: u64) {
+    answer.push(words);
+    answer.push_number(number);
+    answer.push("\n");
 }
 
 fn read_lines(plan: &Plan, text: &[u8]) -> Result<Vec<Line>, Fault> {
@@ -73,15 +76,17 @@ fn read_lines(plan: &Plan, text: &[u8]) -> Result<Vec<Line>, Fault> {
 }
 
 fn read_line(plan: &Plan, line: &[u8]) -> Option<Line> {
-    let space = line.iter().position(|byte| *byte == b' ')?;
-    let (word, rest) = (&line[..space], &line[space + 1..]);
-    match word {
-        b"client" => Some(Line::Happens(Event::Client(number(rest)?))),
-        b"job" => Some(Line::Happens(Event::Job(number(rest)?))),
-        b"take" => Some(Line::Happens(Event::Take(pool_named(plan, rest)?))),
-        b"retire" => Some(Line::Happens(Event::Retire(pool_named(plan, rest)?))),
-        b"stuck" => rest.split(|byte| *byte == b' ').map(number).collect::<Option<_>>().map(Line::Stuck),
-        _ => None,
+    if let Some(job) = line.strip_prefix(b"job ") {
+        Some(Line::Happens(Event::Job(number(job)?)))
+    } else if let Some(client) = line.strip_prefix(b"client ") {
+        Some(Line::Happens(Event::Client(number(client)?)))
+    } else if let Some(pool) = line.strip_prefix(b"take ") {
+        Some(Line::Happens(Event::Take(pool_named(plan, pool)?)))
+    } else if let Some(pool) = line.strip_prefix(b"retire ") {
+        Some(Line::Happens(Event::Retire(pool_named(plan, pool)?)))
+    } else {
+        let members = line.strip_prefix(b"stuck ")?;
+        members.split(|byte| *byte == b' ').map(number).collect::<Option<_>>().map(Line::Stuck)
     }
 }
 

@@ -1,11 +1,11 @@
 //! The search for a certificate of a plan, and the answer of `certify`.
 
+use crate::answer::Answer;
 use crate::certificate::{Bound, Certificate, PoolCertificate, Ranks, Vector, MOST_BYTES};
 use crate::conditions::accepts;
 use crate::faults::Fault;
 use crate::least_vector::{least_vector, Need, Target};
 use crate::plan::{Action, Plan};
-use crate::Answer;
 
 pub fn certify(mut input: Vec<u8>) -> Result<Answer, Fault> {
     if input.last().map_or(false, |last| *last != b'\n') {
@@ -14,18 +14,18 @@ pub fn certify(mut input: Vec<u8>) -> Result<Answer, Fault> {
     let plan = Plan::read(&input)?;
     let certificate = match search(&plan) {
         Some(certificate) => certificate,
-        None => return Ok(Answer { text: "no certificate found\n".into(), is_no: true }),
+        None => return Ok(Answer::no("no certificate found\n")),
     };
     let certificate = serde_json::to_string(&certificate).expect("its keys are texts");
     if certificate.len() >= MOST_BYTES {
-        return Ok(Answer { text: "no certificate: text too long\n".into(), is_no: true });
+        return Ok(Answer::no("no certificate: text too long\n"));
     }
-    let mut text = String::from_utf8(input).expect("a plan's text is UTF-8");
-    text.reserve_exact(certificate.len() + 4);
-    text.push_str("%%\n");
-    text.push_str(&certificate);
-    text.push('\n');
-    Ok(Answer { text, is_no: false })
+    let mut answer = Answer { text: input, is_no: false };
+    answer.text.reserve_exact(certificate.len() + 4);
+    answer.push("%%\n");
+    answer.push(&certificate);
+    answer.push("\n");
+    Ok(answer)
 }
 
 /// A certificate that is accepted, if one is found. None says nothing of the plan.
