@@ -27,33 +27,21 @@ enum Rule {
     B2,
 }
 
-/// A part of a certificate.
-#[derive(Clone, Copy)]
-enum Section<'a> {
-    Ranks,
-    /// The vector of this kind of the pool of this name.
-    Vector(&'a str, &'static str),
-}
-
 /// A point of a plan, by names.
 #[derive(Clone, Copy)]
 enum Place<'a> {
     Workers(&'a str),
-    Actor(Actor<'a>),
-    Action(Actor<'a>, usize),
-    Total,
-}
-
-#[derive(Clone, Copy)]
-enum Actor<'a> {
     Class(&'a str),
+    ClassAction(&'a str, usize),
     Client(&'a str),
+    ClientAction(&'a str, usize),
+    Total,
 }
 
 /// A rule at its place, in its section: the left number is to be at most the right one.
 #[derive(Clone, Copy)]
 struct Condition<'a> {
-    section: Section<'a>,
+    section: &'a str,
     place: Place<'a>,
     rule: Rule,
     left: u64,
@@ -63,6 +51,22 @@ struct Condition<'a> {
 impl Condition<'_> {
     fn fails(&self) -> bool {
         self.left > self.right
+    }
+
+    fn write_line(&self, text: &mut String) -> fmt::Result {
+        let Condition { section, place, rule, left, right } = self;
+        match place {
+            Place::Workers(pool) => writeln!(text, "{section}, workers {pool}: {rule:?} {left} above {right}"),
+            Place::Class(name) => writeln!(text, "{section}, class {name}: {rule:?} {left} above {right}"),
+            Place::ClassAction(name, position) => {
+                writeln!(text, "{section}, class {name} action {position}: {rule:?} {left} above {right}")
+            }
+            Place::Client(name) => writeln!(text, "{section}, client {name}: {rule:?} {left} above {right}"),
+            Place::ClientAction(name, position) => {
+                writeln!(text, "{section}, client {name} action {position}: {rule:?} {left} above {right}")
+            }
+            Place::Total => writeln!(text, "{section}, total: {rule:?} {left} above {right}"),
+        }
     }
 }
 
@@ -86,7 +90,7 @@ pub fn explain(plan: &Plan, certificate: &Certificate) -> Answer {
     let mut failing = 0;
     let _ = each_condition(plan, certificate, &mut |condition| {
         if condition.fails() {
-            writeln!(text, "{condition}").unwrap();
+            condition.write_line(&mut text).unwrap();
             failing += 1;
         }
         ControlFlow::Continue(())
@@ -112,10 +116,10 @@ fn total(plan: &Plan, vector: &Vector) -> u64 {
 }
 
 /// Looks at each condition in order, until the visitor breaks off.
-fn each_condition<'a>(
-    plan: &'a Plan,
+fn each_condition(
+    plan: &Plan,
     certificate: &Certificate,
-    visit: &mut impl FnMut(Condition<'a>) -> ControlFlow<()>,
+    visit: &mut impl FnMut(Condition) -> ControlFlow<()>,
 ) -> ControlFlow<()> {
     each_of_ranks(plan, &certificate.ranks, visit)?;
     for (number, of_pool) in certificate.pools.iter().enumerate() {
@@ -128,17 +132,12 @@ fn each_condition<'a>(
     ControlFlow::Continue(())
 }
 
-fn each_of_ranks<'a>(
-    plan: &'a Plan,
-    ranks: &Ranks,
-    visit: &mut impl FnMut(Condition<'a>) -> ControlFlow<()>,
-) -> ControlFlow<()> {
-    let mut rule = |place, rule, left, right| visit(Condition { section: Section::Ranks, place, rule, left, right });
+fn each_of_ranks(plan: &Plan, ranks: &Ranks, visit: &mut impl FnMut(Condition) -> ControlFlow<()>) -> ControlFlow<()> {
+    let mut rule = |place, rule, left, right| visit(Condition { section: "ranks", place, rule, left, right });
     for (number, class) in plan.classes.iter().enumerate() {
-        let actor = Actor::Class(&class.name);
-        rule(Place::Actor(actor), Rule::K1, ranks.pools[class.pool], ranks.reach[number])?;
+        rule(Place::Class(&class.name), Rule::K1, ranks.pools[class.pool], ranks.reach[number])?;
         for (position, action) in class.body.actions.iter().enumerate() {
-            let place = Place::Action(actor, position);
+            let place = Place::ClassAction(&class.name, position);
             match *action {
                 Action::Work(_) => {}
                 Action::Submit { class, .. } => {
@@ -151,37 +150,37 @@ fn each_of_ranks<'a>(
     ControlFlow::Continue(())
 }
 
-fn each_of_standing<'a>(
-    plan: &'a Plan,
+fn each_of_standing(
+    plan: &Plan,
     number: usize,
     vector: &Vector,
-    visit: &mut impl FnMut(Condition<'a>) -> ControlFlow<()>,
+    visit: &mut impl FnMut(Condition) -> ControlFlow<()>,
 ) -> ControlFlow<()> {
     let pool = &plan.pools[number];
-    let section = Section::Vector(&pool.name, "standing");
+    let section = &format!("pool {} standing", pool.name);
     each_of_vector(plan, section, vector, true, visit)?;
     for (class, row) in plan.classes.iter().zip(&vector.classes).filter(|(class, _)| class.pool == number) {
-        let place = Place::Actor(Actor::Class(&class.name));
+        let place = Place::Class(&class.name);
         visit(Condition { section, place, rule: Rule::S1, left: 1, right: row[0] })?;
     }
     visit(Condition { section, place: Place::Total, rule: Rule::S2, left: total(plan, vector), right: pool.queue })
 }
 
-fn each_of_lifetime<'a>(
-    plan: &'a Plan,
+fn each_of_lifetime(
+    plan: &Plan,
     number: usize,
     vector: &Vector,
-    visit: &mut impl FnMut(Condition<'a>) -> ControlFlow<()>,
+    visit: &mut impl FnMut(Condition) -> ControlFlow<()>,
 ) -> ControlFlow<()> {
     let pool = &plan.pools[number];
-    let section = Section::Vector(&pool.name, "lifetime");
+    let section = &format!("pool {} lifetime", pool.name);
     for (pool, weight) in plan.pools.iter().zip(&vector.workers) {
         let place = Place::Workers(&pool.name);
         visit(Condition { section, place, rule: Rule::L1, left: *weight, right: 0 })?;
     }
     each_of_vector(plan, section, vector, false, visit)?;
     for (class, row) in plan.classes.iter().zip(&vector.classes).filter(|(class, _)| class.pool == number) {
-        let place = Place::Actor(Actor::Class(&class.name));
+        let place = Place::Class(&class.name);
         for weight in row {
             visit(Condition { section, place, rule: Rule::L2, left: 1, right: *weight })?;
         }
@@ -190,20 +189,20 @@ fn each_of_lifetime<'a>(
     visit(Condition { section, place: Place::Total, rule: Rule::L3, left: total(plan, vector), right })
 }
 
-fn each_of_blocked<'a>(
-    plan: &'a Plan,
+fn each_of_blocked(
+    plan: &Plan,
     number: usize,
     vector: &Vector,
     ranks: &Ranks,
-    visit: &mut impl FnMut(Condition<'a>) -> ControlFlow<()>,
+    visit: &mut impl FnMut(Condition) -> ControlFlow<()>,
 ) -> ControlFlow<()> {
     let pool = &plan.pools[number];
-    let section = Section::Vector(&pool.name, "blocked");
+    let section = &format!("pool {} blocked", pool.name);
     each_of_vector(plan, section, vector, true, visit)?;
     for (class, row) in plan.classes.iter().zip(&vector.classes).filter(|(class, _)| class.pool == number) {
         for (position, action) in class.body.actions.iter().enumerate() {
             if matches!(*action, Action::Get { class, .. } if ranks.reach[class] >= ranks.pools[number]) {
-                let place = Place::Action(Actor::Class(&class.name), position);
+                let place = Place::ClassAction(&class.name, position);
                 visit(Condition { section, place, rule: Rule::B1, left: 1, right: row[position + 1] })?;
             }
         }
@@ -212,88 +211,53 @@ fn each_of_blocked<'a>(
 }
 
 /// The rows of a vector: V2 to V7, or L5 in place of V5 where a get gives nothing back.
-fn each_of_vector<'a>(
-    plan: &'a Plan,
-    section: Section<'a>,
+fn each_of_vector(
+    plan: &Plan,
+    section: &str,
     vector: &Vector,
     gives_back: bool,
-    visit: &mut impl FnMut(Condition<'a>) -> ControlFlow<()>,
+    visit: &mut impl FnMut(Condition) -> ControlFlow<()>,
 ) -> ControlFlow<()> {
     for (class, row) in plan.classes.iter().zip(&vector.classes) {
-        let actor = Actor::Class(&class.name);
-        let place = Place::Actor(actor);
+        let name = class.name.as_str();
+        let place = Place::Class(name);
         let worker = vector.workers[class.pool];
         let (queued, done, weights) = (row[0], row[row.len() - 1], &row[1..row.len() - 1]);
         visit(Condition { section, place, rule: Rule::V4, left: weights[0], right: queued + worker })?;
-        each_of_body(section, actor, &class.body, vector, weights, gives_back, visit)?;
+        for (position, (rule, left, right)) in body_rows(&class.body, vector, weights, gives_back) {
+            visit(Condition { section, place: Place::ClassAction(name, position), rule, left, right })?;
+        }
         visit(Condition { section, place, rule: Rule::V6, left: done + worker, right: weights[weights.len() - 1] })?;
     }
     for (client, row) in plan.clients.iter().zip(&vector.clients) {
-        let actor = Actor::Client(&client.name);
-        each_of_body(section, actor, &client.body, vector, row, gives_back, visit)?;
+        let name = client.name.as_str();
+        for (position, (rule, left, right)) in body_rows(&client.body, vector, row, gives_back) {
+            visit(Condition { section, place: Place::ClientAction(name, position), rule, left, right })?;
+        }
         if client.repeat {
-            let place = Place::Actor(actor);
+            let place = Place::Client(name);
             visit(Condition { section, place, rule: Rule::V7, left: row[0], right: row[row.len() - 1] })?;
         }
     }
     ControlFlow::Continue(())
 }
 
-fn each_of_body<'a>(
-    section: Section<'a>,
-    actor: Actor<'a>,
-    body: &Body,
-    vector: &Vector,
-    weights: &[u64],
+/// The rule of each action of a body, with both its sides, for what the actor weighs at each position.
+fn body_rows<'a>(
+    body: &'a Body,
+    vector: &'a Vector,
+    weights: &'a [u64],
     gives_back: bool,
-    visit: &mut impl FnMut(Condition<'a>) -> ControlFlow<()>,
-) -> ControlFlow<()> {
+) -> impl Iterator<Item = (usize, (Rule, u64, u64))> + 'a {
     let done = |class: usize| vector.classes[class][vector.classes[class].len() - 1];
-    for (position, (action, pair)) in body.actions.iter().zip(weights.windows(2)).enumerate() {
+    let rows = body.actions.iter().zip(weights.windows(2)).map(move |(action, pair)| {
         let (now, next) = (pair[0], pair[1]);
-        let (rule, left, right) = match *action {
+        match *action {
             Action::Work(_) => (Rule::V2, next, now),
             Action::Submit { class, .. } => (Rule::V3, next + vector.classes[class][0], now),
             Action::Get { class, .. } if gives_back => (Rule::V5, next, now + done(class)),
             Action::Get { .. } => (Rule::L5, next, now),
-        };
-        visit(Condition { section, place: Place::Action(actor, position), rule, left, right })?;
-    }
-    ControlFlow::Continue(())
-}
-
-impl fmt::Display for Condition<'_> {
-    fn fmt(&self, f: &mut fmt::Formatter) -> fmt::Result {
-        let Condition { section, place, rule, left, right } = self;
-        write!(f, "{section}, {place}: {rule:?} {left} above {right}")
-    }
-}
-
-impl fmt::Display for Section<'_> {
-    fn fmt(&self, f: &mut fmt::Formatter) -> fmt::Result {
-        match self {
-            Section::Ranks => f.write_str("ranks"),
-            Section::Vector(pool, kind) => write!(f, "pool {pool} {kind}"),
         }
-    }
-}
-
-impl fmt::Display for Place<'_> {
-    fn fmt(&self, f: &mut fmt::Formatter) -> fmt::Result {
-        match self {
-            Place::Workers(pool) => write!(f, "workers {pool}"),
-            Place::Actor(actor) => write!(f, "{actor}"),
-            Place::Action(actor, position) => write!(f, "{actor} action {position}"),
-            Place::Total => f.write_str("total"),
-        }
-    }
-}
-
-impl fmt::Display for Actor<'_> {
-    fn fmt(&self, f: &mut fmt::Formatter) -> fmt::Result {
-        match self {
-            Actor::Class(name) => write!(f, "class {name}"),
-            Actor::Client(name) => write!(f, "client {name}"),
-        }
-    }
+    });
+    rows.enumerate()
 }
