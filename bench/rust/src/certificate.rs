@@ -1,0 +1,177 @@
+//! A certificate: for each pool two vectors of weights, and one set of ranks. Its text is a JSON object.
+
+use crate::faults::{Fault, Kind};
+use crate::object::{object, Object};
+use crate::plan::{Body, Plan};
+use serde::de::Error;
+use serde::{Deserialize, Deserializer, Serialize};
+use serde_json::Value;
+
+pub const MOST_BYTES: usize = 1_048_576;
+pub const MOST_WEIGHT: u64 = 1_000_000_000;
+/// A row of a class has a number for queued, for done, and for one position more than its body has actions.
+const CLASS_POINTS: usize = 3;
+const CLIENT_POINTS: usize = 1;
+
+// The keys of each object stand in the order of their bytes, as they are to be written.
+
+#[derive(Deserialize, Serialize)]
+#[serde(deny_unknown_fields)]
+pub struct Certificate {
+    pub pools: Vec<PoolCertificate>,
+    #[serde(deserialize_with = "object")]
+    pub ranks: Ranks,
+    version: u64,
+}
+
+#[derive(Serialize)]
+pub struct PoolCertificate {
+    pub blocked: Vector,
+    #[serde(flatten)]
+    pub bound: Bound,
+}
+
+/// The vector that bounds a pool's queue, or the jobs that it is ever given.
+#[derive(Serialize)]
+#[serde(rename_all = "lowercase")]
+pub enum Bound {
+    Standing(Vector),
+    Lifetime(Vector),
+}
+
+#[derive(Deserialize, Serialize)]
+#[serde(deny_unknown_fields)]
+pub struct Vector {
+    pub classes: Vec<Vec<u64>>,
+    pub clients: Vec<Vec<u64>>,
+    pub workers: Vec<u64>,
+}
+
+#[derive(Deserialize, Serialize)]
+#[serde(deny_unknown_fields)]
+pub struct Ranks {
+    pub levels: Vec<u64>,
+    pub pools: Vec<u64>,
+    pub reach: Vec<u64>,
+}
+
+impl Certificate {
+    pub fn new(pools: Vec<PoolCertificate>, ranks: Ranks) -> Certificate {
+        let version = if has_lifetime(&pools) { 2 } else { 1 };
+        Certificate { pools, ranks, version }
+    }
+
+    /// The certificate of a text, or its first fault.
+    pub fn read(bytes: &[u8], plan: &Plan) -> Result<Certificate, Fault> {
+        if bytes.len() > MOST_BYTES {
+            return Err(Kind::CertTooLong.into());
+        }
+        let certificate = match serde_json::from_slice(bytes) {
+            Ok(Object(certificate)) => certificate,
+            Err(_) => read_slowly(bytes)?,
+        };
+        certificate.check(plan)?;
+        Ok(certificate)
+    }
+
+    fn check(&self, plan: &Plan) -> Result<(), Kind> {
+        check_version(self.version)?;
+        if self.version == 1 && has_lifetime(&self.pools) || !self.fits(plan) {
+            return Err(Kind::WrongShape);
+        }
+        if !self.is_light() {
+            return Err(Kind::WeightTooLarge);
+        }
+        Ok(())
+    }
+
+    /// Whether each list is as long as the plan wants.
+    fn fits(&self, plan: &Plan) -> bool {
+        let Ranks { levels, pools, reach } = &self.ranks;
+        self.pools.len() == plan.pools.len()
+            && self.pools.iter().all(|pool| pool.bound.vector().fits(plan) && pool.blocked.fits(plan))
+            && pools.len() == plan.pools.len()
+            && reach.len() == plan.classes.len()
+            && levels.len() == plan.classes.len()
+    }
+
+    fn is_light(&self) -> bool {
+        let Ranks { levels, pools, reach } = &self.ranks;
+        self.pools.iter().all(|pool| pool.bound.vector().is_light() && pool.blocked.is_light())
+            && [levels, pools, reach].iter().all(|numbers| are_light(numbers))
+    }
+}
+
+/// Reads the certificate as a value first, to find the first fault of its shape.
+fn read_slowly(bytes: &[u8]) -> Result<Certificate, Kind> {
+    let value: Value = serde_json::from_slice(bytes).map_err(|_| Kind::NotJson)?;
+    check_version(value.get("version").and_then(Value::as_u64).ok_or(Kind::WrongShape)?)?;
+    serde_json::from_value(value).map(|Object(certificate)| certificate).map_err(|_| Kind::WrongShape)
+}
+
+fn check_version(version: u64) -> Result<(), Kind> {
+    match version {
+        1 | 2 => Ok(()),
+        _ => Err(Kind::Version),
+    }
+}
+
+fn has_lifetime(pools: &[PoolCertificate]) -> bool {
+    pools.iter().any(|pool| matches!(pool.bound, Bound::Lifetime(_)))
+}
+
+impl Bound {
+    pub fn vector(&self) -> &Vector {
+        match self {
+            Bound::Standing(vector) | Bound::Lifetime(vector) => vector,
+        }
+    }
+}
+
+impl Vector {
+    pub fn fits(&self, plan: &Plan) -> bool {
+        self.workers.len() == plan.pools.len()
+            && rows_fit(&self.classes, plan.classes.iter().map(|class| &class.body), CLASS_POINTS)
+            && rows_fit(&self.clients, plan.clients.iter().map(|client| &client.body), CLIENT_POINTS)
+    }
+
+    pub fn is_light(&self) -> bool {
+        are_light(&self.workers) && self.classes.iter().chain(&self.clients).all(|row| are_light(row))
+    }
+}
+
+fn rows_fit<'a>(rows: &[Vec<u64>], bodies: impl ExactSizeIterator<Item = &'a Body>, points: usize) -> bool {
+    rows.len() == bodies.len() && rows.iter().zip(bodies).all(|(row, body)| row.len() == body.actions.len() + points)
+}
+
+fn are_light(numbers: &[u64]) -> bool {
+    numbers.iter().all(|number| *number <= MOST_WEIGHT)
+}
+
+impl<'de> Deserialize<'de> for PoolCertificate {
+    fn deserialize<D: Deserializer<'de>>(from: D) -> Result<PoolCertificate, D::Error> {
+        #[derive(Deserialize)]
+        #[serde(deny_unknown_fields)]
+        struct Text {
+            #[serde(deserialize_with = "object")]
+            blocked: Vector,
+            // Null is no vector, so these are not read as options.
+            #[serde(default, deserialize_with = "some_object")]
+            standing: Option<Vector>,
+            #[serde(default, deserialize_with = "some_object")]
+            lifetime: Option<Vector>,
+        }
+
+        let Text { blocked, standing, lifetime } = object(from)?;
+        let bound = match (standing, lifetime) {
+            (Some(vector), None) => Bound::Standing(vector),
+            (None, Some(vector)) => Bound::Lifetime(vector),
+            _ => return Err(D::Error::custom("one of `standing` and `lifetime` is wanted")),
+        };
+        Ok(PoolCertificate { blocked, bound })
+    }
+}
+
+fn some_object<'de, T: Deserialize<'de>, D: Deserializer<'de>>(from: D) -> Result<Option<T>, D::Error> {
+    object(from).map(Some)
+}

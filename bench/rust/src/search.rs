@@ -1,0 +1,122 @@
+//! The search for a certificate of a plan, and the answer of `certify`.
+
+use crate::answer::Answer;
+use crate::certificate::{Bound, Certificate, PoolCertificate, Ranks, Vector, MOST_BYTES};
+use crate::conditions::accepts;
+use crate::faults::Fault;
+use crate::least_vector::{least_vector, Need, Target};
+use crate::plan::{Action, Plan};
+
+pub fn certify(mut input: Vec<u8>) -> Result<Answer, Fault> {
+    if input.last().map_or(false, |last| *last != b'\n') {
+        input.push(b'\n');
+    }
+    let plan = Plan::read(&input)?;
+    let certificate = match search(&plan) {
+        Some(certificate) => certificate,
+        None => return Ok(Answer::no("no certificate found\n")),
+    };
+    let certificate = serde_json::to_string(&certificate).expect("its keys are texts");
+    if certificate.len() >= MOST_BYTES {
+        return Ok(Answer::no("no certificate: text too long\n"));
+    }
+    let mut answer = Answer { text: input, is_no: false };
+    answer.text.reserve_exact(certificate.len() + 4);
+    answer.push("%%\n");
+    answer.push(&certificate);
+    answer.push("\n");
+    Ok(answer)
+}
+
+/// A certificate that is accepted, if one is found. None says nothing of the plan.
+fn search(plan: &Plan) -> Option<Certificate> {
+    let levels = levels(plan)?;
+    let mut order: Vec<usize> = (0..plan.classes.len()).collect();
+    order.sort_by_key(|class| levels[*class]);
+    let bounds: Vec<_> = (0..plan.pools.len()).map(|pool| bound(plan, &order, pool)).collect::<Option<_>>()?;
+    let blocked = ranked(plan, &order)?;
+    let ranks: Vec<u64> = blocked.iter().map(|(rank, _)| *rank).collect();
+    let reach = reach(plan, &order, &ranks);
+    let pools = bounds.into_iter().zip(blocked).map(|(bound, (_, blocked))| PoolCertificate { blocked, bound });
+    let certificate = Certificate::new(pools.collect(), Ranks { levels, pools: ranks, reach });
+    Some(certificate).filter(|certificate| accepts(plan, certificate))
+}
+
+/// A standing vector of the pool, or else a lifetime vector.
+fn bound(plan: &Plan, order: &[usize], number: usize) -> Option<Bound> {
+    let pool = &plan.pools[number];
+    let standing = Target { pool: number, need: Need::WhileQueued, limit: pool.queue };
+    if let Some(vector) = least_vector(plan, order, &standing) {
+        return Some(Bound::Standing(vector));
+    }
+    let most = pool.queue + pool.max - pool.first_threads();
+    let lifetime = Target { pool: number, need: Need::Everywhere, limit: most };
+    least_vector(plan, order, &lifetime).map(Bound::Lifetime)
+}
+
+/// The rank and the blocked vector of each pool. They are found in rounds: a pool whose vector is found gets the round's
+/// number as its rank, and in the next round gets are not counted that wait only for pools with a rank.
+fn ranked(plan: &Plan, order: &[usize]) -> Option<Vec<(u64, Vector)>> {
+    let mut found: Vec<Option<(u64, Vector)>> = plan.pools.iter().map(|_| None).collect();
+    for rank in 0..plan.pools.len() as u64 {
+        let ranks: Vec<u64> = found.iter().map(|pool| pool.as_ref().map_or(rank, |(rank, _)| *rank)).collect();
+        let reach = reach(plan, order, &ranks);
+        let mut has_moved = false;
+        for (number, pool) in found.iter_mut().enumerate().filter(|(_, pool)| pool.is_none()) {
+            let need = Need::AtGets { reach: &reach, rank };
+            let blocked = Target { pool: number, need, limit: plan.pools[number].core - 1 };
+            *pool = least_vector(plan, order, &blocked).map(|vector| (rank, vector));
+            has_moved |= pool.is_some();
+        }
+        if found.iter().all(Option::is_some) {
+            break;
+        }
+        if !has_moved {
+            return None;
+        }
+    }
+    found.into_iter().collect()
+}
+
+/// The highest rank that a job of each class waits for, with that of its own pool.
+fn reach(plan: &Plan, order: &[usize], ranks: &[u64]) -> Vec<u64> {
+    let mut reach = vec![0; plan.classes.len()];
+    for number in order {
+        let class = &plan.classes[*number];
+        reach[*number] = class.body.actions.iter().fold(ranks[class.pool], |highest, action| match *action {
+            Action::Get { class, .. } => highest.max(reach[class]),
+            _ => highest,
+        });
+    }
+    reach
+}
+
+#[derive(Clone, Copy)]
+enum Level {
+    Unknown,
+    /// It is being found: who submits this class again goes round in a circle.
+    Open,
+    Known(u64),
+}
+
+/// The level of each class, above those of all classes that it submits; None where a class submits itself.
+fn levels(plan: &Plan) -> Option<Vec<u64>> {
+    let mut levels = vec![Level::Unknown; plan.classes.len()];
+    (0..plan.classes.len()).map(|class| level(plan, class, &mut levels)).collect()
+}
+
+fn level(plan: &Plan, class: usize, levels: &mut [Level]) -> Option<u64> {
+    match levels[class] {
+        Level::Known(level) => return Some(level),
+        Level::Open => return None,
+        Level::Unknown => levels[class] = Level::Open,
+    }
+    let mut highest = 0;
+    for action in &plan.classes[class].body.actions {
+        if let Action::Submit { class, .. } = *action {
+            highest = highest.max(level(plan, class, levels)? + 1);
+        }
+    }
+    levels[class] = Level::Known(highest);
+    Some(highest)
+}
