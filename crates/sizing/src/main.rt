@@ -65,7 +65,9 @@ fn tell(rt: &impl Eprint, fault: &WordsFault<'_>) -> io::Result<()> {
         WordsFault::Words(error) => eprint!(rt; "{error}"),
         WordsFault::NoCommand => eprintln!(rt; "no command"),
         WordsFault::InputTwice => {
-            eprintln!(rt; "standard input has one of the two texts, not both: name a file for the other")
+            eprintln!(rt;
+                "standard input has one of the two texts, not both: name a file for the other"
+            )
         }
         WordsFault::Unread(name) => eprintln!(rt; "{} at {name}", Head(READ_FAILED)),
         WordsFault::Served(fault) => eprintln!(rt; "{fault}"),

@@ -60,7 +60,7 @@ bundle_means_witness input answer is done = by_length (nat_lt MOST_INPUT_BYTES (
     by_shown plan is_plan refutes =
         ⊎_elim (λ too_long. let no : Refused ≡ Done = sym (ap (λ (a : Answer). a.status) too_long.0) ∙ done in absurd cc)
         (λ (bundles : BundlesWitness (whole_lines input) plan refutes.witness answer).
-          record { plan = plan; is_plan = is_plan; witness = refutes.witness; is_witness = refutes.is_witness; bundle = bundles.bundle })
+        record { plan = plan; is_plan = is_plan; witness = refutes.witness; is_witness = refutes.is_witness; bundle = bundles.bundle })
         refutes.shows
 
     by_answer : (plan : Plan) → plan_of (whole_lines input) ≡ Ok plan → AnswersPlan Bundle (whole_lines input) plan answer → Shows input answer

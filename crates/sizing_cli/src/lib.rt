@@ -24,8 +24,8 @@ mod witness;
 
 pub use alone::serve_alone;
 pub use byte_streams::{IoFault, MemorySink, MemorySource, Sink, Source, StdSink, StdSource};
-pub use command_line::{Command, Shown, Wanted, read_words};
 pub use certify::whole_lines;
+pub use command_line::{Command, Shown, Wanted, read_words};
 pub use laws::{
     a_yes_means_safe, inputs_split_at_the_last_separator, limits_and_fault_numbers_are_stated,
     no_bundle_without_a_separator,
