@@ -47,7 +47,7 @@ def compared_with_examples(peer):
     compare = examples_check().compare
     answers = sorted(path for path in EXAMPLES.iterdir() if path.suffix[1:] in COMMANDS)
     for answer in answers:
-        difference = compare(peer, answer)
+        difference = compare(peer, answer, names_files=False)
         if difference:
             raise Wrong(f"{answer.name}: the plain Rust program: {difference}")
     if not answers:

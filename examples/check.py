@@ -41,8 +41,8 @@ def main():
     return 1 if wrong or not examples else 0
 
 
-def compare(program, answer):
-    """What is wrong with the program's answer to an example; None where it agrees."""
+def compare(program, answer, names_files=True):
+    """What is wrong with the program's answer to an example, on standard input and with the files named; None where it agrees."""
     command = answer.suffix[1:]
     files = [answer.with_suffix(".toml")]
     if SECOND_PARTS[command]:
@@ -55,7 +55,7 @@ def compare(program, answer):
     words = [program, command, *OPTIONS.get(command, [])]
     if difference := answered(words, given, wanted):
         return difference
-    if difference := answered([*words, *files], b"", wanted):
+    if names_files and (difference := answered([*words, *files], b"", wanted)):
         return f"with the files named: {difference}"
     return None
 
