@@ -7,7 +7,13 @@ READER = crates/plan_reader/out/plan_reader
 PROGRAM_SOURCES := $(shell python3 tools/crates.py sizing)
 READER_SOURCES := $(shell python3 tools/crates.py plan_reader)
 
-.PHONY: demo program install test gate refused examples checks java bench plan_reader
+.PHONY: help demo program install test gate refused examples checks java bench plan_reader clean
+
+# Lists the commands, each with what it does.
+help:
+	@awk '/^#/ { said = said (said == "" ? "" : "\n                ") substr($$0, 3) } \
+	      /^[a-z_]+:/ && said != "" { sub(/:.*/, ""); printf "make %-10s %s\n", $$0, said } \
+	      !/^#/ { said = "" }' Makefile
 
 # Runs the program on its first example as it is written, before any proof: about a minute on a fresh machine.
 demo:
@@ -60,7 +66,7 @@ java:
 # its plan, fit beside certify on the sizes that it finds, and a run beside a plain program that passes as many events
 # through one lock; and last, four of the commands beside a plain Rust program that gives the same answers.
 bench: program plan_reader
-	@command -v valgrind > /dev/null || apt-get install -y valgrind || echo "no valgrind: no instructions are counted"
+	@command -v valgrind > /dev/null || echo "there is no valgrind: install it (apt-get install valgrind), else no instructions are counted"
 	python3 bench/replay.py
 	python3 bench/read.py
 	python3 bench/check.py
@@ -75,3 +81,7 @@ plan_reader: $(READER)
 
 $(READER): $(READER_SOURCES)
 	@tools/build plan_reader $@
+
+# Removes what was built and kept in the working tree; the proofs that rt keeps on this machine stay.
+clean:
+	rm -rf out crates/*/out

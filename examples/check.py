@@ -5,8 +5,9 @@ An example is a plan NAME.toml with events NAME.events, a certificate NAME.json,
 replay` must answer to the plan, a line `%%` and the events; NAME.check and NAME.explain are what those commands must
 answer to the plan, a line `%%` and the certificate, and NAME.run is what `sizing run --rounds 3` must. NAME.fit is what
 `sizing fit` must answer to the plan alone, and NAME.refute what `sizing refute` must. The last line of each tells the
-exit status. Each is asked twice: with the texts on standard input, and with the files named. The program is
-crates/sizing/out/sizing, or the one that the environment variable SIZING names.
+exit status. Each is asked twice: with the texts on standard input, and with the files named. Then each command that a page
+quotes with its answer is run (pages.py). The program is crates/sizing/out/sizing, or the one that the environment variable
+SIZING names.
 
 Exit status: 0 where all examples agree, 1 where one differs, 2 where the program isn't there.
 """
@@ -14,8 +15,12 @@ Exit status: 0 where all examples agree, 1 where one differs, 2 where the progra
 import os
 import subprocess
 import sys
+import tempfile
 from itertools import zip_longest
 from pathlib import Path
+
+sys.dont_write_bytecode = True
+from pages import commands_of, pages, parts_of, unanswered
 
 HERE = Path(__file__).resolve().parent
 BUILT = HERE.parent / "crates" / "sizing" / "out" / "sizing"
@@ -32,13 +37,28 @@ def main():
         print(f"there is no program at {program}: run `make program` at the top of the repository", file=sys.stderr)
         return 2
     examples = sorted(path for path in HERE.iterdir() if path.suffix[1:] in SECOND_PARTS)
-    wrong = 0
-    for answer in examples:
-        difference = compare(program, answer)
-        print(f"{answer.name}: {difference or 'ok'}")
-        wrong += difference is not None
-    print(f"{len(examples) - wrong} ok, {wrong} wrong")
-    return 1 if wrong or not examples else 0
+    answers = [(answer.name, compare(program, answer)) for answer in examples]
+    quoted = list(differences_of_pages(program))
+    for name, difference in answers + quoted:
+        print(f"{name}: {difference or 'ok'}")
+    wrong = sum(difference is not None for _, difference in answers + quoted)
+    print(f"{len(answers) + len(quoted) - wrong} ok, {wrong} wrong")
+    return 1 if wrong or not examples or not quoted else 0
+
+
+def differences_of_pages(program):
+    """Each command that a page quotes, with what is wrong with its answer, and each answer that no stored one has."""
+    with tempfile.TemporaryDirectory(prefix="sizing-pages-") as room:
+        os.symlink(program, f"{room}/sizing")
+        searched = {**os.environ, "PATH": f"{room}:{os.environ['PATH']}"}
+        for page in pages():
+            text = page.read_text(encoding="utf-8")
+            for command, wanted in commands_of(text):
+                ran = subprocess.run(command, shell=True, cwd=HERE, env=searched, capture_output=True, timeout=SECONDS)
+                yield f"{page.name}: {command}", first_difference(wanted.encode(), ran.stdout)
+            if page.name in ("PATTERNS.md", "PERMITS.md"):
+                lost = [quoted for part in parts_of(text) for quoted in unanswered(part)]
+                yield f"{page.name}: quoted answers", f"no stored answer has {lost}" if lost else None
 
 
 def compare(program, answer, names_files=True):
