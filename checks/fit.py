@@ -10,11 +10,11 @@ Of each plan of examples/, of plans made by chance, and of larger ones with up t
 - To what `fit --bundle` writes `check` says yes. Its plan differs from the given one in sizes alone, none of them smaller,
   and the lines of `fit` tell these sizes, and those of the given plan where they differ.
 - With the same certificate, one less of any core or queue that is changed is a no. A max that is changed is the core.
-- Where `certify` finds a certificate nothing is changed.
+- Where `certify` finds a certificate nothing is changed. At the sizes that `fit` names it finds one, and `fit` changes nothing.
+- That sizes are above their limit is told only where those of the plan's steady certificate are, or a weight of it.
 
 Of small plans, with one or two pools and single clients, that get sizes up to 6: all sizes that grow by less, all together,
-are given to `certify`. Where it finds a certificate for some of them that is printed, and it is no fault. Nor is it where
-`certify` finds none for the sizes that `fit` found, or where `fit` changes these again: that is counted.
+are given to `certify`. Where it finds a certificate for some of them that is printed, and it is no fault.
 
 The program is crates/sizing/out/sizing, or the one that the environment variable SIZING names.
 
@@ -38,6 +38,7 @@ from no_sizes import NOTHING_FOUND, causes
 from read_plans import read_plan
 from refused_growths import Unable, built
 from small_plans import run, text_of
+from steady import is_too_large
 
 EXAMPLES = Path(__file__).resolve().parent.parent / "examples"
 MOST_SMALL_SIZE = 6
@@ -84,8 +85,8 @@ def told(name, fits):
     wrong = sum(map(Fit.is_reported, fits))
     number = sum((fit.count for fit in fits), Counter())
     print(f"{len(fits)} {name}, {wrong} answered wrongly: {number['certified']} have a certificate, {number['sized']} get "
-          f"other sizes, {number['helpless']} no sizes help; {number['grown']} cores and queues grow; with the new sizes "
-          f"{number['uncertified']} get no certificate of certify, and {number['changed again']} are changed again")
+          f"other sizes, {number['helpless']} no sizes help, {number['too large']} need too large ones; {number['grown']} "
+          "cores and queues grow")
     return wrong
 
 
@@ -106,6 +107,9 @@ class Fit:
         if wanted:
             self.count["helpless"] += 1
             return self.fault_of_cause(wanted)
+        if self.told.startswith(NOTHING_FOUND):
+            self.count["too large"] += 1
+            return "" if ": sizes above " in self.told and is_too_large(self.plan) else "sizes that are not too large"
         is_certified = run(self.program, "certify", self.given)[0] == 0
         self.count["certified" if is_certified else "sized"] += 1
         return self.fault_of_sizes(is_certified)
@@ -131,8 +135,10 @@ class Fit:
             return "a plan is changed that has a certificate"
         if not run(self.program, "check", self.bundle)[1].startswith("yes\n"):
             return "check does not say yes"
-        self.count["uncertified"] += run(self.program, "certify", fitted_text)[0] != 0
-        self.count["changed again"] += run(self.program, "fit", fitted_text)[0] != 0
+        if run(self.program, "certify", fitted_text)[0] != 0:
+            return "certify finds no certificate at these sizes"
+        if run(self.program, "fit", fitted_text)[0] != 0:
+            return "fit changes these sizes again"
         return self.fault_of_less(fitted, cert)
 
     def fault_of_less(self, fitted, cert):

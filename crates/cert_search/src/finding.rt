@@ -1,11 +1,13 @@
 //! The search for a certificate.
 
-ghost use Rattle.std.specs.Prelude.{◌≡◌, ◌≢◌, ◌<◌, ◌≤◌, IfErr, IfOk, IfSome, IsTrue, length};
+ghost use Rattle.std.specs.Prelude.{◌≡◌, ◌≢◌, ◌<◌, ◌≤◌, false, IfErr, IfOk, IfSome, IfNone, IsTrue, length};
 ghost use Rattle.headline.specs.Accepted.{accepted};
+ghost use Rattle.steady_certificates.specs.Steady.{steady_cert};
 ghost use Rattle.cert_search.specs.declared.finding.SearchFault.TheVariants.{Memory};
 
 use crate::draft::Draft;
 use crate::round::Round;
+use crate::steadily::steady_where_accepted;
 use crate::workers::look_at_all;
 use cert_check::{PoolGate, accepts};
 use certificates::Cert;
@@ -36,8 +38,10 @@ impl From<AllocError> for SearchFault {
     }
 }
 
-/// Looks for a certificate of the plan with so many workers, from 1 to 64. None says nothing of the plan: a plan that is
-/// safe may get none. That the number of workers does not change which certificate is found is shown by tests alone.
+/// Looks for a certificate of the plan with so many workers, from 1 to 64. Where the rounds find none, it is the steady one, if
+/// that accepts the plan as it is. So None says that this one does not: with sizes that are large enough for it, a plan has a
+/// certificate exactly where it has none of the causes of [`size_causes`]. With smaller ones a plan that is safe may get None.
+/// That the number of workers does not change which certificate is found is shown by tests alone.
 ///
 /// In each round the workers look at the pools that have no rank yet. A pool whose blocked vector is found gets the round's
 /// number as its rank; in the next round gets are not counted that wait for pools with a rank.
@@ -56,17 +60,16 @@ pub fn search<R: Threads + Wait + Sync, G: PoolGate>(
     requires some { 1 ≤ workers }
     requires few { workers ≤ 64 }
     ensures accepted { IfOk result (λ found. IfSome found (λ cert. IsTrue (accepted plan.now cert))) }
+    ensures steady { IfOk result (λ found. IfNone found (accepted plan.now (steady_cert plan.now) ≡ false)) }
     // Mixed and Gate come only where there is a pool to look at.
     ensures fault { IfErr result (λ fault. fault ≢ Memory → 0 < length plan.now.pools) }
 {
-    match looked_for(rt, alloc, plan, workers, gate)? {
-        Some(cert) => Ok(if accepts(plan, &cert) {
-            Some(cert)
-        } else {
-            None
-        }),
-        None => Ok(None),
+    if let Some(cert) = looked_for(rt, alloc, plan, workers, gate)? {
+        if accepts(plan, &cert) {
+            return Ok(Some(cert));
+        }
     }
+    Ok(steady_where_accepted(alloc, plan)?)
 }
 
 /// What the rounds find, which nobody has tested.

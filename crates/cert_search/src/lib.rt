@@ -8,6 +8,7 @@ mod draft;
 mod finding;
 mod results;
 mod round;
+mod steadily;
 mod workers;
 
 pub use finding::{SearchFault, search};

@@ -5,6 +5,7 @@ ghost use Rattle.job_bodies.specs.Plan.{pool_at, class_at, client_at};
 ghost use Rattle.size_lines.specs.Cause as spec;
 
 use job_bodies::{MOST_UNITS, Plan};
+use size_causes::Cause;
 use size_search::NoSizes;
 use std::alloc::AllocError;
 
@@ -24,16 +25,14 @@ fn push_cause(text: &mut String, plan: &Plan, cause: NoSizes) -> Result<(), Allo
     ensures { OnOk result (string_bytes text.new ≡ string_bytes text.old ++ spec.cause_text plan.now cause) }
 {
     match cause {
-        NoSizes::Circle(class) => push_circle(text, class_name(plan, class)),
-        NoSizes::ClientNeverGets(client, action) => {
+        NoSizes::Cause(Cause::Circle(class)) => push_circle(text, class_name(plan, class)),
+        NoSizes::Cause(Cause::ClientNeverGets(client, action)) => {
             push_never_got(text, "client", client_name(plan, client), action)
         }
-        NoSizes::ClassNeverGets(class, action) => {
+        NoSizes::Cause(Cause::ClassNeverGets(class, action)) => {
             push_never_got(text, "class", class_name(plan, class), action)
         }
-        NoSizes::Core(pool) => push_above(text, pool_name(plan, pool), "core"),
-        NoSizes::Queue(pool) => push_above(text, pool_name(plan, pool), "queue"),
-        NoSizes::Unknown => text.push_str("no cause was found\n"),
+        NoSizes::TooLarge(pool) => push_above(text, pool_name(plan, pool)),
     }
 }
 
@@ -57,10 +56,10 @@ fn push_never_got(
     )
 }
 
-fn push_above(text: &mut String, name: &str, size: &str) -> Result<(), AllocError>
-    ensures { OnOk result (string_bytes text.new ≡ string_bytes text.old ++ spec.above_text name.now size.now) }
+fn push_above(text: &mut String, name: &str) -> Result<(), AllocError>
+    ensures { OnOk result (string_bytes text.new ≡ string_bytes text.old ++ spec.above_text name.now) }
 {
-    writeln!(text, "pool {name}: {size} above {MOST_UNITS}")
+    writeln!(text, "pool {name}: sizes above {MOST_UNITS}")
 }
 
 fn pool_name(plan: &Plan, pool: usize) -> &str

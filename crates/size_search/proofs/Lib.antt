@@ -1,2 +1,2 @@
 pub mod Sizings
-pub mod Submits
+pub mod Deciding

@@ -1,2 +1,2 @@
-pub mod Submitted
 pub mod Sized
+pub mod Decided

@@ -1,11 +1,15 @@
 -- Sizes with which a certificate accepts a plan.
-use Rattle.std.specs.Prelude.{◌≡◌, ◌≤◌, ◌<◌, ℕ, IsTrue}
+use Rattle.std.specs.Prelude.{◌≡◌, ◌≤◌, ◌<◌, ◌⊎◌, ℕ, false, length, IsTrue}
+use Rattle.job_bodies.specs.declared.limits.TheConstants.{MOST_UNITS}
 use Rattle.job_bodies.specs.Plan.{Plan, pool_at}
+use Rattle.weights.specs.Vector.{has_small_numbers}
 use Rattle.certificates.specs.Cert.{Cert}
 use Rattle.headline.specs.Accepted.{accepted}
 use Rattle.fitted_sizes.specs.Fitted.{IsResized, IsNoSmaller}
 use Rattle.fitted_sizes.specs.Widened.{IsWideFit, HasLeastCores}
-use Rattle.size_search.specs.Submitted.{IsCause}
+use Rattle.steady_certificates.specs.Steady.{steady_vector, steady_total}
+use Rattle.size_causes.specs.Causes.{IsCause}
+use Rattle.size_search.specs.declared.found.NoSizes.TheVariants.{Cause, TooLarge}
 use Rattle.size_search.specs.declared.found.SizesFound.{SizesFound}
 use Rattle.size_search.specs.declared.found.SizesFound.TheVariants.{Found, NotFound}
 
@@ -21,7 +25,13 @@ pub record IsSized (plan : Plan) (cert : Cert) (fit : Plan) : Type 0 where
   pub least_cores : HasLeastCores plan cert fit
   pub max_is_core : (p : ℕ) → (pool_at plan p).max < (pool_at fit p).max → (pool_at fit p).max ≡ (pool_at fit p).core
 
--- where sizes were found it is so of them, and else what the cause says
+-- a weight of the plan's steady certificate is above its limit, or its total leaves no room below the limit of sizes
+abbrev pub IsTooLarge : Plan → Type 0
+IsTooLarge plan = (has_small_numbers (steady_vector plan) ≡ false) ⊎ (MOST_UNITS ≤ steady_total plan)
+
+-- where sizes were found it is so of them; else a cause against all sizes holds, or a pool is told, and the steady certificate
+-- is too large
 abbrev pub IsFound : Plan → SizesFound → Type 0
 IsFound plan (Found fit cert) = IsSized plan cert fit
-IsFound plan (NotFound cause) = IsCause plan cause
+IsFound plan (NotFound (Cause cause)) = IsCause plan cause
+IsFound plan (NotFound (TooLarge p)) = (p < length plan.pools) × IsTooLarge plan

@@ -44,7 +44,7 @@ pub(crate) fn tried(
 }
 
 /// By how much the sizes of the plan grow, all together.
-fn growth(plan: &Plan, fit: &Plan) -> u64 {
+pub(crate) fn growth(plan: &Plan, fit: &Plan) -> u64 {
     let mut growth = 0u64;
     for (pool, fit) in plan.pools().iter().zip(fit.pools()) {
         for (before, after) in [

@@ -30,7 +30,7 @@ pub(crate) fn bound_of(
         }
     }
     let Some(workers) = known.workers_at(look) else {
-        return Err(Halt::Limit(Limit::Queue(number)));
+        return Err(Halt::Limit(Limit::Pool(number)));
     };
     let kind = if is_lifetime {
         Kind::Lifetime
@@ -40,7 +40,7 @@ pub(crate) fn bound_of(
     match known.growing(maxes).vector(alloc, number, kind, workers)? {
         Some(vector) if is_lifetime => Ok(Bound::Lifetime(vector)),
         Some(vector) => Ok(Bound::Standing(vector)),
-        None => Err(Halt::Limit(Limit::Queue(number))),
+        None => Err(Halt::Limit(Limit::Pool(number))),
     }
 }
 

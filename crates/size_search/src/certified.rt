@@ -65,5 +65,5 @@ fn blocked_of(
             .vector(alloc, look.pool, kind, workers)?,
         None => None,
     };
-    vector.ok_or(Halt::Limit(Limit::Core(look.pool)))
+    vector.ok_or(Halt::Limit(Limit::Pool(look.pool)))
 }

@@ -1,10 +1,10 @@
 //! What a search for sizes comes to.
 
-ghost use Rattle.std.specs.Prelude.{◌≡◌};
-ghost use Rattle.size_search.specs.Submitted.{IsCause};
+ghost use Rattle.std.specs.Prelude.{◌≡◌, ◌<◌, length};
 
 use certificates::Cert;
 use job_bodies::Plan;
+use size_causes::Cause;
 use std::alloc::AllocError;
 
 /// What a search for sizes came to.
@@ -16,47 +16,35 @@ pub enum SizesFound {
     NotFound(NoSizes),
 }
 
-/// Why no sizes were found. That the first three hold of the plan is proved. They say no more: a plan may be safe for which
-/// there is no certificate. Of the others it is proved that the pool is one of the plan's.
+/// Why no sizes were found.
 #[derive(Clone, Copy, Debug, PartialEq, Eq)]
 pub enum NoSizes {
-    /// The class of this number submits itself, at whatever remove.
-    Circle(usize),
-    /// Clients of this kind repeat, and never get the job that they submit at this action of their body.
-    ClientNeverGets(usize, usize),
-    /// Jobs of this class never get the job that they submit at this action of their body, and clients that repeat submit
-    /// such jobs, at whatever remove.
-    ClassNeverGets(usize, usize),
-    /// The first attempt did not get past the core of the pool of this number: it would pass 1,000,000, or a weight its limit.
-    /// Other sizes may do.
-    Core(usize),
-    /// The first attempt did not get past the queue of the pool of this number, in the same way. Other sizes may do.
-    Queue(usize),
-    /// No certificate was found that other sizes could make accepted, or too many vectors were looked for. No plan is known
-    /// that gets this answer.
-    Unknown,
+    /// A cause against all sizes, which holds of the plan. It says no more: a plan may be safe for which there is no
+    /// certificate.
+    Cause(Cause),
+    /// The first attempt did not get past the pool of this number, and the plan's steady certificate needs sizes above
+    /// 1,000,000, or has a weight above its limit. Other sizes may do.
+    TooLarge(usize),
 }
 
 /// What an attempt did not get past.
 #[derive(Clone, Copy, Debug, PartialEq, Eq)]
 pub(crate) enum Limit {
-    /// The core of the pool of this number.
-    Core(usize),
-    /// Its queue.
-    Queue(usize),
+    /// A size of the pool of this number.
+    Pool(usize),
     /// Something else.
     Unknown,
 }
 
 impl Limit {
-    /// What is told of it. The search is not trusted to name a pool of the plan.
-    pub(crate) fn cause(self, plan: &Plan) -> NoSizes
-        ensures { IsCause plan.now result }
+    /// The pool that is told of it; the first one where it names none. The search is not trusted to name a pool of the plan.
+    pub(crate) fn pool(self, plan: &Plan) -> usize
+        requires { 0 < length plan.now.pools }
+        ensures { result < length plan.now.pools }
     {
         match self {
-            Limit::Core(pool) if pool < plan.pools().len() => NoSizes::Core(pool),
-            Limit::Queue(pool) if pool < plan.pools().len() => NoSizes::Queue(pool),
-            _ => NoSizes::Unknown,
+            Limit::Pool(pool) if pool < plan.pools().len() => pool,
+            _ => 0,
         }
     }
 }

@@ -8,15 +8,15 @@
 
 mod attempt;
 mod bounds;
-mod causes;
 mod certified;
 mod found;
-mod reached;
+mod lasting;
 mod remembered;
 mod rooms;
 mod rounds;
 mod search;
 mod settled;
+mod steadily;
 
 pub use found::{NoSizes, SizesFound};
 pub use search::search_sizes;

@@ -96,7 +96,7 @@ impl Placing {
     /// Why no pool can get the core that it lacks.
     fn limit_of(&self, looks: &[Look]) -> Limit {
         match self.choice_of(looks, 0) {
-            Some(look) => Limit::Core(look.pool),
+            Some(look) => Limit::Pool(look.pool),
             None => Limit::Unknown,
         }
     }

@@ -1,33 +1,46 @@
 //! The search for sizes.
 
-ghost use Rattle.std.specs.Prelude.{◌≡◌, IfOk, IfErr, IfSome, IsTrue};
+ghost use Rattle.std.specs.Prelude.{◌≡◌, IfOk, IfSome, IsTrue};
 ghost use Rattle.headline.specs.Accepted.{accepted};
-ghost use Rattle.size_search.specs.Submitted.{IsCause};
-ghost use Rattle.size_search.specs.Sized.{IsFound};
+ghost use Rattle.job_bodies.specs.WellFormed.{IsWellFormed};
+ghost use Rattle.steady_certificates.specs.Submitted.{IsWithoutCause};
+ghost use Rattle.size_search.specs.Sized.{IsSized, IsFound};
+ghost use Rattle.size_search.specs.Decided.{IsDecided};
 ghost use Rattle.size_search.specs.declared.found.SizesFound.TheVariants.{Found};
 
 use crate::attempt::{Attempt, tried};
-use crate::causes::{circle, never_got};
 use crate::found::{Halt, Limit, NoSizes, SizesFound};
+use crate::lasting::lasting;
 use crate::remembered::Remembered;
 use crate::rooms::{Room, rooms_of};
 use crate::settled::settled;
+use crate::steadily::steadily;
 use cert_check::accepts;
 use certificates::Cert;
 use fitted_sizes::copied;
 use job_bodies::{MOST_POOLS, Plan};
 use least_vectors::Levels;
+use size_causes::cause_of;
 use std::alloc::{AllocError, Global};
 
 /// How many pools are tried first beside the one that lacks least, and from how many the growth is taken back.
 const FURTHER_ATTEMPTS: usize = 3;
+
+/// In a plan with so many pools at most it is taken back from each that has grown, one at a time.
+const FEW_POOLS: usize = 8;
 
 /// Looks for sizes with which a certificate accepts the plan, and so that their increases are few and small. Where `first`
 /// accepts the plan as it is, as what a search for a certificate finds, nothing changes.
 ///
 /// In rounds, as in the search for a certificate, pools get ranks and blocked vectors. Where no pool has core enough in a
 /// round, the one that lacks least gets it. The queues follow, and then the sizes are put back to what the certificate
-/// needs. Some further attempts begin with another pool, or without what a pool got; the cheapest one is answered.
+/// needs. Some further attempts begin with another pool, or without what a pool got; the cheapest one is answered. Where none
+/// finds anything, it is the plan's steady certificate with the least sizes for that. Sizes are answered only if the search
+/// finds a certificate with them again, as far as the steady certificate is not too large.
+///
+/// Where no sizes are found, a cause against all sizes holds of the plan, or the steady certificate is too large. So below the
+/// limits sizes are found exactly where there are some: where no class submits itself, at whatever remove, and no submit is
+/// never got in what a repeating client causes.
 ///
 /// That the certificate accepts the plan of these sizes is proved. So is that for this certificate, of sizes that are no
 /// smaller than declared, no smaller maximum and no smaller core would do, nor with these maximums a smaller queue, and that a
@@ -42,6 +55,7 @@ pub fn search_sizes(
     first: Option<Cert>,
 ) -> Result<SizesFound, AllocError>
     ensures found { IfOk result (IsFound plan.now) }
+    ensures decided { IfOk result (IsDecided plan.now) }
     ensures unchanged { IfSome first (λ cert. IsTrue (accepted plan.now cert) → IfOk result (λ found. found ≡ Found plan.now cert)) }
 {
     if let Some(cert) = first {
@@ -50,31 +64,56 @@ pub fn search_sizes(
             return Ok(SizesFound::Found { plan, cert });
         }
     }
+    searched(alloc, plan)
+}
+
+/// What the search comes to where no certificate is at hand.
+fn searched(alloc: Global, plan: &Plan) -> Result<SizesFound, AllocError>
+    ensures found { IfOk result (IsFound plan.now) }
+    ensures decided { IfOk result (IsDecided plan.now) }
+{
+    if let Some(cause) = cause_of(alloc, plan)? {
+        return Ok(SizesFound::NotFound(NoSizes::Cause(cause)));
+    }
+    let found = without_cause(alloc, plan)?;
+    Ok(found)
+}
+
+/// Sizes for a plan of which no cause against all sizes holds.
+fn without_cause(alloc: Global, plan: &Plan) -> Result<SizesFound, AllocError>
+    requires free { IsWithoutCause plan.now }
+    requires well_formed { IsWellFormed plan.now }
+    ensures { IfOk result (IsFound plan.now) }
+{
+    match by_rounds(alloc, plan)? {
+        Ok((fit, cert)) => lasting(alloc, plan, fit, cert),
+        Err(limit) => steadily(alloc, plan, limit),
+    }
+}
+
+/// The plan with the sizes that the rounds found, and their certificate.
+fn by_rounds(alloc: Global, plan: &Plan) -> Result<Result<(Plan, Cert), Limit>, AllocError>
+    ensures { IfOk result (λ answer. IfOk answer (λ found. IsSized plan.now found.1 found.0)) }
+{
     let cert = match looked_for(alloc, plan)? {
         Ok(cert) => cert,
-        Err(cause) => return Ok(SizesFound::NotFound(cause)),
+        Err(limit) => return Ok(Err(limit)),
     };
-    Ok(match settled(alloc, plan, &cert)? {
-        Ok(plan) => SizesFound::Found { plan, cert },
-        Err(limit) => SizesFound::NotFound(limit.cause(plan)),
-    })
+    match settled(alloc, plan, &cert)? {
+        Ok(fit) => Ok(Ok((fit, cert))),
+        Err(limit) => Ok(Err(limit)),
+    }
 }
 
 /// A certificate that other sizes make accepted, which nobody has tested.
-fn looked_for(alloc: Global, plan: &Plan) -> Result<Result<Cert, NoSizes>, AllocError>
-    ensures { IfOk result (λ answer. IfErr answer (IsCause plan.now)) }
-{
+pub(crate) fn looked_for(alloc: Global, plan: &Plan) -> Result<Result<Cert, Limit>, AllocError> {
     let Some(levels) = Levels::of(alloc, plan)? else {
-        let circle = circle(alloc, plan)?;
-        return Ok(Err(circle.unwrap_or(NoSizes::Unknown)));
+        return Ok(Err(Limit::Unknown));
     };
-    if let Some(cause) = never_got(alloc, plan)? {
-        return Ok(Err(cause));
-    }
     let mut known = Remembered::of(alloc, plan, &levels)?;
     Ok(match cheapest(alloc, &mut known)? {
         Ok(best) => Ok(best.cert),
-        Err(limit) => Err(limit.cause(plan)),
+        Err(limit) => Err(limit),
     })
 }
 
@@ -132,10 +171,15 @@ fn outcome(tried: Result<Attempt, Halt>) -> Result<Result<Attempt, Limit>, Alloc
     }
 }
 
-/// The pools whose core and maximum have grown most, at most three.
+/// The pools whose core and maximum have grown most: at most three, of few pools all.
 fn most_raised(alloc: Global, best: &Attempt, declared: &[Room]) -> Result<Vec<usize>, AllocError> {
     let mut raised = Vec::new(alloc);
-    for _ in 0..FURTHER_ATTEMPTS {
+    let wanted = if declared.len() <= FEW_POOLS {
+        declared.len()
+    } else {
+        FURTHER_ATTEMPTS
+    };
+    for _ in 0..wanted {
         let mut most = 0;
         let mut chosen = None;
         for (pool, (room, declared)) in best.rooms.iter().zip(declared).enumerate() {

@@ -62,7 +62,7 @@ fn have_same_maxes(plan: &Plan, other: &Plan) -> bool {
 /// Why the plan was not widened.
 fn limit_of_wide(unfit: Unfit) -> Limit {
     match unfit {
-        Unfit::Core(pool) => Limit::Core(pool),
+        Unfit::Core(pool) => Limit::Pool(pool),
         Unfit::Shape | Unfit::Condition(_) | Unfit::Queue(_) => Limit::Unknown,
     }
 }
@@ -70,7 +70,7 @@ fn limit_of_wide(unfit: Unfit) -> Limit {
 /// Why the widened plan was not fitted. A core that passes its maximum there is not known to pass its limit.
 fn limit_of_fit(unfit: Unfit) -> Limit {
     match unfit {
-        Unfit::Queue(pool) => Limit::Queue(pool),
+        Unfit::Queue(pool) => Limit::Pool(pool),
         Unfit::Shape | Unfit::Condition(_) | Unfit::Core(_) => Limit::Unknown,
     }
 }

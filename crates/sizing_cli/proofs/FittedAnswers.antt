@@ -12,7 +12,6 @@ use Rattle.cert_text.specs.CertText.{cert_text}
 use Rattle.headline.specs.Accepted.{accepted}
 use Rattle.headline.proofs.Promised.{promises}
 use Rattle.cert_check.proofs.Yes.{plans_read_are_well_formed}
-use Rattle.size_search.specs.declared.found.NoSizes.TheVariants.{Unknown}
 use Rattle.size_search.specs.declared.found.SizesFound.{SizesFound}
 use Rattle.size_search.specs.declared.found.SizesFound.TheVariants.{Found, NotFound}
 use Rattle.size_search.specs.Sized.{IsSized, IsFound}
@@ -84,9 +83,8 @@ bundle_means_fitted input answer is done = by_length (nat_lt MOST_INPUT_BYTES (l
   where
     by_found : (plan : Plan) → plan_of input ≡ Ok plan → (found : SizesFound) → IsFound plan found → AnswersFound Bundle plan found answer → IsFittedTo input answer.text
     by_found plan is_plan (NotFound cause) is_cause is = absurd (refused_is_not_done answer (no_sizes_answer plan cause) is refl done)
-    by_found plan is_plan (Found fit cert) sized (inl none) = absurd (refused_is_not_done answer (no_sizes_answer plan Unknown) none refl done)
-    by_found plan is_plan (Found fit cert) sized (inr (inl long)) = absurd (refused_is_not_done answer text_too_long long.0 refl done)
-    by_found plan is_plan (Found fit cert) sized (inr (inr bundled)) =
+    by_found plan is_plan (Found fit cert) sized (inl long) = absurd (refused_is_not_done answer text_too_long long.0 refl done)
+    by_found plan is_plan (Found fit cert) sized (inr bundled) =
         record { plan = plan; is_plan = is_plan; bundle = record { cert = cert; fit = fit; is_sized = sized; bundle = bundled.bundle } }
 
     by_plan : (read : Result Plan PlanFault) → plan_of input ≡ read → AnswersReading Bundle read answer → IsFittedTo input answer.text

@@ -117,7 +117,7 @@ certified_answer input answer is done = by_length (nat_lt MOST_INPUT_BYTES (leng
         let no : Refused ≡ Done = sym (ap (λ (a : Answer). a.status) long.0) ∙ done in
         absurd cc
     by_answer plan (inr (inl none)) =
-        let no : Refused ≡ Done = sym (ap (λ (a : Answer). a.status) none) ∙ done in
+        let no : Refused ≡ Done = sym (ap (λ (a : Answer). a.status) none.0) ∙ done in
         absurd cc
     by_answer plan (inr (inr certified)) = certified.bundle
 

@@ -1,5 +1,5 @@
--- What `certify` may answer to an input: a relation, since nothing is said of which certificate is found, or that one is.
-use Rattle.std.specs.Prelude.{◌≡◌, ◌⊎◌, ◌<◌, ℕ, nat_eq, nat_lt, ◌==◌, ◌||◌, List, [], ◌∷◌, ◌++◌, length, codes, if◌then◌else◌, Some, Result, Ok, Err, IsTrue, MatchBool}
+-- What `certify` may answer to an input: a relation, since nothing is said of which certificate is found.
+use Rattle.std.specs.Prelude.{◌≡◌, ◌⊎◌, ◌<◌, ℕ, false, nat_eq, nat_lt, ◌==◌, ◌||◌, List, [], ◌∷◌, ◌++◌, length, codes, if◌then◌else◌, Some, Result, Ok, Err, IsTrue, MatchBool}
 use Rattle.std.specs.List.{ends_with}
 use Rattle.job_bodies.specs.Plan.{Plan}
 use Rattle.job_bodies.specs.FaultText.{fault_line}
@@ -9,6 +9,7 @@ use Rattle.certificates.specs.Cert.{Cert}
 use Rattle.cert_text.specs.declared.document.TheConstants.{MOST_TEXT_BYTES}
 use Rattle.cert_text.specs.CertText.{cert_text}
 use Rattle.headline.specs.Accepted.{accepted}
+use Rattle.steady_certificates.specs.Steady.{steady_cert}
 use Rattle.cert_check.specs.Verdict.{Verdict}
 use Rattle.cert_check.specs.Check.{checked, IsSafeToRun}
 use Rattle.sizing_cli.specs.declared.limits.TheConstants.{MOST_INPUT_BYTES}
@@ -58,13 +59,14 @@ pub record IsTooLong (plan : Plan) : Type 0 where
   pub accepts : IsTrue (accepted plan cert)
   pub long : HasLongText cert
 
--- to a text and what may have been found for it: the line that says that nothing was, or a bundle with a certificate
-abbrev pub AnswersFound : List ℕ → Answer → Type 0
-AnswersFound text answer = (answer ≡ none_found) ⊎ IsCertified text answer
+-- the plan's steady certificate does not accept it
+abbrev pub IsNotSteady : Plan → Type 0
+IsNotSteady plan = accepted plan (steady_cert plan) ≡ false
 
--- to the text of a plan: the line that says that a certificate is too long, where one is, or what was found
+-- to the text of a plan: a bundle with a certificate; or the line that one is too long, where it is; or the line that none was
+-- found, and then the steady one is none
 abbrev pub AnswersPlan : List ℕ → Plan → Answer → Type 0
-AnswersPlan text plan answer = ((answer ≡ text_too_long) × IsTooLong plan) ⊎ AnswersFound text answer
+AnswersPlan text plan answer = ((answer ≡ text_too_long) × IsTooLong plan) ⊎ (((answer ≡ none_found) × IsNotSteady plan) ⊎ IsCertified text answer)
 
 abbrev pub AnswersReading : List ℕ → Result Plan PlanFault → Answer → Type 0
 AnswersReading text (Err f) answer = answer ≡ fault (fault_line f)

@@ -1,4 +1,4 @@
--- What `fit` may answer to an input: a relation, since nothing is said of which sizes are found, or that some are.
+-- What `fit` may answer to an input: a relation, since nothing is said of which sizes are found.
 use Rattle.std.specs.Prelude.{◌≡◌, ◌⊎◌, ◌<◌, ℕ, nat_lt, ◌==◌, List, [], ◌∷◌, ◌++◌, length, codes, Result, Ok, Err, MatchBool}
 use Rattle.job_bodies.specs.Plan.{Plan}
 use Rattle.job_bodies.specs.FaultText.{fault_line}
@@ -9,10 +9,10 @@ use Rattle.plan_writer.specs.PlanDocument.{IsPlanText}
 use Rattle.certificates.specs.Cert.{Cert}
 use Rattle.cert_text.specs.CertText.{cert_text}
 use Rattle.size_search.specs.declared.found.NoSizes.{NoSizes}
-use Rattle.size_search.specs.declared.found.NoSizes.TheVariants.{Unknown}
 use Rattle.size_search.specs.declared.found.SizesFound.{SizesFound}
 use Rattle.size_search.specs.declared.found.SizesFound.TheVariants.{Found, NotFound}
 use Rattle.size_search.specs.Sized.{IsSized, IsFound}
+use Rattle.size_search.specs.Decided.{IsDecided}
 use Rattle.size_lines.specs.Sizes.{changes, sizes_text}
 use Rattle.size_lines.specs.Cause.{no_sizes_text}
 use Rattle.command_line.specs.declared.command.Wanted.{Wanted}
@@ -54,22 +54,21 @@ pub record IsBundled (fit : Plan) (cert : Cert) (answer : Answer) : Type 0 where
   pub bundle : IsBundleOf fit cert answer.text
   pub status : answer.status ≡ Done
 
--- to sizes that were found and the certificate: the bundle, or that a text of it is too long; of a bundle to which `check` did
--- not say yes, that none was found
-abbrev pub BundlesSizes : Plan → Plan → Cert → Answer → Type 0
-BundlesSizes plan fit cert answer =
-    (answer ≡ no_sizes_answer plan Unknown) ⊎ (((answer ≡ text_too_long) × (HasLongPlanText fit ⊎ HasLongText cert)) ⊎ IsBundled fit cert answer)
+-- to sizes that were found and the certificate: the bundle, or that a text of it is too long
+abbrev pub BundlesSizes : Plan → Cert → Answer → Type 0
+BundlesSizes fit cert answer = ((answer ≡ text_too_long) × (HasLongPlanText fit ⊎ HasLongText cert)) ⊎ IsBundled fit cert answer
 
 -- to what the search found
 abbrev pub AnswersFound : Wanted → Plan → SizesFound → Answer → Type 0
 AnswersFound Sizes plan found answer = answer ≡ told plan found
-AnswersFound Bundle plan (Found fit cert) answer = BundlesSizes plan fit cert answer
+AnswersFound Bundle plan (Found fit cert) answer = BundlesSizes fit cert answer
 AnswersFound Bundle plan (NotFound cause) answer = answer ≡ no_sizes_answer plan cause
 
--- to a plan: something was found that is so of the plan, and it is answered
+-- to a plan: something was found that is so of the plan and that decides whether there are sizes, and it is answered
 pub record AnswersPlan (wanted : Wanted) (plan : Plan) (answer : Answer) : Type 0 where
   pub found : SizesFound
   pub is_found : IsFound plan found
+  pub is_decided : IsDecided plan found
   pub answers : AnswersFound wanted plan found answer
 
 abbrev pub AnswersReading : Wanted → Result Plan PlanFault → Answer → Type 0

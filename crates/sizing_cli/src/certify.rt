@@ -5,14 +5,13 @@ ghost use Rattle.sizing_cli.specs.Certify as spec;
 ghost use Rattle.sizing_cli.specs.ServeFault.{is_of_search};
 
 use crate::answer::{Answer, input_too_long, plan_fault};
-use crate::at_once::AtOnce;
+use crate::certificate::certificate_of;
 use crate::certified_bundle::certified_bundle;
 use crate::limits::MOST_INPUT_BYTES;
 use crate::output::Output;
 use crate::{ServeFault, Status};
-use cert_search::search;
 use cert_text::{MOST_TEXT_BYTES, write_cert};
-use faults::number::MEMORY;
+use faults::number::{MEMORY, MIXED};
 use job_bodies::{Plan, PlanFault};
 use plan_text::read_plan;
 use std::alloc::{AllocError, Global};
@@ -100,9 +99,10 @@ fn found_text<R: Threads + Wait + Sync>(
     requires some { 1 ≤ workers }
     requires most { workers ≤ 64 }
     ensures too_long { IfOk result (λ found. found ≡ Found.TooLong → spec.IsTooLong plan.now) }
+    ensures nothing { IfOk result (λ found. found ≡ Found.Nothing → spec.IsNotSteady plan.now) }
     ensures fault { IfErr result (λ fault. IsTrue (is_of_search fault.number)) }
 {
-    let Some(cert) = search(rt, alloc, plan, workers, &AtOnce)? else {
+    let Some(cert) = certificate_of(rt, alloc, workers, plan)? else {
         return Ok(Found::Nothing);
     };
     let mut text = write_cert(alloc, &cert)?;
@@ -123,7 +123,7 @@ fn bundled<R: Threads + Wait + Sync>(
 ) -> Result<Output, ServeFault>
     requires some { 1 ≤ workers }
     requires most { workers ≤ 64 }
-    ensures answer { IfOk result (spec.AnswersFound plan.items) }
+    ensures answer { IfOk result (spec.IsCertified plan.items) }
     ensures fault { IfErr result (λ fault. IsTrue (is_of_search fault.number)) }
 {
     match certified_bundle(rt, alloc, workers, plan, cert)? {
@@ -131,7 +131,8 @@ fn bundled<R: Threads + Wait + Sync>(
             bytes,
             status: Status::Done,
         }),
-        None => Ok(Output::of(none_found(alloc)?)),
+        // The threads of the check say otherwise than the search, which no check alone would.
+        None => Err(ServeFault { number: MIXED }),
     }
 }
 

@@ -14,7 +14,7 @@ use cert_search::search;
 use cert_text::write_cert;
 use certificates::Cert;
 use command_line::{DEFAULT_WORKERS, Wanted};
-use faults::number::MEMORY;
+use faults::number::{MEMORY, MIXED};
 use job_bodies::{Plan, PlanFault};
 use plan_text::read_plan;
 use plan_writer::write_plan;
@@ -114,7 +114,7 @@ fn bundle<R: Threads + Wait + Sync>(
     ensures fault { IfErr result (λ fault. IsTrue (is_of_search fault.number)) }
 {
     match found {
-        SizesFound::Found { plan: fit, cert } => bundle_of_sizes(rt, alloc, plan, fit, cert),
+        SizesFound::Found { plan: fit, cert } => bundle_of_sizes(rt, alloc, fit, cert),
         SizesFound::NotFound(cause) => Ok(Output::of(no_sizes(alloc, plan, *cause)?)),
     }
 }
@@ -123,11 +123,10 @@ fn bundle<R: Threads + Wait + Sync>(
 fn bundle_of_sizes<R: Threads + Wait + Sync>(
     rt: &R,
     alloc: Global,
-    plan: &Plan,
     fit: &Plan,
     cert: &Cert,
 ) -> Result<Output, ServeFault>
-    ensures answer { IfOk result (spec.BundlesSizes plan.now fit.now cert.now) }
+    ensures answer { IfOk result (spec.BundlesSizes fit.now cert.now) }
     ensures fault { IfErr result (λ fault. IsTrue (is_of_search fault.number)) }
 {
     let fit_text = write_plan(alloc, fit)?;
@@ -144,7 +143,8 @@ fn bundle_of_sizes<R: Threads + Wait + Sync>(
             bytes,
             status: Status::Done,
         }),
-        None => Ok(Output::of(no_sizes(alloc, plan, NoSizes::Unknown)?)),
+        // The threads of the check say otherwise than the search, which no check alone would.
+        None => Err(ServeFault { number: MIXED }),
     }
 }
 

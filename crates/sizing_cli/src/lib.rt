@@ -5,6 +5,7 @@ mod alone;
 mod answer;
 mod at_once;
 mod bundle;
+mod certificate;
 mod certified_bundle;
 mod certify;
 mod fitting;

@@ -1,0 +1,50 @@
+//! What is tried where the rounds find nothing.
+
+ghost use Rattle.std.specs.Prelude.{◌≡◌, false, IfOk, IfSome, IfNone, IsTrue};
+ghost use Rattle.job_bodies.specs.WellFormed.{IsWellFormed};
+ghost use Rattle.headline.specs.Accepted.{accepted};
+ghost use Rattle.steady_certificates.specs.Submitted.{NoCircle};
+ghost use Rattle.steady_certificates.specs.Steady.{steady_cert};
+
+use cert_check::accepts;
+use certificates::Cert;
+use job_bodies::Plan;
+use size_causes::cause_of;
+use std::alloc::{AllocError, Global};
+use steady_certificates::steady;
+
+/// The steady certificate of the plan, where it accepts the plan as it is. Where a cause against all sizes holds, none does.
+pub(crate) fn steady_where_accepted(alloc: Global, plan: &Plan) -> Result<Option<Cert>, AllocError>
+    ensures accepted { IfOk result (λ found. IfSome found (λ cert. IsTrue (accepted plan.now cert))) }
+    ensures none { IfOk result (λ found. IfNone found (accepted plan.now (steady_cert plan.now) ≡ false)) }
+{
+    match cause_of(alloc, plan)? {
+        Some(_cause) => Ok(None),
+        None => without_circle(alloc, plan),
+    }
+}
+
+/// The same of a plan in which no class submits itself.
+fn without_circle(alloc: Global, plan: &Plan) -> Result<Option<Cert>, AllocError>
+    requires free { NoCircle plan.now }
+    requires well_formed { IsWellFormed plan.now }
+    ensures accepted { IfOk result (λ found. IfSome found (λ cert. IsTrue (accepted plan.now cert))) }
+    ensures none { IfOk result (λ found. IfNone found (accepted plan.now (steady_cert plan.now) ≡ false)) }
+{
+    match steady(alloc, plan)? {
+        Some(cert) => Ok(where_accepted(plan, cert)),
+        None => Ok(None),
+    }
+}
+
+/// The certificate, where it accepts the plan.
+pub(crate) fn where_accepted(plan: &Plan, cert: Cert) -> Option<Cert>
+    ensures accepted { IfSome result (λ cert. IsTrue (accepted plan.now cert)) }
+    ensures none { IfNone result (accepted plan.now cert ≡ false) }
+{
+    if accepts(plan, &cert) {
+        Some(cert)
+    } else {
+        None
+    }
+}

@@ -1,0 +1,6 @@
+-- What was found so far has the least sizes for its certificate.
+use Rattle.size_search.specs.Sized.{IsSized}
+use Rattle.size_search.proofs.lasting.lasting.Given as goal
+
+abbrev pub invariant-loop-turn : goal.invariant-loop-turn
+invariant-loop-turn l = IsSized l.plan l.cert l.fit

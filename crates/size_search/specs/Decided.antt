@@ -1,0 +1,13 @@
+-- What the search for sizes decides: sizes exist exactly where no cause holds, but that the steady certificate may be too large.
+use Rattle.job_bodies.specs.Plan.{Plan}
+use Rattle.steady_certificates.specs.Submitted.{IsWithoutCause}
+use Rattle.beyond_sizes.specs.NoSizesHelp.{IsBeyondSizes, HasSizes}
+use Rattle.size_search.specs.declared.found.SizesFound.{SizesFound}
+use Rattle.size_search.specs.declared.found.SizesFound.TheVariants.{Found, NotFound}
+use Rattle.size_search.specs.declared.found.NoSizes.TheVariants.{Cause, TooLarge}
+use Rattle.size_search.specs.Sized.{IsTooLarge}
+
+abbrev pub IsDecided : Plan → SizesFound → Type 0
+IsDecided plan (Found fit cert) = HasSizes plan × IsWithoutCause plan
+IsDecided plan (NotFound (Cause cause)) = IsBeyondSizes plan
+IsDecided plan (NotFound (TooLarge p)) = IsWithoutCause plan × IsTooLarge plan

@@ -1,0 +1,100 @@
+//! The least sizes for the steady certificate, where the rounds find nothing.
+
+ghost use Rattle.std.specs.Prelude.{◌≡◌, ◌≤◌, IfOk, IfSome, IfNone, IsTrue};
+ghost use Rattle.job_bodies.specs.WellFormed.{IsWellFormed};
+ghost use Rattle.job_bodies.specs.declared.limits.TheConstants.{MOST_UNITS};
+ghost use Rattle.weights.specs.Vector.{has_small_numbers};
+ghost use Rattle.fitted_sizes.specs.Widened.{IsLeastWide};
+ghost use Rattle.fitted_sizes.specs.Widened as spec;
+ghost use Rattle.steady_certificates.specs.Submitted.{IsWithoutCause};
+ghost use Rattle.steady_certificates.specs.Steady.{steady_vector, steady_total, steady_cert};
+ghost use Rattle.size_search.specs.Sized.{IsSized, IsFound, IsTooLarge};
+
+use crate::found::{Limit, NoSizes, SizesFound};
+use certificates::Cert;
+use fitted_sizes::{fitted, widened};
+use job_bodies::Plan;
+use std::alloc::{AllocError, Global};
+use steady_certificates::steady;
+
+/// The plan with the least sizes that its steady certificate needs. Else that one is too large, and the pool is told that
+/// an attempt did not get past.
+pub(crate) fn steadily(
+    alloc: Global,
+    plan: &Plan,
+    limit: Limit,
+) -> Result<SizesFound, AllocError>
+    requires free { IsWithoutCause plan.now }
+    requires well_formed { IsWellFormed plan.now }
+    ensures found { IfOk result (IsFound plan.now) }
+{
+    match steady(alloc, plan)? {
+        Some(cert) => settled_steadily(alloc, plan, cert, limit),
+        None => Ok(too_large(plan, limit)),
+    }
+}
+
+/// The same where this is the certificate.
+fn settled_steadily(
+    alloc: Global,
+    plan: &Plan,
+    cert: Cert,
+    limit: Limit,
+) -> Result<SizesFound, AllocError>
+    requires free { IsWithoutCause plan.now }
+    requires well_formed { IsWellFormed plan.now }
+    requires steady { cert ≡ steady_cert plan.now }
+    requires small { IsTrue (has_small_numbers (steady_vector plan.now)) }
+    ensures found { IfOk result (IsFound plan.now) }
+{
+    match least_steadily(alloc, plan, &cert)? {
+        Some(plan) => Ok(SizesFound::Found { plan, cert }),
+        None => Ok(too_large(plan, limit)),
+    }
+}
+
+fn too_large(plan: &Plan, limit: Limit) -> SizesFound
+    requires large { IsTooLarge plan.now }
+    requires well_formed { IsWellFormed plan.now }
+    ensures { IsFound plan.now result }
+{
+    SizesFound::NotFound(NoSizes::TooLarge(limit.pool(plan)))
+}
+
+/// The plan with the least sizes for its steady certificate; None where its total leaves no room below the limit.
+fn least_steadily(alloc: Global, plan: &Plan, cert: &Cert) -> Result<Option<Plan>, AllocError>
+    requires free { IsWithoutCause plan.now }
+    requires well_formed { IsWellFormed plan.now }
+    requires steady { cert.now ≡ steady_cert plan.now }
+    requires small { IsTrue (has_small_numbers (steady_vector plan.now)) }
+    ensures sized { IfOk result (λ found. IfSome found (IsSized plan.now cert.now)) }
+    ensures none { IfOk result (λ found. IfNone found (MOST_UNITS ≤ steady_total plan.now)) }
+{
+    // Workers weigh nothing in it: so its total stays, and once is enough.
+    match widened(alloc, plan, cert)? {
+        Ok(wide) => least_wide(alloc, plan, wide, cert),
+        Err(_unfit) => Ok(None),
+    }
+}
+
+/// The same where the maximums are widened.
+fn least_wide(
+    alloc: Global,
+    plan: &Plan,
+    wide: Plan,
+    cert: &Cert,
+) -> Result<Option<Plan>, AllocError>
+    requires free { IsWithoutCause plan.now }
+    requires well_formed { IsWellFormed plan.now }
+    requires steady { cert.now ≡ steady_cert plan.now }
+    requires small { IsTrue (has_small_numbers (steady_vector plan.now)) }
+    requires wide { wide ≡ spec.widened plan.now cert.now }
+    requires least { IsLeastWide plan.now cert.now wide }
+    ensures sized { IfOk result (λ found. IfSome found (IsSized plan.now cert.now)) }
+    ensures none { IfOk result (λ found. IfNone found (MOST_UNITS ≤ steady_total plan.now)) }
+{
+    match fitted(alloc, wide, cert)? {
+        Ok(fit) => Ok(Some(fit)),
+        Err(_back) => Ok(None),
+    }
+}
