@@ -1,26 +1,33 @@
 #!/usr/bin/env python3
 """usage: refute.py
 
-Times `sizing refute` on plans that have a witness, and replays what `--bundle` writes on the machine of machine.py.
-README.md says what is measured, and what the bars are.
+Times `sizing refute` on plans that have a witness, and replays what `--bundle` writes on the machine of machine.py. On one plan
+that has neither a witness nor a certificate, it counts the instructions for each state that is searched, beside walk_states.c, a
+plain program that walks through the same ones. README.md says what is measured, and what the bars are.
 
 The program is crates/sizing/out/sizing, or the one that the environment variable SIZING names.
 
 Exit status: 0 where each witness is one and no bar is exceeded, 1 where not, 2 where the benchmark can't be run.
 """
 
+import re
 import subprocess
 import sys
 
 sys.dont_write_bytecode = True
 
 from machine import Class, Client, Machine, Plan, Pool
-from timing import Bars, Program, Table, Wrong, built, compiled, costs, without_words
+from timing import Bars, Program, Table, Wrong, built, compiled, costs, has_callgrind, instructions, tell_if_uncounted, without_words
 
 RUNS = 3
 CLIENTS = 200
 BAR = 1_000
 LONG_BAR = 10_000
+# More than the walks come to, and how many times the instructions of the plain program a state may take.
+STATES = 10_000_000
+RATIO_BAR = 2
+# The last search of `refute`, which the plain program leaves out, may come to so many states for a hundred of the walks.
+OTHERS = 1
 
 
 def main(words):
@@ -43,7 +50,29 @@ class Bench:
         self.measured("2 pools of 50 that call each other", there_and_back(50), BAR)
         self.measured("a fork-join of 8", fork_join(8), BAR)
         self.measured("10^6 clients, a queue of 70,000", database(10, 70_000, 1_000_000), LONG_BAR)
+        self.beside_plain_walks()
         self.bars.end()
+
+    def beside_plain_walks(self):
+        """Prints how many instructions a state takes, and holds their ratio to the bar."""
+        plan = never_decided()
+        (self.folder / "plan").write_text(plan.text())
+        (self.folder / "numbers").write_text(numbers(plan))
+        said = self.answer("never decided", 4, plan.text(), "--states", str(STATES)).decode()
+        told = int(re.fullmatch(r"not decided: (\d+) states were searched\n", said)[1])
+        plain = [compiled(self.folder, "walk_states"), str(STATES)]
+        walked = int(subprocess.run(plain, input=numbers(plan), capture_output=True, text=True, check=True).stdout)
+        if not walked <= told <= walked + walked * OTHERS / 100:
+            raise Wrong(f"never decided: refute tells {told} states, and the plain program walks through {walked}")
+        tell_if_uncounted()
+        if not has_callgrind():
+            return
+        refute = Program([self.sizing, "refute", "--states", str(STATES)], b"", 4, "plan")
+        of_refute = instructions(self.folder, refute) * 1e6 / told
+        of_plain = instructions(self.folder, Program(plain, b"", 0, "numbers")) * 1e6 / walked
+        ratio = of_refute / of_plain
+        print(f"{told} states: {of_refute:.0f} instructions each, {of_plain:.0f} of the plain program: {ratio:.2f}")
+        self.bars.hold("the ratio of instructions for a state", ratio, RATIO_BAR)
 
     def measured(self, name, plan, bar):
         """Prints a row of the plan, and holds the time to the bar."""
@@ -116,6 +145,41 @@ def fork_join(parts):
     classes = [Class("part", "p", ["work 1"]), Class("report", "p", body)]
     client = Client("user", parts, True, ["submit report as r", "get r"])
     return Plan([Pool("p", parts, parts, parts * parts)], classes, [client])
+
+
+def never_decided():
+    """A safe plan without a certificate, as a class submits itself, though there is no job of it. No vector misses its bound."""
+    classes = [
+        Class("request", "web", ["submit query as q", "get q"]),
+        Class("query", "db", ["work 1"]),
+        Class("again", "web", ["submit again as a", "get a"]),
+    ]
+    client = Client("user", 3, True, ["submit request as r", "get r"])
+    return Plan([Pool("web", 2, 2, 3), Pool("db", 1, 1, 2)], classes, [client])
+
+
+def numbers(plan):
+    """The plan as walk_states.c reads it."""
+    pools = [pool.name for pool in plan.pools]
+    classes = [of_class.name for of_class in plan.classes]
+    lines = [[len(plan.pools)], *([pool.core, pool.max, pool.queue, 0] for pool in plan.pools), [len(plan.clients)]]
+    lines += [[client.count, int(client.repeat), *body_numbers(classes, client.body)] for client in plan.clients]
+    lines += [[len(classes)]]
+    lines += [[pools.index(of_class.pool), *body_numbers(classes, of_class.body)] for of_class in plan.classes]
+    return "".join(" ".join(map(str, line)) + "\n" for line in lines)
+
+
+def body_numbers(classes, body):
+    """How many actions a body has, and two numbers for each: 0 0 for work, 1 and the class, or 2 and the submit's position."""
+    given, slots = [len(body)], {}
+    for position, action in enumerate(body):
+        word, operand, *rest = action.split()
+        if word == "submit":
+            slots[rest[-1]] = position
+            given += [1, classes.index(operand)]
+        else:
+            given += [2, slots[operand]] if word == "get" else [0, 0]
+    return given
 
 
 def database(threads, queue, clients):

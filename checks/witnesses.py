@@ -8,10 +8,12 @@ Of each plan for which the second search of found_certs.py finds no certificate:
   that one was refused, or the jobs that are named are unfinished and wait only for each other.
 - A plan that is told safe is visited state by state, if it has few of them: none is bad.
 
-It also tells how many plans stay open, how many events the witnesses have, and how many plans without a witness are safe
-here, are not, or have too many states.
+- Of a plan that stays open, no more states are told as searched than were asked for.
 
-    python3 checks/witnesses.py [PLANS [SEED [STATES]]]     # 3,000 plans, seed 1 and 10,000 states where nothing is said
+It also tells how many plans stay open at each number of states, how many events the witnesses have, and how many plans without a
+witness are safe here, are not, or have too many states.
+
+    python3 checks/witnesses.py [PLANS [SEED [STATES..]]]     # 3,000 plans, seed 1, and 10,000 and then 100,000 states
 
 The program is crates/sizing/out/sizing, or the one that the environment variable SIZING names.
 
@@ -19,9 +21,11 @@ Exit status: 0 where all is so, 1 where something is not, 2 where there is no pr
 """
 
 import random
+import re
 import subprocess
 import sys
 from collections import Counter
+from dataclasses import dataclass
 
 sys.dont_write_bytecode = True
 
@@ -32,6 +36,7 @@ from read_plans import read_plan
 from small_plans import DONE, Machine, explored
 
 SAFE, OPEN = 0, 4
+OPEN_NOW = "open"
 # A plan without a witness that has more states is left where it is.
 small_plans.MOST_STATES = 3_000
 
@@ -40,19 +45,41 @@ def main():
     if not (program := built_program()):
         return 2
     words = [int(word) for word in sys.argv[1:]]
-    count, seed, states = (words + [3000, 1, 10_000][len(words):])[:3]
+    count, seed = (words + [3000, 1][len(words):])[:2]
     plans = uncertified(count, random.Random(seed))
-    came, events, wrong = Counter(), Counter(), 0
+    wrong, still_open = 0, plans
+    for states in words[2:] or [10_000, 100_000]:
+        print(f"at most {states} states")
+        of_these = asked(program, still_open, states)
+        wrong += of_these.wrong
+        still_open = of_these.still_open
+        print(f"open: {len(still_open)} of {len(plans)}, {of_these.wrong} wrong", flush=True)
+    print(f"{len(plans)} plans without a certificate, {wrong} wrong")
+    return 1 if wrong else 0
+
+
+@dataclass
+class Asked:
+    """The plans that stay open, and how many answers are wrong."""
+
+    still_open: list
+    wrong: int
+
+
+def asked(program, plans, states):
+    """Asks for a witness against each plan, and prints what came."""
+    came, events, found = Counter(), Counter(), Asked([], 0)
     for plan, (kind, length, fault) in zip(plans, each(lambda plan: judged(program, plan, states), plans)):
         came[kind] += 1
         events[kind] += length
+        if kind.startswith(OPEN_NOW):
+            found.still_open.append(plan)
         if fault:
-            wrong += 1
+            found.wrong += 1
             print(f"{plan}%%\n{kind}: {fault}")
     for kind, number in sorted(came.items()):
         print(f"{kind}: {number}" + (f", {events[kind] / number:.1f} events each" if events[kind] else ""))
-    print(f"{len(plans)} plans without a certificate, {wrong} wrong")
-    return 1 if wrong else 0
+    return found
 
 
 def uncertified(count, chance):
@@ -77,9 +104,17 @@ def judged(program, plan, states):
     if status not in (SAFE, OPEN):
         return "no witness", 0, f"status {status}: {said}"
     _, bad, cut = explored(read_plan(plan))
-    told = "told safe" if status == SAFE else "open"
+    told = "told safe" if status == SAFE else OPEN_NOW
     found = "not safe here" if bad else "too many states here" if cut else "safe here"
-    return f"{told}, {found}", 0, bad if status == SAFE else None
+    return f"{told}, {found}", 0, bad if status == SAFE else miscounted(said, states)
+
+
+def miscounted(said, states):
+    """What is wrong with the line that tells how many states were searched, or None."""
+    told = re.fullmatch(r"not decided: (?:1 state was|(\d+) states were) searched\n", said)
+    if not told:
+        return f"it says {said!r}"
+    return None if 1 <= int(told[1] or 1) <= states else f"of {states} states it says {said!r}"
 
 
 def refuted(program, plan, states, *words):

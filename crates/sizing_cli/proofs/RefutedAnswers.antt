@@ -1,5 +1,5 @@
 -- What status 0 means of a story and of a bundle of `refute`.
-use Rattle.std.proofs.Common.{◌≡◌, ℕ, inl, inr, ⊎_elim, Bool, true, false, List, length, Result, Ok, Err, refl, sym, ap, ◌∙◌}
+use Rattle.std.proofs.Common.{◌≡◌, ◌≤◌, ℕ, inl, inr, ⊎_elim, Bool, true, false, List, length, Result, Ok, Err, refl, sym, ap, ◌∙◌}
 use Rattle.std.specs.Prelude.{MatchBool, nat_lt, Option, Some, None, IfSome, IfNone}
 use Rattle.plan_witnesses.specs.declared.witness.Witness.{Witness}
 use Rattle.command_line.specs.declared.command.Shown.{Shown}
@@ -18,15 +18,15 @@ use Rattle.sizing_cli.specs.Refute.{not_decided, event_lines_of, AnswersPlan, An
 use Rattle.sizing_cli.proofs.FittedAnswers.{bad_text_is_not_done}
 
 -- the answer to a plan that no certificate was found for, by the witness that was found
-pub answered_by : (shown : Shown) (text : List ℕ) (plan : Plan) (answer : Answer) (found : Option Witness) → IfSome found (IsWitnessOf plan)
-    → IfSome found (λ witness. ShowsWitness shown text plan witness answer) → IfNone found (answer ≡ not_decided shown) → AnswersPlan shown text plan answer
-answered_by shown text plan answer (Some witness) is_witness shows nothing = inr (inr (record { witness = witness; is_witness = is_witness; shows = shows }))
-answered_by shown text plan answer None is_witness shows nothing = inr (inl nothing)
+pub answered_by : (states : ℕ) (shown : Shown) (text : List ℕ) (plan : Plan) (answer : Answer) (found : Option Witness) (searched : ℕ) → IfSome found (IsWitnessOf plan) → searched ≤ states
+    → IfSome found (λ witness. ShowsWitness shown text plan witness answer) → IfNone found (answer ≡ not_decided shown searched) → AnswersPlan states shown text plan answer
+answered_by states shown text plan answer (Some witness) searched is_witness within shows nothing = inr (inr (record { witness = witness; is_witness = is_witness; shows = shows }))
+answered_by states shown text plan answer None searched is_witness within shows nothing = inr (inl (record { searched = searched; within = within; told = nothing }))
 
-pub refuted_means_safe : (input : List ℕ) (answer : Answer) → IsRefuteAnswer Story input answer → answer.status ≡ Done → IsSafePlan (whole_lines input)
-refuted_means_safe input answer is done = by_length (nat_lt MOST_INPUT_BYTES (length input)) is
+pub refuted_means_safe : (states : ℕ) (input : List ℕ) (answer : Answer) → IsRefuteAnswer states Story input answer → answer.status ≡ Done → IsSafePlan (whole_lines input)
+refuted_means_safe states input answer is done = by_length (nat_lt MOST_INPUT_BYTES (length input)) is
   where
-    by_answer : (plan : Plan) → plan_of (whole_lines input) ≡ Ok plan → AnswersPlan Story (whole_lines input) plan answer → IsSafePlan (whole_lines input)
+    by_answer : (plan : Plan) → plan_of (whole_lines input) ≡ Ok plan → AnswersPlan states Story (whole_lines input) plan answer → IsSafePlan (whole_lines input)
     by_answer plan is_plan (inl safe) =
         record {
           plan = plan;
@@ -35,17 +35,17 @@ refuted_means_safe input answer is done = by_length (nat_lt MOST_INPUT_BYTES (le
           promises = promises plan safe.1.cert (plans_read_are_well_formed (whole_lines input) plan is_plan) safe.1.accepts;
         }
     by_answer plan is_plan (inr (inl nothing)) =
-        let no : Undecided ≡ Done = sym (ap (λ (a : Answer). a.status) nothing) ∙ done in
+        let no : Undecided ≡ Done = sym (ap (λ (a : Answer). a.status) nothing.told) ∙ done in
         absurd cc
     by_answer plan is_plan (inr (inr refutes)) =
         let no : Refused ≡ Done = sym refutes.shows.status ∙ done in
         absurd cc
 
-    by_plan : (read : Result Plan PlanFault) → plan_of (whole_lines input) ≡ read → AnswersReading Story (whole_lines input) read answer → IsSafePlan (whole_lines input)
+    by_plan : (read : Result Plan PlanFault) → plan_of (whole_lines input) ≡ read → AnswersReading states Story (whole_lines input) read answer → IsSafePlan (whole_lines input)
     by_plan (Err fault) is_fault bad = absurd (bad_text_is_not_done answer _ bad refl done)
     by_plan (Ok plan) is_plan answers = by_answer plan is_plan answers
 
-    by_length : (long : Bool) → MatchBool long (answer ≡ input_too_long) (AnswersReading Story (whole_lines input) (plan_of (whole_lines input)) answer) → IsSafePlan (whole_lines input)
+    by_length : (long : Bool) → MatchBool long (answer ≡ input_too_long) (AnswersReading states Story (whole_lines input) (plan_of (whole_lines input)) answer) → IsSafePlan (whole_lines input)
     by_length true too_long = absurd (bad_text_is_not_done answer input_too_long too_long refl done)
     by_length false answers = by_plan (plan_of (whole_lines input)) refl answers
 
@@ -53,29 +53,29 @@ refuted_means_safe input answer is done = by_length (nat_lt MOST_INPUT_BYTES (le
 abbrev Shows : List ℕ → Answer → Type 0
 Shows input answer = IsWitnessBundle input answer.text
 
-pub bundle_means_witness : (input : List ℕ) (answer : Answer) → IsRefuteAnswer Bundle input answer → answer.status ≡ Done → Shows input answer
-bundle_means_witness input answer is done = by_length (nat_lt MOST_INPUT_BYTES (length input)) is
+pub bundle_means_witness : (states : ℕ) (input : List ℕ) (answer : Answer) → IsRefuteAnswer states Bundle input answer → answer.status ≡ Done → Shows input answer
+bundle_means_witness states input answer is done = by_length (nat_lt MOST_INPUT_BYTES (length input)) is
   where
     by_shown : (plan : Plan) → plan_of (whole_lines input) ≡ Ok plan → (refutes : Refutes Bundle (whole_lines input) plan answer) → Shows input answer
     by_shown plan is_plan refutes =
         ⊎_elim (λ too_long. let no : Refused ≡ Done = sym (ap (λ (a : Answer). a.status) too_long.0) ∙ done in absurd cc)
         (λ (bundles : BundlesWitness (whole_lines input) plan refutes.witness answer).
-        record { plan = plan; is_plan = is_plan; witness = refutes.witness; is_witness = refutes.is_witness; bundle = bundles.bundle })
+        record { plan = plan; is_plan = is_plan; witness = refutes.witness; is_witness = refutes.is_witness; bundle = bundles.bundle; short = bundles.short })
         refutes.shows
 
-    by_answer : (plan : Plan) → plan_of (whole_lines input) ≡ Ok plan → AnswersPlan Bundle (whole_lines input) plan answer → Shows input answer
+    by_answer : (plan : Plan) → plan_of (whole_lines input) ≡ Ok plan → AnswersPlan states Bundle (whole_lines input) plan answer → Shows input answer
     by_answer plan is_plan (inl safe) =
         let no : Refused ≡ Done = sym (ap (λ (a : Answer). a.status) safe.0) ∙ done in
         absurd cc
     by_answer plan is_plan (inr (inl nothing)) =
-        let no : Refused ≡ Done = sym (ap (λ (a : Answer). a.status) nothing) ∙ done in
+        let no : Refused ≡ Done = sym (ap (λ (a : Answer). a.status) nothing.told) ∙ done in
         absurd cc
     by_answer plan is_plan (inr (inr refutes)) = by_shown plan is_plan refutes
 
-    by_plan : (read : Result Plan PlanFault) → plan_of (whole_lines input) ≡ read → AnswersReading Bundle (whole_lines input) read answer → Shows input answer
+    by_plan : (read : Result Plan PlanFault) → plan_of (whole_lines input) ≡ read → AnswersReading states Bundle (whole_lines input) read answer → Shows input answer
     by_plan (Err fault) is_fault bad = absurd (bad_text_is_not_done answer _ bad refl done)
     by_plan (Ok plan) is_plan answers = by_answer plan is_plan answers
 
-    by_length : (long : Bool) → MatchBool long (answer ≡ input_too_long) (AnswersReading Bundle (whole_lines input) (plan_of (whole_lines input)) answer) → Shows input answer
+    by_length : (long : Bool) → MatchBool long (answer ≡ input_too_long) (AnswersReading states Bundle (whole_lines input) (plan_of (whole_lines input)) answer) → Shows input answer
     by_length true too_long = absurd (bad_text_is_not_done answer input_too_long too_long refl done)
     by_length false answers = by_plan (plan_of (whole_lines input)) refl answers

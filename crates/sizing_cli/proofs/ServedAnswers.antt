@@ -60,7 +60,7 @@ answered_by_front remaining items (Certify workers) answer front is =
     answered_by_length (λ bytes. AnswersReading (whole_lines bytes) (plan_of (whole_lines bytes)) answer) remaining items items answer front refl is
 answered_by_front remaining items (Fit wanted) answer front is = answered_by_length (λ bytes. fit.AnswersReading wanted (plan_of bytes) answer) remaining items items answer front refl is
 answered_by_front remaining items (Refute states shown) answer front is =
-    answered_by_length (λ bytes. refute.AnswersReading shown (whole_lines bytes) (plan_of (whole_lines bytes)) answer) remaining items items answer front refl is
+    answered_by_length (λ bytes. refute.AnswersReading states shown (whole_lines bytes) (plan_of (whole_lines bytes)) answer) remaining items items answer front refl is
 answered_by_front remaining items (Run rounds) answer front is = answered_whole remaining items items (Run rounds) answer front refl is
 
 -- ---- what is written of it
@@ -142,9 +142,9 @@ means_safe (Fit Bundle) input status old new writes done =
     let fitted = bundle_means_fitted input writes.answer writes.is_answer (sym writes.status_is ∙ done) in
     record { plan = fitted.plan; is_plan = fitted.is_plan; text = writes.answer.text; fitted = fitted.bundle; written = writes.written }
 means_safe (Run rounds) input status old new writes done = run_means_safe rounds input (sym (ap (λ (a : Answer). a.status) writes.is_answer) ∙ (sym writes.status_is ∙ done))
-means_safe (Refute states shown.Story) input status old new writes done = refuted_means_safe input writes.answer writes.is_answer (sym writes.status_is ∙ done)
+means_safe (Refute states shown.Story) input status old new writes done = refuted_means_safe states input writes.answer writes.is_answer (sym writes.status_is ∙ done)
 means_safe (Refute states shown.Bundle) input status old new writes done =
-    record { text = writes.answer.text; shows = bundle_means_witness input writes.answer writes.is_answer (sym writes.status_is ∙ done); written = writes.written }
+    record { text = writes.answer.text; shows = bundle_means_witness states input writes.answer writes.is_answer (sym writes.status_is ∙ done); written = writes.written }
 means_safe (Certify workers) input status old new writes done =
     record { text = writes.answer.text; certified = certified_answer input writes.answer writes.is_answer (sym writes.status_is ∙ done); written = writes.written }
 

@@ -1,5 +1,6 @@
 -- What `refute` may answer to an input: a relation, since nothing is said of which witness is found, or that one is.
-use Rattle.std.specs.Prelude.{◌≡◌, ◌⊎◌, ◌≤◌, ◌<◌, ℕ, nat_lt, List, [], ◌∷◌, ◌++◌, length, codes, Result, Ok, Err, IsTrue, MatchBool}
+use Rattle.std.specs.Prelude.{◌≡◌, ◌⊎◌, ◌≤◌, ◌<◌, ◌==◌, ℕ, nat_lt, if◌then◌else◌, List, [], ◌∷◌, ◌++◌, length, codes, Result, Ok, Err, IsTrue, MatchBool}
+use Rattle.std.specs.Fmt.{decimal}
 use Rattle.job_bodies.specs.Plan.{Plan}
 use Rattle.job_bodies.specs.FaultText.{fault_line}
 use Rattle.job_bodies.specs.declared.fault.PlanFault.{PlanFault}
@@ -38,8 +39,18 @@ without_bundle Bundle status = Refused
 abbrev pub safe_answer : Shown → Answer
 safe_answer shown = record { text = codes "safe: a certificate was found" ++ 10 ∷ []; status = without_bundle shown Done }
 
-abbrev pub not_decided : Shown → Answer
-not_decided shown = record { text = codes "not decided" ++ 10 ∷ []; status = without_bundle shown Undecided }
+-- what is said of so many states
+abbrev pub were_searched : ℕ → List ℕ
+were_searched states = if states == 1 then codes " state was searched" else codes " states were searched"
+
+abbrev pub not_decided : Shown → ℕ → Answer
+not_decided shown states = record { text = codes "not decided: " ++ (decimal states ++ (were_searched states ++ 10 ∷ [])); status = without_bundle shown Undecided }
+
+-- neither a certificate nor a witness was found in this many states, and no more than may be searched
+pub record IsUndecided (states : ℕ) (shown : Shown) (answer : Answer) : Type 0 where
+  pub searched : ℕ
+  pub within : searched ≤ states
+  pub told : answer ≡ not_decided shown searched
 
 abbrev pub events_too_long : Answer
 events_too_long = record { text = codes "no bundle: too many events" ++ 10 ∷ []; status = Refused }
@@ -72,25 +83,27 @@ pub record Refutes (shown : Shown) (text : List ℕ) (plan : Plan) (answer : Ans
   pub is_witness : IsWitnessOf plan witness
   pub shows : ShowsWitness shown text plan witness answer
 
--- the text is that of the input's plan, and behind it the events of a witness against it
+-- the text is that of the input's plan, and behind it the events of a witness against it, which are not too long to be read
 pub record IsWitnessBundle (input text : List ℕ) : Type 0 where
   pub plan : Plan
   pub is_plan : plan_of (whole_lines input) ≡ Ok plan
   pub witness : Witness
   pub is_witness : IsWitnessOf plan witness
   pub bundle : text ≡ whole_lines input ++ (codes "%%" ++ 10 ∷ event_lines_of plan witness)
+  pub short : length (event_lines_of plan witness) ≤ MOST_EVENT_BYTES
 
 -- ---- the whole
 
--- to the text of a plan: that it is safe, where some certificate accepts it; that nothing is known; or a witness
-abbrev pub AnswersPlan : Shown → List ℕ → Plan → Answer → Type 0
-AnswersPlan shown text plan answer = ((answer ≡ safe_answer shown) × HasCertificate plan) ⊎ ((answer ≡ not_decided shown) ⊎ Refutes shown text plan answer)
+-- to the text of a plan, where so many states may be searched: that it is safe, where some certificate accepts it; that nothing
+-- is known; or a witness
+abbrev pub AnswersPlan : ℕ → Shown → List ℕ → Plan → Answer → Type 0
+AnswersPlan states shown text plan answer = ((answer ≡ safe_answer shown) × HasCertificate plan) ⊎ (IsUndecided states shown answer ⊎ Refutes shown text plan answer)
 
-abbrev pub AnswersReading : Shown → List ℕ → Result Plan PlanFault → Answer → Type 0
-AnswersReading shown text (Err f) answer = answer ≡ fault (fault_line f)
-AnswersReading shown text (Ok plan) answer = AnswersPlan shown text plan answer
+abbrev pub AnswersReading : ℕ → Shown → List ℕ → Result Plan PlanFault → Answer → Type 0
+AnswersReading states shown text (Err f) answer = answer ≡ fault (fault_line f)
+AnswersReading states shown text (Ok plan) answer = AnswersPlan states shown text plan answer
 
 -- to an input
-abbrev pub IsRefuteAnswer : Shown → List ℕ → Answer → Type 0
-IsRefuteAnswer shown input answer =
-    MatchBool (nat_lt MOST_INPUT_BYTES (length input)) (answer ≡ input_too_long) (AnswersReading shown (whole_lines input) (plan_of (whole_lines input)) answer)
+abbrev pub IsRefuteAnswer : ℕ → Shown → List ℕ → Answer → Type 0
+IsRefuteAnswer states shown input answer =
+    MatchBool (nat_lt MOST_INPUT_BYTES (length input)) (answer ≡ input_too_long) (AnswersReading states shown (whole_lines input) (plan_of (whole_lines input)) answer)

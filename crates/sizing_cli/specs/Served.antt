@@ -24,7 +24,7 @@ IsAnswer Explain input answer = answer ≡ report Explain input
 IsAnswer (Certify workers) input answer = IsCertifyAnswer input answer
 IsAnswer (Fit wanted) input answer = IsFitAnswer wanted input answer
 IsAnswer (Run rounds) input answer = answer ≡ report (Run rounds) input
-IsAnswer (Refute states shown) input answer = IsRefuteAnswer shown input answer
+IsAnswer (Refute states shown) input answer = IsRefuteAnswer states shown input answer
 
 -- such an answer was written, and the status is its
 pub record WritesAnswer (command : Command) (input : List ℕ) (status : Status) (old new : Option (List ℕ)) : Type 0 where

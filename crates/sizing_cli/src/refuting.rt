@@ -9,7 +9,7 @@ use crate::at_once::AtOnce;
 use crate::certify::whole_lines;
 use crate::limits::{MOST_EVENT_BYTES, MOST_INPUT_BYTES};
 use crate::output::Output;
-use crate::witness::witness_of;
+use crate::witness::{Sought, witness_of};
 use crate::{ServeFault, Status};
 use cert_search::search;
 use command_line::{DEFAULT_WORKERS, Shown};
@@ -26,7 +26,7 @@ use witness_lines::{push_event_lines, told};
 const WORKERS: usize = DEFAULT_WORKERS as usize;
 
 /// The answer to an input, which is a plan's text: that it is safe, where a certificate was found; else a witness, as a story
-/// or as a bundle with its events; else that it is not decided.
+/// or as a bundle with its events; else that it is not decided, and how many states were searched. So many may be, at most.
 ///
 /// # Errors
 ///
@@ -38,7 +38,7 @@ pub fn refute<R: Threads + Wait + Sync>(
     shown: Shown,
     input: Vec<u8>,
 ) -> Result<Output, ServeFault>
-    ensures answer { IfOk result (spec.IsRefuteAnswer shown input.items) }
+    ensures answer { IfOk result (spec.IsRefuteAnswer states shown input.items) }
     ensures fault { IfErr result (λ fault. IsTrue (is_of_search fault.number)) }
 {
     if input.len() > MOST_INPUT_BYTES {
@@ -61,30 +61,31 @@ fn refute_plan<R: Threads + Wait + Sync>(
     plan: &Plan,
     text: Vec<u8>,
 ) -> Result<Output, ServeFault>
-    ensures answer { IfOk result (spec.AnswersPlan shown text.items plan.now) }
+    ensures answer { IfOk result (spec.AnswersPlan states shown text.items plan.now) }
     ensures fault { IfErr result (λ fault. IsTrue (is_of_search fault.number)) }
 {
     if search(rt, alloc, plan, WORKERS, &AtOnce)?.is_some() {
         return Ok(Output::of(safe(alloc, shown)?));
     }
-    let found = witness_of(alloc, plan, states)?;
-    Ok(answer_of(alloc, shown, plan, found, text)?)
+    let sought = witness_of(alloc, plan, states)?;
+    Ok(answer_of(alloc, shown, plan, sought, text)?)
 }
 
-/// The answer to a plan that no certificate was found for, by the witness that was found.
+/// The answer to a plan that no certificate was found for, by what the search for a witness came to.
 fn answer_of(
     alloc: Global,
     shown: Shown,
     plan: &Plan,
-    found: Option<Witness>,
+    sought: Sought,
     text: Vec<u8>,
 ) -> Result<Output, AllocError>
-    ensures some { IfSome found (λ witness. IfOk result (spec.ShowsWitness shown text.items plan.now witness)) }
-    ensures none { IfNone found (IfOk result (λ answer. answer ≡ spec.not_decided shown)) }
+    ensures some { IfSome sought.witness (λ witness. IfOk result (spec.ShowsWitness shown text.items plan.now witness)) }
+    ensures none { IfNone sought.witness (IfOk result (λ answer. answer ≡ spec.not_decided shown sought.states)) }
 {
-    match found {
+    let Sought { witness, states } = sought;
+    match witness {
         Some(witness) => refuted(alloc, shown, plan, &witness, text),
-        None => Ok(Output::of(not_decided(alloc, shown)?)),
+        None => Ok(Output::of(not_decided(alloc, shown, states)?)),
     }
 }
 
@@ -147,15 +148,26 @@ fn safe(alloc: Global, shown: Shown) -> Result<Answer, AllocError>
     )
 }
 
-/// The line where neither a certificate nor a witness was found.
-fn not_decided(alloc: Global, shown: Shown) -> Result<Answer, AllocError>
-    ensures { IfOk result (λ answer. answer ≡ spec.not_decided shown) }
+/// The line where neither a certificate nor a witness was found in so many states.
+fn not_decided(alloc: Global, shown: Shown, states: usize) -> Result<Answer, AllocError>
+    ensures { IfOk result (λ answer. answer ≡ spec.not_decided shown states) }
 {
-    line(
-        alloc,
-        "not decided\n",
-        without_bundle(shown, Status::Undecided),
-    )
+    let searched = were_searched(states);
+    let text = format!(in alloc; "not decided: {states}{searched}\n")?;
+    Ok(Answer {
+        text,
+        status: without_bundle(shown, Status::Undecided),
+    })
+}
+
+fn were_searched(states: usize) -> &'static str
+    ensures { result ≡ spec.were_searched states }
+{
+    if states == 1 {
+        " state was searched"
+    } else {
+        " states were searched"
+    }
 }
 
 fn events_too_long(alloc: Global) -> Result<Answer, AllocError>

@@ -1,6 +1,6 @@
 //! A witness against a plan: what the search finds, confirmed.
 
-ghost use Rattle.std.specs.Prelude.{IfOk, IfSome};
+ghost use Rattle.std.specs.Prelude.{◌≤◌, IfOk, IfSome};
 ghost use Rattle.sizing_cli.specs.Refute.{IsWitnessOf};
 
 use job_bodies::Plan;
@@ -8,19 +8,34 @@ use least_vectors::{Levels, pool_bound};
 use plan_witnesses::{Witness, confirmed};
 use std::alloc::{AllocError, Global};
 use weights::{Bound, Vector};
-use witness_search::search_witness;
+use witness_search::{Found, search_witness};
 
-/// A witness against the plan, if the search finds one in so many states. What was found is replayed.
-pub(crate) fn witness_of(
-    alloc: Global,
-    plan: &Plan,
-    states: usize,
-) -> Result<Option<Witness>, AllocError>
-    ensures { IfOk result (λ found. IfSome found (IsWitnessOf plan.now)) }
+/// What a search for a witness came to.
+#[derive(Drop)]
+pub(crate) struct Sought {
+    pub(crate) witness: Option<Witness>,
+    /// How many states were searched.
+    pub(crate) states: usize,
+}
+
+/// A witness against the plan, if the search finds one in so many states at most. What was found is replayed.
+pub(crate) fn witness_of(alloc: Global, plan: &Plan, states: usize) -> Result<Sought, AllocError>
+    ensures witness { IfOk result (λ sought. IfSome sought.witness (IsWitnessOf plan.now)) }
+    ensures states { IfOk result (λ sought. sought.states ≤ states) }
 {
-    let Some(found) = search_witness(alloc, plan, states)? else {
-        return Ok(None);
+    let searched = search_witness(alloc, plan, states)?;
+    let states = searched.states;
+    let witness = match searched.found {
+        Some(found) => confirmed_of(alloc, plan, found)?,
+        None => None,
     };
+    Ok(Sought { witness, states })
+}
+
+/// The witness that was found, where it is one.
+fn confirmed_of(alloc: Global, plan: &Plan, found: Found) -> Result<Option<Witness>, AllocError>
+    ensures { IfOk result (λ witness. IfSome witness (IsWitnessOf plan.now)) }
+{
     let standing = if found.members.is_empty() {
         Vec::new(alloc)
     } else {

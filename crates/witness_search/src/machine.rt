@@ -21,7 +21,7 @@ pub(crate) struct Job {
     pub(crate) parent: Parent,
     pub(crate) phase: Phase,
     /// The position of the submit in the parent's body.
-    submit: usize,
+    pub(crate) submit: usize,
     /// The latest job that it made itself.
     newest: Option<usize>,
     /// The job that its parent made before it.
@@ -73,6 +73,20 @@ impl<'a> Machine<'a> {
             pools,
             jobs: Vec::new(alloc),
             movers: Vec::new(alloc),
+        })
+    }
+
+    /// Another machine in the same state.
+    pub(crate) fn copied(&self, alloc: Global) -> Result<Machine<'a>, AllocError> {
+        let mut pools = Vec::with_capacity(alloc, self.pools.len())?;
+        for pool in &self.pools {
+            pools.push(pool.copied()?)?;
+        }
+        Ok(Machine {
+            plan: self.plan,
+            pools,
+            jobs: Vec::from_slice(alloc, &self.jobs)?,
+            movers: Vec::from_slice(alloc, &self.movers)?,
         })
     }
 
@@ -138,6 +152,25 @@ impl<'a> Machine<'a> {
         match self.point(actor)? {
             (_, Some(Action::Get(submit))) => self.child(actor, submit),
             _ => None,
+        }
+    }
+
+    /// Whether the actor has a get of this submit still before it.
+    pub(crate) fn is_to_get(&self, actor: Parent, submit: usize) -> bool {
+        let Some((position, _)) = self.point(actor) else {
+            return false;
+        };
+        let Some(rest) = self.body_of(actor).and_then(|body| body.get(position..)) else {
+            return false;
+        };
+        rest.iter().any(|action| matches!(action, Action::Get(of) if *of == submit))
+    }
+
+    fn body_of(&self, actor: Parent) -> Option<&'a [Action]> {
+        let kind = self.kind_of(actor)?;
+        match actor {
+            Parent::Client(_) => Some(&self.plan.client_at(kind)?.body),
+            Parent::Job(_) => Some(&self.plan.class_at(kind)?.body),
         }
     }
 

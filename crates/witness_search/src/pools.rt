@@ -37,6 +37,18 @@ impl PoolNow {
         }
     }
 
+    /// Another pool in the same state.
+    pub(crate) fn copied(&self) -> Result<PoolNow, AllocError> {
+        Ok(PoolNow {
+            core: self.core,
+            max: self.max,
+            capacity: self.capacity,
+            threads: self.threads,
+            idle: self.idle,
+            queue: self.queue.clone()?,
+        })
+    }
+
     /// What the pool does with a job that comes now.
     pub(crate) fn answer(&self) -> Offered {
         if self.threads < self.core {
@@ -80,6 +92,32 @@ impl PoolNow {
     /// A thread has finished its job.
     pub(crate) fn finish(&mut self) {
         self.idle = self.idle.saturating_add(1);
+    }
+
+    /// How many threads the pool has.
+    pub(crate) fn threads(&self) -> u64 {
+        self.threads
+    }
+
+    /// How many of them run no job.
+    pub(crate) fn idle(&self) -> u64 {
+        self.idle
+    }
+
+    /// How many threads it has, or has at least once enough jobs have come.
+    pub(crate) fn threads_to_come(&self) -> u64 {
+        self.threads.max(self.core)
+    }
+
+    /// How many jobs may come, while none goes, before one is refused.
+    pub(crate) fn room(&self) -> u64 {
+        let places = self.capacity.saturating_sub(self.queue.len() as u64);
+        places.saturating_add(self.max.saturating_sub(self.threads))
+    }
+
+    /// The jobs in its queue, by number.
+    pub(crate) fn queued(&self) -> &VecDeque<usize> {
+        &self.queue
     }
 
     /// Whether a job in the queue waits for running ones alone, now or, where `for_ever` is said, from now on.

@@ -1,5 +1,8 @@
 //! The search.
 
+ghost use Rattle.std.specs.Prelude.{◌≤◌, IfOk};
+
+use crate::best_first::{Best, best_first};
 use crate::kinds::Choices;
 use crate::missed::{Scale, missed_vectors};
 use crate::orders::{Chance, FIXED_ORDERS, fixed_order, shuffle};
@@ -16,11 +19,6 @@ use written_machine::Event;
 const GUIDED_WALKS: usize = 256;
 /// How many walks are made in orders by chance.
 const CHANCE_WALKS: usize = 1500;
-/// The most steps for a state of the budget, all walks together.
-const STEPS_FOR_A_STATE: u64 = 200;
-
-/// Each step looks at all choices, and so many cost as much as the rest of it.
-const CHOICES_FOR_A_STEP: u64 = 64;
 
 /// Events that are thought to be a witness.
 #[derive(Debug, Drop)]
@@ -32,50 +30,40 @@ pub struct Found {
     pub members: Vec<usize>,
 }
 
+/// What a search came to.
+#[derive(Debug, Drop)]
+pub struct Searched {
+    /// A witness, as is thought, where one was found.
+    pub found: Option<Found>,
+    /// How many states the search came to: the start of each walk and of each search, and each state behind a choice. A state
+    /// counts as often as the search came to it.
+    pub states: usize,
+}
+
 /// Looks for a witness against the plan: events that end in a refused submit, or in jobs that wait only for each other,
-/// if need be for now alone. `budget` bounds the work. That none is found says nothing of the plan.
+/// if need be for now alone. It comes to so many states at most. That none is found says nothing of the plan.
 ///
 /// # Errors
 ///
 /// [`AllocError`] where memory runs out.
-pub fn search_witness(
-    alloc: Global,
-    plan: &Plan,
-    budget: usize,
-) -> Result<Option<Found>, AllocError> {
+pub fn search_witness(alloc: Global, plan: &Plan, states: usize) -> Result<Searched, AllocError>
+    ensures { IfOk result (λ searched. searched.states ≤ states) }
+{
     let mut search = Search {
         alloc,
         plan,
         choices: Choices::of(alloc, plan)?,
         chance: Chance::new(),
-        left: (budget as u64).saturating_mul(STEPS_FOR_A_STATE),
+        left: states,
+        aside: 0,
         stuck_now: None,
     };
-    for number in 0..FIXED_ORDERS {
-        let rules = search.fixed_rules(number)?;
-        if let Some(found) = search.look(rules, None)? {
-            return Ok(Some(found));
-        }
-    }
-    // The walks by chance have half of what is left.
-    let kept = search.left / 2;
-    search.left = search.left.saturating_sub(kept);
-    for scale in &missed_vectors(alloc, plan)? {
-        for number in 0..GUIDED_WALKS {
-            let rules = search.guided_rules(number)?;
-            if let Some(found) = search.look(rules, Some(scale))? {
-                return Ok(Some(found));
-            }
-        }
-    }
-    search.left = search.left.saturating_add(kept);
-    for number in 0..CHANCE_WALKS {
-        let rules = search.chance_rules(number)?;
-        if let Some(found) = search.look(rules, None)? {
-            return Ok(Some(found));
-        }
-    }
-    search.given_up()
+    let found = search.found()?;
+    search.take_back();
+    Ok(Searched {
+        found,
+        states: states.saturating_sub(search.left),
+    })
 }
 
 /// A search so far.
@@ -85,21 +73,115 @@ struct Search<'a> {
     plan: &'a Plan,
     choices: Choices,
     chance: Chance,
-    /// How many steps may still be made.
-    left: u64,
+    /// How many states it may still come to.
+    left: usize,
+    /// How many of them are left to what comes behind.
+    aside: usize,
     /// What is answered where nothing is found that stays.
     stuck_now: Option<Script>,
 }
 
 impl Search<'_> {
+    /// What the walks find, and then the search that goes on from the most promising states.
+    fn found(&mut self) -> Result<Option<Found>, AllocError> {
+        if let Some(found) = self.in_fixed_orders()? {
+            return Ok(Some(found));
+        }
+        let scales = missed_vectors(self.alloc, self.plan)?;
+        if let Some(found) = self.guided(&scales)? {
+            return Ok(Some(found));
+        }
+        if let Some(found) = self.by_chance()? {
+            return Ok(Some(found));
+        }
+        if let Some(found) = self.best_first(&scales)? {
+            return Ok(Some(found));
+        }
+        self.given_up()
+    }
+
+    /// Leaves half of the states to what comes behind.
+    fn set_half_aside(&mut self) {
+        self.aside = self.left / 2;
+        self.left = self.left.saturating_sub(self.aside);
+    }
+
+    fn take_back(&mut self) {
+        self.left = self.left.saturating_add(self.aside);
+        self.aside = 0;
+    }
+
+    /// What the walks in fixed orders find. The first of them may go through all that are left.
+    fn in_fixed_orders(&mut self) -> Result<Option<Found>, AllocError> {
+        let first = self.fixed_rules(0)?;
+        if let Some(found) = self.look(first, None)? {
+            return Ok(Some(found));
+        }
+        self.set_half_aside();
+        for number in 1..FIXED_ORDERS {
+            let rules = self.fixed_rules(number)?;
+            if let Some(found) = self.look(rules, None)? {
+                return Ok(Some(found));
+            }
+        }
+        self.take_back();
+        Ok(None)
+    }
+
+    /// What the walks find that lose little of a vector that misses its bound.
+    fn guided(&mut self, scales: &[Scale]) -> Result<Option<Found>, AllocError> {
+        self.set_half_aside();
+        for scale in scales {
+            for number in 0..GUIDED_WALKS {
+                let rules = self.guided_rules(number)?;
+                if let Some(found) = self.look(rules, Some(scale))? {
+                    return Ok(Some(found));
+                }
+            }
+        }
+        self.take_back();
+        Ok(None)
+    }
+
+    /// What the walks in orders by chance find.
+    fn by_chance(&mut self) -> Result<Option<Found>, AllocError> {
+        self.set_half_aside();
+        for number in 0..CHANCE_WALKS {
+            let rules = self.chance_rules(number)?;
+            if let Some(found) = self.look(rules, None)? {
+                return Ok(Some(found));
+            }
+        }
+        self.take_back();
+        Ok(None)
+    }
+
+    /// What the search finds that goes on from the most promising of the states that it has come to.
+    fn best_first(&mut self, scales: &[Scale]) -> Result<Option<Found>, AllocError> {
+        if self.left == 0 {
+            return Ok(None);
+        }
+        let best = best_first(self.alloc, self.plan, &self.choices, scales, self.left)?;
+        let Best {
+            found,
+            stuck_now,
+            left,
+        } = best;
+        self.left = left;
+        if self.stuck_now.is_none() {
+            self.stuck_now = stuck_now;
+        }
+        match found {
+            Some((script, bad)) => Ok(Some(answer_of(self.alloc, self.plan, script, bad)?)),
+            None => Ok(None),
+        }
+    }
+
     /// Makes a walk, and answers what it finds that stays.
     fn look(&mut self, rules: Rules, scale: Option<&Scale>) -> Result<Option<Found>, AllocError> {
-        let price = 1u64.saturating_add(self.choices.all.len() as u64 / CHOICES_FOR_A_STEP);
         let mut rules = rules;
-        rules.most_steps = rules
-            .most_steps
-            .min(self.left.checked_div(price).unwrap_or(0));
-        if rules.most_steps == 0 {
+        rules.most_states = rules.most_states.min(self.left);
+        if rules.most_states == 0 {
             return Ok(None);
         }
         let walked = walk_by(
@@ -110,7 +192,7 @@ impl Search<'_> {
             scale,
             &mut self.chance,
         )?;
-        self.left = self.left.saturating_sub(walked.steps.saturating_mul(price));
+        self.left = self.left.saturating_sub(walked.states);
         match walked.bad {
             Some(Bad::StuckNow) => {
                 if self.stuck_now.is_none() {
@@ -124,17 +206,12 @@ impl Search<'_> {
     }
 
     /// What is answered where nothing was found that stays.
-    fn given_up(self) -> Result<Option<Found>, AllocError> {
-        let Search {
-            alloc,
-            plan,
-            stuck_now,
-            choices: _,
-            chance: _,
-            left: _,
-        } = self;
-        match stuck_now {
-            Some(script) => Ok(Some(answer_of(alloc, plan, script, Bad::StuckNow)?)),
+    fn given_up(&mut self) -> Result<Option<Found>, AllocError> {
+        match self.stuck_now.take() {
+            Some(script) => {
+                let found = answer_of(self.alloc, self.plan, script, Bad::StuckNow)?;
+                Ok(Some(found))
+            }
             None => Ok(None),
         }
     }
@@ -144,7 +221,7 @@ impl Search<'_> {
         Ok(Rules {
             keys: fixed_order(self.alloc, &self.choices.all, number)?,
             most_movers: usize::MAX,
-            most_steps: longest_walk(self.plan),
+            most_states: longest_walk(self.plan),
             changing: false,
         })
     }
@@ -172,13 +249,13 @@ impl Search<'_> {
     }
 }
 
-/// How many steps a walk has at most.
-fn longest_walk(plan: &Plan) -> u64 {
+/// How many states a walk comes to at most.
+fn longest_walk(plan: &Plan) -> usize {
     let mut room = 0u64;
     for pool in plan.pools() {
         room = room.saturating_add(pool.max).saturating_add(pool.queue);
     }
-    room.saturating_mul(12).saturating_add(128)
+    room.saturating_mul(12).saturating_add(128) as usize
 }
 
 /// What is answered of this script.

@@ -33,8 +33,8 @@ pub(crate) struct Rules {
     pub(crate) keys: Vec<u64>,
     /// The most clients that move.
     pub(crate) most_movers: usize,
-    /// The most steps.
-    pub(crate) most_steps: u64,
+    /// The most states that the walk comes to, its start among them.
+    pub(crate) most_states: usize,
     /// Whether the keys change on the way.
     pub(crate) changing: bool,
 }
@@ -44,13 +44,13 @@ pub(crate) struct Rules {
 pub(crate) struct Walked {
     pub(crate) script: Script,
     pub(crate) bad: Option<Bad>,
-    /// How many steps it made.
-    pub(crate) steps: u64,
+    /// How many states it came to, its start among them.
+    pub(crate) states: usize,
 }
 
 /// What comes of a step.
 #[derive(Clone, Copy, Debug, PartialEq, Eq)]
-enum Stepped {
+pub(crate) enum Stepped {
     Went,
     Refused,
     Nothing,
@@ -58,19 +58,20 @@ enum Stepped {
 
 /// A walk so far.
 #[derive(Drop)]
-struct Walk<'a> {
-    machine: Machine<'a>,
-    choices: &'a Choices,
-    script: Script,
+pub(crate) struct Walk<'a> {
+    pub(crate) machine: Machine<'a>,
+    pub(crate) choices: &'a Choices,
+    pub(crate) script: Script,
     /// For each choice the actors that stand there.
-    ready: Vec<Vec<Parent>>,
+    pub(crate) ready: Vec<Vec<Parent>>,
     /// For each kind how many clients of it have moved.
-    begun: Vec<u64>,
+    pub(crate) begun: Vec<u64>,
     /// Whether a job has come to a get of a job that is not done, since this was last asked.
-    has_blocked: bool,
+    pub(crate) has_blocked: bool,
 }
 
-/// Walks by these rules.
+/// Walks by these rules, from one state to the next: a choice that is possible is made, and behind it at once all work, gets of
+/// done jobs, ends and loops that follow.
 pub(crate) fn walk_by<'a>(
     alloc: Global,
     plan: &'a Plan,
@@ -83,25 +84,24 @@ pub(crate) fn walk_by<'a>(
     let mut rules = rules;
     let mut stuck_now = None;
     let mut due = 8;
-    let mut steps = 0u64;
-    for step in 0..rules.most_steps {
-        steps = step.saturating_add(1);
+    let mut states = 1usize;
+    for step in 1..rules.most_states {
         if rules.changing && chance.next_number() % 16 == 0 {
             shuffle(&mut rules.keys, chance);
         }
         match walk.step(&rules, scale)? {
-            Stepped::Went => {}
-            Stepped::Refused => return Ok(walk.ended(Some(Bad::Refused), steps)),
+            Stepped::Went => states = states.saturating_add(1),
+            Stepped::Refused => return Ok(walk.ended(Some(Bad::Refused), states)),
             Stepped::Nothing => break,
         }
         if walk.has_blocked && step >= due {
             walk.has_blocked = false;
-            let jobs = walk.machine.jobs.len() as u64;
+            let jobs = walk.machine.jobs.len();
             due = step.saturating_add(8).saturating_add(jobs / 4);
             match walk.stuck(alloc, stuck_now.is_none())? {
                 Some(Bad::StuckNow) => stuck_now = Some(walk.script.acts.len()),
                 None => {}
-                bad => return Ok(walk.ended(bad, steps)),
+                bad => return Ok(walk.ended(bad, states)),
             }
         }
     }
@@ -112,11 +112,15 @@ pub(crate) fn walk_by<'a>(
             bad = Some(Bad::StuckNow);
         }
     }
-    Ok(walk.ended(bad, steps))
+    Ok(walk.ended(bad, states))
 }
 
 impl<'a> Walk<'a> {
-    fn start(alloc: Global, plan: &'a Plan, choices: &'a Choices) -> Result<Walk<'a>, AllocError> {
+    pub(crate) fn start(
+        alloc: Global,
+        plan: &'a Plan,
+        choices: &'a Choices,
+    ) -> Result<Walk<'a>, AllocError> {
         let mut ready = Vec::with_capacity(alloc, choices.all.len())?;
         for _ in &choices.all {
             ready.push(Vec::new(alloc))?;
@@ -131,16 +135,16 @@ impl<'a> Walk<'a> {
         })
     }
 
-    fn ended(self, bad: Option<Bad>, steps: u64) -> Walked {
+    fn ended(self, bad: Option<Bad>, states: usize) -> Walked {
         Walked {
             script: self.script,
             bad,
-            steps,
+            states,
         }
     }
 
     /// Whether jobs wait for each other, and how long; only for ever, where `now` is not said.
-    fn stuck(&self, alloc: Global, now: bool) -> Result<Option<Bad>, AllocError> {
+    pub(crate) fn stuck(&self, alloc: Global, now: bool) -> Result<Option<Bad>, AllocError> {
         let members = Members::greatest(alloc, &self.machine, false)?;
         if members.is_empty() {
             return Ok(None);
@@ -154,9 +158,14 @@ impl<'a> Walk<'a> {
 
     /// Makes the first choice that is possible.
     fn step(&mut self, rules: &Rules, scale: Option<&Scale>) -> Result<Stepped, AllocError> {
-        let Some(place) = self.first_possible(rules, scale) else {
-            return Ok(Stepped::Nothing);
-        };
+        match self.first_possible(rules, scale) {
+            Some(place) => self.choose(place, 0),
+            None => Ok(Stepped::Nothing),
+        }
+    }
+
+    /// Makes the choice at this place; of the actors that stand there the one with so many behind it does.
+    pub(crate) fn choose(&mut self, place: usize, behind: usize) -> Result<Stepped, AllocError> {
         match self.choices.all.get(place).copied() {
             Some(Choice::Begin(kind)) => {
                 let client = self.script.begin(&mut self.machine, kind)?;
@@ -167,11 +176,22 @@ impl<'a> Walk<'a> {
                 self.submit_of(client)
             }
             Some(Choice::Take(class)) => self.take(class),
-            Some(_) => match self.ready.get_mut(place).and_then(|ready| ready.pop()) {
+            Some(_) => match self.called(place, behind) {
                 Some(actor) => self.submit(actor),
                 None => Ok(Stepped::Nothing),
             },
             None => Ok(Stepped::Nothing),
+        }
+    }
+
+    /// The actor at this place with so many behind it, which stands there no longer.
+    fn called(&mut self, place: usize, behind: usize) -> Option<Parent> {
+        let ready = self.ready.get_mut(place)?;
+        let at = ready.len().checked_sub(1)?.checked_sub(behind)?;
+        if at < ready.len() {
+            Some(ready.remove(at))
+        } else {
+            None
         }
     }
 
@@ -208,7 +228,7 @@ impl<'a> Walk<'a> {
     }
 
     /// Whether a client of the kind has not moved, and would submit something.
-    fn has_more(&self, kind: usize) -> bool {
+    pub(crate) fn has_more(&self, kind: usize) -> bool {
         let Some(client) = self.machine.plan.client_at(kind) else {
             return false;
         };
@@ -221,7 +241,7 @@ impl<'a> Walk<'a> {
     }
 
     /// Whether an idle thread would take a job of the class.
-    fn would_take(&self, class: usize) -> bool {
+    pub(crate) fn would_take(&self, class: usize) -> bool {
         let Some(pool) = self.pool_of(class) else {
             return false;
         };

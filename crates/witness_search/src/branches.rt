@@ -1,0 +1,116 @@
+//! The ways on from a state.
+
+use crate::fingerprints::fingerprint;
+use crate::kinds::Choice;
+use crate::losses::Losses;
+use crate::machine::Phase;
+use crate::missed::Scale;
+use crate::scripts::Script;
+use crate::walks::Walk;
+use std::alloc::{AllocError, Global};
+use written_machine::Parent;
+
+/// How many of the actors that stand at one choice are tried.
+const MOST_ACTORS: usize = 8;
+
+/// A choice, and how many of the actors that stand there came behind the one that makes it.
+#[derive(Clone, Copy, Debug, PartialEq, Eq)]
+pub(crate) struct Branch {
+    pub(crate) place: usize,
+    pub(crate) behind: usize,
+}
+
+impl<'a> Walk<'a> {
+    /// Another walk in the same state, which does not know how it came there.
+    pub(crate) fn copied(&self, alloc: Global) -> Result<Walk<'a>, AllocError> {
+        let mut ready = Vec::with_capacity(alloc, self.ready.len())?;
+        for actors in &self.ready {
+            ready.push(Vec::from_slice(alloc, actors)?)?;
+        }
+        Ok(Walk {
+            machine: self.machine.copied(alloc)?,
+            choices: self.choices,
+            script: Script::nothing(alloc),
+            ready,
+            begun: Vec::from_slice(alloc, &self.begun)?,
+            has_blocked: false,
+        })
+    }
+
+    /// What may happen next. A client that stands where it began stands for each that has not moved.
+    pub(crate) fn branches(&self, alloc: Global) -> Result<Vec<Branch>, AllocError> {
+        let mut branches = Vec::new(alloc);
+        for (place, (choice, ready)) in self.choices.all.iter().zip(&self.ready).enumerate() {
+            let ways = match *choice {
+                Choice::Begin(kind) => usize::from(self.has_more(kind) && !self.has_old(kind)),
+                Choice::Take(class) => usize::from(self.would_take(class)),
+                Choice::First(_) => ready.len().min(1),
+                Choice::Later(_) | Choice::Inner(_) => ready.len().min(MOST_ACTORS),
+            };
+            for behind in 0..ways {
+                branches.push(Branch { place, behind })?;
+            }
+        }
+        Ok(branches)
+    }
+
+    /// Whether a client of the kind stands again where it began.
+    fn has_old(&self, kind: usize) -> bool {
+        self.choices.all.iter().zip(&self.ready).any(|(choice, ready)| *choice
+            == Choice::First(kind)
+            && !ready.is_empty())
+    }
+
+    /// What the branch loses of a vector.
+    pub(crate) fn loss(&self, branch: Branch, scale: &Scale) -> u64 {
+        let Some(choice) = self.choices.all.get(branch.place).copied() else {
+            return 0;
+        };
+        Losses::new(&self.machine, scale).of(choice, self.actor_of(branch))
+    }
+
+    fn actor_of(&self, branch: Branch) -> Option<Parent> {
+        let ready = self.ready.get(branch.place)?;
+        let at = ready.len().checked_sub(1)?.checked_sub(branch.behind)?;
+        ready.get(at).copied()
+    }
+
+    /// How many threads there are, or are to come, that do not wait at a get.
+    pub(crate) fn moving_threads(&self) -> u64 {
+        let mut threads = 0u64;
+        for pool in &self.machine.pools {
+            threads = threads.saturating_add(pool.threads_to_come());
+        }
+        let mut waiting = 0u64;
+        for (number, job) in self.machine.jobs.iter().enumerate() {
+            if let Phase::At(_) = job.phase {
+                if self.machine.waits_for(Parent::Job(number)).is_some() {
+                    waiting = waiting.saturating_add(1);
+                }
+            }
+        }
+        threads.saturating_sub(waiting)
+    }
+
+    /// How many jobs the pool takes at least that has the least room.
+    pub(crate) fn least_room(&self) -> u64 {
+        let mut least = u64::MAX;
+        for pool in &self.machine.pools {
+            least = least.min(pool.room());
+        }
+        least
+    }
+
+    /// Whether a pool has no idle thread and jobs in its queue.
+    pub(crate) fn has_closed(&self) -> bool {
+        self.machine
+            .pools
+            .iter()
+            .any(|pool| pool.is_closed(false) && !pool.queued().is_empty())
+    }
+
+    /// The state's fingerprint.
+    pub(crate) fn fingerprint(&self, alloc: Global) -> Result<u64, AllocError> {
+        fingerprint(alloc, &self.machine, self.choices)
+    }
+}

@@ -1,0 +1,143 @@
+//! Fingerprints of states, by which a search knows those that it has come to.
+//!
+//! Two states have the same one where they differ in the numbers of jobs and clients alone, in jobs that are done and that
+//! nobody will get, or in clients that stand again where they began. By chance others may too: then the search goes on from
+//! one of them only.
+
+use crate::kinds::{Choice, Choices};
+use crate::machine::{Job, Machine, Phase};
+use std::alloc::{AllocError, Global};
+use written_machine::Parent;
+
+/// What mixes the numbers.
+const FACTOR: u64 = 0x9e37_79b9_7f4a_7c15;
+/// What a job's phase is mixed as. Other numbers are positions.
+const DONE: u64 = 1_000_001;
+
+const QUEUED: u64 = 1_000_002;
+/// What tells apart what stands by itself.
+const ROOT: u64 = 3;
+
+const CLIENT: u64 = 5;
+
+const POOL: u64 = 7;
+
+/// The fingerprint of a state.
+pub(crate) fn fingerprint(
+    alloc: Global,
+    machine: &Machine,
+    choices: &Choices,
+) -> Result<u64, AllocError> {
+    let mut prints = Prints {
+        machine,
+        of_jobs: vec![in alloc; 0; machine.jobs.len()]?,
+        of_movers: vec![in alloc; 0; machine.movers()]?,
+        places: vec![in alloc; 0; machine.jobs.len()]?,
+        whole: 0,
+    };
+    prints.add_pools();
+    for number in (0..machine.jobs.len()).rev() {
+        if let Some(job) = machine.jobs.get(number) {
+            prints.add_job(number, job);
+        }
+    }
+    for number in 0..machine.movers() {
+        prints.add_client(choices, number);
+    }
+    Ok(prints.whole)
+}
+
+/// One number of two.
+fn mixed(first: u64, second: u64) -> u64 {
+    let mixed = (first ^ second.wrapping_mul(FACTOR))
+        .wrapping_add(second.rotate_left(17))
+        .wrapping_mul(0xbf58_476d_1ce4_e5b9);
+    mixed ^ (mixed >> 31)
+}
+
+/// The fingerprints of a state's parts.
+#[derive(Drop)]
+struct Prints<'a> {
+    machine: &'a Machine<'a>,
+    /// Of the jobs that each job will get.
+    of_jobs: Vec<u64>,
+    /// Of the jobs that each client will get.
+    of_movers: Vec<u64>,
+    /// For each job its place in a queue, counted from 1.
+    places: Vec<u64>,
+    whole: u64,
+}
+
+impl Prints<'_> {
+    fn add(&mut self, print: u64) {
+        self.whole = self.whole.wrapping_add(print);
+    }
+
+    fn add_pools(&mut self) {
+        for (number, pool) in self.machine.pools.iter().enumerate() {
+            let threads = mixed(pool.threads(), pool.idle());
+            let print = mixed(mixed(POOL, number as u64), threads);
+            self.whole = self.whole.wrapping_add(print);
+            for (place, job) in pool.queued().iter().enumerate() {
+                if let Some(at) = self.places.get_mut(*job) {
+                    *at = (place as u64).wrapping_add(1);
+                }
+            }
+        }
+    }
+
+    /// Adds a job whose own jobs were added: to who will get it, or by itself.
+    fn add_job(&mut self, number: usize, job: &Job) {
+        let of_jobs = self.of_jobs.get(number).copied().unwrap_or(0);
+        let phase = match job.phase {
+            Phase::Queued => mixed(QUEUED, self.places.get(number).copied().unwrap_or(0)),
+            Phase::At(position) => position as u64,
+            Phase::Done => DONE,
+        };
+        let print = mixed(mixed(job.class as u64, phase), of_jobs);
+        if self.will_get(job, number) {
+            self.add_to_parent(job.parent, mixed(print, job.submit as u64));
+        } else if job.phase != Phase::Done {
+            self.add(mixed(print, ROOT));
+        }
+    }
+
+    /// Adds a job to who will get it.
+    fn add_to_parent(&mut self, parent: Parent, print: u64) {
+        match parent {
+            Parent::Client(client) => {
+                if let Some(of_client) = self.of_movers.get_mut(client) {
+                    *of_client = of_client.wrapping_add(print);
+                }
+            }
+            Parent::Job(job) => {
+                if let Some(of_job) = self.of_jobs.get_mut(job) {
+                    *of_job = of_job.wrapping_add(print);
+                }
+            }
+        }
+    }
+
+    /// Whether the job's parent has still to get it.
+    fn will_get(&self, job: &Job, number: usize) -> bool {
+        self.machine.is_to_get(job.parent, job.submit)
+            && self.machine.child(job.parent, job.submit) == Some(number)
+    }
+
+    /// Adds a client that does not stand where it began.
+    fn add_client(&mut self, choices: &Choices, number: usize) {
+        let actor = Parent::Client(number);
+        let Some((position, _)) = self.machine.point(actor) else {
+            return;
+        };
+        let place = choices.place_of(self.machine, actor, position);
+        let choice = place.and_then(|place| choices.all.get(place).copied());
+        if let Some(Choice::First(_)) = choice {
+            return;
+        }
+        let kind = self.machine.kind_of(actor).unwrap_or(0);
+        let stands = mixed(mixed(CLIENT, kind as u64), position as u64);
+        let of_jobs = self.of_movers.get(number).copied().unwrap_or(0);
+        self.add(mixed(stands, of_jobs));
+    }
+}
