@@ -9,3 +9,4 @@ pub mod FittedAnswers
 pub mod RefutedAnswers
 pub mod ServedAnswers
 mod Runs
+mod AskedAnswers

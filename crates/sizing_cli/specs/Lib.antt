@@ -6,6 +6,7 @@ pub mod SafeInput
 pub mod Certify
 pub mod Fit
 pub mod Refute
+pub mod Ask
 pub mod SplitAt
 pub mod Served
 pub mod ServeFault
