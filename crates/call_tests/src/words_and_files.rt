@@ -2,7 +2,7 @@
 
 ghost use Rattle.std.specs.Prelude.{None};
 
-use byte_streams::InputError;
+use byte_streams::{InputError, IoFault};
 use sizing_cli::{MemorySink, MemorySource, ServeFault, Status};
 use sizing_words::{TextFiles, WordsFault, serve_words};
 use std::alloc::Global;
@@ -46,7 +46,20 @@ impl TextFiles for Kept {
         let bytes = text.as_bytes();
         Ok(Vec::from_slice(alloc, &bytes[..bytes.len().min(limit)])?)
     }
+
+    fn write(&self, name: &str, bytes: &[u8]) -> Result<(), IoFault> {
+        if name == "kept.json" && bytes == CERT_FOUND.as_bytes() {
+            Ok(())
+        } else {
+            Err(IoFault)
+        }
+    }
 }
+
+/// The text of the certificate that is given and found, as it is written.
+const CERT_FOUND: &str = "{\"pools\":[{\"blocked\":{\"classes\":[[0,0,0,0]],\"clients\":[[0,0,0]],\"workers\":[0]},\"standing\":{\"classes\":[[1,1,1,1]],\"clients\":[[1,0,1]],\"workers\":[0]}}],\"ranks\":{\"levels\":[0],\"pools\":[0],\"reach\":[0]},\"version\":1}\n";
+
+const ASKED: &str = "SAFE\np: 1 thread, queue 2: up to 2 jobs wait at once (2 c)\n  p waits for nobody\nno submit is ever refused, and no jobs wait for each other for ever\n";
 
 const YES: &str = "yes\npool p: standing 2 of 2, blocked 0 of 0\n";
 
@@ -64,7 +77,7 @@ type Case = (&'static [&'static str], &'static str, Status, &'static str);
 /// Texts come from the files that the words name, and from standard input where they name none, or `-`.
 #[test]
 fn texts_come_from_files(rt: HostRuntime) -> Result<(), Fail> {
-    let cases: [Case; 12] = [
+    let cases: [Case; 14] = [
         (
             &["sizing", "check", "plan.toml", "cert.json"],
             "",
@@ -122,6 +135,25 @@ fn texts_come_from_files(rt: HostRuntime) -> Result<(), Fail> {
         ),
         (&["sizing", "fit", "plan.toml"], "", Status::Done, NO_CHANGE),
         (&["sizing", "refute", "plan.toml"], "", Status::Done, SAFE),
+        (
+            &["sizing", "ask", "--strict", "plan.toml"],
+            "",
+            Status::Done,
+            ASKED,
+        ),
+        (
+            &[
+                "sizing",
+                "ask",
+                "--certificate",
+                "kept.json",
+                "plan.toml",
+                "cert.json",
+            ],
+            "",
+            Status::Done,
+            ASKED,
+        ),
     ];
     for (words, given, status, written) in cases {
         let mut source = MemorySource::new(given.as_bytes());
@@ -176,11 +208,25 @@ fn words_without_an_answer(rt: HostRuntime) -> Result<(), Fail> {
             WordsFault::NoCommand => String::from_str(rt.alloc(), "no command")?,
             WordsFault::InputTwice => String::from_str(rt.alloc(), "input twice")?,
             WordsFault::Unread(name) => format!(in rt.alloc(); "unread {name}")?,
+            WordsFault::Unwritten(name) => format!(in rt.alloc(); "unwritten {name}")?,
             WordsFault::Served(ServeFault { number }) => format!(in rt.alloc(); "fault {number}")?,
         };
         assert_eq!(rt; told.as_str(), wanted, "{words:?}");
         assert_eq!(rt; fault.code(), code, "{words:?}");
         assert!(rt; sink.written().is_empty(), "{words:?}");
     }
+    Ok(())
+}
+
+/// A certificate that cannot be kept is told behind the whole answer.
+#[test]
+fn an_unwritten_certificate(rt: HostRuntime) -> Result<(), Fail> {
+    let words = ["sizing", "ask", "--certificate", "none/kept.json", "plan.toml"];
+    let mut source = MemorySource::new(b"");
+    let mut sink = MemorySink::new(rt.alloc());
+    let ended = serve_words(&rt, rt.alloc(), &words, &Kept, &mut source, &mut sink);
+    let text = String::from_utf8_lossy(rt.alloc(), sink.written())?;
+    assert_eq!(rt; text.as_str(), ASKED);
+    assert!(rt; matches!(ended, Err(WordsFault::Unwritten("none/kept.json"))));
     Ok(())
 }

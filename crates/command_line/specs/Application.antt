@@ -66,6 +66,18 @@ states_option = record (number_option (codes "states") 1 MOST_STATES) { defaults
 abbrev pub refute_shape : Shape
 refute_shape = (with_rule (with_rule (of_plan (codes "refute")) states_option) bundle_option).top
 
+-- whether a warning is a no
+abbrev pub strict_option : Rule
+strict_option = record (new_rule (codes "strict")) { long = Some (codes "strict"); action = Some SetTrue }
+
+-- the option that names the file for a certificate
+abbrev pub certificate_option : Rule
+certificate_option = record (new_rule (codes "certificate")) { long = Some (codes "certificate"); action = Some Set; value_names = 1 }
+
+abbrev pub ask_shape : Shape
+ask_shape =
+    (with_rule (with_rule (of_both (codes "ask")) strict_option) certificate_option).top
+
 -- the program, with a subcommand for each command
 abbrev pub sizing : App
 sizing =
@@ -73,8 +85,10 @@ sizing =
     (with_subcommand
     (with_subcommand
     (with_subcommand
+    (with_subcommand
     (with_subcommand (with_subcommand (with_subcommand (new_app (codes "sizing")) replay_shape) check_shape) explain_shape)
     certify_shape)
     fit_shape)
     run_shape)
-    refute_shape
+    refute_shape)
+    ask_shape

@@ -12,9 +12,11 @@ use Rattle.command_line.specs.Application.{sizing}
 use Rattle.command_line.specs.declared.command.TheConstants.{MOST_ROUNDS, MOST_STATES, MOST_WORKERS}
 use Rattle.command_line.specs.declared.command.Asked.{Asked}
 use Rattle.command_line.specs.declared.command.Command.{Command}
-use Rattle.command_line.specs.declared.command.Command.TheVariants.{Replay, Check, Explain, Certify, Fit, Run, Refute}
+use Rattle.command_line.specs.declared.command.Command.TheVariants.{Replay, Check, Explain, Certify, Fit, Run, Refute, Ask}
 use Rattle.command_line.specs.declared.command.Wanted.TheVariants.{Sizes, Bundle}
 use Rattle.command_line.specs.declared.command.Shown.TheVariants as shown
+use Rattle.command_line.specs.declared.command.Given.{Given}
+use Rattle.command_line.specs.declared.command.Given.TheVariants.{PlanAlone, WithCertificate}
 
 -- the whole number that a text is, where it lies in the range
 abbrev pub number_in : ℕ → ℕ → Text → Option ℕ
@@ -40,13 +42,23 @@ run_with = option_map (λ rounds. Run rounds)
 abbrev pub refute_with : Bool → Option ℕ → Option Command
 refute_with bundle = option_map (λ states. Refute states (if bundle then shown.Bundle else shown.Story))
 
+-- a certificate is given where a second file is named
+abbrev pub given_among : Option Text → Given
+given_among None = PlanAlone
+given_among (Some name) = WithCertificate
+
+-- the question of these rows
+abbrev pub ask_named : List Row → Command
+ask_named rows = Ask (given_among (first_of (codes "SECOND") rows)) (is_set (codes "strict") rows)
+
 -- the command that searches or runs, of the subcommand with this name and these rows
 abbrev pub search_named : Text → List Row → Option Command
 search_named name rows =
     if bytes_eq name (codes "certify") then certify_with (number_of (codes "workers") 1 MOST_WORKERS rows)
     else (if bytes_eq name (codes "fit") then Some (fit_with (is_set (codes "bundle") rows))
     else (if bytes_eq name (codes "run") then run_with (number_of (codes "rounds") 1 MOST_ROUNDS rows)
-    else (if bytes_eq name (codes "refute") then refute_with (is_set (codes "bundle") rows) (number_of (codes "states") 1 MOST_STATES rows) else None)))
+    else (if bytes_eq name (codes "refute") then refute_with (is_set (codes "bundle") rows) (number_of (codes "states") 1 MOST_STATES rows)
+    else (if bytes_eq name (codes "ask") then Some (ask_named rows) else None))))
 
 -- the command of the subcommand with this name and these rows
 abbrev pub command_named : Text × List Row → Option Command
@@ -79,6 +91,23 @@ files_of words = files_among (subcommand_of sizing words)
 -- those that were read from the words
 abbrev pub files_asked : Asked → Option Text × Option Text
 files_asked asked = (option_map (λ name. name.now) asked.first, option_map (λ name. name.now) asked.second)
+
+-- the file that the rows of a subcommand name for a certificate
+abbrev pub certificate_in : Option (List Row) → Option Text
+certificate_in None = None
+certificate_in (Some rows) = first_of (codes "certificate") rows
+
+-- that of the subcommand that was entered
+abbrev pub certificate_among : Option (Text × List Row) → Option Text
+certificate_among entered = certificate_in (option_map (λ entry. entry.1) entered)
+
+-- the file that the words name for a certificate
+abbrev pub certificate_of : List Text → Option Text
+certificate_of words = certificate_among (subcommand_of sizing words)
+
+-- the one that was read from the words
+abbrev pub certificate_asked : Asked → Option Text
+certificate_asked asked = option_map (λ name. name.now) asked.certificate
 
 -- a subcommand was entered that names no command with the numbers that it has
 abbrev pub is_out_of_range : Option (Text × List Row) → Bool

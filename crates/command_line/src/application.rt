@@ -2,10 +2,10 @@
 ghost use Rattle.std.specs.Prelude.{◌≡◌, IfOk, false, codes};
 ghost use Rattle.clap.specs.Words.{app_of, new_app, rule_of, shape_of};
 ghost use Rattle.clap.specs.declared.builder.command.Command.TheViews.{out-Command as fields_of};
-ghost use Rattle.command_line.specs.Application.{bundle_option, certify_shape, check_shape, explain_shape, file_argument, fit_shape, number_option, refute_shape, replay_shape, rounds_option, run_shape, sizing, states_option, workers_option};
+ghost use Rattle.command_line.specs.Application.{ask_shape, bundle_option, certificate_option, certify_shape, check_shape, explain_shape, file_argument, fit_shape, number_option, refute_shape, replay_shape, rounds_option, run_shape, sizing, states_option, strict_option, workers_option};
 
 use crate::command::{MOST_ROUNDS, MOST_STATES, MOST_WORKERS};
-use crate::{help, search_help};
+use crate::{ask_help, help, search_help};
 use clap::builder::ValueParser;
 use clap::{Arg, ArgAction, Command};
 use std::alloc::{AllocError, Global};
@@ -21,7 +21,8 @@ pub(crate) fn application<'a>(alloc: Global) -> Result<Command<'a>, AllocError>
         .subcommand(certify(alloc)?)?
         .subcommand(fit(alloc)?)?
         .subcommand(run(alloc)?)?
-        .subcommand(refute(alloc)?)
+        .subcommand(refute(alloc)?)?
+        .subcommand(ask(alloc)?)
 }
 
 // The program, with no subcommand yet.
@@ -209,6 +210,46 @@ fn states<'a>(alloc: Global) -> Arg<'a>
     number(alloc, "states", 1, MOST_STATES)
         .default_value("100000")
         .help("How much work the search may do, in states of some 200 steps each, 1 to 10000000")
+}
+
+fn ask<'a>(alloc: Global) -> Result<Command<'a>, AllocError>
+    ensures shape { IfOk result (λ made. shape_of made ≡ ask_shape) }
+    ensures local { IfOk result (λ made. (fields_of made).has_globals ≡ false) }
+{
+    subcommand(
+        alloc,
+        "ask",
+        ask_help::ASK_ABOUT,
+        ask_help::ASK_USAGE,
+        ask_help::ASK_NOTES,
+    )
+    .arg(plan(alloc))?
+    .arg(second(alloc))?
+    .arg(strict(alloc))?
+    .arg(certificate(alloc))
+}
+
+// The option that makes a warning a no.
+fn strict<'a>(alloc: Global) -> Arg<'a>
+    ensures rule { rule_of result ≡ strict_option }
+    ensures local { result.global ≡ false }
+{
+    Arg::new(alloc, "strict")
+        .long("strict")
+        .action(ArgAction::SetTrue)
+        .help("A warning is a no: status 1")
+}
+
+// The option that names the file for a certificate.
+fn certificate<'a>(alloc: Global) -> Arg<'a>
+    ensures rule { rule_of result ≡ certificate_option }
+    ensures local { result.global ≡ false }
+{
+    Arg::new(alloc, "certificate")
+        .long("certificate")
+        .value_name("FILE")
+        .action(ArgAction::Set)
+        .help("Write the certificate that was found into this file, to be given next time")
 }
 
 // The option `--ID N`, for one whole number of this range.

@@ -53,6 +53,13 @@ pub enum Command {
         /// What is written of a witness.
         shown: Shown,
     },
+    /// Answers whether a plan is safe with the sizes that it declares, for a person or for a build.
+    Ask {
+        /// Whether a certificate stands behind the plan.
+        given: Given,
+        /// Whether a warning is a no.
+        strict: bool,
+    },
 }
 
 /// What the words of a command line ask.
@@ -65,6 +72,8 @@ pub struct Asked<'a> {
     pub first: Option<&'a str>,
     /// The file of what stands behind the plan.
     pub second: Option<&'a str>,
+    /// The file that a certificate is written to, where one was found.
+    pub certificate: Option<&'a str>,
 }
 
 /// What is written of sizes that were found.
@@ -85,6 +94,15 @@ pub enum Shown {
     Bundle,
 }
 
+/// What is given with a question.
+#[derive(Clone, Copy, Debug, PartialEq, Eq)]
+pub enum Given {
+    /// A plan, and nothing behind it.
+    PlanAlone,
+    /// A plan, and a certificate for it.
+    WithCertificate,
+}
+
 /// Reads the words of a command line, of which the first is the program's name.
 ///
 /// `None` comes where the words name no command. The numbers of a command lie in their ranges.
@@ -96,6 +114,7 @@ pub enum Shown {
 pub fn read_words<'a>(alloc: Global, words: &'a [&'a str]) -> Result<Option<Asked<'a>>, Error>
     ensures command { IfOk result (λ found. option_map (λ asked. asked.command) found ≡ spec.command_of (map (λ word. word.now) words.now)) }
     ensures files { IfOk result (λ found. IfSome found (λ asked. spec.files_asked asked ≡ spec.files_of (map (λ word. word.now) words.now))) }
+    ensures certificate { IfOk result (λ found. IfSome found (λ asked. spec.certificate_asked asked ≡ spec.certificate_of (map (λ word. word.now) words.now))) }
     ensures in_range { IfOk result (λ found. IfSome found (λ asked. spec.IsInRange asked.command)) }
     ensures fails { FailsBy (spec.faults_of (map (λ word. word.now) words.now)) result }
 {
@@ -111,6 +130,7 @@ pub fn read_words<'a>(alloc: Global, words: &'a [&'a str]) -> Result<Option<Aske
 fn asked_among<'a>(matches: &ArgMatches<'a>) -> Option<Asked<'a>>
     ensures command { option_map (λ asked. asked.command) result ≡ spec.command_among (subcommand_rows_of matches.now) }
     ensures files { IfSome result (λ asked. spec.files_asked asked ≡ spec.files_among (subcommand_rows_of matches.now)) }
+    ensures certificate { IfSome result (λ asked. spec.certificate_asked asked ≡ spec.certificate_among (subcommand_rows_of matches.now)) }
     ensures in_range { IfSome result (λ asked. spec.IsInRange asked.command) }
 {
     let command = command_among(matches)?;
@@ -119,6 +139,7 @@ fn asked_among<'a>(matches: &ArgMatches<'a>) -> Option<Asked<'a>>
         command,
         first: file_named(options, "PLAN"),
         second: file_named(options, "SECOND"),
+        certificate: file_named(options, "certificate"),
     })
 }
 
@@ -159,6 +180,7 @@ fn search_among(name: &str, options: &ArgMatches<'_>) -> Option<Command>
         "fit" => Some(fit(options)),
         "run" => run(options),
         "refute" => refute(options),
+        "ask" => Some(ask(options)),
         _ => None,
     }
 }
@@ -206,4 +228,22 @@ fn refute(options: &ArgMatches<'_>) -> Option<Command>
         states: states as usize,
         shown,
     })
+}
+
+fn ask(options: &ArgMatches<'_>) -> Command
+    ensures { result ≡ spec.ask_named (rows_of (found_of options.now)) }
+{
+    Command::Ask {
+        given: texts_given(options),
+        strict: is_set(options, "strict"),
+    }
+}
+
+fn texts_given(options: &ArgMatches<'_>) -> Given
+    ensures { result ≡ spec.given_among (first_of (codes "SECOND") (rows_of (found_of options.now))) }
+{
+    match file_named(options, "SECOND") {
+        Some(_) => Given::WithCertificate,
+        None => Given::PlanAlone,
+    }
 }

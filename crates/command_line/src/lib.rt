@@ -6,13 +6,11 @@
 #![tactic(auto)]
 
 mod application;
+mod ask_help;
 mod command;
 mod flag;
 mod help;
 mod number;
 mod search_help;
 
-pub use command::{
-    Asked, Command, DEFAULT_WORKERS, MOST_ROUNDS, MOST_STATES, MOST_WORKERS, Shown, Wanted,
-    read_words,
-};
+pub use command::{Asked, Command, DEFAULT_WORKERS, MOST_ROUNDS, MOST_STATES, MOST_WORKERS, Shown, Wanted, Given, read_words};

@@ -50,12 +50,13 @@ const SERVED: [&str; 10] = [
     "served_words",
 ];
 
-const ON_THREADS: [&str; 7] = [
+const ON_THREADS: [&str; 8] = [
     "threads_certify",
     "threads_checks",
     "threads_fits",
     "threads_runs",
     "threads_refutes",
+    "threads_asks",
     "found_certs",
     "found_sizes",
 ];

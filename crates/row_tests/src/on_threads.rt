@@ -1,5 +1,6 @@
 //! What the program does on threads: inputs, and by hand what each of them is answered.
 
+mod ask;
 mod certify;
 mod check;
 mod ended;
@@ -10,6 +11,7 @@ mod run;
 mod suite;
 
 use crate::found::{certificate_for, sizes_for};
+use crate::on_threads::ask::asked;
 use crate::on_threads::certify::{certified, certified_and_checked};
 use crate::on_threads::check::checked;
 use crate::on_threads::fit::{fitted, fitted_and_checked, fitted_bundle};
@@ -40,6 +42,7 @@ use std::thread::Threads;
 /// - `refute`, `refute head` and `refute bundle` are a plan's text. Their answer is what the command writes of a witness, whole
 ///   or in its first line, and for a bundle, with the status on a last line; `refute briefly` is the first line where it may come
 ///   to one state alone, and `refute in two states` where to two. `refute and replay` is what `replay` answers to the bundle.
+/// - `ask` and `ask strict` are a plan's text, and `ask with` and `ask with strict` a bundle of one with a certificate. Their answer is what the command writes, with the status on a last line; `ask head` is the first line.
 /// - `certificate` is a plan's text. Its answer is what the check says of the certificate that workers of each number find.
 /// - `sizes` is a plan's text. Its answer is the lines of the sizes that are found, where no certificate is looked for first.
 pub fn answered<R: Threads + Wait + Sync>(
@@ -64,6 +67,6 @@ pub fn answered<R: Threads + Wait + Sync>(
         "refute and replay" => refuted_and_replayed(rt, alloc, input),
         "certificate" => certificate_for(rt, alloc, input),
         "sizes" => sizes_for(alloc, input),
-        _ => String::from_str(alloc, "no such kind of input"),
+        _ => asked(rt, alloc, kind, input),
     }
 }

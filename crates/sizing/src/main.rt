@@ -3,7 +3,7 @@
 
 use clap::error::ErrorKind;
 use faults::Head;
-use faults::number::READ_FAILED;
+use faults::number::{READ_FAILED, WRITE_FAILED};
 use sizing_cli::{ServeFault, StdSink, StdSource};
 use sizing_words::{StdFiles, WordsFault, serve_words};
 use std::alloc::AllocError;
@@ -69,6 +69,7 @@ fn tell(rt: &impl Eprint, fault: &WordsFault<'_>) -> io::Result<()> {
                 "standard input has one of the two texts, not both: name a file for the other"
             )
         }
+        WordsFault::Unwritten(name) => eprintln!(rt; "{} at {name}", Head(WRITE_FAILED)),
         WordsFault::Unread(name) => eprintln!(rt; "{} at {name}", Head(READ_FAILED)),
         WordsFault::Served(fault) => eprintln!(rt; "{fault}"),
     }

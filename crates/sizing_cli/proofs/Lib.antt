@@ -11,3 +11,4 @@ pub mod ServedAnswers
 pub mod WitnessLines
 pub mod WitnessBundles
 mod Runs
+mod AskedAnswers

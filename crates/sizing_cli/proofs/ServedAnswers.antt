@@ -10,7 +10,7 @@ use Rattle.job_bodies.specs.Plan.{Plan}
 use Rattle.job_bodies.specs.declared.fault.PlanFault.{PlanFault}
 use Rattle.plan_text.specs.PlanOf.{plan_of}
 use Rattle.command_line.specs.declared.command.Command.{Command}
-use Rattle.command_line.specs.declared.command.Command.TheVariants.{Replay, Check, Explain, Certify, Fit, Run, Refute}
+use Rattle.command_line.specs.declared.command.Command.TheVariants.{Replay, Check, Explain, Certify, Fit, Run, Refute, Ask}
 use Rattle.command_line.specs.declared.command.Wanted.TheVariants.{Sizes, Bundle}
 use Rattle.command_line.specs.declared.command.Shown.TheVariants as shown
 use Rattle.sizing_cli.specs.declared.limits.TheConstants.{MOST_INPUT_BYTES}
@@ -27,6 +27,8 @@ use Rattle.sizing_cli.proofs.PastTheLimit.{answered_whole}
 use Rattle.sizing_cli.proofs.SafeInputs.{yes_means_safe, run_means_safe}
 use Rattle.sizing_cli.proofs.FittedAnswers.{sizes_mean_safe, bundle_means_fitted}
 use Rattle.sizing_cli.proofs.RefutedAnswers.{refuted_means_safe, bundle_means_witness}
+use Rattle.sizing_cli.specs.Ask.{AnswersInput}
+use Rattle.sizing_cli.proofs.AskedAnswers.{asked_means_safe}
 
 -- ---- an answer to what was read is one to the whole input
 
@@ -61,6 +63,8 @@ answered_by_front remaining items (Certify workers) answer front is =
 answered_by_front remaining items (Fit wanted) answer front is = answered_by_length (λ bytes. fit.AnswersReading wanted (plan_of bytes) answer) remaining items items answer front refl is
 answered_by_front remaining items (Refute states shown) answer front is =
     answered_by_length (λ bytes. refute.AnswersReading states shown (whole_lines bytes) (plan_of (whole_lines bytes)) answer) remaining items items answer front refl is
+answered_by_front remaining items (Ask given strict) answer front is =
+    answered_by_length (λ bytes. AnswersInput given strict bytes answer) remaining items items answer front refl is
 answered_by_front remaining items (Run rounds) answer front is = answered_whole remaining items items (Run rounds) answer front refl is
 
 -- ---- what is written of it
@@ -90,6 +94,7 @@ report_is_answer (Certify workers) alone input = absurd cc
 report_is_answer (Fit wanted) alone input = absurd cc
 report_is_answer (Run rounds) alone input = refl
 report_is_answer (Refute states shown) alone input = absurd cc
+report_is_answer (Ask given strict) alone input = absurd cc
 
 pub report_answered : (result : Result Status ServeFault) (remaining old new : Option (List ℕ)) (command : Command) → has_report command ≡ true
     → IfOk result (λ status. IfSome remaining (λ input. Appends old new (report command input).text × (status ≡ (report command input).status)))
@@ -145,6 +150,7 @@ means_safe (Run rounds) input status old new writes done = run_means_safe rounds
 means_safe (Refute states shown.Story) input status old new writes done = refuted_means_safe states input writes.answer writes.is_answer (sym writes.status_is ∙ done)
 means_safe (Refute states shown.Bundle) input status old new writes done =
     record { text = writes.answer.text; shows = bundle_means_witness states input writes.answer writes.is_answer (sym writes.status_is ∙ done); written = writes.written }
+means_safe (Ask given strict) input status old new writes done = asked_means_safe given strict input writes.answer writes.is_answer (sym writes.status_is ∙ done)
 means_safe (Certify workers) input status old new writes done =
     record { text = writes.answer.text; certified = certified_answer input writes.answer writes.is_answer (sym writes.status_is ∙ done); written = writes.written }
 

@@ -7,6 +7,7 @@ pub mod Certify
 pub mod Fit
 pub mod Refute
 pub mod WitnessBundles
+pub mod Ask
 pub mod SplitAt
 pub mod Served
 pub mod ServeFault

@@ -20,7 +20,7 @@ use Rattle.run_histories.specs.RunNumbers.{jobs, units}
 use Rattle.locked_runner.specs.Limits.{is_too_large}
 use Rattle.event_lines.specs.EventLine.{Line, event_lines}
 use Rattle.command_line.specs.declared.command.Command.{Command}
-use Rattle.command_line.specs.declared.command.Command.TheVariants.{Replay, Check, Explain, Certify, Fit, Run, Refute}
+use Rattle.command_line.specs.declared.command.Command.TheVariants.{Replay, Check, Explain, Certify, Fit, Run, Refute, Ask}
 use Rattle.sizing_cli.specs.declared.limits.TheConstants.{MOST_INPUT_BYTES, MOST_EVENT_BYTES}
 use Rattle.sizing_cli.specs.declared.status.Status.TheVariants.{Done, Refused}
 use Rattle.sizing_cli.specs.Answer.{Answer, fault, no_separator, input_too_long, bad_event, yes_or_no}
@@ -96,6 +96,7 @@ is_alone (Certify workers) = false
 is_alone (Fit wanted) = false
 is_alone (Run rounds) = false
 is_alone (Refute states shown) = false
+is_alone (Ask given strict) = false
 
 -- the command has a report
 abbrev pub has_report : Command → Bool
@@ -106,6 +107,7 @@ has_report (Certify workers) = false
 has_report (Fit wanted) = false
 has_report (Run rounds) = true
 has_report (Refute states shown) = false
+has_report (Ask given strict) = false
 
 -- what stands where there is no report
 abbrev nothing : Answer
@@ -120,6 +122,7 @@ answer_of_plan (Certify workers) second (Ok plan) = nothing
 answer_of_plan (Fit wanted) second (Ok plan) = nothing
 answer_of_plan (Run rounds) second (Ok plan) = run plan rounds second
 answer_of_plan (Refute states shown) second (Ok plan) = nothing
+answer_of_plan (Ask given strict) second (Ok plan) = nothing
 
 -- the plan's fault comes before what the second part has to say
 abbrev pub answer_of_bundle : Command → Option Bundle → Answer

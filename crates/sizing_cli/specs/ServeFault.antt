@@ -5,7 +5,7 @@ use Rattle.byte_streams.specs.declared.reading.InputError.TheVariants.{Memory, F
 use Rattle.cert_search.specs.declared.finding.SearchFault.{SearchFault}
 use Rattle.cert_search.specs.declared.finding.SearchFault.TheVariants as search
 use Rattle.command_line.specs.declared.command.Command.{Command}
-use Rattle.command_line.specs.declared.command.Command.TheVariants.{Replay, Check, Explain, Certify, Fit, Run, Refute}
+use Rattle.command_line.specs.declared.command.Command.TheVariants.{Replay, Check, Explain, Certify, Fit, Run, Refute, Ask}
 use Rattle.faults.specs.declared.number.TheConstants.{MEMORY, STRANGE, MIXED, GATE, READ_FAILED, WRITE_FAILED}
 use Rattle.sizing_cli.specs.declared.status.Status.{Status}
 use Rattle.sizing_cli.specs.declared.status.ServeFault.{ServeFault}
@@ -47,6 +47,7 @@ is_of_threads (Certify workers) number = is_of_search number
 is_of_threads (Fit wanted) number = is_of_search number
 is_of_threads (Run rounds) number = is_of_run number
 is_of_threads (Refute states shown) number = is_of_search number
+is_of_threads (Ask given strict) number = is_of_search number
 
 -- a call that serves the command ends with no fault of another number
 abbrev pub is_known_of : Command → ℕ → Bool

@@ -5,7 +5,7 @@ use Rattle.byte_streams.specs.Writing.{AppendsFront}
 use Rattle.job_bodies.specs.Plan.{Plan}
 use Rattle.plan_text.specs.PlanOf.{plan_of}
 use Rattle.command_line.specs.declared.command.Command.{Command}
-use Rattle.command_line.specs.declared.command.Command.TheVariants.{Replay, Check, Explain, Certify, Fit, Run, Refute}
+use Rattle.command_line.specs.declared.command.Command.TheVariants.{Replay, Check, Explain, Certify, Fit, Run, Refute, Ask}
 use Rattle.command_line.specs.declared.command.Wanted.TheVariants.{Sizes, Bundle}
 use Rattle.command_line.specs.declared.command.Shown.TheVariants as shown
 use Rattle.sizing_cli.specs.declared.status.Status.{Status}
@@ -15,6 +15,7 @@ use Rattle.sizing_cli.specs.SafeInput.{IsSafeInput, IsSafePlan}
 use Rattle.sizing_cli.specs.Certify.{IsCertifyAnswer, IsCertifiedBundle, whole_lines}
 use Rattle.sizing_cli.specs.Fit.{IsFitAnswer, IsFittedBundle}
 use Rattle.sizing_cli.specs.Refute.{IsRefuteAnswer, IsWitnessBundle}
+use Rattle.sizing_cli.specs.Ask.{IsAskAnswer, IsSafeAsked}
 
 -- the answer is one that the command may give to the input
 abbrev pub IsAnswer : Command → List ℕ → Answer → Type 0
@@ -25,6 +26,7 @@ IsAnswer (Certify workers) input answer = IsCertifyAnswer input answer
 IsAnswer (Fit wanted) input answer = IsFitAnswer wanted input answer
 IsAnswer (Run rounds) input answer = answer ≡ report (Run rounds) input
 IsAnswer (Refute states shown) input answer = IsRefuteAnswer states shown input answer
+IsAnswer (Ask given strict) input answer = IsAskAnswer given strict input answer
 
 -- such an answer was written, and the status is its
 pub record WritesAnswer (command : Command) (input : List ℕ) (status : Status) (old new : Option (List ℕ)) : Type 0 where
@@ -60,7 +62,7 @@ pub record WritesWitness (input : List ℕ) (old new : Option (List ℕ)) : Type
   pub shows : IsWitnessBundle input text
   pub written : Appends old new text
 
--- what status 0 means: of `check`, `run`, the sizes of `fit` and the story of `refute`, that the input's plan is safe; of `certify`
+-- what status 0 means: of `check`, `run`, `ask`, the sizes of `fit` and the story of `refute`, that the input's plan is safe; of `certify`
 -- and the bundle of `fit`, that what was written is a plan that is; of the bundle of `refute`, that what was written has a witness
 abbrev pub MeansSafe : Command → List ℕ → Option (List ℕ) → Option (List ℕ) → Type 0
 MeansSafe Replay input old new = Unit {0}
@@ -72,3 +74,4 @@ MeansSafe (Fit Bundle) input old new = WritesFitted input old new
 MeansSafe (Run rounds) input old new = IsSafeInput input
 MeansSafe (Refute states shown.Story) input old new = IsSafePlan (whole_lines input)
 MeansSafe (Refute states shown.Bundle) input old new = WritesWitness input old new
+MeansSafe (Ask given strict) input old new = IsSafeAsked given input

@@ -3,12 +3,16 @@
 
 mod alone;
 mod answer;
+mod asked_faults;
+mod asking;
 mod at_once;
 mod bundle;
 mod certificate;
 mod certified_bundle;
 mod certify;
+mod finding;
 mod fitting;
+mod found_answer;
 mod input;
 mod judging;
 mod laws;
@@ -24,13 +28,15 @@ mod transcript;
 mod witness;
 
 pub use alone::serve_alone;
+pub use asking::{Replied, ask};
 pub use byte_streams::{IoFault, MemorySink, MemorySource, Sink, Source, StdSink, StdSource};
 pub use certify::whole_lines;
-pub use command_line::{Command, Shown, Wanted, read_words};
+pub use command_line::{Command, Given, Shown, Wanted, read_words};
 pub use laws::{
     a_yes_means_safe, bundles_replay_their_witness, inputs_split_at_the_last_separator,
     limits_and_fault_numbers_are_stated, no_bundle_without_a_separator,
 };
 pub use limits::{MOST_EVENT_BYTES, MOST_INPUT_BYTES};
-pub use serving::serve;
+pub use output::Output;
+pub use serving::{serve, serve_named};
 pub use status::{ServeFault, Status};

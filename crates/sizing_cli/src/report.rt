@@ -40,6 +40,7 @@ fn answer_of_plan(
         Command::Certify { .. }
         | Command::Fit { .. }
         | Command::Run { .. }
-        | Command::Refute { .. } => unreachable!(),
+        | Command::Refute { .. }
+        | Command::Ask { .. } => unreachable!(),
     }
 }

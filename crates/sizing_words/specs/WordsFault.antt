@@ -3,20 +3,21 @@ use Rattle.std.specs.Prelude.{◌≡◌, ◌≢◌, ◌⊎◌, ℕ, Bool, true, 
 use Rattle.clap.specs.Words.{HasKind, Text, kind_of}
 use Rattle.clap.specs.declared.error.Error.{Error}
 use Rattle.clap.specs.declared.error.kind.ErrorKind.TheVariants.{OutOfMemory}
-use Rattle.command_line.specs.Command.{command_of, faults_of, files_of}
+use Rattle.command_line.specs.Command.{certificate_of, command_of, faults_of, files_of}
 use Rattle.command_line.specs.declared.command.Command.{Command}
 use Rattle.faults.specs.declared.number.TheConstants.{MEMORY, READ_FAILED, WRITE_FAILED}
 use Rattle.sizing_cli.specs.ServeFault.{is_known_of}
 use Rattle.sizing_words.specs.Texts.{file_named}
 use Rattle.sizing_words.specs.declared.fault.WordsFault.{WordsFault}
-use Rattle.sizing_words.specs.declared.fault.WordsFault.TheVariants.{Words, NoCommand, InputTwice, Unread, Served}
+use Rattle.sizing_words.specs.declared.fault.WordsFault.TheVariants.{Words, NoCommand, InputTwice, Unread, Unwritten, Served}
 
--- the sink failed
+-- the sink failed, or the file of a certificate did: an answer may have been written
 abbrev pub is_of_sink : WordsFault → Bool
 is_of_sink (Words error) = false
 is_of_sink NoCommand = false
 is_of_sink InputTwice = false
 is_of_sink (Unread name) = false
+is_of_sink (Unwritten name) = true
 is_of_sink (Served fault) = fault.number == WRITE_FAILED
 
 -- the exit status: 2 of bad arguments and of help, and 3 where there is no answer
@@ -25,6 +26,7 @@ IsCode (Words error) status = ((kind_of error ≡ OutOfMemory) × (status ≡ 3)
 IsCode NoCommand status = status ≡ 2
 IsCode InputTwice status = status ≡ 2
 IsCode (Unread name) status = status ≡ 3
+IsCode (Unwritten name) status = status ≡ 3
 IsCode (Served fault) status = status ≡ 3
 
 -- both texts are to come from standard input
@@ -45,6 +47,7 @@ IsOfReading (Words error) = ⊥
 IsOfReading NoCommand = ⊥
 IsOfReading InputTwice = ⊥
 IsOfReading (Unread name) = ⊥
+IsOfReading (Unwritten name) = ⊥
 IsOfReading (Served fault) = IsTrue (is_of_reading fault.number)
 
 -- of this file it may come
@@ -53,6 +56,7 @@ IsOfFile file (Words error) = ⊥
 IsOfFile file NoCommand = ⊥
 IsOfFile file InputTwice = ⊥
 IsOfFile file (Unread name) = name.now ≡ file
+IsOfFile file (Unwritten name) = ⊥
 IsOfFile file (Served fault) = IsTrue (is_of_reading fault.number)
 
 -- the fault may come of a command that reads these files
@@ -61,10 +65,21 @@ IsOfTexts command files (Words error) = ⊥
 IsOfTexts command files NoCommand = ⊥
 IsOfTexts command files InputTwice = IsTwice files
 IsOfTexts command files (Unread name) = IsNamed files name.now
+IsOfTexts command files (Unwritten name) = ⊥
 IsOfTexts command files (Served fault) = IsTrue (is_known_of command fault.number)
+
+-- the certificate was to be written into this file, where one is named, and that failed
+abbrev pub IsUnwritten : Option Text → WordsFault → Type 0
+IsUnwritten named (Words error) = ⊥
+IsUnwritten named NoCommand = ⊥
+IsUnwritten named InputTwice = ⊥
+IsUnwritten named (Unread name) = ⊥
+IsUnwritten named (Unwritten name) = named ≡ Some name.now
+IsUnwritten named (Served fault) = ⊥
 
 -- the fault may come of these words
 abbrev pub IsFaultOf : List Text → WordsFault → Type 0
 IsFaultOf words (Words error) = HasKind (faults_of words) error
 IsFaultOf words NoCommand = command_of words ≡ None
+IsFaultOf words (Unwritten name) = certificate_of words ≡ Some name.now
 IsFaultOf words fault = IfSome (command_of words) (λ command. IsOfTexts command (files_of words) fault)

@@ -6,14 +6,14 @@ ghost use Rattle.command_line.specs.Command.{IsInRange, command_of, faults_of, f
 ghost use Rattle.sizing_cli.specs.Served.{MeansSafe, WritesAnswer};
 ghost use Rattle.command_line.specs.declared.command.Command.{Command as CommandValue};
 ghost use Rattle.sizing_words.specs.Texts as spec;
-ghost use Rattle.sizing_words.specs.WordsFault.{IsFaultOf, IsOfFile, IsOfReading, IsOfTexts, is_of_sink};
+ghost use Rattle.sizing_words.specs.WordsFault.{IsFaultOf, IsOfFile, IsOfReading, IsOfTexts, IsUnwritten, is_of_sink};
 
 use crate::fault::WordsFault;
 use crate::joining::joined;
 use crate::text_files::TextFiles;
 use byte_streams::{InputError, MemorySource, Sink, Source, read_up_to};
 use command_line::{Asked, Command};
-use sizing_cli::{MOST_INPUT_BYTES, ServeFault, Status, read_words, serve};
+use sizing_cli::{MOST_INPUT_BYTES, ServeFault, Status, read_words, serve_named};
 use std::alloc::Global;
 use std::sync::Wait;
 use std::thread::Threads;
@@ -21,14 +21,19 @@ use std::thread::Threads;
 /// The name of standard input among files.
 const STANDARD_INPUT: &str = "-";
 
+/// What messages name a plan of standard input.
+const NO_FILE: &str = "<stdin>";
+
 /// Reads the words of a command line, of which the first is the program's name, then the texts that they name, and writes the
-/// answer of the command that they name. Texts are those of standard input, `input`, where no file is named or its name is
+/// answer of the command that they name. Where they name a file for the certificate that the answer rests on, it is written
+/// last. Texts are those of standard input, `input`, where no file is named or its name is
 /// `-`, and else of `files`: one file has all that standard input would have; of two, the first one is the plan and the second
 /// one what comes after the line `%%`.
 ///
 /// # Errors
 ///
-/// What each [`WordsFault`] says. Nothing was written then but a front of the answer where the sink failed.
+/// What each [`WordsFault`] says. Nothing was written then but a front of the answer where the sink failed, and the whole answer
+/// where the file of the certificate did.
 pub fn serve_words<'a, R: Threads + Wait + Sync, F: TextFiles, S: Source, K: Sink>(
     rt: &R,
     alloc: Global,
@@ -47,7 +52,31 @@ pub fn serve_words<'a, R: Threads + Wait + Sync, F: TextFiles, S: Source, K: Sin
     let Some(asked) = read_words(alloc, words)? else {
         return Err(WordsFault::NoCommand);
     };
-    serve_asked(rt, alloc, asked, files, input, sink)
+    let mut found = None;
+    let status = serve_asked(rt, alloc, asked, files, &mut found, input, sink)?;
+    keep(files, asked.certificate, &found)?;
+    Ok(status)
+}
+
+/// Writes the certificate that was found into the file that is named for it.
+fn keep<'a, F: TextFiles>(
+    files: &F,
+    name: Option<&'a str>,
+    found: &Option<Vec<u8>>,
+) -> Result<(), WordsFault<'a>>
+    ensures fault { IfErr result (IsUnwritten (option_map (λ name. name.now) name.entry)) }
+    ensures behind { IfErr result (λ fault. is_of_sink fault ≡ true) }
+{
+    let Some(name) = name else {
+        return Ok(());
+    };
+    let Some(text) = found else {
+        return Ok(());
+    };
+    match files.write(name, text) {
+        Ok(()) => Ok(()),
+        Err(_) => Err(WordsFault::Unwritten(name)),
+    }
 }
 
 /// The same, once the words were read.
@@ -56,6 +85,7 @@ fn serve_asked<'a, R: Threads + Wait + Sync, F: TextFiles, S: Source, K: Sink>(
     alloc: Global,
     asked: Asked<'a>,
     files: &F,
+    found: &mut Option<Vec<u8>>,
     input: &mut S,
     sink: &mut K,
 ) -> Result<Status, WordsFault<'a>>
@@ -68,14 +98,23 @@ fn serve_asked<'a, R: Threads + Wait + Sync, F: TextFiles, S: Source, K: Sink>(
     match asked.second {
         Some(second) => {
             let text = read_both(alloc, files, input, asked.first, second)?;
-            serve_text(rt, alloc, asked.command, &text, sink)
+            let shown = shown_name(asked.first);
+            serve_text(rt, alloc, asked.command, shown, found, &text, sink)
         }
         None => match file_named(asked.first) {
             Some(name) => {
                 let text = read_file(alloc, files, name)?;
-                serve_text(rt, alloc, asked.command, &text, sink)
+                serve_text(rt, alloc, asked.command, name, found, &text, sink)
             }
-            None => Ok(serve(rt, alloc, asked.command, input, sink)?),
+            None => Ok(serve_named(
+                rt,
+                alloc,
+                asked.command,
+                NO_FILE,
+                found,
+                input,
+                sink,
+            )?),
         },
     }
 }
@@ -87,11 +126,21 @@ fn file_named(name: Option<&str>) -> Option<&str>
     name.filter(|name| *name != STANDARD_INPUT)
 }
 
+/// What messages name the plan.
+fn shown_name(name: Option<&str>) -> &str {
+    match file_named(name) {
+        Some(name) => name,
+        None => NO_FILE,
+    }
+}
+
 /// Serves a text that was read.
 fn serve_text<'a, R: Threads + Wait + Sync, K: Sink>(
     rt: &R,
     alloc: Global,
     command: Command,
+    shown: &str,
+    found: &mut Option<Vec<u8>>,
     text: &[u8],
     sink: &mut K,
 ) -> Result<Status, WordsFault<'a>>
@@ -102,7 +151,15 @@ fn serve_text<'a, R: Threads + Wait + Sync, K: Sink>(
     ensures nothing { IfErr result (λ fault. is_of_sink fault ≡ false → Keeps (K.written sink.old) (K.written sink.new)) }
 {
     let mut source = MemorySource::new(text);
-    Ok(serve(rt, alloc, command, &mut source, sink)?)
+    Ok(serve_named(
+        rt,
+        alloc,
+        command,
+        shown,
+        found,
+        &mut source,
+        sink,
+    )?)
 }
 
 /// Reads two texts, and joins them.

@@ -3,7 +3,7 @@
 ghost use Rattle.std.specs.Prelude.{None};
 
 use crate::text_files::TextFiles;
-use byte_streams::{InputError, StdSource, read_up_to};
+use byte_streams::{InputError, IoFault, StdSink, StdSource, read_up_to, write_all};
 use std::alloc::Global;
 use std::fs::{File, Files};
 
@@ -27,6 +27,13 @@ impl<R: Files> TextFiles for StdFiles<'_, R> {
         match File::open(self.files, name) {
             Ok(file) => read_up_to(alloc, &mut StdSource::new(file), limit),
             Err(_) => Err(InputError::Fault),
+        }
+    }
+
+    fn write(&self, name: &str, bytes: &[u8]) -> Result<(), IoFault> {
+        match File::create(self.files, name) {
+            Ok(file) => write_all(&mut StdSink::new(file), bytes),
+            Err(_) => Err(IoFault),
         }
     }
 }

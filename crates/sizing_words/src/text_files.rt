@@ -2,10 +2,10 @@
 
 ghost use Rattle.std.specs.Prelude.{◌≡◌, ℕ, List, Option, IfOk, IfSome, take};
 
-use byte_streams::InputError;
+use byte_streams::{InputError, IoFault};
 use std::alloc::Global;
 
-/// Files that are read by their names.
+/// Files that are read, and written, by their names.
 pub trait TextFiles {
     // The bytes of the file of this name, where they are known.
     ghost content: { Self → List ℕ → Option (List ℕ) };
@@ -18,4 +18,11 @@ pub trait TextFiles {
     /// where its bytes find no room.
     fn read(&self, alloc: Global, name: &str, limit: usize) -> Result<Vec<u8>, InputError>
         ensures { IfOk result (λ bytes. IfSome (content self.now name.now) (λ known. bytes.items ≡ take limit known)) };
+
+    /// Makes a file of these bytes, in place of one that is there.
+    ///
+    /// # Errors
+    ///
+    /// [`IoFault`] where that fails. The file may then have a front of them.
+    fn write(&self, name: &str, bytes: &[u8]) -> Result<(), IoFault>;
 }

@@ -22,5 +22,8 @@ fn told(alloc: Global, asked: &Asked<'_>) -> Result<String, AllocError> {
     if let Some(second) = asked.second {
         write!(text, ", second {second}")?;
     }
+    if let Some(certificate) = asked.certificate {
+        write!(text, ", certificate {certificate}")?;
+    }
     Ok(text)
 }

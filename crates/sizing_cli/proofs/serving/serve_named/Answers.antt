@@ -1,5 +1,5 @@
 use Rattle.sizing_cli.proofs.ServedAnswers.{served_safely}
-use Rattle.sizing_cli.proofs.serving.serve.Goals as goal
+use Rattle.sizing_cli.proofs.serving.serve_named.Goals as goal
 
 pub returns-in-Certify-clause-safe : goal.returns-in-Certify-clause-safe
 returns-in-Certify-clause-safe g c =

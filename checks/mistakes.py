@@ -1,0 +1,96 @@
+#!/usr/bin/env python3
+"""Holds what `sizing ask` says of common mistakes to where they are and what would be right.
+
+    python3 checks/mistakes.py
+
+Of each plan of mistakes/ the answer of `sizing ask --strict` has to have a line that begins with the plan's name and the line
+that is named here, and has the words behind it; the status is that of faults, or of a no. No plan with a mistake is SAFE with
+status 0. Of the two sound plans the answer is SAFE, with status 0.
+
+The program is crates/sizing/out/sizing, or the one that the environment variable SIZING names.
+
+Exit status: 0 where all is so, 1 where something is not, 2 where there is no program.
+"""
+
+import os
+import subprocess
+import sys
+from pathlib import Path
+
+HERE = Path(__file__).resolve().parent
+PROGRAM = os.environ.get("SIZING", str(HERE.parent / "crates/sizing/out/sizing"))
+
+# The plan, the exit status, and the lines of the answer: the number of the line that is named, and words behind it.
+MISTAKES = [
+    ("unclosed_quote", 2, [(3, "a quote is not closed")]),
+    ("slash_comment", 2, [(1, "a comment begins with #")]),
+    ("yes_for_true", 2, [(27, "write true or false")]),
+    ("capital_true", 2, [(27, "write true or false")]),
+    ("smart_quotes", 2, [(3, "the quotes are to be plain ones")]),
+    ("one_bracket", 2, [(8, "two brackets, as [[pool]]")]),
+    ("plural_table", 2, [(2, "did you mean [[pool]]?")]),
+    ("name_with_dash", 2, [(9, "db-pool: a name is"), (9, "as db_pool")]),
+    ("quoted_number", 2, [(10, "without quotes")]),
+    ("size_zero", 2, [(6, "queue is 0, and is to be from 1 to 1000000")]),
+    ("core_above_max", 2, [(5, "max 4 is below core 8")]),
+    ("misspelled_key", 2, [(12, "que; did you mean queue?")]),
+    ("java_key", 2, [(4, "here it is called core")]),
+    ("missing_key", 2, [(8, "pool db: it has no queue")]),
+    ("unknown_pool", 2, [(21, "no pool database; the pools are web, db")]),
+    ("unknown_class", 2, [(17, "no class querry; did you mean query?")]),
+    ("got_twice", 2, [(28, "p was got already")]),
+    ("work_without_number", 2, [(22, "work 5")]),
+    ("two_spaces", 2, [(22, "one space")]),
+    ("get_with_timeout", 2, [(28, "a get of a plan has no timeout")]),
+    ("execute_for_submit", 2, [(28, "write submit page")]),
+    ("body_is_text", 2, [(22, "a list of texts")]),
+    ("count_missing", 2, [(24, "client browser: it has no count")]),
+    ("a_bundle_for_a_plan", 2, [(35, "here the plan ends")]),
+    ("two_slips", 2, [(26, "count is 0"), (17, "did you mean rows?")]),
+    ("utf16", 2, [(1, "UTF-16")]),
+    ("repeat_forgotten", 1, [(24, "warning: client browser goes through its body once")]),
+    ("client_forgotten", 1, [(1, "warning: the plan has no clients")]),
+    ("class_nobody_submits", 1, [(36, "warning: nobody submits class audit")]),
+    ("pool_without_jobs", 1, [(36, "warning: pool mail gets no job")]),
+    ("empty_file", 1, [(1, "warning: the plan has no pools and no clients")]),
+]
+SOUND = ["sound", "crlf_and_tab"]
+
+
+def asked(name, *options):
+    path = HERE / "mistakes" / f"{name}.toml"
+    done = subprocess.run([PROGRAM, "ask", *options, str(path)], capture_output=True, check=False)
+    return done.returncode, done.stdout.decode(), str(path)
+
+
+def slips(name, status, wanted):
+    found, text, path = asked(name, "--strict")
+    if found != status:
+        yield f"{name}: status {found}, and not {status}"
+    for line, words in wanted:
+        if not any(told.startswith(f"{path}:{line}:") and words in told for told in text.splitlines()):
+            yield f"{name}: no line {line} with: {words}\n{text}"
+    if wanted and status == 2 and not text.startswith(f"{path}:{wanted[0][0]}:"):
+        yield f"{name}: another fault is told first\n{text}"
+
+
+def sound(name):
+    found, text, _ = asked(name, "--strict")
+    if found != 0 or not text.startswith("SAFE\n"):
+        yield f"{name}: status {found}\n{text}"
+
+
+def main():
+    if not os.access(PROGRAM, os.X_OK):
+        print(f"no program {PROGRAM}")
+        return 2
+    wrong = [slip for row in MISTAKES for slip in slips(*row)]
+    wrong += [slip for name in SOUND for slip in sound(name)]
+    for slip in wrong:
+        print(slip)
+    print(f"{len(MISTAKES)} mistakes and {len(SOUND)} sound plans, {len(wrong)} wrong")
+    return 1 if wrong else 0
+
+
+if __name__ == "__main__":
+    sys.exit(main())

@@ -1,0 +1,52 @@
+-- The text of an answer.
+use Rattle.std.specs.Prelude.{◌≡◌, List, ℕ, [], ◌∷◌, ◌++◌, codes}
+use Rattle.job_bodies.specs.Plan.{Plan}
+use Rattle.plan_witnesses.specs.declared.witness.Witness.{Witness}
+use Rattle.witness_lines.specs.Told.{IsTold}
+use Rattle.size_search.specs.declared.found.SizesFound.{SizesFound}
+use Rattle.size_search.specs.declared.found.SizesFound.TheVariants.{Found, NotFound}
+use Rattle.size_lines.specs.Sizes.{sizes_text}
+use Rattle.size_lines.specs.Cause.{no_sizes_text}
+use Rattle.ask_answers.specs.declared.finding.Finding.{Finding}
+use Rattle.ask_answers.specs.declared.finding.Finding.TheVariants.{Safe, NotSafe, NotDecided}
+
+abbrev pub safe_head : List ℕ
+safe_head = codes "SAFE" ++ 10 ∷ []
+
+abbrev pub not_safe_head : List ℕ
+not_safe_head = codes "NOT SAFE" ++ 10 ∷ []
+
+abbrev pub not_decided_head : List ℕ
+not_decided_head = codes "NOT DECIDED" ++ 10 ∷ []
+
+-- the sizes with which a certificate accepts the plan
+abbrev pub fit_part : Plan → Plan → List ℕ
+fit_part plan fit = (codes "with these sizes a certificate accepts the plan:" ++ 10 ∷ []) ++ sizes_text plan fit
+
+-- those sizes, or why there are none
+abbrev pub sizes_part : Plan → SizesFound → List ℕ
+sizes_part plan (Found fit cert) = fit_part plan fit
+sizes_part plan (NotFound cause) = no_sizes_text plan cause
+
+-- the answer, and words behind it that say what it means
+pub record TellsSafe (text : List ℕ) : Type 0 where
+  pub words : List ℕ
+  pub is : text ≡ safe_head ++ words
+
+-- the answer, the witness's story, the sizes, and words behind them
+pub record TellsNotSafe (plan : Plan) (witness : Witness) (sizes : SizesFound) (text : List ℕ) : Type 0 where
+  pub story : List ℕ
+  pub is_story : IsTold plan witness story
+  pub words : List ℕ
+  pub is : text ≡ ((not_safe_head ++ story) ++ sizes_part plan sizes) ++ words
+
+-- the answer, the sizes, and words behind them
+pub record TellsNotDecided (plan : Plan) (sizes : SizesFound) (text : List ℕ) : Type 0 where
+  pub words : List ℕ
+  pub is : text ≡ (not_decided_head ++ sizes_part plan sizes) ++ words
+
+-- the text tells the finding
+abbrev pub Tells : Plan → Finding → List ℕ → Type 0
+Tells plan (Safe cert) text = TellsSafe text
+Tells plan (NotSafe witness sizes) text = TellsNotSafe plan witness sizes text
+Tells plan (NotDecided sizes) text = TellsNotDecided plan sizes text

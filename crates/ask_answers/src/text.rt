@@ -1,0 +1,88 @@
+//! The answer for a person.
+
+ghost use Rattle.std.specs.Prelude.{◌≡◌, ◌++◌, IfOk, OnOk, string_bytes};
+ghost use Rattle.ask_answers.specs.Told as spec;
+
+use crate::finding::Finding;
+use crate::safe::push_safe;
+use crate::unsafe_sizes::advice_of;
+use certificates::Cert;
+use job_bodies::Plan;
+use plan_witnesses::Witness;
+use size_lines::{push_no_sizes, push_sizes};
+use size_search::SizesFound;
+use std::alloc::{AllocError, Global};
+
+/// Tells what was found: `SAFE`, and what bounds each queue and who pays for it; `NOT SAFE`, the story of the witness and the
+/// sizes that would do; or `NOT DECIDED`, and those sizes.
+///
+/// # Errors
+///
+/// [`AllocError`] where memory runs out.
+pub fn told(alloc: Global, plan: &Plan, finding: &Finding) -> Result<String, AllocError>
+    ensures { IfOk result (λ text. spec.Tells plan.now finding.now (string_bytes text)) }
+{
+    match finding {
+        Finding::Safe(cert) => safe(alloc, plan, cert),
+        Finding::NotSafe(witness, sizes) => not_safe(alloc, plan, witness, sizes),
+        Finding::NotDecided(sizes) => not_decided(alloc, plan, sizes),
+    }
+}
+
+fn safe(alloc: Global, plan: &Plan, cert: &Cert) -> Result<String, AllocError>
+    ensures { IfOk result (λ text. spec.TellsSafe (string_bytes text)) }
+{
+    let mut words = String::new(alloc);
+    push_safe(alloc, &mut words, plan, cert)?;
+    let mut text = String::from_str(alloc, "SAFE\n")?;
+    text.push_str(&words)?;
+    Ok(text)
+}
+
+fn not_safe(
+    alloc: Global,
+    plan: &Plan,
+    witness: &Witness,
+    sizes: &SizesFound,
+) -> Result<String, AllocError>
+    ensures { IfOk result (λ text. spec.TellsNotSafe plan.now witness.now sizes.now (string_bytes text)) }
+{
+    let story = witness_lines::told(alloc, plan, witness)?;
+    let words = advice_of(alloc, plan, sizes)?;
+    let mut text = String::from_str(alloc, "NOT SAFE\n")?;
+    text.push_str(&story)?;
+    push_found(&mut text, plan, sizes)?;
+    text.push_str(&words)?;
+    Ok(text)
+}
+
+fn not_decided(alloc: Global, plan: &Plan, sizes: &SizesFound) -> Result<String, AllocError>
+    ensures { IfOk result (λ text. spec.TellsNotDecided plan.now sizes.now (string_bytes text)) }
+{
+    let mut words = advice_of(alloc, plan, sizes)?;
+    words.push_str(
+        "no certificate was found for the declared sizes, nor events that show them wrong: they may be right\n",
+    )?;
+    let mut text = String::from_str(alloc, "NOT DECIDED\n")?;
+    push_found(&mut text, plan, sizes)?;
+    text.push_str(&words)?;
+    Ok(text)
+}
+
+/// The sizes that were found, or why there are none.
+fn push_found(text: &mut String, plan: &Plan, sizes: &SizesFound) -> Result<(), AllocError>
+    ensures { OnOk result (string_bytes text.new ≡ string_bytes text.old ++ spec.sizes_part plan.now sizes.now) }
+{
+    match sizes {
+        SizesFound::Found { plan: fit, .. } => push_fit(text, plan, fit),
+        SizesFound::NotFound(cause) => push_no_sizes(text, plan, *cause),
+    }
+}
+
+fn push_fit(text: &mut String, plan: &Plan, fit: &Plan) -> Result<(), AllocError>
+    ensures { OnOk result (string_bytes text.new ≡ string_bytes text.old ++ spec.fit_part plan.now fit.now) }
+{
+    text.push_str("with these sizes a certificate accepts the plan:\n")?;
+    push_sizes(text, plan, fit)?;
+    Ok(())
+}

@@ -1,0 +1,86 @@
+//! What is wrong, and its lines.
+
+ghost use Rattle.std.specs.Prelude.{◌≡◌, ◌++◌, OnOk, string_bytes};
+ghost use Rattle.plan_advice.specs.Advice as spec;
+
+use job_bodies::PlanFault;
+use plan_places::Place;
+use std::alloc::AllocError;
+
+/// One thing that is wrong, and where.
+#[derive(Debug, Drop)]
+pub struct Advice {
+    /// The fault, as the other commands tell it.
+    pub fault: PlanFault,
+    /// Where in the text it stands.
+    pub place: Place,
+    /// What is wrong, and what would be right.
+    pub what: String,
+}
+
+/// What is wrong with a text.
+#[derive(Debug, Drop)]
+pub struct Faults {
+    /// The fault that the reader of plans gives.
+    pub first: Advice,
+    /// More that is wrong, as far as it can be seen behind the first: some 100 faults at most.
+    pub others: Vec<Advice>,
+}
+
+/// Puts a line for each fault behind the text, as `shop.toml:17:21: class page, action 2 "get row": nothing was submitted as
+/// row; did you mean rows? (fault 13)`, in the file of this name.
+///
+/// # Errors
+///
+/// [`AllocError`] where memory runs out.
+pub fn push_faults(text: &mut String, file: &str, faults: &Faults) -> Result<(), AllocError>
+    ensures { OnOk result (string_bytes text.new ≡ string_bytes text.old ++ spec.faults_text file.now faults.now) }
+{
+    push_advice(text, file, &faults.first)?;
+    push_each(text, file, &faults.others)
+}
+
+fn push_each(text: &mut String, file: &str, mut advice: &[Advice]) -> Result<(), AllocError>
+    ensures { OnOk result (string_bytes text.new ≡ string_bytes text.old ++ spec.advice_lines file.now advice.now) }
+{
+    while let Some((one, rest)) = advice.split_first() {
+        push_advice(text, file, one)?;
+        advice = rest;
+    }
+    Ok(())
+}
+
+fn push_advice(text: &mut String, file: &str, advice: &Advice) -> Result<(), AllocError>
+    ensures { OnOk result (string_bytes text.new ≡ string_bytes text.old ++ spec.advice_line file.now advice.now) }
+{
+    push_line(text, file, advice.place, &advice.what, advice.fault.number)
+}
+
+fn push_line(
+    text: &mut String,
+    file: &str,
+    place: Place,
+    what: &str,
+    number: u8,
+) -> Result<(), AllocError>
+    ensures { OnOk result (string_bytes text.new ≡ string_bytes text.old ++ spec.fault_line file.now place what.now number) }
+{
+    push_place(text, file, place)?;
+    text.push_str(what)?;
+    push_number(text, number)
+}
+
+/// Puts a place behind the text.
+pub(crate) fn push_place(text: &mut String, file: &str, place: Place) -> Result<(), AllocError>
+    ensures { OnOk result (string_bytes text.new ≡ string_bytes text.old ++ spec.place_head file.now place) }
+{
+    let line = place.line;
+    let column = place.column;
+    write!(text, "{file}:{line}:{column}: ")
+}
+
+fn push_number(text: &mut String, number: u8) -> Result<(), AllocError>
+    ensures { OnOk result (string_bytes text.new ≡ string_bytes text.old ++ spec.number_end number) }
+{
+    writeln!(text, " (fault {number})")
+}

@@ -1,0 +1,54 @@
+//! Sizes and counts: which are in their ranges.
+
+use crate::entry::Entry;
+use crate::notes::Notes;
+use faults::number::BAD_NUMBER;
+use job_bodies::MOST_UNITS;
+use std::alloc::AllocError;
+
+/// The greatest size and count.
+const MOST: i64 = MOST_UNITS as i64;
+
+fn is_lawful(number: i64) -> bool {
+    (1..=MOST).contains(&number)
+}
+
+/// Tells the numbers at these keys that are out of their range. Answers whether there are some.
+fn out_of_range(
+    notes: &mut Notes,
+    entry: &Entry<'_>,
+    keys: &[&str],
+) -> Result<bool, AllocError> {
+    let mut any = false;
+    for key in keys.iter().copied() {
+        if let Some(number) = entry.number(key)
+            && !is_lawful(number)
+        {
+            any = true;
+            let words = format!(in notes.alloc; "{key} is {number}, and is to be from 1 to {MOST}")?;
+            entry.tell(notes, BAD_NUMBER, entry.value_place(key), &words)?;
+        }
+    }
+    Ok(any)
+}
+
+/// Tells the sizes of a pool that are not lawful.
+pub(crate) fn sizes(notes: &mut Notes, pool: &Entry<'_>) -> Result<(), AllocError> {
+    if out_of_range(notes, pool, &["core", "max", "queue"])? {
+        return Ok(());
+    }
+    let (Some(core), Some(max)) = (pool.number("core"), pool.number("max")) else {
+        return Ok(());
+    };
+    if max < core {
+        let words = format!(in notes.alloc; "max {max} is below core {core}; it is to be at least core")?;
+        return pool.tell(notes, BAD_NUMBER, pool.value_place("max"), &words);
+    }
+    Ok(())
+}
+
+/// Tells the count of a kind of clients that is not lawful.
+pub(crate) fn count(notes: &mut Notes, client: &Entry<'_>) -> Result<(), AllocError> {
+    out_of_range(notes, client, &["count"])?;
+    Ok(())
+}

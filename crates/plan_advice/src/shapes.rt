@@ -1,0 +1,175 @@
+//! The keys of an entry: which are there, and of which types.
+
+use crate::entry::{Entry, list_of};
+use crate::near::meant;
+use crate::notes::Notes;
+use faults::number::{MISSING_KEY, TOO_MANY, UNKNOWN_KEY, WRONG_TYPE};
+use job_bodies::{MOST_ACTIONS, Part};
+use std::alloc::AllocError;
+use toml::Value;
+
+/// What the value at a key is to be.
+#[derive(Clone, Copy, PartialEq, Eq)]
+enum Wanted {
+    Text,
+    Number,
+    Flag,
+    Body,
+}
+
+/// A key that entries have.
+#[derive(Clone, Copy)]
+struct Known {
+    key: &'static str,
+    wanted: Wanted,
+    /// What it says, where it is to be there.
+    says: &'static str,
+}
+
+const POOL_KEYS: [&str; 5] = ["name", "core", "max", "queue", "prestart"];
+const CLASS_KEYS: [&str; 3] = ["name", "pool", "body"];
+const CLIENT_KEYS: [&str; 4] = ["name", "count", "repeat", "body"];
+
+/// The keys that such an entry has.
+pub(crate) fn keys_of(part: Part) -> &'static [&'static str] {
+    match part {
+        Part::Text => &["pool", "class", "client"],
+        Part::Pool => &POOL_KEYS,
+        Part::Class => &CLASS_KEYS,
+        Part::Client => &CLIENT_KEYS,
+    }
+}
+
+fn key_named(key: &str) -> Option<Known> {
+    let (key, wanted, says) = match key {
+        "name" => ("name", Wanted::Text, "write name = \"..\""),
+        "pool" => ("pool", Wanted::Text, "write pool = \"..\", the pool that runs these jobs"),
+        "core" => ("core", Wanted::Number, "write core = N, the core pool size in threads"),
+        "max" => ("max", Wanted::Number, "write max = N, the maximum pool size in threads"),
+        "queue" => ("queue", Wanted::Number, "write queue = N, how many jobs its queue holds"),
+        "count" => ("count", Wanted::Number, "write count = N, how many clients of the kind there are"),
+        "prestart" => ("prestart", Wanted::Flag, ""),
+        "repeat" => ("repeat", Wanted::Flag, ""),
+        "body" => ("body", Wanted::Body, "write body = [\"..\"], what it does, or body = []"),
+        _ => return None,
+    };
+    Some(Known { key, wanted, says })
+}
+
+/// What the key of a Java program, or of another plan, is called here.
+fn here_called(key: &str) -> Option<&'static str> {
+    match key {
+        "corePoolSize" | "corepoolsize" | "core_pool_size" | "threads" | "size" => Some("core"),
+        "maximumPoolSize" | "maxPoolSize" | "maximum" | "max_pool_size" => Some("max"),
+        "queueCapacity" | "capacity" | "workQueue" | "queue_capacity" | "queueSize" => Some("queue"),
+        "prestartAllCoreThreads" => Some("prestart"),
+        "instances" | "number" | "n" => Some("count"),
+        "loop" | "forever" | "repeats" => Some("repeat"),
+        "actions" | "steps" | "run" => Some("body"),
+        "executor" => Some("pool"),
+        _ => None,
+    }
+}
+
+/// Tells the keys that no such entry has.
+pub(crate) fn unknown_keys(notes: &mut Notes, entry: &Entry<'_>) -> Result<(), AllocError> {
+    for key in entry.table.keys() {
+        let key = key.as_str();
+        if !has_key(entry.part, key) {
+            unknown_key(notes, entry, key)?;
+        }
+    }
+    Ok(())
+}
+
+/// Whether such an entry has this key.
+pub(crate) fn has_key(part: Part, key: &str) -> bool {
+    keys_of(part).iter().any(|known| *known == key)
+}
+
+fn unknown_key(notes: &mut Notes, entry: &Entry<'_>, key: &str) -> Result<(), AllocError> {
+    let alloc = notes.alloc;
+    let list = list_of(entry.part);
+    let keys = keys_of(entry.part);
+    let right = match here_called(key) {
+        Some(name) if has_key(entry.part, name) => format!(in alloc; "; here it is called {name}")?,
+        _ => {
+            let all = crate::near::listed(alloc, keys)?;
+            let otherwise = format!(in alloc; "; its keys are {all}")?;
+            meant(alloc, key, keys, &otherwise)?
+        }
+    };
+    let words = format!(in alloc; "no {list} has a key {key}{right}")?;
+    entry.tell(notes, UNKNOWN_KEY, entry.key_place(key), &words)
+}
+
+/// Tells the keys that the entry lacks, and the values of another type than is wanted.
+pub(crate) fn values(notes: &mut Notes, entry: &Entry<'_>) -> Result<(), AllocError> {
+    for key in keys_of(entry.part).iter().copied() {
+        if let Some(known) = key_named(key) {
+            value(notes, entry, known)?;
+        }
+    }
+    Ok(())
+}
+
+fn value(notes: &mut Notes, entry: &Entry<'_>, known: Known) -> Result<(), AllocError> {
+    let key = known.key;
+    let Some(value) = entry.value(key) else {
+        if known.says.is_empty() {
+            return Ok(());
+        }
+        let says = known.says;
+        let words = format!(in notes.alloc; "it has no {key}: {says}")?;
+        return entry.tell(notes, MISSING_KEY, entry.place(), &words);
+    };
+    if known.wanted == Wanted::Body {
+        return body(notes, entry, value);
+    }
+    if is_of(known.wanted, value) {
+        return Ok(());
+    }
+    let rule = rule_of(known.wanted);
+    let found = value.type_str();
+    let words = format!(in notes.alloc; "{key} is a {found}, and is to be {rule}")?;
+    entry.tell(notes, WRONG_TYPE, entry.value_place(key), &words)
+}
+
+fn is_of(wanted: Wanted, value: &Value) -> bool {
+    match wanted {
+        Wanted::Text => value.is_str(),
+        Wanted::Number => value.is_integer(),
+        Wanted::Flag => value.is_bool(),
+        Wanted::Body => value.is_array(),
+    }
+}
+
+fn rule_of(wanted: Wanted) -> &'static str {
+    match wanted {
+        Wanted::Text => "a text in quotes",
+        Wanted::Number => "a whole number, without quotes",
+        Wanted::Flag => "true or false, without quotes",
+        Wanted::Body => "a list of texts",
+    }
+}
+
+/// Tells a body that is no list, or a long one, or has elements that are no texts.
+fn body(notes: &mut Notes, entry: &Entry<'_>, value: &Value) -> Result<(), AllocError> {
+    let place = entry.value_place("body");
+    let Some(actions) = value.as_array() else {
+        let words = "body is to be a list of texts, as [\"work 5\", \"submit query as rows\", \"get rows\"]";
+        return entry.tell(notes, WRONG_TYPE, place, words);
+    };
+    if actions.len() > MOST_ACTIONS {
+        let words = "a body has at most 256 actions";
+        return entry.tell(notes, TOO_MANY, place, words);
+    }
+    for (number, action) in actions.iter().enumerate() {
+        if !action.is_str() {
+            let found = action.type_str();
+            let words = format!(in notes.alloc; "it is a {found}, and is to be a text in quotes")?;
+            entry.tell_action(notes, number, WRONG_TYPE, "..", &words)?;
+        }
+    }
+    Ok(())
+}

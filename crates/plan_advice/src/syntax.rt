@@ -1,0 +1,88 @@
+//! Texts that are no TOML: where, by the words of the crate that reads it, and what a person mostly meant.
+
+use crate::advice::Advice;
+use faults::number::NOT_TOML;
+use job_bodies::PlanFault;
+use plan_places::{Place, place_at};
+use std::alloc::{AllocError, Global};
+
+/// What is wrong with bytes that are not UTF-8.
+pub(crate) fn not_text(alloc: Global, bytes: &[u8], valid: usize) -> Result<Advice, AllocError> {
+    let is_wide = matches!(bytes, [0xFF, 0xFE, ..] | [0xFE, 0xFF, ..]);
+    let what = if is_wide {
+        "the text is UTF-16: save it as UTF-8"
+    } else {
+        "a byte is no UTF-8: save the text as UTF-8"
+    };
+    Ok(Advice {
+        fault: PlanFault::at_text(NOT_TOML),
+        place: place_at(bytes, valid),
+        what: String::from_str(alloc, what)?,
+    })
+}
+
+/// What is wrong with a text that is no TOML, at this place and by these words.
+pub(crate) fn not_toml(
+    alloc: Global,
+    text: &str,
+    offset: usize,
+    words: &str,
+) -> Result<Advice, AllocError> {
+    let place = place_at(text.as_bytes(), offset);
+    let line = line_of(text, place);
+    let what = match hint_of(line) {
+        Some(hint) => format!(in alloc; "{hint} ({words})")?,
+        None => String::from_str(alloc, words)?,
+    };
+    Ok(Advice {
+        fault: PlanFault::at_text(NOT_TOML),
+        place,
+        what,
+    })
+}
+
+fn line_of(text: &str, place: Place) -> &str {
+    let mut number = 1usize;
+    for line in text.lines() {
+        if number == place.line {
+            return line;
+        }
+        number = number.saturating_add(1);
+    }
+    ""
+}
+
+/// What was meant by a line that is no TOML.
+fn hint_of(line: &str) -> Option<&'static str> {
+    let line = line.trim();
+    if line.starts_with("//") {
+        return Some("a comment begins with #");
+    }
+    if line == "%%" {
+        return Some(
+            "here the plan ends and a second text begins: give each as a file of its own, the plan first",
+        );
+    }
+    if line.contains('\u{201c}') || line.contains('\u{201d}') || line.contains('\u{201e}') {
+        return Some("the quotes are to be plain ones, \"");
+    }
+    if matches!(line, "[pool]" | "[class]" | "[client]") {
+        return Some("a plan has many of these: write two brackets, as [[pool]]");
+    }
+    value_hint(line)
+}
+
+fn value_hint(line: &str) -> Option<&'static str> {
+    let quotes = line.bytes().filter(|byte| *byte == b'"').count();
+    if quotes % 2 == 1 {
+        return Some("a quote is not closed");
+    }
+    let (_, value) = line.split_once('=')?;
+    match value.trim() {
+        "yes" | "no" | "on" | "off" | "True" | "False" | "TRUE" | "FALSE" | "Yes" | "No" => {
+            Some("write true or false")
+        }
+        "" => Some("a value is missing behind ="),
+        _ => None,
+    }
+}

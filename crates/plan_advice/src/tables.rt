@@ -1,0 +1,146 @@
+//! The lists of a plan's text.
+
+use crate::entry::{BEGINNING, Entry, list_of};
+use crate::near::{listed, meant};
+use crate::notes::Notes;
+use crate::shapes::{has_key, keys_of};
+use crate::{bodies, names, numbers, shapes};
+use faults::number::{NO_SUCH_POOL, UNKNOWN_KEY, WRONG_TYPE};
+use job_bodies::{Part, PlanFault};
+use plan_places::Places;
+use std::alloc::{AllocError, Global};
+use toml::{Table, Value};
+
+/// Tells what is wrong with a document.
+pub(crate) fn document(
+    notes: &mut Notes,
+    document: &Table,
+    places: &Places<'_>,
+) -> Result<(), AllocError> {
+    for key in document.keys() {
+        unknown_list(notes, key.as_str(), places)?;
+    }
+    let pools = entries(notes, document, Part::Pool, places)?;
+    let classes = entries(notes, document, Part::Class, places)?;
+    let clients = entries(notes, document, Part::Client, places)?;
+    let pool_names = names_of(notes.alloc, &pools)?;
+    let class_names = names_of(notes.alloc, &classes)?;
+    for pool in &pools {
+        numbers::sizes(notes, pool)?;
+    }
+    for class in &classes {
+        pool_of(notes, class, &pool_names)?;
+    }
+    for client in &clients {
+        numbers::count(notes, client)?;
+    }
+    for class in &classes {
+        bodies::body(notes, class, &class_names)?;
+    }
+    for client in &clients {
+        bodies::body(notes, client, &class_names)?;
+    }
+    Ok(())
+}
+
+/// Tells a key at the top that no plan has.
+fn unknown_list(notes: &mut Notes, key: &str, places: &Places<'_>) -> Result<(), AllocError> {
+    let alloc = notes.alloc;
+    if has_key(Part::Text, key) {
+        return Ok(());
+    }
+    let otherwise = "; a plan has [[pool]], [[class]] and [[client]]";
+    let right = match key {
+        "pools" => String::from_str(alloc, "; did you mean [[pool]]?")?,
+        "classes" => String::from_str(alloc, "; did you mean [[class]]?")?,
+        "clients" => String::from_str(alloc, "; did you mean [[client]]?")?,
+        _ => meant(alloc, key, keys_of(Part::Text), otherwise)?,
+    };
+    let what = format!(in alloc; "no plan has {key}{right}")?;
+    let place = places.top(key).unwrap_or(BEGINNING);
+    notes.push(PlanFault::at_text(UNKNOWN_KEY), place, what)
+}
+
+/// The entries of a list, with what is wrong with their shapes and their names.
+fn entries<'a>(
+    notes: &mut Notes,
+    document: &'a Table,
+    part: Part,
+    places: &'a Places<'a>,
+) -> Result<Vec<Entry<'a>>, AllocError> {
+    let mut found: Vec<Entry<'a>> = Vec::new(notes.alloc);
+    let list = list_of(part);
+    let Some(value) = document.get(list) else {
+        return Ok(found);
+    };
+    let Some(values) = value.as_array() else {
+        let what = format!(in notes.alloc; "{list} is a list of tables: write [[{list}]], with two brackets")?;
+        let place = places.top(list).unwrap_or(BEGINNING);
+        notes.push(PlanFault::at_text(WRONG_TYPE), place, what)?;
+        return Ok(found);
+    };
+    for (index, value) in values.iter().enumerate() {
+        if let Some(entry) = entry_of(notes, part, index, value, places)? {
+            shapes::unknown_keys(notes, &entry)?;
+            shapes::values(notes, &entry)?;
+            names::name(notes, &entry, &found)?;
+            found.push(entry)?;
+        }
+    }
+    Ok(found)
+}
+
+fn entry_of<'a>(
+    notes: &mut Notes,
+    part: Part,
+    index: usize,
+    value: &'a Value,
+    places: &'a Places<'a>,
+) -> Result<Option<Entry<'a>>, AllocError> {
+    match value.as_table() {
+        Some(table) => Ok(Some(Entry {
+            part,
+            index,
+            table,
+            places,
+        })),
+        None => {
+            let list = list_of(part);
+            let found = value.type_str();
+            let what = format!(in notes.alloc; "a {list} is a table, and not a {found}: write [[{list}]]")?;
+            let place = places.top(list).unwrap_or(BEGINNING);
+            notes.push(PlanFault::at_entry(part, index, WRONG_TYPE), place, what)?;
+            Ok(None)
+        }
+    }
+}
+
+fn names_of<'a>(alloc: Global, entries: &[Entry<'a>]) -> Result<Vec<&'a str>, AllocError> {
+    let mut names = Vec::new(alloc);
+    for entry in entries {
+        if let Some(name) = entry.text("name") {
+            names.push(name)?;
+        }
+    }
+    Ok(names)
+}
+
+/// Tells a pool that there is not.
+fn pool_of(notes: &mut Notes, class: &Entry<'_>, pools: &[&str]) -> Result<(), AllocError> {
+    let Some(pool) = class.text("pool") else {
+        return Ok(());
+    };
+    if pools.contains(&pool) {
+        return Ok(());
+    }
+    let alloc = notes.alloc;
+    let otherwise = if pools.is_empty() {
+        String::from_str(alloc, "; the plan has no pools: write a [[pool]] of this name")?
+    } else {
+        let all = listed(alloc, pools)?;
+        format!(in alloc; "; the pools are {all}")?
+    };
+    let right = meant(alloc, pool, pools, &otherwise)?;
+    let words = format!(in alloc; "there is no pool {pool}{right}")?;
+    class.tell(notes, NO_SUCH_POOL, class.value_place("pool"), &words)
+}

@@ -1,0 +1,202 @@
+//! The outline of a text: its tables, their keys, and where values and the elements of lists begin.
+
+use crate::token::{Kind, Token};
+use std::alloc::{AllocError, Global};
+
+/// A key, and its value.
+#[derive(Debug, Drop)]
+pub(crate) struct Key {
+    pub(crate) start: usize,
+    pub(crate) end: usize,
+    /// Where its value begins.
+    pub(crate) value: usize,
+    /// Where each element of a value that is a list begins.
+    pub(crate) elements: Vec<usize>,
+}
+
+/// A table under its head, as `[[pool]]`, and the keys behind it. The first one has no head.
+#[derive(Debug, Drop)]
+pub(crate) struct Table {
+    /// Where its head begins.
+    pub(crate) head: usize,
+    /// From where to where the name in it goes.
+    pub(crate) name: (usize, usize),
+    /// Whether the head has two brackets.
+    pub(crate) in_list: bool,
+    pub(crate) keys: Vec<Key>,
+}
+
+/// Where in a line the tokens so far have come.
+#[derive(Clone, Copy)]
+enum At {
+    /// Before anything.
+    Begin,
+    /// In a table's head, behind so many brackets.
+    Head(u8),
+    /// Behind a key.
+    Key,
+    /// In a value, inside so many brackets. An element may begin here or not.
+    Value { depth: usize, is_next: bool },
+    /// In what no plan has.
+    Rest,
+}
+
+/// The outline so far.
+#[derive(Drop)]
+struct Outline {
+    at: At,
+    tables: Vec<Table>,
+}
+
+/// The tables of a text with these tokens.
+pub(crate) fn outline_of(alloc: Global, tokens: &[Token]) -> Result<Vec<Table>, AllocError> {
+    let mut outline = Outline {
+        at: At::Begin,
+        tables: Vec::new(alloc),
+    };
+    outline.tables.push(table_at(alloc, 0))?;
+    for token in tokens.iter().copied() {
+        outline.take(alloc, token)?;
+    }
+    Ok(outline.tables)
+}
+
+fn table_at(alloc: Global, head: usize) -> Table {
+    Table {
+        head,
+        name: (head, head),
+        in_list: false,
+        keys: Vec::new(alloc),
+    }
+}
+
+fn key_at(alloc: Global, token: Token) -> Key {
+    Key {
+        start: token.start,
+        end: token.end,
+        value: token.start,
+        elements: Vec::new(alloc),
+    }
+}
+
+impl Outline {
+    /// This token comes next.
+    fn take(&mut self, alloc: Global, token: Token) -> Result<(), AllocError> {
+        match self.at {
+            At::Begin => self.begin(alloc, token),
+            At::Head(brackets) => {
+                self.head(brackets, token);
+                Ok(())
+            }
+            At::Key => {
+                self.behind_key(token);
+                Ok(())
+            }
+            At::Value { depth, is_next } => self.value(depth, is_next, token),
+            At::Rest => {
+                if token.kind == Kind::LineEnd {
+                    self.at = At::Begin;
+                }
+                Ok(())
+            }
+        }
+    }
+
+    fn begin(&mut self, alloc: Global, token: Token) -> Result<(), AllocError> {
+        match token.kind {
+            Kind::LineEnd => Ok(()),
+            Kind::Mark(b'[') => {
+                self.tables.push(table_at(alloc, token.start))?;
+                self.at = At::Head(1);
+                Ok(())
+            }
+            Kind::Mark(_) => {
+                self.at = At::Rest;
+                Ok(())
+            }
+            Kind::Word | Kind::Quoted => {
+                self.at = At::Key;
+                if let Some(table) = self.tables.last_mut() {
+                    table.keys.push(key_at(alloc, token))?;
+                }
+                Ok(())
+            }
+        }
+    }
+
+    fn head(&mut self, brackets: u8, token: Token) {
+        match token.kind {
+            Kind::LineEnd => self.at = At::Begin,
+            Kind::Mark(b'[') => {
+                self.at = At::Head(brackets.saturating_add(1));
+                if let Some(table) = self.tables.last_mut() {
+                    table.in_list = true;
+                }
+            }
+            Kind::Mark(_) => self.at = At::Rest,
+            Kind::Word | Kind::Quoted => {
+                if let Some(table) = self.tables.last_mut() {
+                    table.name = (token.start, token.end);
+                }
+            }
+        }
+    }
+
+    fn behind_key(&mut self, token: Token) {
+        self.at = match token.kind {
+            Kind::Mark(b'=') => At::Value {
+                depth: 0,
+                is_next: true,
+            },
+            Kind::LineEnd => At::Begin,
+            Kind::Mark(_) | Kind::Word | Kind::Quoted => At::Rest,
+        };
+    }
+
+    fn value(&mut self, depth: usize, is_next: bool, token: Token) -> Result<(), AllocError> {
+        if token.kind == Kind::LineEnd {
+            if depth == 0 {
+                self.at = At::Begin;
+            }
+            return Ok(());
+        }
+        if is_next {
+            self.begins(depth, token.start)?;
+        }
+        self.at = match token.kind {
+            Kind::Mark(b'[' | b'{') => At::Value {
+                depth: depth.saturating_add(1),
+                is_next: true,
+            },
+            Kind::Mark(b']' | b'}') => At::Value {
+                depth: depth.saturating_sub(1),
+                is_next: false,
+            },
+            Kind::Mark(b',') => At::Value {
+                depth,
+                is_next: true,
+            },
+            Kind::Mark(_) | Kind::Word | Kind::Quoted | Kind::LineEnd => At::Value {
+                depth,
+                is_next: false,
+            },
+        };
+        Ok(())
+    }
+
+    /// The value of the last key, or an element of it, begins here.
+    fn begins(&mut self, depth: usize, start: usize) -> Result<(), AllocError> {
+        let Some(table) = self.tables.last_mut() else {
+            return Ok(());
+        };
+        let Some(key) = table.keys.last_mut() else {
+            return Ok(());
+        };
+        match depth {
+            0 => key.value = start,
+            1 => key.elements.push(start)?,
+            _ => {}
+        }
+        Ok(())
+    }
+}

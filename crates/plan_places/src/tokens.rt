@@ -1,0 +1,161 @@
+//! A text as its tokens, without white space and comments.
+
+use crate::token::{Kind, Token};
+use std::alloc::{AllocError, Global};
+
+/// What the bytes so far leave open.
+#[derive(Clone, Copy)]
+enum Open {
+    Nothing,
+    Comment,
+    /// A word that began at this offset.
+    Word(usize),
+    /// A string on one line.
+    Line(Text),
+    /// A string on several lines.
+    Lines(Text),
+}
+
+/// A string that has begun.
+#[derive(Clone, Copy)]
+struct Text {
+    start: usize,
+    quote: u8,
+    /// Whether the last byte was a `\` that the string takes for one.
+    escaped: bool,
+    /// How many quotes stood last, one behind the other.
+    quotes: u8,
+}
+
+impl Text {
+    fn new(start: usize, quote: u8) -> Text {
+        Text {
+            start,
+            quote,
+            escaped: false,
+            quotes: 0,
+        }
+    }
+
+    /// The string behind one more byte.
+    fn after(self, byte: u8) -> Text {
+        let is_quote = byte == self.quote && !self.escaped;
+        Text {
+            escaped: byte == b'\\' && self.quote == b'"' && !self.escaped,
+            quotes: if is_quote {
+                self.quotes.saturating_add(1)
+            } else {
+                0
+            },
+            ..self
+        }
+    }
+}
+
+/// The tokens so far.
+#[derive(Drop)]
+struct Tokens {
+    open: Open,
+    found: Vec<Token>,
+}
+
+/// The tokens of a text.
+pub(crate) fn tokens_of(alloc: Global, text: &[u8]) -> Result<Vec<Token>, AllocError> {
+    let mut tokens = Tokens {
+        open: Open::Nothing,
+        found: Vec::new(alloc),
+    };
+    for (offset, byte) in text.iter().enumerate() {
+        tokens.take(offset, *byte)?;
+    }
+    tokens.take(text.len(), b'\n')?;
+    Ok(tokens.found)
+}
+
+impl Tokens {
+    fn push(&mut self, kind: Kind, start: usize, end: usize) -> Result<(), AllocError> {
+        self.found.push(Token { kind, start, end })?;
+        Ok(())
+    }
+
+    /// The byte at this offset comes next.
+    fn take(&mut self, offset: usize, byte: u8) -> Result<(), AllocError> {
+        match self.open {
+            Open::Nothing => self.begin(offset, byte),
+            Open::Comment => {
+                if byte == b'\n' {
+                    self.begin(offset, byte)
+                } else {
+                    Ok(())
+                }
+            }
+            Open::Word(start) => self.word(start, offset, byte),
+            Open::Line(text) => self.line(text, offset, byte),
+            Open::Lines(text) => self.lines(text, offset, byte),
+        }
+    }
+
+    /// A byte where nothing is open.
+    fn begin(&mut self, offset: usize, byte: u8) -> Result<(), AllocError> {
+        self.open = Open::Nothing;
+        match byte {
+            b' ' | b'\t' | b'\r' => Ok(()),
+            b'\n' => self.push(Kind::LineEnd, offset, offset),
+            b'#' => {
+                self.open = Open::Comment;
+                Ok(())
+            }
+            b'"' | b'\'' => {
+                self.open = Open::Line(Text::new(offset, byte));
+                Ok(())
+            }
+            b'[' | b']' | b'{' | b'}' | b'=' | b',' | b'.' => {
+                self.push(Kind::Mark(byte), offset, offset.saturating_add(1))
+            }
+            _ => {
+                self.open = Open::Word(offset);
+                Ok(())
+            }
+        }
+    }
+
+    fn word(&mut self, start: usize, offset: usize, byte: u8) -> Result<(), AllocError> {
+        match byte {
+            b' ' | b'\t' | b'\r' | b'\n' | b'#' | b'"' | b'\'' | b'[' | b']' | b'{' | b'}' | b'='
+            | b',' | b'.' => {
+                self.push(Kind::Word, start, offset)?;
+                self.begin(offset, byte)
+            }
+            _ => Ok(()),
+        }
+    }
+
+    /// A byte of a string that began with one quote. Where it ends at once and a third quote follows, it is of several lines.
+    fn line(&mut self, text: Text, offset: usize, byte: u8) -> Result<(), AllocError> {
+        if text.quotes == 1 {
+            if byte == text.quote && offset == text.start.saturating_add(2) {
+                self.open = Open::Lines(Text::new(text.start, text.quote));
+                return Ok(());
+            }
+            self.push(Kind::Quoted, text.start, offset)?;
+            return self.begin(offset, byte);
+        }
+        // A string on one line that is not closed ends with its line.
+        if byte == b'\n' {
+            self.push(Kind::Quoted, text.start, offset)?;
+            return self.begin(offset, byte);
+        }
+        self.open = Open::Line(text.after(byte));
+        Ok(())
+    }
+
+    fn lines(&mut self, text: Text, offset: usize, byte: u8) -> Result<(), AllocError> {
+        let text = text.after(byte);
+        if text.quotes == 3 {
+            self.open = Open::Nothing;
+            return self.push(Kind::Quoted, text.start, offset.saturating_add(1));
+        }
+        self.open = Open::Lines(text);
+        Ok(())
+    }
+}

@@ -1,0 +1,80 @@
+-- What status 0 means of an answer of `ask`.
+use Rattle.std.proofs.Common.{◌≡◌, ℕ, Bool, true, false, List, [], ◌∷◌, length, Option, Some, None, Result, Ok, Err, refl, sym, ap, ◌∙◌}
+use Rattle.std.specs.Prelude.{MatchBool, nat_lt}
+use Rattle.job_bodies.specs.Plan.{Plan}
+use Rattle.job_bodies.specs.declared.fault.PlanFault.{PlanFault}
+use Rattle.plan_text.specs.PlanOf.{plan_of}
+use Rattle.certificates.specs.Cert.{Cert}
+use Rattle.cert_text.specs.CertOf.{cert_of}
+use Rattle.cert_text.specs.declared.fault.CertFault.{CertFault}
+use Rattle.headline.proofs.Promised.{promises}
+use Rattle.cert_check.proofs.Yes.{plans_read_are_well_formed}
+use Rattle.ask_answers.specs.declared.finding.Finding.{Finding}
+use Rattle.ask_answers.specs.declared.finding.Finding.TheVariants.{Safe, NotSafe, NotDecided}
+use Rattle.ask_answers.specs.Finding.{IsFinding}
+use Rattle.command_line.specs.declared.command.Given.{Given}
+use Rattle.command_line.specs.declared.command.Given.TheVariants.{PlanAlone, WithCertificate}
+use Rattle.sizing_cli.specs.declared.limits.TheConstants.{MOST_INPUT_BYTES}
+use Rattle.sizing_cli.specs.declared.status.Status.TheVariants.{Done, Refused, BadText, Undecided}
+use Rattle.sizing_cli.specs.Answer.{Answer, input_too_long, no_separator}
+use Rattle.sizing_cli.specs.Bundle.{Bundle, bundle_of}
+use Rattle.sizing_cli.specs.SafeInput.{IsSafePlan}
+use Rattle.sizing_cli.specs.Ask.{AnswersBundle, AnswersCert, AnswersGiven, AnswersInput, AnswersPlan, AnswersReading, IsAskAnswer, IsSafeAsked, IsSafeBundle, status_of}
+use Rattle.sizing_cli.proofs.FittedAnswers.{bad_text_is_not_done}
+
+-- a plan of which something was found, with status 0
+found_safe : (strict : Bool) (text : List ℕ) (plan : Plan) (answer : Answer) → plan_of text ≡ Ok plan → AnswersPlan strict plan answer → answer.status ≡ Done → IsSafePlan text
+found_safe strict text plan answer is_plan answers done = by_finding answers.finding answers.is_finding (sym answers.status ∙ done)
+  where
+    by_finding : (finding : Finding) → IsFinding plan finding → status_of strict answers.warnings finding ≡ Done → IsSafePlan text
+    by_finding (Safe cert) accepts is_done = record {
+      plan = plan;
+      is_plan = is_plan;
+      cert = cert;
+      promises = promises plan cert (plans_read_are_well_formed text plan is_plan) accepts;
+    }
+    by_finding (NotSafe witness sizes) is_witness is_done =
+        let no : Refused ≡ Done = is_done in
+        absurd cc
+    by_finding (NotDecided sizes) is_found is_done =
+        let no : Undecided ≡ Done = is_done in
+        absurd cc
+
+bad_is_not_done : (answer : Answer) → answer.status ≡ BadText → answer.status ≡ Done → ⊥
+bad_is_not_done answer bad done =
+    let no : BadText ≡ Done = sym bad ∙ done in
+    absurd cc
+
+read_safe : (strict : Bool) (text : List ℕ) (cert : Option (List ℕ)) (answer : Answer) → AnswersReading strict cert (plan_of text) answer → answer.status ≡ Done → IsSafePlan text
+read_safe strict text cert answer answers done = by_plan (plan_of text) refl answers
+  where
+    by_cert : (plan : Plan) → plan_of text ≡ Ok plan → (read : Result Cert CertFault) → AnswersCert strict plan read answer → IsSafePlan text
+    by_cert plan is_plan (Err fault) bad = absurd (bad_is_not_done answer bad.status done)
+    by_cert plan is_plan (Ok c) found = found_safe strict text plan answer is_plan found done
+
+    by_given : (plan : Plan) → plan_of text ≡ Ok plan → (given : Option (List ℕ)) → AnswersGiven strict given plan answer → IsSafePlan text
+    by_given plan is_plan None found = found_safe strict text plan answer is_plan found done
+    by_given plan is_plan (Some second) found = by_cert plan is_plan (cert_of second plan) found
+
+    by_plan : (read : Result Plan PlanFault) → plan_of text ≡ read → AnswersReading strict cert read answer → IsSafePlan text
+    by_plan (Err fault) is_fault bad = absurd (bad_is_not_done answer bad.status done)
+    by_plan (Ok plan) is_plan given = by_given plan is_plan cert given
+
+input_safe : (given : Given) (strict : Bool) (input : List ℕ) (answer : Answer) → AnswersInput given strict input answer → answer.status ≡ Done → IsSafeAsked given input
+input_safe PlanAlone strict input answer answers done = read_safe strict input None answer answers done
+input_safe WithCertificate strict input answer answers done = by_bundle (bundle_of input) refl answers
+  where
+    by_bundle : (split : Option Bundle) → bundle_of input ≡ split → AnswersBundle strict split answer → IsSafeBundle input
+    by_bundle None is_none bad = absurd (bad_text_is_not_done answer no_separator bad refl done)
+    by_bundle (Some bundle) is_bundle read = record {
+      bundle = bundle;
+      is_bundle = is_bundle;
+      safe = read_safe strict bundle.plan (Some bundle.second) answer read done;
+    }
+
+pub asked_means_safe : (given : Given) (strict : Bool) (input : List ℕ) (answer : Answer) → IsAskAnswer given strict input answer → answer.status ≡ Done → IsSafeAsked given input
+asked_means_safe given strict input answer is done = by_length (nat_lt MOST_INPUT_BYTES (length input)) is
+  where
+    by_length : (long : Bool) → MatchBool long (answer ≡ input_too_long) (AnswersInput given strict input answer) → IsSafeAsked given input
+    by_length true too_long = absurd (bad_text_is_not_done answer input_too_long too_long refl done)
+    by_length false answers = input_safe given strict input answer answers done

@@ -1,0 +1,129 @@
+//! The answer to a plan by what was found of it.
+
+ghost use Rattle.std.specs.Prelude.{◌≡◌, IfOk, string_bytes};
+ghost use Rattle.ask_answers.specs.Finding.{IsFinding};
+ghost use Rattle.sizing_cli.specs.Ask as spec;
+
+use crate::Status;
+use crate::answer::Answer;
+use crate::asking::Replied;
+use crate::output::Output;
+use ask_answers::{Finding, needed_places, told};
+use cert_text::{MOST_TEXT_BYTES, write_cert};
+use job_bodies::Plan;
+use plan_advice::{Warning, push_warnings, warnings_of};
+use plan_places::Place;
+use std::alloc::{AllocError, Global};
+
+/// The answer to a plan of which this was found, the text of which is given, as in a file of this name. A certificate that was
+/// given is stale where it is not the one that the answer rests on.
+pub(crate) fn answer_of(
+    alloc: Global,
+    strict: bool,
+    file: &str,
+    text: &[u8],
+    plan: &Plan,
+    finding: &Finding,
+    is_stale: bool,
+) -> Result<Replied, AllocError>
+    requires { IsFinding plan.now finding.now }
+    ensures { IfOk result (λ replied. spec.AnswersPlan strict plan.now replied.output) }
+{
+    let warnings = warnings_for(alloc, text, plan, finding, is_stale)?;
+    let answer = answer_with(alloc, strict, file, plan, finding, &warnings)?;
+    let certificate = kept(alloc, finding)?;
+    Ok(Replied {
+        output: Output::of(answer),
+        certificate,
+    })
+}
+
+/// The warnings of a plan, and that a certificate is stale.
+fn warnings_for(
+    alloc: Global,
+    text: &[u8],
+    plan: &Plan,
+    finding: &Finding,
+    is_stale: bool,
+) -> Result<Vec<Warning>, AllocError> {
+    let needed = match finding {
+        Finding::Safe(cert) => needed_places(alloc, plan, cert)?,
+        Finding::NotSafe(_, _) | Finding::NotDecided(_) => Vec::new(alloc),
+    };
+    let mut warnings = warnings_of(alloc, text, plan, &needed)?;
+    if is_stale {
+        warnings.push(stale(alloc)?)?;
+    }
+    Ok(warnings)
+}
+
+/// The answer with these warnings.
+fn answer_with(
+    alloc: Global,
+    strict: bool,
+    file: &str,
+    plan: &Plan,
+    finding: &Finding,
+    warnings: &[Warning],
+) -> Result<Answer, AllocError>
+    requires { IsFinding plan.now finding.now }
+    ensures { IfOk result (spec.AnswersPlan strict plan.now) }
+{
+    let text = words_of(alloc, file, plan, finding, warnings)?;
+    let status = status_of(strict, warnings, finding);
+    Ok(Answer { text, status })
+}
+
+fn words_of(
+    alloc: Global,
+    file: &str,
+    plan: &Plan,
+    finding: &Finding,
+    warnings: &[Warning],
+) -> Result<String, AllocError>
+    ensures { IfOk result (λ text. spec.TellsFinding plan.now warnings.now finding.now (string_bytes text)) }
+{
+    let words = told(alloc, plan, finding)?;
+    let mut text = String::new(alloc);
+    push_warnings(&mut text, file, warnings)?;
+    text.push_str(&words)?;
+    Ok(text)
+}
+
+fn status_of(strict: bool, warnings: &[Warning], finding: &Finding) -> Status
+    ensures { result ≡ spec.status_of strict warnings.now finding.now }
+{
+    match finding {
+        Finding::Safe(_) => {
+            if strict && !warnings.is_empty() {
+                Status::Refused
+            } else {
+                Status::Done
+            }
+        }
+        Finding::NotSafe(_, _) => Status::Refused,
+        Finding::NotDecided(_) => Status::Undecided,
+    }
+}
+
+/// The text of the certificate that the answer rests on, with a newline, where it is not too long to be read.
+fn kept(alloc: Global, finding: &Finding) -> Result<Option<Vec<u8>>, AllocError> {
+    let Finding::Safe(cert) = finding else {
+        return Ok(None);
+    };
+    let mut text = write_cert(alloc, cert)?;
+    if text.len() >= MOST_TEXT_BYTES {
+        return Ok(None);
+    }
+    text.extend_from_slice(b"\n")?;
+    Ok(Some(text))
+}
+
+/// That the certificate that was given is no longer what the answer rests on.
+fn stale(alloc: Global) -> Result<Warning, AllocError> {
+    let what = "the certificate that was given does not show that these sizes are safe: write a new one by --certificate";
+    Ok(Warning {
+        place: Place { line: 1, column: 1 },
+        what: String::from_str(alloc, what)?,
+    })
+}
