@@ -161,7 +161,7 @@ fn not_decided(alloc: Global, shown: Shown, states: usize) -> Result<Answer, All
 }
 
 fn were_searched(states: usize) -> &'static str
-    ensures { result ≡ spec.were_searched states }
+    ensures { result.now ≡ spec.were_searched states }
 {
     if states == 1 {
         " state was searched"
