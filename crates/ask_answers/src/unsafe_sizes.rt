@@ -33,7 +33,10 @@ fn push_reasons(text: &mut String, plan: &Plan, fit: &Plan) -> Result<(), AllocE
         }
         if now.queue != then.queue {
             let queue = then.queue;
-            writeln!(text, "{name}: up to {queue} jobs may wait in its queue at once")?;
+            writeln!(
+                text,
+                "{name}: up to {queue} jobs may wait in its queue at once"
+            )?;
         }
     }
     Ok(())

@@ -57,9 +57,11 @@ impl TextFiles for Kept {
 }
 
 /// The text of the certificate that is given and found, as it is written.
-const CERT_FOUND: &str = "{\"pools\":[{\"blocked\":{\"classes\":[[0,0,0,0]],\"clients\":[[0,0,0]],\"workers\":[0]},\"standing\":{\"classes\":[[1,1,1,1]],\"clients\":[[1,0,1]],\"workers\":[0]}}],\"ranks\":{\"levels\":[0],\"pools\":[0],\"reach\":[0]},\"version\":1}\n";
+const CERT_FOUND: &str =
+    "{\"pools\":[{\"blocked\":{\"classes\":[[0,0,0,0]],\"clients\":[[0,0,0]],\"workers\":[0]},\"standing\":{\"classes\":[[1,1,1,1]],\"clients\":[[1,0,1]],\"workers\":[0]}}],\"ranks\":{\"levels\":[0],\"pools\":[0],\"reach\":[0]},\"version\":1}\n";
 
-const ASKED: &str = "SAFE\np: 1 thread, queue 2: up to 2 jobs wait at once (2 c)\n  p waits for nobody\nno submit is ever refused, and no jobs wait for each other for ever\n";
+const ASKED: &str =
+    "SAFE\np: 1 thread, queue 2: up to 2 jobs wait at once (2 c)\n  p waits for nobody\nno submit is ever refused, and no jobs wait for each other for ever\n";
 
 const YES: &str = "yes\npool p: standing 2 of 2, blocked 0 of 0\n";
 
@@ -221,7 +223,13 @@ fn words_without_an_answer(rt: HostRuntime) -> Result<(), Fail> {
 /// A certificate that cannot be kept is told behind the whole answer.
 #[test]
 fn an_unwritten_certificate(rt: HostRuntime) -> Result<(), Fail> {
-    let words = ["sizing", "ask", "--certificate", "none/kept.json", "plan.toml"];
+    let words = [
+        "sizing",
+        "ask",
+        "--certificate",
+        "none/kept.json",
+        "plan.toml",
+    ];
     let mut source = MemorySource::new(b"");
     let mut sink = MemorySink::new(rt.alloc());
     let ended = serve_words(&rt, rt.alloc(), &words, &Kept, &mut source, &mut sink);

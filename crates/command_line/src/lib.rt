@@ -13,4 +13,7 @@ mod help;
 mod number;
 mod search_help;
 
-pub use command::{Asked, Command, DEFAULT_WORKERS, MOST_ROUNDS, MOST_STATES, MOST_WORKERS, Shown, Wanted, Given, read_words};
+pub use command::{
+    Asked, Command, DEFAULT_WORKERS, Given, MOST_ROUNDS, MOST_STATES, MOST_WORKERS, Shown, Wanted,
+    read_words,
+};

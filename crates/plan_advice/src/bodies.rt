@@ -90,7 +90,10 @@ fn submitted(
     }
     let alloc = notes.alloc;
     let otherwise = if classes.is_empty() {
-        String::from_str(alloc, "; the plan has no classes: write a [[class]] of this name")?
+        String::from_str(
+            alloc,
+            "; the plan has no classes: write a [[class]] of this name",
+        )?
     } else {
         let all = listed(alloc, classes)?;
         format!(in alloc; "; the classes are {all}")?
@@ -143,7 +146,9 @@ fn got<'a>(
     }
     let words = match before {
         Some(action) => {
-            format!(in notes.alloc; "{name} was got already, at action {action}: a job is got once")?
+            format!(in notes.alloc;
+                "{name} was got already, at action {action}: a job is got once"
+            )?
         }
         None => nothing_as(notes.alloc, name, slots)?,
     };

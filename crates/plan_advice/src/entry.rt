@@ -97,7 +97,11 @@ impl<'a> Entry<'a> {
     ) -> Result<(), AllocError> {
         let who = self.who(notes.alloc)?;
         let what = format!(in notes.alloc; "{who}: {words}")?;
-        notes.push(PlanFault::at_entry(self.part, self.index, number), place, what)
+        notes.push(
+            PlanFault::at_entry(self.part, self.index, number),
+            place,
+            what,
+        )
     }
 
     /// Tells a fault of an action, as `class page, action 1 "get row": WORDS`.

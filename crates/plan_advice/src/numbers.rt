@@ -14,18 +14,16 @@ fn is_lawful(number: i64) -> bool {
 }
 
 /// Tells the numbers at these keys that are out of their range. Answers whether there are some.
-fn out_of_range(
-    notes: &mut Notes,
-    entry: &Entry<'_>,
-    keys: &[&str],
-) -> Result<bool, AllocError> {
+fn out_of_range(notes: &mut Notes, entry: &Entry<'_>, keys: &[&str]) -> Result<bool, AllocError> {
     let mut any = false;
     for key in keys.iter().copied() {
         if let Some(number) = entry.number(key)
             && !is_lawful(number)
         {
             any = true;
-            let words = format!(in notes.alloc; "{key} is {number}, and is to be from 1 to {MOST}")?;
+            let words = format!(in notes.alloc;
+                "{key} is {number}, and is to be from 1 to {MOST}"
+            )?;
             entry.tell(notes, BAD_NUMBER, entry.value_place(key), &words)?;
         }
     }
@@ -41,7 +39,9 @@ pub(crate) fn sizes(notes: &mut Notes, pool: &Entry<'_>) -> Result<(), AllocErro
         return Ok(());
     };
     if max < core {
-        let words = format!(in notes.alloc; "max {max} is below core {core}; it is to be at least core")?;
+        let words = format!(in notes.alloc;
+            "max {max} is below core {core}; it is to be at least core"
+        )?;
         return pool.tell(notes, BAD_NUMBER, pool.value_place("max"), &words);
     }
     Ok(())

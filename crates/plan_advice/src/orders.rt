@@ -94,9 +94,14 @@ fn is_spaced(text: &str) -> bool {
 
 fn work_slip(alloc: Global, units: &str, count: usize) -> Result<String, AllocError> {
     if count < 2 {
-        return String::from_str(alloc, "a work has a length: write work 5; which number changes no answer");
+        return String::from_str(
+            alloc,
+            "a work has a length: write work 5; which number changes no answer",
+        );
     }
-    format!(in alloc; "a work is a whole number of units from 1 to {MOST_UNITS}, as work 5, and not {units}")
+    format!(in alloc;
+        "a work is a whole number of units from 1 to {MOST_UNITS}, as work 5, and not {units}"
+    )
 }
 
 fn get_slip(alloc: Global, slot: &str, count: usize) -> Result<String, AllocError> {
@@ -106,7 +111,10 @@ fn get_slip(alloc: Global, slot: &str, count: usize) -> Result<String, AllocErro
         );
     }
     if count < 2 {
-        return String::from_str(alloc, "a get names what it gets: write get NAME, behind a submit CLASS as NAME");
+        return String::from_str(
+            alloc,
+            "a get names what it gets: write get NAME, behind a submit CLASS as NAME",
+        );
     }
     name_rule(alloc, slot)
 }
@@ -119,7 +127,10 @@ fn submit_slip(
     count: usize,
 ) -> Result<String, AllocError> {
     if count < 2 {
-        return String::from_str(alloc, "a submit names a class: write submit CLASS, or submit CLASS as NAME");
+        return String::from_str(
+            alloc,
+            "a submit names a class: write submit CLASS, or submit CLASS as NAME",
+        );
     }
     if !is_lawful_name(class) {
         return name_rule(alloc, class);
@@ -133,10 +144,14 @@ fn submit_slip(
 fn verb_slip(alloc: Global, verb: &str, first: &str) -> Result<String, AllocError> {
     match verb {
         "execute" | "invoke" | "start" | "schedule" => {
-            format!(in alloc; "write submit {first}, and submit {first} as NAME where its result is got")
+            format!(in alloc;
+                "write submit {first}, and submit {first} as NAME where its result is got"
+            )
         }
         "wait" | "join" | "await" => {
-            format!(in alloc; "write get {first}, where {first} was submitted before, or work 1 where it waits for nothing of the plan")
+            format!(in alloc;
+                "write get {first}, where {first} was submitted before, or work 1 where it waits for nothing of the plan"
+            )
         }
         "sleep" | "run" | "compute" => String::from_str(alloc, "write work 5"),
         _ => {

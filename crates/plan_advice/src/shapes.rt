@@ -27,7 +27,9 @@ struct Known {
 }
 
 const POOL_KEYS: [&str; 5] = ["name", "core", "max", "queue", "prestart"];
+
 const CLASS_KEYS: [&str; 3] = ["name", "pool", "body"];
+
 const CLIENT_KEYS: [&str; 4] = ["name", "count", "repeat", "body"];
 
 /// The keys that such an entry has.
@@ -43,14 +45,38 @@ pub(crate) fn keys_of(part: Part) -> &'static [&'static str] {
 fn key_named(key: &str) -> Option<Known> {
     let (key, wanted, says) = match key {
         "name" => ("name", Wanted::Text, "write name = \"..\""),
-        "pool" => ("pool", Wanted::Text, "write pool = \"..\", the pool that runs these jobs"),
-        "core" => ("core", Wanted::Number, "write core = N, the core pool size in threads"),
-        "max" => ("max", Wanted::Number, "write max = N, the maximum pool size in threads"),
-        "queue" => ("queue", Wanted::Number, "write queue = N, how many jobs its queue holds"),
-        "count" => ("count", Wanted::Number, "write count = N, how many clients of the kind there are"),
+        "pool" => (
+            "pool",
+            Wanted::Text,
+            "write pool = \"..\", the pool that runs these jobs",
+        ),
+        "core" => (
+            "core",
+            Wanted::Number,
+            "write core = N, the core pool size in threads",
+        ),
+        "max" => (
+            "max",
+            Wanted::Number,
+            "write max = N, the maximum pool size in threads",
+        ),
+        "queue" => (
+            "queue",
+            Wanted::Number,
+            "write queue = N, how many jobs its queue holds",
+        ),
+        "count" => (
+            "count",
+            Wanted::Number,
+            "write count = N, how many clients of the kind there are",
+        ),
         "prestart" => ("prestart", Wanted::Flag, ""),
         "repeat" => ("repeat", Wanted::Flag, ""),
-        "body" => ("body", Wanted::Body, "write body = [\"..\"], what it does, or body = []"),
+        "body" => (
+            "body",
+            Wanted::Body,
+            "write body = [\"..\"], what it does, or body = []",
+        ),
         _ => return None,
     };
     Some(Known { key, wanted, says })
@@ -61,7 +87,9 @@ fn here_called(key: &str) -> Option<&'static str> {
     match key {
         "corePoolSize" | "corepoolsize" | "core_pool_size" | "threads" | "size" => Some("core"),
         "maximumPoolSize" | "maxPoolSize" | "maximum" | "max_pool_size" => Some("max"),
-        "queueCapacity" | "capacity" | "workQueue" | "queue_capacity" | "queueSize" => Some("queue"),
+        "queueCapacity" | "capacity" | "workQueue" | "queue_capacity" | "queueSize" => Some(
+            "queue",
+        ),
         "prestartAllCoreThreads" => Some("prestart"),
         "instances" | "number" | "n" => Some("count"),
         "loop" | "forever" | "repeats" => Some("repeat"),
@@ -157,7 +185,8 @@ fn rule_of(wanted: Wanted) -> &'static str {
 fn body(notes: &mut Notes, entry: &Entry<'_>, value: &Value) -> Result<(), AllocError> {
     let place = entry.value_place("body");
     let Some(actions) = value.as_array() else {
-        let words = "body is to be a list of texts, as [\"work 5\", \"submit query as rows\", \"get rows\"]";
+        let words =
+            "body is to be a list of texts, as [\"work 5\", \"submit query as rows\", \"get rows\"]";
         return entry.tell(notes, WRONG_TYPE, place, words);
     };
     if actions.len() > MOST_ACTIONS {

@@ -74,7 +74,9 @@ fn entries<'a>(
         return Ok(found);
     };
     let Some(values) = value.as_array() else {
-        let what = format!(in notes.alloc; "{list} is a list of tables: write [[{list}]], with two brackets")?;
+        let what = format!(in notes.alloc;
+            "{list} is a list of tables: write [[{list}]], with two brackets"
+        )?;
         let place = places.top(list).unwrap_or(BEGINNING);
         notes.push(PlanFault::at_text(WRONG_TYPE), place, what)?;
         return Ok(found);
@@ -107,7 +109,9 @@ fn entry_of<'a>(
         None => {
             let list = list_of(part);
             let found = value.type_str();
-            let what = format!(in notes.alloc; "a {list} is a table, and not a {found}: write [[{list}]]")?;
+            let what = format!(in notes.alloc;
+                "a {list} is a table, and not a {found}: write [[{list}]]"
+            )?;
             let place = places.top(list).unwrap_or(BEGINNING);
             notes.push(PlanFault::at_entry(part, index, WRONG_TYPE), place, what)?;
             Ok(None)
@@ -135,7 +139,10 @@ fn pool_of(notes: &mut Notes, class: &Entry<'_>, pools: &[&str]) -> Result<(), A
     }
     let alloc = notes.alloc;
     let otherwise = if pools.is_empty() {
-        String::from_str(alloc, "; the plan has no pools: write a [[pool]] of this name")?
+        String::from_str(
+            alloc,
+            "; the plan has no pools: write a [[pool]] of this name",
+        )?
     } else {
         let all = listed(alloc, pools)?;
         format!(in alloc; "; the pools are {all}")?

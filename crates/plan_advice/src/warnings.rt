@@ -74,9 +74,7 @@ impl Warnings<'_> {
     }
 
     fn entry(&self, part: Part, index: usize) -> Place {
-        self.places
-            .entry(list_of(part), index)
-            .unwrap_or(BEGINNING)
+        self.places.entry(list_of(part), index).unwrap_or(BEGINNING)
     }
 
     fn value(&self, part: Part, index: usize, key: &str) -> Place {
@@ -106,7 +104,9 @@ impl Warnings<'_> {
     /// A pool without jobs.
     fn idle(&mut self, number: usize, pool: &Pool) -> Result<(), AllocError> {
         let name = pool.name.as_str();
-        let what = format!(in self.alloc; "pool {name} gets no job: nothing is asked of its sizes")?;
+        let what = format!(in self.alloc;
+            "pool {name} gets no job: nothing is asked of its sizes"
+        )?;
         let place = self.entry(Part::Pool, number);
         self.push(place, what)
     }
@@ -126,7 +126,9 @@ impl Warnings<'_> {
         }
         let queue = pool.queue;
         if queue / FAR_ABOVE > most.max(1) {
-            let what = format!(in alloc; "pool {name}: queue {queue} is far above the {most} that may wait at once")?;
+            let what = format!(in alloc;
+                "pool {name}: queue {queue} is far above the {most} that may wait at once"
+            )?;
             let place = self.value(Part::Pool, number, "queue");
             self.push(place, what)?;
         }
@@ -143,7 +145,9 @@ impl Warnings<'_> {
     ) -> Result<(), AllocError> {
         if !is_true(&reached.classes, number) {
             let name = class.name.as_str();
-            let what = format!(in self.alloc; "nobody submits class {name}: no client does, nor a job that a client causes")?;
+            let what = format!(in self.alloc;
+                "nobody submits class {name}: no client does, nor a job that a client causes"
+            )?;
             let place = self.entry(Part::Class, number);
             self.push(place, what)?;
         }

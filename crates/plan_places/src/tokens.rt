@@ -121,8 +121,20 @@ impl Tokens {
 
     fn word(&mut self, start: usize, offset: usize, byte: u8) -> Result<(), AllocError> {
         match byte {
-            b' ' | b'\t' | b'\r' | b'\n' | b'#' | b'"' | b'\'' | b'[' | b']' | b'{' | b'}' | b'='
-            | b',' | b'.' => {
+            b' '
+            | b'\t'
+            | b'\r'
+            | b'\n'
+            | b'#'
+            | b'"'
+            | b'\''
+            | b'['
+            | b']'
+            | b'{'
+            | b'}'
+            | b'='
+            | b','
+            | b'.' => {
                 self.push(Kind::Word, start, offset)?;
                 self.begin(offset, byte)
             }

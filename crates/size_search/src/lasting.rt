@@ -79,12 +79,7 @@ fn found_again(alloc: Global, plan: &Plan, fit: &Plan) -> Result<Again, AllocErr
 }
 
 /// The least sizes for the steady certificate; what was found where that is too large.
-fn or_steadily(
-    alloc: Global,
-    plan: &Plan,
-    fit: Plan,
-    cert: Cert,
-) -> Result<SizesFound, AllocError>
+fn or_steadily(alloc: Global, plan: &Plan, fit: Plan, cert: Cert) -> Result<SizesFound, AllocError>
     requires free { IsWithoutCause plan.now }
     requires well_formed { IsWellFormed plan.now }
     requires sized { IsSized plan.now cert fit }

@@ -19,11 +19,7 @@ use steady_certificates::steady;
 
 /// The plan with the least sizes that its steady certificate needs. Else that one is too large, and the pool is told that
 /// an attempt did not get past.
-pub(crate) fn steadily(
-    alloc: Global,
-    plan: &Plan,
-    limit: Limit,
-) -> Result<SizesFound, AllocError>
+pub(crate) fn steadily(alloc: Global, plan: &Plan, limit: Limit) -> Result<SizesFound, AllocError>
     requires free { IsWithoutCause plan.now }
     requires well_formed { IsWellFormed plan.now }
     ensures found { IfOk result (IsFound plan.now) }

@@ -44,10 +44,7 @@ fn words_of(
 }
 
 /// The fault of a certificate's text.
-pub(crate) fn cert_fault_told(
-    alloc: Global,
-    fault: CertFault,
-) -> Result<Output, AllocError>
+pub(crate) fn cert_fault_told(alloc: Global, fault: CertFault) -> Result<Output, AllocError>
     ensures { IfOk result (spec.AnswersCertFault fault) }
 {
     let text = cert_words(alloc, words_for(fault.number), fault)?;
@@ -74,10 +71,13 @@ fn push_number(text: &mut String, number: u8) -> Result<(), AllocError>
 /// What is wrong with a certificate, and what to do.
 fn words_for(number: u8) -> &'static str {
     match number {
-        NOT_JSON => "the certificate is no JSON: give the file that `sizing ask --certificate FILE PLAN` wrote",
-        VERSION => "the certificate is of a version that is not read here: its `version` is to be 1 or 2",
+        NOT_JSON =>
+            "the certificate is no JSON: give the file that `sizing ask --certificate FILE PLAN` wrote",
+        VERSION =>
+            "the certificate is of a version that is not read here: its `version` is to be 1 or 2",
         WEIGHT_TOO_LARGE => "a number of the certificate is above 1000000000",
         CERT_TOO_LONG => "the certificate has more than 1048576 bytes",
-        _ => "the certificate is none for this plan: its lists are to be as long as the plan's; where pools, classes, clients or bodies changed, write a new one by `sizing ask --certificate FILE PLAN`",
+        _ =>
+            "the certificate is none for this plan: its lists are to be as long as the plan's; where pools, classes, clients or bodies changed, write a new one by `sizing ask --certificate FILE PLAN`",
     }
 }

@@ -79,14 +79,7 @@ fn ask_bundle<R: Threads + Wait + Sync>(
     ensures fault { IfErr result (λ fault. IsTrue (is_of_search fault.number)) }
 {
     match bundle_of(input) {
-        Some(bundle) => ask_text(
-            rt,
-            alloc,
-            strict,
-            file,
-            bundle.plan,
-            Some(bundle.second),
-        ),
+        Some(bundle) => ask_text(rt, alloc, strict, file, bundle.plan, Some(bundle.second)),
         None => Ok(Replied::without(Output::of(no_separator(alloc)?))),
     }
 }

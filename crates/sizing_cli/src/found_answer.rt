@@ -121,7 +121,8 @@ fn kept(alloc: Global, finding: &Finding) -> Result<Option<Vec<u8>>, AllocError>
 
 /// That the certificate that was given is no longer what the answer rests on.
 fn stale(alloc: Global) -> Result<Warning, AllocError> {
-    let what = "the certificate that was given does not show that these sizes are safe: write a new one by --certificate";
+    let what =
+        "the certificate that was given does not show that these sizes are safe: write a new one by --certificate";
     Ok(Warning {
         place: Place { line: 1, column: 1 },
         what: String::from_str(alloc, what)?,

@@ -66,7 +66,15 @@ pub fn serve<R: Threads + Wait + Sync, S: Source, K: Sink>(
     ensures at_most { ConsumesAtMost (S.remaining source.old) (S.remaining source.new) (MOST_INPUT_BYTES + 1) }
 {
     let mut certificate = None;
-    serve_named(rt, alloc, command, STANDARD_INPUT, &mut certificate, source, sink)
+    serve_named(
+        rt,
+        alloc,
+        command,
+        STANDARD_INPUT,
+        &mut certificate,
+        source,
+        sink,
+    )
 }
 
 /// The same, where messages of [`Command::Ask`] name the plan's file so. Where its answer rests on a certificate, the

@@ -106,15 +106,7 @@ fn serve_asked<'a, R: Threads + Wait + Sync, F: TextFiles, S: Source, K: Sink>(
                 let text = read_file(alloc, files, name)?;
                 serve_text(rt, alloc, asked.command, name, found, &text, sink)
             }
-            None => Ok(serve_named(
-                rt,
-                alloc,
-                asked.command,
-                NO_FILE,
-                found,
-                input,
-                sink,
-            )?),
+            None => Ok(serve_named(rt, alloc, asked.command, NO_FILE, found, input, sink)?),
         },
     }
 }
@@ -151,15 +143,7 @@ fn serve_text<'a, R: Threads + Wait + Sync, K: Sink>(
     ensures nothing { IfErr result (λ fault. is_of_sink fault ≡ false → Keeps (K.written sink.old) (K.written sink.new)) }
 {
     let mut source = MemorySource::new(text);
-    Ok(serve_named(
-        rt,
-        alloc,
-        command,
-        shown,
-        found,
-        &mut source,
-        sink,
-    )?)
+    Ok(serve_named(rt, alloc, command, shown, found, &mut source, sink)?)
 }
 
 /// Reads two texts, and joins them.
