@@ -16,7 +16,7 @@ use crate::on_threads::certify::{certified, certified_and_checked};
 use crate::on_threads::check::checked;
 use crate::on_threads::fit::{fitted, fitted_and_checked, fitted_bundle};
 use crate::on_threads::refute::{
-    refuted, refuted_and_replayed, refuted_briefly, refuted_bundle, refuted_head, refuted_in_two,
+    refuted, refuted_and_replayed, refuted_briefly, refuted_bundle, refuted_head,
 };
 use crate::on_threads::run::ran_for;
 pub use crate::on_threads::suite::OnThreads;
@@ -40,8 +40,8 @@ use std::thread::Threads;
 ///   writes, with the status on a last line. Where the rounds are few it is asked for a byte at a time too, and with a
 ///   source and a sink that fail.
 /// - `refute`, `refute head` and `refute bundle` are a plan's text. Their answer is what the command writes of a witness, whole
-///   or in its first line, and for a bundle, with the status on a last line; `refute briefly` is the first line where it may come
-///   to one state alone, and `refute in two states` where to two. `refute and replay` is what `replay` answers to the bundle.
+///   or in its first line, and for a bundle, with the status on a last line; `refute briefly` is the first line where it may go
+///   through one state alone. `refute and replay` is what `replay` answers to the bundle.
 /// - `ask` and `ask strict` are a plan's text, and `ask with` and `ask with strict` a bundle of one with a certificate. Their answer is what the command writes, with the status on a last line; `ask head` is the first line.
 /// - `certificate` is a plan's text. Its answer is what the check says of the certificate that workers of each number find.
 /// - `sizes` is a plan's text. Its answer is the lines of the sizes that are found, where no certificate is looked for first.
@@ -62,7 +62,6 @@ pub fn answered<R: Threads + Wait + Sync>(
         "refute" => refuted(rt, alloc, input),
         "refute head" => refuted_head(rt, alloc, input),
         "refute briefly" => refuted_briefly(rt, alloc, input),
-        "refute in two states" => refuted_in_two(rt, alloc, input),
         "refute bundle" => refuted_bundle(rt, alloc, input),
         "refute and replay" => refuted_and_replayed(rt, alloc, input),
         "certificate" => certificate_for(rt, alloc, input),

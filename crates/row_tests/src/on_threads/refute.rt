@@ -17,11 +17,6 @@ const BRIEF: Command = Command::Refute {
     shown: Shown::Story,
 };
 
-const TWO_STATES: Command = Command::Refute {
-    states: 2,
-    shown: Shown::Story,
-};
-
 const BUNDLE: Command = Command::Refute {
     states: 100_000,
     shown: Shown::Bundle,
@@ -45,22 +40,13 @@ pub fn refuted_head<R: Threads + Wait + Sync>(
     Ended::of_input(rt, alloc, STORY, plan)?.first_line(alloc)
 }
 
-/// The first line that `refute` answers to a plan's text where it may come to one state alone.
+/// The first line that `refute` answers to a plan's text where it may go through one state alone.
 pub fn refuted_briefly<R: Threads + Wait + Sync>(
     rt: &R,
     alloc: Global,
     plan: &[u8],
 ) -> Result<String, AllocError> {
     Ended::of_input(rt, alloc, BRIEF, plan)?.first_line(alloc)
-}
-
-/// The first line that `refute` answers to a plan's text where it may come to two states.
-pub fn refuted_in_two<R: Threads + Wait + Sync>(
-    rt: &R,
-    alloc: Global,
-    plan: &[u8],
-) -> Result<String, AllocError> {
-    Ended::of_input(rt, alloc, TWO_STATES, plan)?.first_line(alloc)
 }
 
 /// The bundle that `refute` writes for a plan's text.
