@@ -11,8 +11,8 @@ returns-in-Some-clause-decided c =
     let holds : IsCause c.args.plan.now c.in-Some.cause = search rules in
     beyond c.args.plan.now c.in-Some.cause holds
 
-pub returns-in_ok-found-clause-decided : goal.returns-in_ok-found-clause-decided
-returns-in_ok-found-clause-decided c =
+pub returns-clause-decided : goal.returns-clause-decided
+returns-clause-decided c =
     let free : IsWithoutCause c.args.plan.now = search rules in
     let found : IsFound c.args.plan.now c.in_ok-found.found = search rules in
     decided_without_cause c.args.plan.now c.in_ok-found.found free found
