@@ -8,7 +8,5 @@ pub mod Certified
 pub mod FittedAnswers
 pub mod RefutedAnswers
 pub mod ServedAnswers
-pub mod WitnessLines
-pub mod WitnessBundles
 mod Runs
 mod AskedAnswers

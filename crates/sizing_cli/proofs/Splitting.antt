@@ -36,7 +36,7 @@ EndsNoLine b = (b == 10) ≡ false
 
 -- ---- lines without a `%`
 -- a line that begins with another byte is not `%%`
-pub none_here : (at_line : Bool) (b : ℕ) (text : List ℕ) → (b == 37) ≡ false → split_here at_line (b ∷ text) ≡ None
+none_here : (at_line : Bool) (b : ℕ) (text : List ℕ) → (b == 37) ≡ false → split_here at_line (b ∷ text) ≡ None
 none_here false b text other = refl
 none_here true b text other =
     elim (cases_Bool (starts_with nat_eq (b ∷ text) (37 ∷ 37 ∷ 10 ∷ []))) [

@@ -6,7 +6,6 @@ pub mod SafeInput
 pub mod Certify
 pub mod Fit
 pub mod Refute
-pub mod WitnessBundles
 pub mod Ask
 pub mod SplitAt
 pub mod Served

@@ -2,7 +2,6 @@
 
 ghost use Rattle.sizing_cli.specs.Laws.{InputsSplitAtTheLastSeparator, NoBundleWithoutASeparator};
 ghost use Rattle.sizing_cli.specs.SafeInput.{YesMeansSafe};
-ghost use Rattle.sizing_cli.specs.WitnessBundles.{BundlesReplayTheirWitness};
 ghost use Rattle.sizing_cli.specs.Numbers.{PlanLimitsAreStated, TextLimitsAreStated, RunLimitsAreStated, FaultNumbersAreStated};
 
 /// An input is a bundle just where it is whole lines, which are the plan's text, then a line that is exactly `%%`, and
@@ -20,12 +19,6 @@ pub fn no_bundle_without_a_separator()
 /// reaches is safe: no submit was refused, each pool keeps its sizes, and no unfinished jobs wait only for each other.
 pub fn a_yes_means_safe()
     ensures { YesMeansSafe }
-{}
-
-/// Where `refute` writes a bundle, `replay` answers no to it, and its reply to the last line of events is how the witness ends:
-/// `refused by` and the pool, or `stuck yes`. Behind that stands only the line of the replay's numbers.
-pub fn bundles_replay_their_witness()
-    ensures { BundlesReplayTheirWitness }
 {}
 
 /// The limits of plans, certificates, texts, searches and runs, and the numbers of faults, are those that the documents name.

@@ -33,8 +33,8 @@ pub use byte_streams::{IoFault, MemorySink, MemorySource, Sink, Source, StdSink,
 pub use certify::whole_lines;
 pub use command_line::{Command, Given, Shown, Wanted, read_words};
 pub use laws::{
-    a_yes_means_safe, bundles_replay_their_witness, inputs_split_at_the_last_separator,
-    limits_and_fault_numbers_are_stated, no_bundle_without_a_separator,
+    a_yes_means_safe, inputs_split_at_the_last_separator, limits_and_fault_numbers_are_stated,
+    no_bundle_without_a_separator,
 };
 pub use limits::{MOST_EVENT_BYTES, MOST_INPUT_BYTES};
 pub use output::Output;
