@@ -12,7 +12,7 @@ use Rattle.certificates.specs.Cert.{Cert, pool_cert_at}
 use Rattle.weight_laws.proofs.BoundLaws.{BoundLaws, bound_vector_laws}
 use Rattle.headline.specs.Accepted.{accepted}
 use Rattle.headline.proofs.CertLaws.{cert_laws}
-use Rattle.size_search.specs.Submitted.{IsSubmitted, IsNeverGot, NeverGotByClients, NeverGotByJobs, repeated_bodies}
+use Rattle.steady_certificates.specs.Submitted.{IsSubmitted, IsNeverGot, NeverGotByClients, NeverGotByJobs, repeated_bodies}
 use Rattle.beyond_sizes.specs.NoSizesHelp.{IsBeyondSizes, NoSizesHelp}
 use Rattle.beyond_sizes.proofs.Circles.{submitted_in, sinks_below}
 use Rattle.beyond_sizes.proofs.Losses.{class_submitted}

@@ -7,7 +7,7 @@ use Rattle.job_bodies.specs.declared.action.Action.TheVariants.{Submit}
 use Rattle.job_bodies.specs.Plan.{Class, Plan, no_class, class_at}
 use Rattle.pool_ranks.specs.Ranks.{Ranks, level}
 use Rattle.starvation_laws.proofs.RankLaws.{RankLaws}
-use Rattle.size_search.specs.Submitted.{IsSubmitted, begins, follows}
+use Rattle.steady_certificates.specs.Submitted.{IsSubmitted, begins, follows}
 
 -- where an element stands
 pub position_of : {X : Type 0} {x : X} {xs : List X} → In x xs → (i : ℕ) × (slice_get xs i ≡ Some x)

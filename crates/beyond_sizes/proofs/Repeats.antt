@@ -14,7 +14,7 @@ use Rattle.weights.specs.AtGet.{given_back}
 use Rattle.pool_ranks.specs.Ranks.{Ranks, level}
 use Rattle.weight_laws.proofs.VectorLaws.{VectorLaws, class_of_action}
 use Rattle.starvation_laws.proofs.RankLaws.{RankLaws}
-use Rattle.size_search.specs.Submitted.{IsSubmitted, begins, follows, repeated_bodies}
+use Rattle.steady_certificates.specs.Submitted.{IsSubmitted, begins, follows, repeated_bodies}
 use Rattle.beyond_sizes.proofs.Circles.{position_of}
 use Rattle.beyond_sizes.proofs.Losses.{NoneGains, never_heavier, lost_without_get, lost_by_child}
 

@@ -20,10 +20,10 @@ use Rattle.beyond_sizes.specs.NoSizesHelp.{HasSizes, SizesExist}
 use Rattle.beyond_sizes.proofs.Circles.{submitted_in}
 use Rattle.beyond_sizes.proofs.BeyondSizes.{no_sizes_help}
 
-abbrev with_pools : Plan → List Pool → Plan
+abbrev pub with_pools : Plan → List Pool → Plan
 with_pools plan pools = record plan { pools = pools }
 
-map-same : {X Y : Type 0} (f g : X → Y) (xs : List X) → ((x : X) → f x ≡ g x) → map f xs ≡ map g xs
+pub map-same : {X Y : Type 0} (f g : X → Y) (xs : List X) → ((x : X) → f x ≡ g x) → map f xs ≡ map g xs
 map-same f g [] same = refl
 map-same f g (x ∷ xs) same = ap₂ (λ (y : _) (ys : List _). y ∷ ys) (same x) (map-same f g xs same)
 
@@ -47,13 +47,13 @@ class_row-pools plan pools v body =
 abbrev of_rows : List (List ℕ) → Vector
 of_rows rows = record { workers = []; classes = rows; clients = [] }
 
-jobs_within-pools : (plan : Plan) (pools : List Pool) (n : ℕ) → jobs_within (with_pools plan pools) n ≡ jobs_within plan n
+pub jobs_within-pools : (plan : Plan) (pools : List Pool) (n : ℕ) → jobs_within (with_pools plan pools) n ≡ jobs_within plan n
 jobs_within-pools plan pools zero = refl
 jobs_within-pools plan pools (suc n) =
     ap (λ (v : Vector). of_rows (map (λ (class : Class). class_row (with_pools plan pools) v class.body) plan.classes)) (jobs_within-pools plan pools n)
     ∙ ap of_rows (map-same (λ (class : Class). class_row (with_pools plan pools) (jobs_within plan n) class.body) (λ (class : Class). class_row plan (jobs_within plan n) class.body) plan.classes (λ class. class_row-pools plan pools (jobs_within plan n) class.body))
 
-clients-pools : (plan : Plan) (pools : List Pool) → (steady_vector (with_pools plan pools)).clients ≡ (steady_vector plan).clients
+pub clients-pools : (plan : Plan) (pools : List Pool) → (steady_vector (with_pools plan pools)).clients ≡ (steady_vector plan).clients
 clients-pools plan pools =
     ap (λ (v : Vector). map (client_row (with_pools plan pools) v) plan.clients) (jobs_within-pools plan pools (length plan.classes))
     ∙ map-same (client_row (with_pools plan pools) (jobs plan)) (client_row plan (jobs plan)) plan.clients (λ client. weights_from-pools plan pools (jobs plan) 0 client.body (client_end (jobs plan) client) client.body)
@@ -62,7 +62,7 @@ nothing_is_small : {X : Type 0} (xs : List X) → list_all is_small (map (λ (x 
 nothing_is_small [] = refl
 nothing_is_small (x ∷ xs) = nothing_is_small xs
 
-small-pools : (plan : Plan) (pools : List Pool) → has_small_numbers (steady_vector plan) ≡ true → has_small_numbers (steady_vector (with_pools plan pools)) ≡ true
+pub small-pools : (plan : Plan) (pools : List Pool) → has_small_numbers (steady_vector plan) ≡ true → has_small_numbers (steady_vector (with_pools plan pools)) ≡ true
 small-pools plan pools small =
     let v = steady_vector plan in
     let all = and_parts (list_all is_small v.workers && list_all (list_all is_small) v.classes) (list_all (list_all is_small) v.clients) small in
@@ -82,7 +82,7 @@ no_workers v (entry ∷ entries) none =
     let term : workers_weight v entry.0 * entry.1.max ≡ 0 * entry.1.max = ap (λ (n : ℕ). n * entry.1.max) (none entry.0) in
     omega (arith, sum_by-cons (λ (any : ℕ × Pool). workers_weight v any.0 * any.1.max) entry entries, term, no_workers v entries none)
 
-total-pools : (plan : Plan) (pools : List Pool) → steady_total (with_pools plan pools) ≡ steady_total plan
+pub total-pools : (plan : Plan) (pools : List Pool) → steady_total (with_pools plan pools) ≡ steady_total plan
 total-pools plan pools =
     let other = with_pools plan pools in
     let of_clients = λ (rows : List (List ℕ)). sum_by (λ (entry : ℕ × Client). entry.1.count * get_or (get_or rows entry.0 []) 0 0) (enumerate_from 0 plan.clients) in
@@ -91,7 +91,7 @@ total-pools plan pools =
 
 -- ---- nor do the causes
 
-free-pools : (plan : Plan) (pools : List Pool) → IsWithoutCause plan → IsWithoutCause (with_pools plan pools)
+pub free-pools : (plan : Plan) (pools : List Pool) → IsWithoutCause plan → IsWithoutCause (with_pools plan pools)
 free-pools plan pools free = record {
   no_circle = λ k known. free.no_circle k (submitted_in (with_pools plan pools) plan ((class_at plan k).body ∷ []) refl known);
   clients_get = λ c i cause. free.clients_get c i (record { repeats = cause.repeats; never_got = cause.never_got });
@@ -130,7 +130,7 @@ sizes_where_free plan well small low free =
           (omega (arith, queue, total-pools plan pools), omega (arith, core, total-pools plan pools)));
     }
 
-free_where_sizes : (plan : Plan) → HasSizes plan → IsWithoutCause plan
+pub free_where_sizes : (plan : Plan) → HasSizes plan → IsWithoutCause plan
 free_where_sizes plan sizes = record {
   no_circle = λ k cause. no_sizes_help.circle plan k cause sizes.other sizes.cert sizes.well_formed sizes.same_outline sizes.accepts;
   clients_get = λ c i cause. no_sizes_help.client_never_gets plan c i cause sizes.other sizes.cert sizes.well_formed sizes.same_outline sizes.accepts;

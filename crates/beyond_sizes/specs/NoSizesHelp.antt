@@ -9,8 +9,8 @@ use Rattle.headline.specs.Accepted.{accepted}
 use Rattle.fitted_sizes.specs.Widened.{outline}
 use Rattle.steady_certificates.specs.Submitted.{IsWithoutCause}
 use Rattle.steady_certificates.specs.Steady.{steady_vector, steady_total}
-use Rattle.size_search.specs.declared.found.NoSizes.TheVariants.{Circle, ClientNeverGets, ClassNeverGets}
-use Rattle.size_search.specs.Submitted.{IsCause}
+use Rattle.size_causes.specs.declared.cause.Cause.TheVariants.{Circle, ClientNeverGets, ClassNeverGets}
+use Rattle.size_causes.specs.Causes.{IsCause}
 
 -- no certificate accepts the plan, nor any plan that differs from it in its sizes alone
 abbrev pub IsBeyondSizes : Plan → Type 0

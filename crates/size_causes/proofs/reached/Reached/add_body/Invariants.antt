@@ -1,0 +1,6 @@
+-- So far as the body was looked at.
+use Rattle.size_causes.proofs.Following.{IsAdded}
+use Rattle.size_causes.proofs.reached.Reached.add_body.Given as goal
+
+abbrev pub invariant-loop-action : goal.invariant-loop-action
+invariant-loop-action l = IsAdded l.initial.self l.self l.body l.action-index

@@ -1,0 +1,37 @@
+-- Classes that are found to be submitted, and of which some were not followed yet.
+use Rattle.std.specs.Prelude.{◌≡◌, ◌≤◌, ◌+◌, ◌⊎◌, ℕ, true, false, not, List, length, count_by, slice_index_or}
+use Rattle.numbered_lists.specs.In.{In}
+use Rattle.job_bodies.specs.declared.action.Action.{Action}
+use Rattle.job_bodies.specs.declared.action.Action.TheVariants.{Submit}
+use Rattle.job_bodies.specs.Plan.{Plan, class_at}
+use Rattle.size_causes.specs.declared.reached.Reached.{Reached}
+use Rattle.steady_certificates.specs.Submitted.{IsSubmitted}
+
+-- the class was found
+abbrev pub Has : Reached → ℕ → Type 0
+Has r k = slice_index_or r.is_found.items k false ≡ true
+
+-- so was each class that the body submits
+pub record Covers (r : Reached) (body : List Action) : Type 0 where
+  pub found : (k : ℕ) → In (Submit k) body → Has r k
+
+-- how many classes were not
+abbrev pub unfound : Reached → ℕ
+unfound r = count_by not r.is_found.items
+
+-- classes were added, each of them to be followed
+pub record Grows (old new : Reached) : Type 0 where
+  pub as_many : length new.is_found.items ≡ length old.is_found.items
+  pub kept : (k : ℕ) → Has old k → Has new k
+  pub still : (k : ℕ) → In k old.pending.items → In k new.pending.items
+  pub fresh : (k : ℕ) → Has new k → Has old k ⊎ In k new.pending.items
+  pub waiting : (k : ℕ) → In k new.pending.items → In k old.pending.items ⊎ Has new k
+  pub fewer : unfound new + length new.pending.items ≡ unfound old + length old.pending.items
+
+-- what was found is submitted, and what it submits itself was found, but of those that are to be followed
+pub record IsReaching (plan : Plan) (bodies : List (List Action)) (r : Reached) : Type 0 where
+  pub as_many : length r.is_found.items ≡ length plan.classes
+  pub submitted : (k : ℕ) → Has r k → IsSubmitted plan bodies k
+  pub waiting : (k : ℕ) → In k r.pending.items → Has r k
+  pub followed : (k : ℕ) → Has r k → In k r.pending.items ⊎ Covers r (class_at plan k).body
+  pub few : unfound r + length r.pending.items ≤ length plan.classes

@@ -1,0 +1,111 @@
+//! Which classes of jobs are submitted, at whatever remove.
+
+ghost use Rattle.std.specs.Prelude.{◌≡◌, ◌<◌, ◌+◌, ◌≤◌, ◌⊎◌, ◌↔◌, ℕ, List, [], ◌∷◌, OnOk, IfOk, length, slice_index_or, false};
+ghost use Rattle.numbered_lists.specs.In.{In};
+ghost use Rattle.job_bodies.specs.Plan as spec;
+ghost use Rattle.job_bodies.specs.WellFormed.{IsWellFormed};
+ghost use Rattle.job_bodies.specs.declared.action.Action.{Action};
+ghost use Rattle.job_bodies.specs.declared.action.Action.TheVariants.{Submit};
+ghost use Rattle.steady_certificates.specs.Submitted.{IsSubmitted};
+ghost use Rattle.size_causes.specs.Reaching.{Has, Covers, Grows, IsReaching, unfound};
+
+use job_bodies::{Action, Plan};
+use std::alloc::{AllocError, Global};
+
+/// Classes that are submitted.
+#[derive(Debug, Drop)]
+pub(crate) struct Reached {
+    /// Whether each class was found.
+    is_found: Vec<bool>,
+    /// Those that were found, and whose bodies nobody has looked at.
+    pending: Vec<usize>,
+}
+
+impl Reached {
+    /// No class is submitted.
+    pub(crate) fn nothing(alloc: Global, plan: &Plan) -> Result<Reached, AllocError>
+        ensures { IfOk result (λ reached. (bodies : List (List Action)) → IsReaching plan.now bodies reached) }
+    {
+        Ok(Reached {
+            is_found: vec![in alloc; false; plan.classes().len()]?,
+            pending: Vec::new(alloc),
+        })
+    }
+
+    /// Whether the class is submitted.
+    pub(crate) fn has(&self, class: usize) -> bool
+        ensures { result ≡ slice_index_or self.now.is_found.items class false }
+    {
+        class < self.is_found.len() && self.is_found[class]
+    }
+
+    /// The class is submitted too.
+    fn add(&mut self, class: usize) -> Result<(), AllocError>
+        requires { class < length self.old.is_found.items }
+        ensures grows { OnOk result (Grows self.old self.new) }
+        ensures found { OnOk result (Has self.new class) }
+        ensures only { OnOk result ((k : ℕ) → Has self.new k → Has self.old k ⊎ (k ≡ class)) }
+    {
+        if !self.is_found[class] {
+            self.pending.push(class)?;
+            self.is_found[class] = true;
+        }
+        Ok(())
+    }
+
+    /// The classes that the body submits are submitted too.
+    pub(crate) fn add_body(&mut self, body: &[Action]) -> Result<(), AllocError>
+        requires { (k : ℕ) → In (Submit k) body.now → k < length self.old.is_found.items }
+        ensures grows { OnOk result (Grows self.old self.new) }
+        ensures covers { OnOk result (Covers self.new body.now) }
+        ensures only { OnOk result ((k : ℕ) → Has self.new k → Has self.old k ⊎ In (Submit k) body.now) }
+    {
+        for action in body {
+            if let Action::Submit(class) = *action {
+                self.add(class)?;
+            }
+        }
+        Ok(())
+    }
+
+    /// Looks at the body of one class that was found, where one is left.
+    fn follow(&mut self, plan: &Plan) -> Result<(), AllocError>
+        requires { length self.old.is_found.items ≡ length plan.now.classes }
+        ensures reaching { OnOk result ((bodies : List (List Action)) → IsReaching plan.now bodies self.old → IsReaching plan.now bodies self.new) }
+        ensures kept { OnOk result ((k : ℕ) → Has self.old k → Has self.new k) }
+        ensures as_many { OnOk result (length self.new.is_found.items ≡ length self.old.is_found.items) }
+        ensures idle { OnOk result (self.old.pending.items ≡ [] → self.new.pending.items ≡ []) }
+        ensures fewer { OnOk result ((self.new.pending.items ≡ []) ⊎ (unfound self.new + length self.new.pending.items + 1 ≤ unfound self.old + length self.old.pending.items)) }
+    {
+        if let Some(number) = self.pending.pop() {
+            self.add_body(body_at(plan, number))?;
+        }
+        Ok(())
+    }
+
+    /// So are those that jobs of these classes submit, at whatever remove.
+    pub(crate) fn add_all(&mut self, plan: &Plan) -> Result<(), AllocError>
+        requires { length self.old.is_found.items ≡ length plan.now.classes }
+        ensures { OnOk result ((bodies : List (List Action)) → IsReaching plan.now bodies self.old → ((body : List Action) → In body bodies → Covers self.old body)
+            → (k : ℕ) → Has self.new k ↔ IsSubmitted plan.now bodies k) }
+    {
+        for _round in 0..plan.classes().len() {
+            self.follow(plan)?;
+        }
+        Ok(())
+    }
+}
+
+/// The body of the class; empty where there is none.
+fn body_at(plan: &Plan, class: usize) -> &[Action]
+    ensures body { result.now ≡ (spec.class_at plan.now class).body }
+    ensures well_formed { IsWellFormed plan.now }
+{
+    let classes = plan.classes();
+    if class < classes.len() {
+        let class = &classes[class];
+        &class.body
+    } else {
+        &[]
+    }
+}
