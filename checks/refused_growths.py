@@ -27,10 +27,11 @@ EXAMPLES = HERE.parent / "examples"
 # What stands behind the line `%%`, by its file.
 SECOND_PARTS = {"replay": "events", "check": "json", "explain": "json", "run": "json"}
 # The commands that write a bundle, which no file has.
-BUNDLING = ("certify", "fit --bundle")
+BUNDLING = ("certify", "fit --bundle", "refute --bundle")
 # The words behind the command.
 OPTIONS = {"run": ["--rounds", "3"]}
 JUDGED = ["two-clients-queue-of-two", "nested-two-workers", "web-and-database-sized", "cross-pools-two-threads"]
+REFUTED = ["two-clients", "nested-one-worker", "nested-unused-max"]
 FITTED = ["two-clients-queue-of-two", "web-and-database-sized", "two-clients", "there-and-back", "prestarted"]
 CASES = [
     *[("replay", name) for name in ("two-clients", "cross-pools", "there-and-back")],
@@ -40,6 +41,8 @@ CASES = [
     *[("fit", name) for name in [*FITTED, "web-and-database"]],
     *[("fit --bundle", name) for name in FITTED],
     *[("run", name) for name in [*JUDGED, "there-and-back", "front-and-back"]],
+    *[("refute", name) for name in [*REFUTED, "two-clients-queue-of-two"]],
+    *[("refute --bundle", name) for name in REFUTED],
 ]
 SHARED_OBJECT = "refuse_growth.so"
 # The threads of a run share its jobs otherwise each time, and so they ask for memory a few times more or less.
@@ -145,14 +148,27 @@ def right_end(command, name):
 
 def bundle_end(program, command, plan):
     """How a command that writes a bundle ends where nothing is refused: with one to which `check` says yes, or, of `certify`,
-    with none found. The plan of the latter's bundle is the given one."""
+    with none found; of `refute`, with one whose `replay` ends in a refusal or in jobs that are stuck. The plan of the bundle is
+    the given one, but of `fit`."""
     done = subprocess.run(words_of(program, command), input=plan, capture_output=True, timeout=SECONDS, check=False)
+    if command == "refute --bundle":
+        return witness_end(program, plan, done)
     if command == "certify" and done.stdout == b"no certificate found\n":
         return Ended(1, done.stdout, b"")
     check = subprocess.run([program, "check"], input=done.stdout, capture_output=True, timeout=SECONDS, check=False)
     is_of_plan = command != "certify" or done.stdout.startswith(plan)
     if not is_of_plan or not check.stdout.startswith(b"yes\n"):
         raise Unable(f"{command} answers {done.stdout!r}")
+    return Ended(0, done.stdout, b"")
+
+
+def witness_end(program, plan, done):
+    """How `refute --bundle` ended, which wrote events behind the plan."""
+    replay = subprocess.run([program, "replay"], input=done.stdout, capture_output=True, timeout=SECONDS, check=False)
+    last = replay.stdout.splitlines()[-2:-1]
+    shows = any(b": refused by " in line or line.endswith(b": stuck yes") for line in last)
+    if done.returncode != 0 or not done.stdout.startswith(plan) or replay.returncode != 1 or not shows:
+        raise Unable(f"refute --bundle answers {done.stdout!r}, and replay to that {replay.stdout!r}")
     return Ended(0, done.stdout, b"")
 
 
