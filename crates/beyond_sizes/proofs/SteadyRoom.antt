@@ -66,8 +66,8 @@ accepts_with plan pools well free small as_many enough =
     let same = total-pools plan pools in
     subst (λ (cert : Cert). IsTrue (accepted other cert)) (cert-pools plan pools as_many)
     (steady.is_accepted.1 (λ p inside.
-        let of_pool = enough p inside in
-        (omega (arith, same, of_pool.0), omega (arith, same, of_pool.1))))
+    let of_pool = enough p inside in
+    (omega (arith, same, of_pool.0), omega (arith, same, of_pool.1))))
 
 -- ---- below the limit of sizes there are such sizes
 
