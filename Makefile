@@ -25,9 +25,11 @@ program: $(PROGRAM)
 $(PROGRAM): $(PROGRAM_SOURCES)
 	@tools/build sizing $@
 
-# Proves and builds the program, and puts it where a shell finds it.
+# Proves and builds the program, and puts it and its manual page where a shell finds them.
 install: program
 	install -D -m 755 $(PROGRAM) $(DESTDIR)$(PREFIX)/bin/sizing
+	@tools/man $(PROGRAM) $(dir $(PROGRAM))sizing.1
+	install -D -m 644 $(dir $(PROGRAM))sizing.1 $(DESTDIR)$(PREFIX)/share/man/man1/sizing.1
 	@echo "sizing is in $(DESTDIR)$(PREFIX)/bin"
 
 # Every test, every worked row and each program's stored run as they are written: minutes. It proves nothing.
