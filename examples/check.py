@@ -20,7 +20,7 @@ from itertools import zip_longest
 from pathlib import Path
 
 sys.dont_write_bytecode = True
-from pages import commands_of, pages, parts_of, unanswered
+from pages import commands_of, faults_of, pages
 
 HERE = Path(__file__).resolve().parent
 BUILT = HERE.parent / "crates" / "sizing" / "out" / "sizing"
@@ -47,7 +47,7 @@ def main():
 
 
 def differences_of_pages(program):
-    """Each command that a page quotes, with what is wrong with its answer, and each answer that no stored one has."""
+    """Each command that a page quotes, with what is wrong with its answer, and each page with what else it says wrongly."""
     with tempfile.TemporaryDirectory(prefix="sizing-pages-") as room:
         os.symlink(program, f"{room}/sizing")
         searched = {**os.environ, "PATH": f"{room}:{os.environ['PATH']}"}
@@ -56,9 +56,7 @@ def differences_of_pages(program):
             for command, wanted in commands_of(text):
                 ran = subprocess.run(command, shell=True, cwd=HERE, env=searched, capture_output=True, timeout=SECONDS)
                 yield f"{page.name}: {command}", first_difference(wanted.encode(), ran.stdout)
-            if page.name in ("PATTERNS.md", "PERMITS.md"):
-                lost = [quoted for part in parts_of(text) for quoted in unanswered(part)]
-                yield f"{page.name}: quoted answers", f"no stored answer has {lost}" if lost else None
+            yield f"{page.name}: what it quotes and names", "; ".join(faults_of(page, text)) or None
 
 
 def compare(program, answer, names_files=True):

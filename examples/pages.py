@@ -1,17 +1,31 @@
-"""What the pages of the repository quote of the program, and whether it answers so.
+#!/usr/bin/env python3
+"""What the pages of the repository quote and name, and whether it is so.
 
-A command of a page is a line `    $ sizing ..` of an indented block; what follows it, up to the next command or the end of
-the block, is what it prints, run in this folder. In PATTERNS.md and PERMITS.md what stands in quotes and begins with
-`standing` or `pool`, or is `queue N (now M)`, must stand in a stored answer of a plan that the same part of the page names."""
+A command of a page is a line `    $ sizing ..` of an indented block, and what follows it, up to the next command or the end of
+the block, is what it prints, run in this folder: check.py runs each. Here is what needs no program:
+
+- What a page quotes of an answer inside a sentence (QUOTED) must be in a stored answer of a plan that the same part of the page
+  names.
+- A path that a page names (NAMED) must be there, and so must the heading that a link leads to.
+- docs/NAMES.md must be what tools/names prints.
+
+    python3 examples/pages.py     # prints what is not so; status 1 where something is not
+"""
 
 import re
+import subprocess
+import sys
 from pathlib import Path
 
 HERE = Path(__file__).resolve().parent
 TOP = HERE.parent
-INDENT = "    "
-PROMPT = INDENT + "$ "
-QUOTED = re.compile(r"standing \d|pool \w+: |queue \d+ \(now ")
+COMMAND = re.compile(r"( {4,})\$ (.*)")
+CODE = re.compile(r"`([^`\n]+)`")
+QUOTED = re.compile(r"standing \d|blocked \d|pool [a-z]\w*(:| standing,| blocked,)|queue \d+ \(now |(client|class) [a-z]\w* action \d|[A-Z]\d \d+ above|changes \d")
+FOLDERS = "bench|checks|crates|docs|examples|java|tools"
+NAMED = re.compile(rf"((?:{FOLDERS}|\w+/(?:data|proofs|specs|src))(?:/[\w./*-]*)?|[A-Z]+\.md|Makefile|crates\.txt)$")
+LINK = re.compile(r"\]\(([^)#\s]*)(?:#([\w-]+))?\)")
+STORED = (".check", ".explain", ".fit", ".refute", ".replay", ".run")
 
 
 def pages():
@@ -20,16 +34,28 @@ def pages():
 
 def commands_of(text):
     """The commands of a page with what each prints."""
-    found, block = [], False
+    found, indent = [], None
     for line in text.splitlines():
-        if line.startswith(PROMPT):
-            found.append((line[len(PROMPT) :], []))
-            block = True
-        elif line and not line.startswith(INDENT):
-            block = False
-        elif block:
-            found[-1][1].append(line[len(INDENT) :])
+        if command := COMMAND.fullmatch(line):
+            indent = command[1]
+            found.append((command[2], []))
+        elif indent and line and not line.startswith(indent):
+            indent = None
+        elif indent:
+            found[-1][1].append(line[len(indent) :])
     return [(command, "\n".join(printed).strip("\n") + "\n") for command, printed in found]
+
+
+def faults_of(page, text):
+    """What the page says that is not so, without its commands."""
+    if lost := [quoted for part in parts_of(text) for quoted in unanswered(part)]:
+        yield f"no stored answer of a plan that is named with it has {lost}"
+    if lost := [path for code in CODE.findall(text) if (path := NAMED.match(code)) and not is_there(path[1])]:
+        yield f"there is no {[path[1] for path in lost]}"
+    if lost := [target for target in LINK.findall(text) if not leads_somewhere(page, *target)]:
+        yield f"these links lead nowhere: {lost}"
+    if page.name == "NAMES.md" and text != subprocess.run([TOP / "tools/names"], capture_output=True, text=True, check=True).stdout:
+        yield "run tools/names > docs/NAMES.md: the sources have changed"
 
 
 def parts_of(text):
@@ -39,6 +65,31 @@ def parts_of(text):
 
 def unanswered(part):
     """What a part of a page quotes of an answer that no plan which it names has."""
-    names = re.findall(r"`([a-z0-9-]+)`", part)
-    answers = "".join(path.read_text() for name in names for path in HERE.glob(f"{name}.*") if path.suffix in (".check", ".fit", ".explain"))
-    return [quoted for quoted in re.findall(r"`([^`]+)`", part) if QUOTED.match(quoted) and quoted not in answers]
+    names = re.findall(r"`(?:examples/)?([a-z0-9-]+)(?:\.\w+)?`", part)
+    answers = "".join(path.read_text() for name in names for path in HERE.glob(f"{name}.*") if path.suffix in STORED)
+    return [quoted for quoted in CODE.findall(part) if QUOTED.match(quoted) and quoted not in answers]
+
+
+def is_there(path):
+    """Whether a path is that of files or a folder, of a crate's, or of an example, which has several files."""
+    tops = (TOP, TOP / "crates", TOP / "docs")
+    return any(any(top.glob(pattern)) for top in tops for pattern in (path.rstrip("/"), f"{path}.*"))
+
+
+def leads_somewhere(page, path, heading):
+    """Whether a link of this page leads to a page, and to a heading of it."""
+    target = page.parent / path if path else page
+    if path.startswith(("http:", "https:")) or not target.is_file():
+        return path.startswith("http")
+    headings = re.findall(r"(?m)^#+ (.*)$", target.read_text(encoding="utf-8"))
+    return not heading or heading in [re.sub(r"[^\w -]", "", line.lower()).replace(" ", "-") for line in headings]
+
+
+def main():
+    faults = [f"{page.name}: {fault}" for page in pages() for fault in faults_of(page, page.read_text(encoding="utf-8"))]
+    print(*faults, f"{len(pages())} pages, {len(faults)} wrong", sep="\n")
+    return 1 if faults else 0
+
+
+if __name__ == "__main__":
+    sys.exit(main())
