@@ -21,7 +21,10 @@ HERE = Path(__file__).resolve().parent
 TOP = HERE.parent
 COMMAND = re.compile(r"( {4,})\$ (.*)")
 CODE = re.compile(r"`([^`\n]+)`")
-QUOTED = re.compile(r"standing \d|blocked \d|pool [a-z]\w*(:| standing,| blocked,)|queue \d+ \(now |(client|class) [a-z]\w* action \d|[A-Z]\d \d+ above|changes \d")
+QUOTED = re.compile(
+    r"standing \d|blocked \d|pool [a-z]\w*(:| standing,| blocked,)|queue \d+ \(now "
+    r"|(client|class) [a-z]\w* action \d|[A-Z]\d \d+ above|changes \d"
+)
 FOLDERS = "bench|checks|crates|docs|examples|java|tools"
 NAMED = re.compile(rf"((?:{FOLDERS}|\w+/(?:data|proofs|specs|src))(?:/[\w./*-]*)?|[A-Z]+\.md|Makefile|crates\.txt)$")
 LINK = re.compile(r"\]\(([^)#\s]*)(?:#([\w-]+))?\)")
@@ -54,8 +57,10 @@ def faults_of(page, text):
         yield f"there is no {[path[1] for path in lost]}"
     if lost := [target for target in LINK.findall(text) if not leads_somewhere(page, *target)]:
         yield f"these links lead nowhere: {lost}"
-    if page.name == "NAMES.md" and text != subprocess.run([TOP / "tools/names"], capture_output=True, text=True, check=True).stdout:
-        yield "run tools/names > docs/NAMES.md: the sources have changed"
+    if page.name == "NAMES.md":
+        printed = subprocess.run([TOP / "tools/names"], stdout=subprocess.PIPE, text=True, check=True).stdout
+        if text != printed:
+            yield "it is not what tools/names prints: run tools/names > docs/NAMES.md"
 
 
 def parts_of(text):

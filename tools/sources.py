@@ -8,7 +8,8 @@ FUNCTION = re.compile(r"(?m)^( *)(pub )?(?:pub\([a-z]+\) )?(?:const )?fn (\w+)")
 PROMISE = re.compile(r"\s+ensures(?: (\w+))? \{")
 BLOCK = re.compile(r"(?m)^(?:impl(?:<.*?>)? (\S+ for \w+)|impl|(?:pub )?trait)")
 CONSTANT = re.compile(r"(?m)^(?:pub )?const (\w+):")
-DEFINITION = re.compile(r"(?m)^(?:(?:pub|abbrev|unfoldable|record|data) )+(?!(?:pub|abbrev|unfoldable|record|data|mod|use) )(\S+)")
+KINDS = "pub|abbrev|unfoldable|record|data"
+DEFINITION = re.compile(rf"(?m)^(?:(?:{KINDS}) )+(?!(?:{KINDS}|mod|use) )(\S+)")
 
 
 class Function:
