@@ -58,6 +58,7 @@ checks: program
 	python3 checks/fit.py
 	python3 checks/witnesses.py
 	python3 checks/mistakes.py
+	python3 checks/forms.py
 	python3 checks/java/check.py
 
 # Compiles the recorder and the check of executors, and runs their tests: seconds, and a JDK (17 or later) is all it needs.

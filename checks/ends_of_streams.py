@@ -28,6 +28,8 @@ COMMANDS = [
     (["fit", "--bundle"], ["two-clients.toml"]),
     (["refute"], ["two-clients.toml"]),
     (["refute", "--bundle"], ["two-clients.toml"]),
+    (["ask"], ["two-clients-queue-of-two.toml"]),
+    (["ask", "--dot"], ["two-clients.toml"]),
     (["run", "--rounds", "3"], ["two-clients-queue-of-two.toml", "two-clients-queue-of-two.json"]),
 ]
 BAD_ROUNDS = [[], ["--rounds"], *(["--rounds", word] for word in ("0", "1000001", "-1", "three", "18446744073709551617"))]

@@ -28,6 +28,8 @@ EXAMPLES = HERE.parent / "examples"
 SECOND_PARTS = {"replay": "events", "check": "json", "explain": "json", "run": "json"}
 # The commands that write a bundle, which no file has.
 BUNDLING = ("certify", "fit --bundle", "refute --bundle")
+# The commands that answer the one question, in forms of which no file has the answer.
+ASKING = ("ask", "ask --json", "ask --dot")
 # The words behind the command.
 OPTIONS = {"run": ["--rounds", "3"]}
 JUDGED = ["two-clients-queue-of-two", "nested-two-workers", "web-and-database-sized", "cross-pools-two-threads"]
@@ -43,6 +45,9 @@ CASES = [
     *[("run", name) for name in [*JUDGED, "there-and-back", "front-and-back"]],
     *[("refute", name) for name in [*REFUTED, "two-clients-queue-of-two"]],
     *[("refute --bundle", name) for name in REFUTED],
+    *[("ask", name) for name in ["two-clients", "two-clients-queue-of-two", "nested-one-worker"]],
+    *[("ask --json", name) for name in ["two-clients", "nested-two-workers"]],
+    ("ask --dot", "nested-two-workers"),
 ]
 SHARED_OBJECT = "refuse_growth.so"
 # The threads of a run share its jobs otherwise each time, and so they ask for memory a few times more or less.
@@ -99,7 +104,10 @@ def compile_object(folder, name):
 def sweep(folder, program, command, name):
     """Refuses each growth of a command on an example in turn, and prints what it finds; how many runs end wrongly."""
     given = given_to(command, name)
-    right = bundle_end(program, command, given) if command in BUNDLING else right_end(command, name)
+    if command in BUNDLING:
+        right = bundle_end(program, command, given)
+    else:
+        right = asked_end(program, command, given) if command in ASKING else right_end(command, name)
     title = f"{command} {name}"
     ended, _ = run(folder, program, command, given, 0)
     if ended != right:
@@ -170,6 +178,14 @@ def witness_end(program, plan, done):
     if done.returncode != 0 or not done.stdout.startswith(plan) or replay.returncode != 1 or not shows:
         raise Unable(f"refute --bundle answers {done.stdout!r}, and replay to that {replay.stdout!r}")
     return Ended(0, done.stdout, b"")
+
+
+def asked_end(program, command, plan):
+    """How the question ends where nothing is refused: with a yes or a no."""
+    done = subprocess.run(words_of(program, command), input=plan, capture_output=True, timeout=SECONDS, check=False)
+    if done.returncode not in (0, 1) or not done.stdout or done.stderr:
+        raise Unable(f"{command} answers {done.stdout!r}")
+    return Ended(done.returncode, done.stdout, b"")
 
 
 def words_of(program, command):

@@ -1,14 +1,32 @@
 -- What an answer to a plan rests on.
-use Rattle.std.specs.Prelude.{IsTrue}
+use Rattle.std.specs.Prelude.{◌≡◌, ◌≢◌, false, IsTrue}
 use Rattle.job_bodies.specs.Plan.{Plan}
+use Rattle.certificates.specs.Cert.{Cert}
 use Rattle.headline.specs.Accepted.{accepted}
+use Rattle.steady_certificates.specs.Steady.{steady_cert}
 use Rattle.plan_witnesses.specs.Witness.{IsWitness}
 use Rattle.size_search.specs.Sized.{IsFound}
+use Rattle.size_search.specs.Decided.{IsDecided}
+use Rattle.size_search.specs.declared.found.SizesFound.{SizesFound}
+use Rattle.size_search.specs.declared.found.SizesFound.TheVariants.{Found}
 use Rattle.ask_answers.specs.declared.finding.Finding.{Finding}
 use Rattle.ask_answers.specs.declared.finding.Finding.TheVariants.{Safe, NotSafe, NotDecided}
 
--- it is so of the plan: a certificate accepts it; or it has a witness, and what was found of its sizes holds; or only that
+-- what was found of the plan's sizes is so, and decides whether there are any
+pub record IsKnown (plan : Plan) (sizes : SizesFound) : Type 0 where
+  pub is_found : IsFound plan sizes
+  pub is_decided : IsDecided plan sizes
+
+-- a certificate was looked for and none was found: the steady one does not accept the plan, and the sizes that were found are not
+-- the declared ones
+pub record IsOpen (plan : Plan) (sizes : SizesFound) : Type 0 where
+  pub known : IsKnown plan sizes
+  pub not_steady : accepted plan (steady_cert plan) ≡ false
+  pub others : (cert : Cert) → sizes ≢ Found plan cert
+
+-- it is so of the plan: a certificate accepts it; or it has a witness, and what was found of its sizes holds; or neither was found,
+-- and that holds
 abbrev pub IsFinding : Plan → Finding → Type 0
 IsFinding plan (Safe cert) = IsTrue (accepted plan cert)
-IsFinding plan (NotSafe witness sizes) = IsWitness plan witness.events.items witness.ending × IsFound plan sizes
-IsFinding plan (NotDecided sizes) = IsFound plan sizes
+IsFinding plan (NotSafe witness sizes) = IsWitness plan witness.events.items witness.ending × IsKnown plan sizes
+IsFinding plan (NotDecided sizes) = IsOpen plan sizes

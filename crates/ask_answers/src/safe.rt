@@ -1,7 +1,8 @@
 //! What a certificate says of a plan that it accepts, for a person.
 
-use crate::names::{client_name, pool_got, pool_name};
+use crate::names::{client_name, pool_name};
 use crate::payers::{Payers, payers_of};
+use crate::waits::waited_by;
 use certificates::Cert;
 use job_bodies::{Plan, Pool};
 use std::alloc::{AllocError, Global};
@@ -45,7 +46,8 @@ fn places_of(plan: &Plan, bound: &Bound) -> Option<u64> {
     }
 }
 
-fn total_of(plan: &Plan, vector: &Vector) -> Option<u64> {
+/// The total of a vector, where it fits the plan.
+pub(crate) fn total_of(plan: &Plan, vector: &Vector) -> Option<u64> {
     if vector.fits(plan) {
         Some(vector.total(plan))
     } else {
@@ -71,6 +73,7 @@ fn push_bound(
         Some(total) => {
             write!(text, ", queue {queue}: ")?;
             push_most(text, bound, total)?;
+            text.push_str(" (")?;
             push_payers(alloc, text, plan, vector)?;
             text.push_str(")\n")
         }
@@ -78,14 +81,18 @@ fn push_bound(
     }
 }
 
-fn push_most(text: &mut String, bound: &Bound, total: u64) -> Result<(), AllocError> {
+/// How many jobs a bound is of.
+pub(crate) fn push_most(text: &mut String, bound: &Bound, total: u64) -> Result<(), AllocError> {
     match bound {
-        Bound::Standing(_) => write!(text, "up to {total} jobs wait at once ("),
-        Bound::Lifetime(_) => write!(text, "at most {total} jobs are ever given to it ("),
+        Bound::Standing(_) if total == 1 => text.push_str("up to 1 job waits at once"),
+        Bound::Standing(_) => write!(text, "up to {total} jobs wait at once"),
+        Bound::Lifetime(_) if total == 1 => text.push_str("at most 1 job is ever given to it"),
+        Bound::Lifetime(_) => write!(text, "at most {total} jobs are ever given to it"),
     }
 }
 
-fn push_threads(text: &mut String, pool: &Pool) -> Result<(), AllocError> {
+/// How many threads the pool has.
+pub(crate) fn push_threads(text: &mut String, pool: &Pool) -> Result<(), AllocError> {
     let core = pool.core;
     let max = pool.max;
     if core != max {
@@ -141,18 +148,7 @@ fn push_waits(
     pool: &Pool,
     blocked: &Vector,
 ) -> Result<(), AllocError> {
-    let mut waited = vec![in alloc; false; plan.pools().len()]?;
-    for class in plan.classes() {
-        if class.pool == number {
-            for action in class.body.iter().copied() {
-                if let Some(got) = pool_got(plan, class, action)
-                    && got < waited.len()
-                {
-                    waited[got] = true;
-                }
-            }
-        }
-    }
+    let waited = waited_by(alloc, plan, number)?;
     let name = pool.name.as_str();
     write!(text, "  {name} waits for ")?;
     push_waited(text, plan, &waited)?;

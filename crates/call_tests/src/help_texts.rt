@@ -6,7 +6,7 @@ use std::test::*;
 /// What help prints says where to begin, and the help of each command has an example with its answer.
 #[test]
 fn words_that_ask_for_help(rt: HostRuntime) -> Result<(), Fail> {
-    let table: [(&[&str], [&str; 6]); 8] = [
+    let table: [(&[&str], [&str; 6]); 9] = [
         (
             &["sizing", "--help"],
             [
@@ -93,6 +93,17 @@ fn words_that_ask_for_help(rt: HostRuntime) -> Result<(), Fail> {
                 "\nEND\n\nIt answers, with status 1:\n",
                 "\nrefused by pages, after 7 events of 2 clients\n",
                 "\npool pages: threads 1 of 1, idle 1, queued 1 of 1\n",
+            ],
+        ),
+        (
+            &["sizing", "ask", "--help"],
+            [
+                "\nUsage: sizing ask [--strict] [--json | --dot] [--certificate FILE] PLAN [CERTIFICATE]\n",
+                "--json ",
+                "--dot ",
+                "\n  NOT SAFE     a story",
+                "\nFor a build: sizing ask --strict shop.toml\n",
+                "\nEND\n\nIt answers, with status 0:\n\nSAFE\npages: 1 thread, queue 2: up to 2 jobs wait at once (2 browser)\n",
             ],
         ),
     ];

@@ -74,9 +74,16 @@ strict_option = record (new_rule (codes "strict")) { long = Some (codes "strict"
 abbrev pub certificate_option : Rule
 certificate_option = record (new_rule (codes "certificate")) { long = Some (codes "certificate"); action = Some Set; value_names = 1 }
 
+-- the options that ask for another form than lines
+abbrev pub json_option : Rule
+json_option = record (new_rule (codes "json")) { long = Some (codes "json"); action = Some SetTrue }
+
+abbrev pub dot_option : Rule
+dot_option = record (new_rule (codes "dot")) { long = Some (codes "dot"); action = Some SetTrue }
+
 abbrev pub ask_shape : Shape
 ask_shape =
-    (with_rule (with_rule (of_both (codes "ask")) strict_option) certificate_option).top
+    (with_rule (with_rule (with_rule (with_rule (of_both (codes "ask")) strict_option) json_option) dot_option) certificate_option).top
 
 -- the program, with a subcommand for each command
 abbrev pub sizing : App

@@ -1,5 +1,5 @@
 -- The command that the words of a command line name.
-use Rattle.std.specs.Prelude.{ℕ, ◌≤◌, List, [], ◌∷◌, Bool, false, not, ◌&&◌, Option, Some, None, is_some, codes, if◌then◌else◌, option_and_then, option_map}
+use Rattle.std.specs.Prelude.{ℕ, ◌≤◌, List, [], ◌∷◌, Bool, true, false, not, ◌&&◌, Option, Some, None, is_some, codes, if◌then◌else◌, option_and_then, option_map}
 use Rattle.std.specs.Option.{option_map_or}
 use Rattle.std.specs.Str.{bytes_eq}
 use Rattle.std.specs.Str.Parse.{digits_value, without_leading_plus}
@@ -17,6 +17,8 @@ use Rattle.command_line.specs.declared.command.Wanted.TheVariants.{Sizes, Bundle
 use Rattle.command_line.specs.declared.command.Shown.TheVariants as shown
 use Rattle.command_line.specs.declared.command.Given.{Given}
 use Rattle.command_line.specs.declared.command.Given.TheVariants.{PlanAlone, WithCertificate}
+use Rattle.command_line.specs.declared.command.Form.{Form}
+use Rattle.command_line.specs.declared.command.Form.TheVariants.{Words, Json, Dot}
 
 -- the whole number that a text is, where it lies in the range
 abbrev pub number_in : ℕ → ℕ → Text → Option ℕ
@@ -47,9 +49,20 @@ abbrev pub given_among : Option Text → Given
 given_among None = PlanAlone
 given_among (Some name) = WithCertificate
 
+-- the form that these two options ask for, unless both are given
+abbrev pub form_of : Bool → Bool → Option Form
+form_of false false = Some Words
+form_of true false = Some Json
+form_of false true = Some Dot
+form_of true true = None
+
+-- the question in this form
+abbrev pub ask_in : List Row → Form → Command
+ask_in rows form = Ask (given_among (first_of (codes "SECOND") rows)) (record { strict = is_set (codes "strict") rows; form = form })
+
 -- the question of these rows
-abbrev pub ask_named : List Row → Command
-ask_named rows = Ask (given_among (first_of (codes "SECOND") rows)) (is_set (codes "strict") rows)
+abbrev pub ask_named : List Row → Option Command
+ask_named rows = option_map (ask_in rows) (form_of (is_set (codes "json") rows) (is_set (codes "dot") rows))
 
 -- the command that searches or runs, of the subcommand with this name and these rows
 abbrev pub search_named : Text → List Row → Option Command
@@ -58,7 +71,7 @@ search_named name rows =
     else (if bytes_eq name (codes "fit") then Some (fit_with (is_set (codes "bundle") rows))
     else (if bytes_eq name (codes "run") then run_with (number_of (codes "rounds") 1 MOST_ROUNDS rows)
     else (if bytes_eq name (codes "refute") then refute_with (is_set (codes "bundle") rows) (number_of (codes "states") 1 MOST_STATES rows)
-    else (if bytes_eq name (codes "ask") then Some (ask_named rows) else None))))
+    else (if bytes_eq name (codes "ask") then ask_named rows else None))))
 
 -- the command of the subcommand with this name and these rows
 abbrev pub command_named : Text × List Row → Option Command
@@ -109,11 +122,11 @@ certificate_of words = certificate_among (subcommand_of sizing words)
 abbrev pub certificate_asked : Asked → Option Text
 certificate_asked asked = option_map (λ name. name.now) asked.certificate
 
--- a subcommand was entered that names no command with the numbers that it has
+-- a subcommand was entered that names no command with the numbers and options that it has
 abbrev pub is_out_of_range : Option (Text × List Row) → Bool
 is_out_of_range entered = is_some entered && not (is_some (command_among entered))
 
--- the kinds of error that the words may have: those that `clap` gives, and then that of a number out of its range
+-- the kinds of error that the words may have: those that `clap` gives, and then that of a number out of its range or of options that exclude each other
 abbrev pub faults_of : List Text → Kinds
 faults_of words = or_else (fault_of sizing words) (if is_out_of_range (subcommand_of sizing words) then ValueValidation ∷ [] else [])
 

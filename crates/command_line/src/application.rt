@@ -2,7 +2,7 @@
 ghost use Rattle.std.specs.Prelude.{◌≡◌, IfOk, false, codes};
 ghost use Rattle.clap.specs.Words.{app_of, new_app, rule_of, shape_of};
 ghost use Rattle.clap.specs.declared.builder.command.Command.TheViews.{out-Command as fields_of};
-ghost use Rattle.command_line.specs.Application.{ask_shape, bundle_option, certificate_option, certify_shape, check_shape, explain_shape, file_argument, fit_shape, number_option, refute_shape, replay_shape, rounds_option, run_shape, sizing, states_option, strict_option, workers_option};
+ghost use Rattle.command_line.specs.Application.{ask_shape, bundle_option, certificate_option, certify_shape, check_shape, dot_option, explain_shape, file_argument, fit_shape, json_option, number_option, of_both, refute_shape, replay_shape, rounds_option, run_shape, sizing, states_option, strict_option, workers_option};
 
 use crate::command::{MOST_ROUNDS, MOST_STATES, MOST_WORKERS};
 use crate::{ask_help, help, search_help};
@@ -209,11 +209,23 @@ fn states<'a>(alloc: Global) -> Arg<'a>
 {
     number(alloc, "states", 1, MOST_STATES)
         .default_value("100000")
-        .help("How much work the search may do, in states of some 200 steps each, 1 to 10000000")
+        .help("How many states may be searched, 1 to 10000000")
 }
 
 fn ask<'a>(alloc: Global) -> Result<Command<'a>, AllocError>
     ensures shape { IfOk result (λ made. shape_of made ≡ ask_shape) }
+    ensures local { IfOk result (λ made. (fields_of made).has_globals ≡ false) }
+{
+    question(alloc)?
+        .arg(strict(alloc))?
+        .arg(json(alloc))?
+        .arg(dot(alloc))?
+        .arg(certificate(alloc))
+}
+
+// The question, and the texts that it is about.
+fn question<'a>(alloc: Global) -> Result<Command<'a>, AllocError>
+    ensures shape { IfOk result (λ made. shape_of made ≡ (of_both (codes "ask")).top) }
     ensures local { IfOk result (λ made. (fields_of made).has_globals ≡ false) }
 {
     subcommand(
@@ -224,9 +236,7 @@ fn ask<'a>(alloc: Global) -> Result<Command<'a>, AllocError>
         ask_help::ASK_NOTES,
     )
     .arg(plan(alloc))?
-    .arg(second(alloc))?
-    .arg(strict(alloc))?
-    .arg(certificate(alloc))
+    .arg(second(alloc))
 }
 
 // The option that makes a warning a no.
@@ -238,6 +248,27 @@ fn strict<'a>(alloc: Global) -> Arg<'a>
         .long("strict")
         .action(ArgAction::SetTrue)
         .help("A warning is a no: status 1")
+}
+
+// The options that ask for another form than lines.
+fn json<'a>(alloc: Global) -> Arg<'a>
+    ensures rule { rule_of result ≡ json_option }
+    ensures local { result.global ≡ false }
+{
+    Arg::new(alloc, "json")
+        .long("json")
+        .action(ArgAction::SetTrue)
+        .help("Write the whole answer as one object of JSON")
+}
+
+fn dot<'a>(alloc: Global) -> Arg<'a>
+    ensures rule { rule_of result ≡ dot_option }
+    ensures local { result.global ≡ false }
+{
+    Arg::new(alloc, "dot")
+        .long("dot")
+        .action(ArgAction::SetTrue)
+        .help("Write a picture of the plan, for Graphviz")
 }
 
 // The option that names the file for a certificate.

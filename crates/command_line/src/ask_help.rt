@@ -6,8 +6,8 @@ pub(crate) const ASK_ABOUT: &str =
 
 /// How `ask` is called.
 pub(crate) const ASK_USAGE: &str = "\
-sizing ask [--strict] [--certificate FILE] PLAN [CERTIFICATE]
-       sizing ask [--strict] [--certificate FILE] < PLAN";
+sizing ask [--strict] [--json | --dot] [--certificate FILE] PLAN [CERTIFICATE]
+       sizing ask [--strict] [--json | --dot] [--certificate FILE] < PLAN";
 
 /// What `ask` reads and answers, with an example.
 pub(crate) const ASK_NOTES: &str = "\
@@ -18,11 +18,14 @@ Where the text is bad, the answer has a line for each fault that can be seen, as
   shop.toml:17:40: class page, action 2 \"get row\": nothing was submitted as row; did you mean rows?
 with the number of the fault at its end. Else it has a line for each thing that is seldom meant,
 with `warning:` in it, and then
-  SAFE         no submit is ever refused, and no jobs wait only for each other; for each pool what may
-               wait in its queue, and whose jobs these are
+  SAFE         no submit is ever refused, and no jobs wait only for each other; for each pool how
+               many jobs may wait in its queue, and whose jobs these are
   NOT SAFE     a story that ends in a refused submit, or in jobs that wait only for each other, and
                sizes that would do, or why there are none
   NOT DECIDED  neither was found: the sizes may be right; sizes that would do for certain
+
+With `--json` all of that is one object on one line (docs/GUIDE.md lists its keys). With `--dot` the
+answer is the plan as a picture, to be drawn by `dot -Tsvg`; bad text is told as without it.
 
 Exit status:
   0  SAFE (with `--strict`: and no warning)
@@ -52,4 +55,11 @@ name = \"browser\"
 count = 2
 repeat = true
 body = [\"submit render as page\", \"get page\"]
-END";
+END
+
+It answers, with status 0:
+
+SAFE
+pages: 1 thread, queue 2: up to 2 jobs wait at once (2 browser)
+  pages waits for nobody
+no submit is ever refused, and no jobs wait for each other for ever";

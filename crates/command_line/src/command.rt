@@ -19,7 +19,7 @@ pub const DEFAULT_WORKERS: u64 = 4;
 /// The most rounds that a run may have.
 pub const MOST_ROUNDS: u64 = 1_000_000;
 
-/// The most states whose work a search for a witness may be given.
+/// The most states that a search for a witness may be given.
 pub const MOST_STATES: u64 = 10_000_000;
 
 /// What the program is asked to do.
@@ -48,7 +48,7 @@ pub enum Command {
     },
     /// Looks for events that show that a plan is wrong.
     Refute {
-        /// How much work the search may do, in states of some 200 steps each, 1 to 10,000,000, and 100,000 where it is not said.
+        /// How many states may be searched, 1 to 10,000,000, and 100,000 where it is not said.
         states: usize,
         /// What is written of a witness.
         shown: Shown,
@@ -57,8 +57,8 @@ pub enum Command {
     Ask {
         /// Whether a certificate stands behind the plan.
         given: Given,
-        /// Whether a warning is a no.
-        strict: bool,
+        /// How the answer is given.
+        manner: Manner,
     },
 }
 
@@ -103,14 +103,34 @@ pub enum Given {
     WithCertificate,
 }
 
+/// How an answer to the question is given.
+#[derive(Clone, Copy, Debug, PartialEq, Eq)]
+pub struct Manner {
+    /// Whether a warning is a no.
+    pub strict: bool,
+    /// What is written.
+    pub form: Form,
+}
+
+/// What is written of an answer to the question.
+#[derive(Clone, Copy, Debug, PartialEq, Eq)]
+pub enum Form {
+    /// Lines for a person.
+    Words,
+    /// One object of JSON, for a program.
+    Json,
+    /// A picture of the plan, as Graphviz reads it.
+    Dot,
+}
+
 /// Reads the words of a command line, of which the first is the program's name.
 ///
 /// `None` comes where the words name no command. The numbers of a command lie in their ranges.
 ///
 /// # Errors
 ///
-/// Words that `clap` refuses, and a request for help: the `Display` of the error is `clap`'s own
-/// text for the user. Out of memory, where the error's `kind` is `ErrorKind::OutOfMemory`.
+/// Words that `clap` refuses, a number out of its range, `--json` beside `--dot`, and a request for help: the `Display` of the
+/// error is a text for the user. Out of memory, where the error's `kind` is `ErrorKind::OutOfMemory`.
 pub fn read_words<'a>(alloc: Global, words: &'a [&'a str]) -> Result<Option<Asked<'a>>, Error>
     ensures command { IfOk result (λ found. option_map (λ asked. asked.command) found ≡ spec.command_of (map (λ word. word.now) words.now)) }
     ensures files { IfOk result (λ found. IfSome found (λ asked. spec.files_asked asked ≡ spec.files_of (map (λ word. word.now) words.now))) }
@@ -121,7 +141,10 @@ pub fn read_words<'a>(alloc: Global, words: &'a [&'a str]) -> Result<Option<Aske
     let mut sizing = application(alloc)?;
     let matches = sizing.try_get_matches_from_mut(words)?;
     if is_out_of_range(&matches) {
-        return Err(sizing.error(ErrorKind::ValueValidation, "a number is out of its range")?);
+        return Err(sizing.error(
+            ErrorKind::ValueValidation,
+            "a number is out of its range, or `--json` stands beside `--dot`",
+        )?);
     }
     Ok(asked_among(&matches))
 }
@@ -150,7 +173,7 @@ fn file_named<'a>(options: &ArgMatches<'a>, id: &str) -> Option<&'a str>
     options.get_str(id)
 }
 
-// Whether the parse entered a subcommand, and a number of it is out of its range.
+// Whether the parse entered a subcommand, and a number of it is out of its range or two of its options exclude each other.
 fn is_out_of_range(matches: &ArgMatches<'_>) -> bool
     ensures { result ≡ spec.is_out_of_range (subcommand_rows_of matches.now) }
 {
@@ -180,7 +203,7 @@ fn search_among(name: &str, options: &ArgMatches<'_>) -> Option<Command>
         "fit" => Some(fit(options)),
         "run" => run(options),
         "refute" => refute(options),
-        "ask" => Some(ask(options)),
+        "ask" => ask(options),
         _ => None,
     }
 }
@@ -230,12 +253,27 @@ fn refute(options: &ArgMatches<'_>) -> Option<Command>
     })
 }
 
-fn ask(options: &ArgMatches<'_>) -> Command
-    ensures { result ≡ spec.ask_named (rows_of (found_of options.now)) }
+fn ask(options: &ArgMatches<'_>) -> Option<Command>
+    ensures command { result ≡ spec.ask_named (rows_of (found_of options.now)) }
+    ensures in_range { IfSome result spec.IsInRange }
 {
-    Command::Ask {
+    let form = form_of(is_set(options, "json"), is_set(options, "dot"))?;
+    let strict = is_set(options, "strict");
+    Some(Command::Ask {
         given: texts_given(options),
-        strict: is_set(options, "strict"),
+        manner: Manner { strict, form },
+    })
+}
+
+// The form that is asked for, unless these are two.
+fn form_of(json: bool, dot: bool) -> Option<Form>
+    ensures { result ≡ spec.form_of json dot }
+{
+    match (json, dot) {
+        (false, false) => Some(Form::Words),
+        (true, false) => Some(Form::Json),
+        (false, true) => Some(Form::Dot),
+        (true, true) => None,
     }
 }
 

@@ -76,11 +76,10 @@ Or the answer is the line `no fitting sizes found`, and one that says why:
   class NAME submits itself
   client NAME action I: submits for ever, never got
   class NAME action I: submits for ever, never got
-  pool NAME: core above 1000000
-  pool NAME: queue above 1000000
-  no cause was found
-That no sizes were found does not say that the plan is unsafe. Actions are numbered from 0. With
-`--bundle` it may also be the line
+  pool NAME: sizes above 1000000
+With the first three no sizes help. The fourth says that the search came past the limit of a size,
+or of a weight; sizes that it did not find may do. None of them says that the plan is unsafe.
+Actions are numbered from 0. With `--bundle` the answer may also be the line
   no bundle: text too long
 
 Exit status:
@@ -188,19 +187,22 @@ sizing refute [--states N] [--bundle] PLAN
 
 /// What `refute` reads and answers, with an example.
 pub(crate) const REFUTE_NOTES: &str = "\
-PLAN is a plan in TOML. First a certificate is looked for; where one is found the plan is safe, and
-no such events are there. Else the answer is a witness: events from the plan's start, each of them
-possible, of which the last is a submit that is refused, or behind which jobs wait only for each
-other. Its first line says how it ends:
+PLAN is a plan in TOML. First a certificate is looked for. Where one is found the answer is
+  safe: a certificate was found
+Else events are looked for that show the plan to be wrong, from its start, each of them possible:
+the last is a submit that is refused, or after it jobs wait only for each other. Where such events
+are found, the first line says how they end:
   refused by POOL, after N events of M clients
   stuck for ever: J jobs wait only for each other, after N events of M clients
   stuck now: J jobs wait only for each other, after N events of M clients
-Behind it stand what happens, with equal turns told once, how the pools then stand, and who waits
-for whom. No certificate accepts a plan that has a witness.
-
-Or the answer is `not decided`: no certificate and no witness was found, which says nothing of the
-plan. N says how much work the search may do, in states of some 200 steps each; of a small plan it
-makes all its walks anyway.
+After it comes what happens, with equal turns told once, as
+  20 x client browser: submits render (queued)
+then a line for each pool, and who waits for whom, and why for ever or until when:
+  pool pages: threads 1 of 1, idle 1, queued 1 of 1
+  job 0 (outer) waits for job 1 (inner)
+No certificate accepts a plan with such events. Where none are found, the answer is
+  not decided: S states were searched
+which says nothing of the plan. S is at most the N of --states.
 
 With --bundle the plan is written, and behind it a line `%%` and the events, for `sizing replay`.
 

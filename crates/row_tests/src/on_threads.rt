@@ -42,7 +42,9 @@ use std::thread::Threads;
 /// - `refute`, `refute head` and `refute bundle` are a plan's text. Their answer is what the command writes of a witness, whole
 ///   or in its first line, and for a bundle, with the status on a last line; `refute briefly` is the first line where it may go
 ///   through one state alone. `refute and replay` is what `replay` answers to the bundle.
-/// - `ask` and `ask strict` are a plan's text, and `ask with` and `ask with strict` a bundle of one with a certificate. Their answer is what the command writes, with the status on a last line; `ask head` is the first line.
+/// - `ask` and `ask strict` are a plan's text, and `ask with` and `ask with strict` a bundle of one with a certificate. Their
+///   answer is what the command writes, with the status on a last line; `ask head` is the first line. `ask json`, `ask json
+///   strict`, `ask json with` and `ask dot` are the same in another form.
 /// - `certificate` is a plan's text. Its answer is what the check says of the certificate that workers of each number find.
 /// - `sizes` is a plan's text. Its answer is the lines of the sizes that are found, where no certificate is looked for first.
 pub fn answered<R: Threads + Wait + Sync>(

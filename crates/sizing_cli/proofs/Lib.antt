@@ -10,3 +10,4 @@ pub mod RefutedAnswers
 pub mod ServedAnswers
 mod Runs
 mod AskedAnswers
+pub mod OtherSizes

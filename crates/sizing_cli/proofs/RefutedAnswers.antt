@@ -13,15 +13,15 @@ use Rattle.sizing_cli.specs.declared.limits.TheConstants.{MOST_INPUT_BYTES}
 use Rattle.sizing_cli.specs.declared.status.Status.TheVariants.{Done, Refused, Undecided}
 use Rattle.sizing_cli.specs.Answer.{Answer, input_too_long}
 use Rattle.sizing_cli.specs.SafeInput.{IsSafePlan}
-use Rattle.sizing_cli.specs.Certify.{whole_lines}
+use Rattle.sizing_cli.specs.Certify.{IsUncertified, whole_lines}
 use Rattle.sizing_cli.specs.Refute.{not_decided, event_lines_of, AnswersPlan, AnswersReading, BundlesWitness, IsRefuteAnswer, IsWitnessBundle, IsWitnessOf, Refutes, ShowsWitness}
 use Rattle.sizing_cli.proofs.FittedAnswers.{bad_text_is_not_done}
 
 -- the answer to a plan that no certificate was found for, by the witness that was found
-pub answered_by : (states : ℕ) (shown : Shown) (text : List ℕ) (plan : Plan) (answer : Answer) (found : Option Witness) (searched : ℕ) → IfSome found (IsWitnessOf plan) → searched ≤ states
+pub answered_by : (states : ℕ) (shown : Shown) (text : List ℕ) (plan : Plan) (answer : Answer) (found : Option Witness) (searched : ℕ) → IsUncertified plan → IfSome found (IsWitnessOf plan) → searched ≤ states
     → IfSome found (λ witness. ShowsWitness shown text plan witness answer) → IfNone found (answer ≡ not_decided shown searched) → AnswersPlan states shown text plan answer
-answered_by states shown text plan answer (Some witness) searched is_witness within shows nothing = inr (inr (record { witness = witness; is_witness = is_witness; shows = shows }))
-answered_by states shown text plan answer None searched is_witness within shows nothing = inr (inl (record { searched = searched; within = within; told = nothing }))
+answered_by states shown text plan answer (Some witness) searched uncertified is_witness within shows nothing = inr (inr (record { witness = witness; is_witness = is_witness; shows = shows }))
+answered_by states shown text plan answer None searched uncertified is_witness within shows nothing = inr (inl (record { uncertified = uncertified; searched = searched; within = within; told = nothing }))
 
 pub refuted_means_safe : (states : ℕ) (input : List ℕ) (answer : Answer) → IsRefuteAnswer states Story input answer → answer.status ≡ Done → IsSafePlan (whole_lines input)
 refuted_means_safe states input answer is done = by_length (nat_lt MOST_INPUT_BYTES (length input)) is

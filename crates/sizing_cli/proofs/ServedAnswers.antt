@@ -1,5 +1,5 @@
 -- What a command writes is an answer that it may give to what was read, and what status 0 means then.
-use Rattle.std.proofs.Common.{◌≡◌, ℕ, ◌+◌, inl, inr, Bool, true, false, List, length, take, Option, Some, None, Result, Ok, Err, IfOk, IfErr, IfSome, refl, sym, ap, subst, ◌∙◌, arith}
+use Rattle.std.proofs.Common.{◌≡◌, ℕ, ◌+◌, ◌≤◌, inl, inr, Bool, true, false, List, length, take, Option, Some, None, Result, Ok, Err, IfOk, IfErr, IfSome, refl, sym, ap, subst, ◌∙◌, arith}
 use Rattle.std.specs.Prelude.{MatchBool, nat_lt}
 use Rattle.std.specs.Io.KnownBytes.{Appends}
 use Rattle.std.proofs.lemmas.Bool.{cases_lt, lt-ltb}
@@ -22,12 +22,12 @@ use Rattle.sizing_cli.specs.Report.{report, has_report}
 use Rattle.sizing_cli.specs.Certify.{IsCertifyAnswer, IsCertifiedBundle, AnswersReading, AnswersPlan, whole_lines}
 use Rattle.sizing_cli.specs.Fit as fit
 use Rattle.sizing_cli.specs.Refute as refute
-use Rattle.sizing_cli.specs.Served.{IsAnswer, WritesAnswer, WritesFront, MeansSafe}
+use Rattle.sizing_cli.specs.Served.{IsAnswer, IsLeftBy, WritesAnswer, WritesFront, MeansSafe}
 use Rattle.sizing_cli.proofs.PastTheLimit.{answered_whole}
 use Rattle.sizing_cli.proofs.SafeInputs.{yes_means_safe, run_means_safe}
 use Rattle.sizing_cli.proofs.FittedAnswers.{sizes_mean_safe, bundle_means_fitted}
 use Rattle.sizing_cli.proofs.RefutedAnswers.{refuted_means_safe, bundle_means_witness}
-use Rattle.sizing_cli.specs.Ask.{AnswersInput}
+use Rattle.sizing_cli.specs.Ask.{AnswersInput, IsKept}
 use Rattle.sizing_cli.proofs.AskedAnswers.{asked_means_safe}
 
 -- ---- an answer to what was read is one to the whole input
@@ -63,9 +63,31 @@ answered_by_front remaining items (Certify workers) answer front is =
 answered_by_front remaining items (Fit wanted) answer front is = answered_by_length (λ bytes. fit.AnswersReading wanted (plan_of bytes) answer) remaining items items answer front refl is
 answered_by_front remaining items (Refute states shown) answer front is =
     answered_by_length (λ bytes. refute.AnswersReading states shown (whole_lines bytes) (plan_of (whole_lines bytes)) answer) remaining items items answer front refl is
-answered_by_front remaining items (Ask given strict) answer front is =
-    answered_by_length (λ bytes. AnswersInput given strict bytes answer) remaining items items answer front refl is
+answered_by_front remaining items (Ask given manner) answer front is =
+    answered_by_length (λ bytes. AnswersInput given manner bytes answer) remaining items items answer front refl is
 answered_by_front remaining items (Run rounds) answer front is = answered_whole remaining items items (Run rounds) answer front refl is
+
+-- what is left of a front is left of the whole: it is of one that is not too long
+pub left_by_front : (remaining : Option (List ℕ)) (items : List ℕ) (command : Command) (left : Option (List ℕ)) → IfSome remaining (λ input. items ≡ take (MOST_INPUT_BYTES + 1) input)
+    → IsLeftBy command items left → IfSome remaining (λ input. IsLeftBy command input left)
+left_by_front None items command left front is = tt
+left_by_front (Some input) items (Ask given manner) None front is = tt
+left_by_front (Some input) items (Ask given manner) (Some text) front is =
+    let within : length items ≤ MOST_INPUT_BYTES = is.0 in
+    let short : length input ≤ MOST_INPUT_BYTES + 1 = elim (cases_lt (MOST_INPUT_BYTES + 1) (length input)) [
+      | inl long ↦
+          let cut : length items ≡ MOST_INPUT_BYTES + 1 = ap (λ (l : List ℕ). length l) front ∙ length-take-le (MOST_INPUT_BYTES + 1) input (omega arith) in
+          omega (arith, within, cut)
+      | inr short ↦ short
+    ] in
+    subst (λ bytes. IsKept given bytes text) (front ∙ take_all (MOST_INPUT_BYTES + 1) input short) is
+left_by_front (Some input) items Replay left front is = is
+left_by_front (Some input) items Check left front is = is
+left_by_front (Some input) items Explain left front is = is
+left_by_front (Some input) items (Certify workers) left front is = is
+left_by_front (Some input) items (Fit wanted) left front is = is
+left_by_front (Some input) items (Run rounds) left front is = is
+left_by_front (Some input) items (Refute states shown) left front is = is
 
 -- ---- what is written of it
 
@@ -94,7 +116,7 @@ report_is_answer (Certify workers) alone input = absurd cc
 report_is_answer (Fit wanted) alone input = absurd cc
 report_is_answer (Run rounds) alone input = refl
 report_is_answer (Refute states shown) alone input = absurd cc
-report_is_answer (Ask given strict) alone input = absurd cc
+report_is_answer (Ask given manner) alone input = absurd cc
 
 pub report_answered : (result : Result Status ServeFault) (remaining old new : Option (List ℕ)) (command : Command) → has_report command ≡ true
     → IfOk result (λ status. IfSome remaining (λ input. Appends old new (report command input).text × (status ≡ (report command input).status)))
@@ -150,7 +172,7 @@ means_safe (Run rounds) input status old new writes done = run_means_safe rounds
 means_safe (Refute states shown.Story) input status old new writes done = refuted_means_safe states input writes.answer writes.is_answer (sym writes.status_is ∙ done)
 means_safe (Refute states shown.Bundle) input status old new writes done =
     record { text = writes.answer.text; shows = bundle_means_witness states input writes.answer writes.is_answer (sym writes.status_is ∙ done); written = writes.written }
-means_safe (Ask given strict) input status old new writes done = asked_means_safe given strict input writes.answer writes.is_answer (sym writes.status_is ∙ done)
+means_safe (Ask given manner) input status old new writes done = asked_means_safe given manner input writes.answer writes.is_answer (sym writes.status_is ∙ done)
 means_safe (Certify workers) input status old new writes done =
     record { text = writes.answer.text; certified = certified_answer input writes.answer writes.is_answer (sym writes.status_is ∙ done); written = writes.written }
 

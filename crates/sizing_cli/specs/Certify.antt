@@ -9,7 +9,8 @@ use Rattle.certificates.specs.Cert.{Cert}
 use Rattle.cert_text.specs.declared.document.TheConstants.{MOST_TEXT_BYTES}
 use Rattle.cert_text.specs.CertText.{cert_text}
 use Rattle.headline.specs.Accepted.{accepted}
-use Rattle.steady_certificates.specs.Steady.{steady_cert}
+use Rattle.size_search.specs.declared.found.SizesFound.{SizesFound}
+use Rattle.ask_answers.specs.Finding.{IsOpen}
 use Rattle.cert_check.specs.Verdict.{Verdict}
 use Rattle.cert_check.specs.Check.{checked, IsSafeToRun}
 use Rattle.sizing_cli.specs.declared.limits.TheConstants.{MOST_INPUT_BYTES}
@@ -59,14 +60,15 @@ pub record IsTooLong (plan : Plan) : Type 0 where
   pub accepts : IsTrue (accepted plan cert)
   pub long : HasLongText cert
 
--- the plan's steady certificate does not accept it
-abbrev pub IsNotSteady : Plan → Type 0
-IsNotSteady plan = accepted plan (steady_cert plan) ≡ false
+-- sizes were looked for, and the declared ones are not what was found; nor does the steady certificate accept them
+pub record IsUncertified (plan : Plan) : Type 0 where
+  pub sizes : SizesFound
+  pub is_open : IsOpen plan sizes
 
 -- to the text of a plan: a bundle with a certificate; or the line that one is too long, where it is; or the line that none was
--- found, and then the steady one is none
+-- found, and then the steady one is none, and a search for sizes comes to others or to none
 abbrev pub AnswersPlan : List ℕ → Plan → Answer → Type 0
-AnswersPlan text plan answer = ((answer ≡ text_too_long) × IsTooLong plan) ⊎ (((answer ≡ none_found) × IsNotSteady plan) ⊎ IsCertified text answer)
+AnswersPlan text plan answer = ((answer ≡ text_too_long) × IsTooLong plan) ⊎ (((answer ≡ none_found) × IsUncertified plan) ⊎ IsCertified text answer)
 
 abbrev pub AnswersReading : List ℕ → Result Plan PlanFault → Answer → Type 0
 AnswersReading text (Err f) answer = answer ≡ fault (fault_line f)

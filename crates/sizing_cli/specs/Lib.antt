@@ -13,3 +13,4 @@ pub mod ServeFault
 pub mod SoFar
 pub mod Laws
 pub mod Numbers
+pub mod OfSizes

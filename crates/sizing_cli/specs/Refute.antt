@@ -18,7 +18,7 @@ use Rattle.sizing_cli.specs.declared.limits.TheConstants.{MOST_INPUT_BYTES, MOST
 use Rattle.sizing_cli.specs.declared.status.Status.{Status}
 use Rattle.sizing_cli.specs.declared.status.Status.TheVariants.{Done, Refused, Undecided}
 use Rattle.sizing_cli.specs.Answer.{Answer, fault, input_too_long}
-use Rattle.sizing_cli.specs.Certify.{whole_lines}
+use Rattle.sizing_cli.specs.Certify.{IsUncertified, whole_lines}
 
 -- a certificate accepts the plan
 pub record HasCertificate (plan : Plan) : Type 0 where
@@ -47,7 +47,8 @@ abbrev pub not_decided : Shown → ℕ → Answer
 not_decided shown states = record { text = codes "not decided: " ++ (decimal states ++ (were_searched states ++ 10 ∷ [])); status = without_bundle shown Undecided }
 
 -- neither a certificate nor a witness was found in this many states, and no more than may be searched
-pub record IsUndecided (states : ℕ) (shown : Shown) (answer : Answer) : Type 0 where
+pub record IsUndecided (states : ℕ) (shown : Shown) (plan : Plan) (answer : Answer) : Type 0 where
+  pub uncertified : IsUncertified plan
   pub searched : ℕ
   pub within : searched ≤ states
   pub told : answer ≡ not_decided shown searched
@@ -97,7 +98,7 @@ pub record IsWitnessBundle (input text : List ℕ) : Type 0 where
 -- to the text of a plan, where so many states may be searched: that it is safe, where some certificate accepts it; that nothing
 -- is known; or a witness
 abbrev pub AnswersPlan : ℕ → Shown → List ℕ → Plan → Answer → Type 0
-AnswersPlan states shown text plan answer = ((answer ≡ safe_answer shown) × HasCertificate plan) ⊎ (IsUndecided states shown answer ⊎ Refutes shown text plan answer)
+AnswersPlan states shown text plan answer = ((answer ≡ safe_answer shown) × HasCertificate plan) ⊎ (IsUndecided states shown plan answer ⊎ Refutes shown text plan answer)
 
 abbrev pub AnswersReading : ℕ → Shown → List ℕ → Result Plan PlanFault → Answer → Type 0
 AnswersReading states shown text (Err f) answer = answer ≡ fault (fault_line f)

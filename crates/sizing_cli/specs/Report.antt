@@ -96,7 +96,7 @@ is_alone (Certify workers) = false
 is_alone (Fit wanted) = false
 is_alone (Run rounds) = false
 is_alone (Refute states shown) = false
-is_alone (Ask given strict) = false
+is_alone (Ask given manner) = false
 
 -- the command has a report
 abbrev pub has_report : Command → Bool
@@ -107,7 +107,7 @@ has_report (Certify workers) = false
 has_report (Fit wanted) = false
 has_report (Run rounds) = true
 has_report (Refute states shown) = false
-has_report (Ask given strict) = false
+has_report (Ask given manner) = false
 
 -- what stands where there is no report
 abbrev nothing : Answer
@@ -122,7 +122,7 @@ answer_of_plan (Certify workers) second (Ok plan) = nothing
 answer_of_plan (Fit wanted) second (Ok plan) = nothing
 answer_of_plan (Run rounds) second (Ok plan) = run plan rounds second
 answer_of_plan (Refute states shown) second (Ok plan) = nothing
-answer_of_plan (Ask given strict) second (Ok plan) = nothing
+answer_of_plan (Ask given manner) second (Ok plan) = nothing
 
 -- the plan's fault comes before what the second part has to say
 abbrev pub answer_of_bundle : Command → Option Bundle → Answer

@@ -47,7 +47,7 @@ is_of_threads (Certify workers) number = is_of_search number
 is_of_threads (Fit wanted) number = is_of_search number
 is_of_threads (Run rounds) number = is_of_run number
 is_of_threads (Refute states shown) number = is_of_search number
-is_of_threads (Ask given strict) number = is_of_search number
+is_of_threads (Ask given manner) number = is_of_search number
 
 -- a call that serves the command ends with no fault of another number
 abbrev pub is_known_of : Command → ℕ → Bool

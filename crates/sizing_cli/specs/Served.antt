@@ -1,5 +1,5 @@
 -- What is written for a command, and what it means.
-use Rattle.std.specs.Prelude.{◌≡◌, ℕ, List, Option, Ok}
+use Rattle.std.specs.Prelude.{◌≡◌, ℕ, List, Option, Ok, IfSome}
 use Rattle.std.specs.Io.KnownBytes.{Appends}
 use Rattle.byte_streams.specs.Writing.{AppendsFront}
 use Rattle.job_bodies.specs.Plan.{Plan}
@@ -15,7 +15,7 @@ use Rattle.sizing_cli.specs.SafeInput.{IsSafeInput, IsSafePlan}
 use Rattle.sizing_cli.specs.Certify.{IsCertifyAnswer, IsCertifiedBundle, whole_lines}
 use Rattle.sizing_cli.specs.Fit.{IsFitAnswer, IsFittedBundle}
 use Rattle.sizing_cli.specs.Refute.{IsRefuteAnswer, IsWitnessBundle}
-use Rattle.sizing_cli.specs.Ask.{IsAskAnswer, IsSafeAsked}
+use Rattle.sizing_cli.specs.Ask.{IsAskAnswer, IsKept, IsSafeAsked}
 
 -- the answer is one that the command may give to the input
 abbrev pub IsAnswer : Command → List ℕ → Answer → Type 0
@@ -26,7 +26,7 @@ IsAnswer (Certify workers) input answer = IsCertifyAnswer input answer
 IsAnswer (Fit wanted) input answer = IsFitAnswer wanted input answer
 IsAnswer (Run rounds) input answer = answer ≡ report (Run rounds) input
 IsAnswer (Refute states shown) input answer = IsRefuteAnswer states shown input answer
-IsAnswer (Ask given strict) input answer = IsAskAnswer given strict input answer
+IsAnswer (Ask given manner) input answer = IsAskAnswer given manner input answer
 
 -- such an answer was written, and the status is its
 pub record WritesAnswer (command : Command) (input : List ℕ) (status : Status) (old new : Option (List ℕ)) : Type 0 where
@@ -74,4 +74,9 @@ MeansSafe (Fit Bundle) input old new = WritesFitted input old new
 MeansSafe (Run rounds) input old new = IsSafeInput input
 MeansSafe (Refute states shown.Story) input old new = IsSafePlan (whole_lines input)
 MeansSafe (Refute states shown.Bundle) input old new = WritesWitness input old new
-MeansSafe (Ask given strict) input old new = IsSafeAsked given input
+MeansSafe (Ask given manner) input old new = IsSafeAsked given input
+
+-- what `ask` leaves behind is the certificate of the plan that is asked about
+abbrev pub IsLeftBy : Command → List ℕ → Option (List ℕ) → Type 0
+IsLeftBy (Ask given manner) input left = IfSome left (IsKept given input)
+IsLeftBy _ input left = Unit {0}

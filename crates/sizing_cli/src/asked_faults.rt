@@ -6,52 +6,83 @@ ghost use Rattle.sizing_cli.specs.Ask as spec;
 use crate::Status;
 use crate::answer::Answer;
 use crate::output::Output;
+use ask_answers::{fault_json, faults_json};
 use cert_text::CertFault;
+use command_line::Form;
 use faults::number::{CERT_TOO_LONG, NOT_JSON, VERSION, WEIGHT_TOO_LARGE};
 use job_bodies::PlanFault;
 use plan_advice::{Faults, faults_of, push_faults};
 use std::alloc::{AllocError, Global};
 
-/// The faults of a plan's text of which this one is the first, as in a file of this name.
-pub(crate) fn faults_told(
+/// The answer to a plan's text with faults of which this one is the first, as in a file of this name.
+pub(crate) fn faults_answer(
     alloc: Global,
+    form: Form,
     file: &str,
     text: &[u8],
     fault: PlanFault,
 ) -> Result<Output, AllocError>
-    ensures { IfOk result (spec.AnswersFault fault) }
+    ensures { IfOk result (spec.AnswersFault form fault) }
 {
     let faults = faults_of(alloc, text, fault)?;
-    let text = words_of(alloc, file, &faults, fault)?;
-    Ok(Output::of(Answer {
-        text,
-        status: Status::BadText,
-    }))
+    let text = faults_text(alloc, form, file, &faults)?;
+    Ok(bad_text(text))
 }
 
-fn words_of(
-    alloc: Global,
-    file: &str,
-    faults: &Faults,
-    _first: PlanFault,
-) -> Result<String, AllocError>
-    requires { faults.now.first.fault ≡ _first }
-    ensures { IfOk result (λ text. spec.TellsFault _first (string_bytes text)) }
+/// The faults in this form.
+fn faults_text(alloc: Global, form: Form, file: &str, faults: &Faults) -> Result<String, AllocError>
+    ensures { IfOk result (λ text. spec.TellsFaultIn form faults.now.first.fault (string_bytes text)) }
+{
+    match form {
+        Form::Json => faults_json(alloc, file, faults),
+        Form::Words | Form::Dot => faults_lines(alloc, file, faults),
+    }
+}
+
+fn faults_lines(alloc: Global, file: &str, faults: &Faults) -> Result<String, AllocError>
+    ensures { IfOk result (λ text. spec.TellsFault faults.now.first.fault (string_bytes text)) }
 {
     let mut text = String::new(alloc);
     push_faults(&mut text, file, faults)?;
     Ok(text)
 }
 
-/// The fault of a certificate's text.
-pub(crate) fn cert_fault_told(alloc: Global, fault: CertFault) -> Result<Output, AllocError>
-    ensures { IfOk result (spec.AnswersCertFault fault) }
+/// The answer that the text is bad.
+fn bad_text(text: String) -> Output
+    ensures { result ≡ record { text = string_bytes text; status = Status.BadText } }
 {
-    let text = cert_words(alloc, words_for(fault.number), fault)?;
-    Ok(Output::of(Answer {
+    Output::of(Answer {
         text,
         status: Status::BadText,
-    }))
+    })
+}
+
+/// The answer to a certificate's text with this fault, beside the plan in the file of this name.
+pub(crate) fn cert_fault_answer(
+    alloc: Global,
+    form: Form,
+    file: &str,
+    fault: CertFault,
+) -> Result<Output, AllocError>
+    ensures { IfOk result (spec.AnswersCertFault form fault) }
+{
+    let text = cert_fault_text(alloc, form, file, fault)?;
+    Ok(bad_text(text))
+}
+
+fn cert_fault_text(
+    alloc: Global,
+    form: Form,
+    file: &str,
+    fault: CertFault,
+) -> Result<String, AllocError>
+    ensures { IfOk result (λ text. spec.TellsCertFaultIn form fault (string_bytes text)) }
+{
+    let words = words_for(fault.number);
+    match form {
+        Form::Json => fault_json(alloc, file, fault.number, words),
+        Form::Words | Form::Dot => cert_words(alloc, words, fault),
+    }
 }
 
 fn cert_words(alloc: Global, words: &str, fault: CertFault) -> Result<String, AllocError>

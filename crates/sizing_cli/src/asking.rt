@@ -1,6 +1,6 @@
 //! The one question: whether the sizes that a plan declares are safe, from the bytes of a plan to the answer.
 
-ghost use Rattle.std.specs.Prelude.{◌≡◌, IfOk, IfErr, IsTrue, option_map};
+ghost use Rattle.std.specs.Prelude.{◌≡◌, IfOk, IfErr, IfSome, IsTrue, None, option_map};
 ghost use Rattle.plan_text.specs.PlanOf.{plan_of};
 ghost use Rattle.cert_text.specs.CertOf.{cert_of};
 ghost use Rattle.sizing_cli.specs.Ask as spec;
@@ -8,7 +8,7 @@ ghost use Rattle.sizing_cli.specs.ServeFault.{is_of_search};
 
 use crate::ServeFault;
 use crate::answer::{input_too_long, no_separator};
-use crate::asked_faults::{cert_fault_told, faults_told};
+use crate::asked_faults::{cert_fault_answer, faults_answer};
 use crate::bundle::bundle_of;
 use crate::finding::finding_of;
 use crate::found_answer::answer_of;
@@ -16,7 +16,7 @@ use crate::limits::MOST_INPUT_BYTES;
 use crate::output::Output;
 use cert_text::read_cert;
 use certificates::Cert;
-use command_line::Given;
+use command_line::{Given, Manner};
 use faults::number::MEMORY;
 use job_bodies::{Plan, PlanFault};
 use plan_text::read_plan;
@@ -34,7 +34,8 @@ pub struct Replied {
 
 impl Replied {
     fn without(output: Output) -> Replied
-        ensures { result.output ≡ output }
+        ensures output { result.output ≡ output }
+        ensures none { result.certificate ≡ None }
     {
         Replied {
             output,
@@ -52,34 +53,36 @@ pub fn ask<R: Threads + Wait + Sync>(
     rt: &R,
     alloc: Global,
     given: Given,
-    strict: bool,
+    manner: Manner,
     file: &str,
     input: &[u8],
 ) -> Result<Replied, ServeFault>
-    ensures answer { IfOk result (λ replied. spec.IsAskAnswer given strict input.now replied.output) }
+    ensures answer { IfOk result (λ replied. spec.IsAskAnswer given manner input.now replied.output) }
+    ensures kept { IfOk result (λ replied. IfSome replied.certificate (λ kept. spec.IsKept given input.now kept.items)) }
     ensures fault { IfErr result (λ fault. IsTrue (is_of_search fault.number)) }
 {
     if input.len() > MOST_INPUT_BYTES {
         return Ok(Replied::without(Output::of(input_too_long(alloc)?)));
     }
     match given {
-        Given::PlanAlone => ask_text(rt, alloc, strict, file, input, None),
-        Given::WithCertificate => ask_bundle(rt, alloc, strict, file, input),
+        Given::PlanAlone => ask_text(rt, alloc, manner, file, input, None),
+        Given::WithCertificate => ask_bundle(rt, alloc, manner, file, input),
     }
 }
 
 fn ask_bundle<R: Threads + Wait + Sync>(
     rt: &R,
     alloc: Global,
-    strict: bool,
+    manner: Manner,
     file: &str,
     input: &[u8],
 ) -> Result<Replied, ServeFault>
-    ensures answer { IfOk result (λ replied. spec.AnswersInput Given.WithCertificate strict input.now replied.output) }
+    ensures answer { IfOk result (λ replied. spec.AnswersInput Given.WithCertificate manner input.now replied.output) }
+    ensures kept { IfOk result (λ replied. IfSome replied.certificate (λ kept. spec.IsCertificateAsked Given.WithCertificate input.now kept.items)) }
     ensures fault { IfErr result (λ fault. IsTrue (is_of_search fault.number)) }
 {
     match bundle_of(input) {
-        Some(bundle) => ask_text(rt, alloc, strict, file, bundle.plan, Some(bundle.second)),
+        Some(bundle) => ask_text(rt, alloc, manner, file, bundle.plan, Some(bundle.second)),
         None => Ok(Replied::without(Output::of(no_separator(alloc)?))),
     }
 }
@@ -87,18 +90,19 @@ fn ask_bundle<R: Threads + Wait + Sync>(
 fn ask_text<R: Threads + Wait + Sync>(
     rt: &R,
     alloc: Global,
-    strict: bool,
+    manner: Manner,
     file: &str,
     text: &[u8],
     cert: Option<&[u8]>,
 ) -> Result<Replied, ServeFault>
-    ensures answer { IfOk result (λ replied. spec.AnswersReading strict (option_map (λ cert. cert.now) cert.entry) (plan_of text.now) replied.output) }
+    ensures answer { IfOk result (λ replied. spec.AnswersReading manner (option_map (λ cert. cert.now) cert.entry) (plan_of text.now) replied.output) }
+    ensures kept { IfOk result (λ replied. IfSome replied.certificate (λ kept. spec.IsCertificateRead (plan_of text.now) kept.items)) }
     ensures fault { IfErr result (λ fault. IsTrue (is_of_search fault.number)) }
 {
     match read_plan(alloc, text) {
-        Ok(plan) => ask_plan(rt, alloc, strict, file, text, &plan, cert),
+        Ok(plan) => ask_plan(rt, alloc, manner, file, text, &plan, cert),
         Err(fault) if fault == PlanFault::at_text(MEMORY) => Err(ServeFault::from(AllocError)),
-        Err(fault) => Ok(Replied::without(faults_told(alloc, file, text, fault)?)),
+        Err(fault) => Ok(Replied::without(faults_answer(alloc, manner.form, file, text, fault)?)),
     }
 }
 
@@ -106,37 +110,39 @@ fn ask_text<R: Threads + Wait + Sync>(
 fn ask_plan<R: Threads + Wait + Sync>(
     rt: &R,
     alloc: Global,
-    strict: bool,
+    manner: Manner,
     file: &str,
     text: &[u8],
     plan: &Plan,
     cert: Option<&[u8]>,
 ) -> Result<Replied, ServeFault>
-    ensures answer { IfOk result (λ replied. spec.AnswersGiven strict (option_map (λ cert. cert.now) cert.entry) plan.now replied.output) }
+    ensures answer { IfOk result (λ replied. spec.AnswersGiven manner (option_map (λ cert. cert.now) cert.entry) plan.now replied.output) }
+    ensures kept { IfOk result (λ replied. IfSome replied.certificate (λ kept. spec.IsCertificateOf plan.now kept.items)) }
     ensures fault { IfErr result (λ fault. IsTrue (is_of_search fault.number)) }
 {
     match cert {
-        Some(cert) => ask_with(rt, alloc, strict, file, text, plan, cert),
-        None => ask_found(rt, alloc, strict, file, text, plan, None),
+        Some(cert) => ask_with(rt, alloc, manner, file, text, plan, cert),
+        None => ask_found(rt, alloc, manner, file, text, plan, None),
     }
 }
 
 fn ask_with<R: Threads + Wait + Sync>(
     rt: &R,
     alloc: Global,
-    strict: bool,
+    manner: Manner,
     file: &str,
     text: &[u8],
     plan: &Plan,
     cert: &[u8],
 ) -> Result<Replied, ServeFault>
-    ensures answer { IfOk result (λ replied. spec.AnswersCert strict plan.now (cert_of cert.now plan.now) replied.output) }
+    ensures answer { IfOk result (λ replied. spec.AnswersCert manner plan.now (cert_of cert.now plan.now) replied.output) }
+    ensures kept { IfOk result (λ replied. IfSome replied.certificate (λ kept. spec.IsCertificateOf plan.now kept.items)) }
     ensures fault { IfErr result (λ fault. IsTrue (is_of_search fault.number)) }
 {
     match read_cert(alloc, cert, plan) {
-        Ok(cert) => ask_found(rt, alloc, strict, file, text, plan, Some(cert)),
+        Ok(cert) => ask_found(rt, alloc, manner, file, text, plan, Some(cert)),
         Err(fault) if fault.number == MEMORY => Err(ServeFault::from(AllocError)),
-        Err(fault) => Ok(Replied::without(cert_fault_told(alloc, fault)?)),
+        Err(fault) => Ok(Replied::without(cert_fault_answer(alloc, manner.form, file, fault)?)),
     }
 }
 
@@ -144,20 +150,21 @@ fn ask_with<R: Threads + Wait + Sync>(
 fn ask_found<R: Threads + Wait + Sync>(
     rt: &R,
     alloc: Global,
-    strict: bool,
+    manner: Manner,
     file: &str,
     text: &[u8],
     plan: &Plan,
     cert: Option<Cert>,
 ) -> Result<Replied, ServeFault>
-    ensures answer { IfOk result (λ replied. spec.AnswersPlan strict plan.now replied.output) }
+    ensures answer { IfOk result (λ replied. spec.AnswersPlan manner plan.now replied.output) }
+    ensures kept { IfOk result (λ replied. IfSome replied.certificate (λ kept. spec.IsCertificateOf plan.now kept.items)) }
     ensures fault { IfErr result (λ fault. IsTrue (is_of_search fault.number)) }
 {
     let is_given = cert.is_some();
     let (finding, holds) = finding_of(rt, alloc, plan, cert)?;
     Ok(answer_of(
         alloc,
-        strict,
+        manner,
         file,
         text,
         plan,

@@ -1,8 +1,11 @@
 //! A certificate of a plan as it is.
 
-ghost use Rattle.std.specs.Prelude.{◌≤◌, IfOk, IfErr, IfSome, IfNone, IsTrue};
+ghost use Rattle.std.specs.Prelude.{◌≡◌, ◌≤◌, IfOk, IfErr, IfSome, IfNone, IsTrue, false};
 ghost use Rattle.headline.specs.Accepted.{accepted};
-ghost use Rattle.sizing_cli.specs.Certify.{IsNotSteady};
+ghost use Rattle.steady_certificates.specs.Steady.{steady_cert};
+ghost use Rattle.ask_answers.specs.Finding.{IsKnown};
+ghost use Rattle.sizing_cli.specs.Certify.{IsUncertified};
+ghost use Rattle.sizing_cli.specs.OfSizes as spec;
 ghost use Rattle.sizing_cli.specs.ServeFault.{is_of_search};
 
 use crate::ServeFault;
@@ -31,28 +34,50 @@ pub(crate) fn certificate_of<R: Threads + Wait + Sync>(
     requires some { 1 ≤ workers }
     requires most { workers ≤ 64 }
     ensures accepted { IfOk result (λ found. IfSome found (λ cert. IsTrue (accepted plan.now cert))) }
-    ensures none { IfOk result (λ found. IfNone found (IsNotSteady plan.now)) }
+    ensures none { IfOk result (λ found. IfNone found (IsUncertified plan.now)) }
     ensures fault { IfErr result (λ fault. IsTrue (is_of_search fault.number)) }
 {
-    if let Some(cert) = search(rt, alloc, plan, workers, &AtOnce)? {
-        return Ok(Some(cert));
+    match search(rt, alloc, plan, workers, &AtOnce)? {
+        Some(cert) => Ok(Some(cert)),
+        None => Ok(unchanged(alloc, plan)?),
     }
-    if let Some(cert) = unchanged(alloc, plan)? {
-        return Ok(Some(cert));
-    }
-    Ok(None)
 }
 
 /// What the search for sizes finds, where it changes none.
 fn unchanged(alloc: Global, plan: &Plan) -> Result<Option<Cert>, AllocError>
-    ensures { IfOk result (λ found. IfSome found (λ cert. IsTrue (accepted plan.now cert))) }
+    requires { accepted plan.now (steady_cert plan.now) ≡ false }
+    ensures accepted { IfOk result (λ found. IfSome found (λ cert. IsTrue (accepted plan.now cert))) }
+    ensures none { IfOk result (λ found. IfNone found (IsUncertified plan.now)) }
 {
-    match search_sizes(alloc, plan, None)? {
-        SizesFound::Found { plan: _, cert } => Ok(if accepts(plan, &cert) {
-            Some(cert)
-        } else {
-            None
-        }),
-        SizesFound::NotFound(_) => Ok(None),
+    let sizes = search_sizes(alloc, plan, None)?;
+    Ok(match as_declared(plan, sizes) {
+        Declared::Accepted(cert) => Some(cert),
+        Declared::Other(_sizes) => None,
+    })
+}
+
+/// What sizes that were found say of the declared ones.
+pub(crate) enum Declared {
+    /// The certificate of these sizes accepts the declared ones too.
+    Accepted(Cert),
+    /// These are others, or there are none.
+    Other(SizesFound),
+}
+
+/// What sizes that were found for a plan say of its own.
+pub(crate) fn as_declared(plan: &Plan, sizes: SizesFound) -> Declared
+    requires known { IsKnown plan.now sizes }
+    requires not_steady { accepted plan.now (steady_cert plan.now) ≡ false }
+    ensures { spec.IsSaid plan.now result }
+{
+    match sizes {
+        SizesFound::Found { plan: fit, cert } => {
+            if accepts(plan, &cert) {
+                Declared::Accepted(cert)
+            } else {
+                Declared::Other(SizesFound::Found { plan: fit, cert })
+            }
+        }
+        SizesFound::NotFound(cause) => Declared::Other(SizesFound::NotFound(cause)),
     }
 }

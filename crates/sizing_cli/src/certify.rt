@@ -99,7 +99,7 @@ fn found_text<R: Threads + Wait + Sync>(
     requires some { 1 ≤ workers }
     requires most { workers ≤ 64 }
     ensures too_long { IfOk result (λ found. found ≡ Found.TooLong → spec.IsTooLong plan.now) }
-    ensures nothing { IfOk result (λ found. found ≡ Found.Nothing → spec.IsNotSteady plan.now) }
+    ensures nothing { IfOk result (λ found. found ≡ Found.Nothing → spec.IsUncertified plan.now) }
     ensures fault { IfErr result (λ fault. IsTrue (is_of_search fault.number)) }
 {
     let Some(cert) = certificate_of(rt, alloc, workers, plan)? else {

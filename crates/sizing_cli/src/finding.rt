@@ -1,12 +1,14 @@
 //! What is found of a plan with its declared sizes.
 
-ghost use Rattle.std.specs.Prelude.{IfOk, IfErr, IsTrue};
-ghost use Rattle.size_search.specs.Sized.{IsFound};
-ghost use Rattle.ask_answers.specs.Finding.{IsFinding};
+ghost use Rattle.std.specs.Prelude.{◌≡◌, IfOk, IfErr, IsTrue, false};
+ghost use Rattle.headline.specs.Accepted.{accepted};
+ghost use Rattle.steady_certificates.specs.Steady.{steady_cert};
+ghost use Rattle.ask_answers.specs.Finding.{IsFinding, IsKnown};
 ghost use Rattle.sizing_cli.specs.ServeFault.{is_of_search};
 
 use crate::ServeFault;
 use crate::at_once::AtOnce;
+use crate::certificate::{Declared, as_declared};
 use crate::witness::witness_of;
 use ask_answers::Finding;
 use cert_check::accepts;
@@ -15,7 +17,7 @@ use certificates::Cert;
 use command_line::DEFAULT_WORKERS;
 use job_bodies::Plan;
 use size_search::{SizesFound, search_sizes};
-use std::alloc::Global;
+use std::alloc::{AllocError, Global};
 use std::sync::Wait;
 use std::thread::Threads;
 
@@ -56,9 +58,17 @@ fn searched<R: Threads + Wait + Sync>(
     ensures finding { IfOk result (IsFinding plan.now) }
     ensures fault { IfErr result (λ fault. IsTrue (is_of_search fault.number)) }
 {
-    if let Some(cert) = search(rt, alloc, plan, WORKERS, &AtOnce)? {
-        return Ok(Finding::Safe(cert));
+    match search(rt, alloc, plan, WORKERS, &AtOnce)? {
+        Some(cert) => Ok(Finding::Safe(cert)),
+        None => Ok(without_certificate(alloc, plan)?),
     }
+}
+
+/// What is found of a plan for which the search for a certificate finds none: a witness, or what sizes say.
+fn without_certificate(alloc: Global, plan: &Plan) -> Result<Finding, AllocError>
+    requires { accepted plan.now (steady_cert plan.now) ≡ false }
+    ensures { IfOk result (IsFinding plan.now) }
+{
     let witness = witness_of(alloc, plan, STATES)?.witness;
     let sizes = search_sizes(alloc, plan, None)?;
     Ok(match witness {
@@ -69,17 +79,12 @@ fn searched<R: Threads + Wait + Sync>(
 
 /// What sizes say of a plan without a witness: the declared ones may be among them.
 fn without_witness(plan: &Plan, sizes: SizesFound) -> Finding
-    requires { IsFound plan.now sizes }
+    requires known { IsKnown plan.now sizes }
+    requires not_steady { accepted plan.now (steady_cert plan.now) ≡ false }
     ensures { IsFinding plan.now result }
 {
-    match sizes {
-        SizesFound::Found { plan: fit, cert } => {
-            if accepts(plan, &cert) {
-                Finding::Safe(cert)
-            } else {
-                Finding::NotDecided(SizesFound::Found { plan: fit, cert })
-            }
-        }
-        SizesFound::NotFound(cause) => Finding::NotDecided(SizesFound::NotFound(cause)),
+    match as_declared(plan, sizes) {
+        Declared::Accepted(cert) => Finding::Safe(cert),
+        Declared::Other(sizes) => Finding::NotDecided(sizes),
     }
 }

@@ -1,6 +1,7 @@
 //! The answer to a plan by what was found of it.
 
-ghost use Rattle.std.specs.Prelude.{◌≡◌, IfOk, string_bytes};
+ghost use Rattle.std.specs.Prelude.{◌≡◌, IfOk, IfSome, string_bytes};
+ghost use Rattle.job_bodies.specs.Plan.{Plan as PlanValue};
 ghost use Rattle.ask_answers.specs.Finding.{IsFinding};
 ghost use Rattle.sizing_cli.specs.Ask as spec;
 
@@ -8,8 +9,9 @@ use crate::Status;
 use crate::answer::Answer;
 use crate::asking::Replied;
 use crate::output::Output;
-use ask_answers::{Finding, needed_places, told};
+use ask_answers::{Finding, finding_json, needed_places, picture_of, told};
 use cert_text::{MOST_TEXT_BYTES, write_cert};
+use command_line::{Form, Manner};
 use job_bodies::Plan;
 use plan_advice::{Warning, push_warnings, warnings_of};
 use plan_places::Place;
@@ -19,7 +21,7 @@ use std::alloc::{AllocError, Global};
 /// given is stale where it is not the one that the answer rests on.
 pub(crate) fn answer_of(
     alloc: Global,
-    strict: bool,
+    manner: Manner,
     file: &str,
     text: &[u8],
     plan: &Plan,
@@ -27,10 +29,11 @@ pub(crate) fn answer_of(
     is_stale: bool,
 ) -> Result<Replied, AllocError>
     requires { IsFinding plan.now finding.now }
-    ensures { IfOk result (λ replied. spec.AnswersPlan strict plan.now replied.output) }
+    ensures answer { IfOk result (λ replied. spec.AnswersPlan manner plan.now replied.output) }
+    ensures kept { IfOk result (λ replied. IfSome replied.certificate (λ kept. spec.IsCertificateOf plan.now kept.items)) }
 {
     let warnings = warnings_for(alloc, text, plan, finding, is_stale)?;
-    let answer = answer_with(alloc, strict, file, plan, finding, &warnings)?;
+    let answer = answer_with(alloc, manner, file, plan, finding, &warnings)?;
     let certificate = kept(alloc, finding)?;
     Ok(Replied {
         output: Output::of(answer),
@@ -60,18 +63,35 @@ fn warnings_for(
 /// The answer with these warnings.
 fn answer_with(
     alloc: Global,
-    strict: bool,
+    manner: Manner,
     file: &str,
     plan: &Plan,
     finding: &Finding,
     warnings: &[Warning],
 ) -> Result<Answer, AllocError>
     requires { IsFinding plan.now finding.now }
-    ensures { IfOk result (spec.AnswersPlan strict plan.now) }
+    ensures { IfOk result (spec.AnswersPlan manner plan.now) }
 {
-    let text = words_of(alloc, file, plan, finding, warnings)?;
-    let status = status_of(strict, warnings, finding);
+    let text = text_of(alloc, manner.form, file, plan, finding, warnings)?;
+    let status = status_of(manner.strict, warnings, finding);
     Ok(Answer { text, status })
+}
+
+fn text_of(
+    alloc: Global,
+    form: Form,
+    file: &str,
+    plan: &Plan,
+    finding: &Finding,
+    warnings: &[Warning],
+) -> Result<String, AllocError>
+    ensures { IfOk result (λ text. spec.TellsFindingIn form plan.now warnings.now finding.now (string_bytes text)) }
+{
+    match form {
+        Form::Words => words_of(alloc, file, plan, finding, warnings),
+        Form::Json => finding_json(alloc, file, plan, finding, warnings),
+        Form::Dot => picture_of(alloc, plan, finding),
+    }
 }
 
 fn words_of(
@@ -107,7 +127,9 @@ fn status_of(strict: bool, warnings: &[Warning], finding: &Finding) -> Status
 }
 
 /// The text of the certificate that the answer rests on, with a newline, where it is not too long to be read.
-fn kept(alloc: Global, finding: &Finding) -> Result<Option<Vec<u8>>, AllocError> {
+fn kept(alloc: Global, finding: &Finding) -> Result<Option<Vec<u8>>, AllocError>
+    ensures { IfOk result (λ kept. IfSome kept (λ text. (plan : PlanValue) → IsFinding plan finding.now → spec.IsCertificateOf plan text.items)) }
+{
     let Finding::Safe(cert) = finding else {
         return Ok(None);
     };

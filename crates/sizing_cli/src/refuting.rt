@@ -1,17 +1,17 @@
 //! The search for a witness, from the bytes of a plan to its story or to a bundle.
 
 ghost use Rattle.std.specs.Prelude.{◌≡◌, ◌++◌, ◌∷◌, IfOk, IfErr, IfSome, IfNone, IsTrue, codes};
+ghost use Rattle.sizing_cli.specs.Certify.{IsUncertified};
 ghost use Rattle.sizing_cli.specs.Refute as spec;
 ghost use Rattle.sizing_cli.specs.ServeFault.{is_of_search};
 
 use crate::answer::{Answer, input_too_long, plan_fault};
-use crate::at_once::AtOnce;
+use crate::certificate::certificate_of;
 use crate::certify::whole_lines;
 use crate::limits::{MOST_EVENT_BYTES, MOST_INPUT_BYTES};
 use crate::output::Output;
 use crate::witness::{Sought, witness_of};
 use crate::{ServeFault, Status};
-use cert_search::search;
 use command_line::{DEFAULT_WORKERS, Shown};
 use faults::number::MEMORY;
 use job_bodies::{Plan, PlanFault};
@@ -64,9 +64,23 @@ fn refute_plan<R: Threads + Wait + Sync>(
     ensures answer { IfOk result (spec.AnswersPlan states shown text.items plan.now) }
     ensures fault { IfErr result (λ fault. IsTrue (is_of_search fault.number)) }
 {
-    if search(rt, alloc, plan, WORKERS, &AtOnce)?.is_some() {
-        return Ok(Output::of(safe(alloc, shown)?));
+    match certificate_of(rt, alloc, WORKERS, plan)? {
+        Some(_cert) => Ok(Output::of(safe(alloc, shown)?)),
+        None => Ok(without_certificate(alloc, states, shown, plan, text)?),
     }
+}
+
+/// The answer to the text of a plan that no certificate was found for.
+fn without_certificate(
+    alloc: Global,
+    states: usize,
+    shown: Shown,
+    plan: &Plan,
+    text: Vec<u8>,
+) -> Result<Output, AllocError>
+    requires { IsUncertified plan.now }
+    ensures { IfOk result (spec.AnswersPlan states shown text.items plan.now) }
+{
     let sought = witness_of(alloc, plan, states)?;
     Ok(answer_of(alloc, shown, plan, sought, text)?)
 }

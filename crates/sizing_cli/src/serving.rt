@@ -1,13 +1,13 @@
 //! Serves one input to any command.
 
-ghost use Rattle.std.specs.Prelude.{◌≡◌, ◌≢◌, ◌+◌, IfOk, IfErr, IfSome, IsTrue, false};
+ghost use Rattle.std.specs.Prelude.{◌≡◌, ◌≢◌, ◌+◌, IfOk, IfErr, IfSome, IsTrue, false, option_map};
 ghost use Rattle.std.specs.Io.KnownBytes.{Keeps};
 ghost use Rattle.byte_streams.specs.Reading.{ConsumesAtMost};
 ghost use Rattle.command_line.specs.Command.{IsInRange};
 ghost use Rattle.sizing_cli.specs.Report.{is_alone};
 ghost use Rattle.sizing_cli.specs.ServeFault.{count_of, is_known_of, is_of_search, is_of_threads};
-ghost use Rattle.sizing_cli.specs.Ask.{IsAskAnswer};
-ghost use Rattle.sizing_cli.specs.Served.{IsAnswer, MeansSafe, WritesAnswer, WritesFront};
+ghost use Rattle.sizing_cli.specs.Ask.{IsAskAnswer, IsKept};
+ghost use Rattle.sizing_cli.specs.Served.{IsAnswer, IsLeftBy, MeansSafe, WritesAnswer, WritesFront};
 
 use crate::alone::serve_alone;
 use crate::asking::{Replied, ask};
@@ -19,7 +19,7 @@ use crate::refuting::refute;
 use crate::running::run_report;
 use crate::status::{ServeFault, Status};
 use byte_streams::{Sink, Source, read_up_to, write_all};
-use command_line::{Command, Given};
+use command_line::{Command, Given, Manner};
 use faults::number::{READ_FAILED, WRITE_FAILED};
 use std::alloc::Global;
 use std::sync::Wait;
@@ -102,6 +102,9 @@ pub fn serve_named<R: Threads + Wait + Sync, S: Source, K: Sink>(
     // `check` answers yes to a bundle of `certify` or `fit`.
     ensures safe { IfOk result (λ status. status ≡ Status.Done → IfSome (S.remaining source.old) (λ input. MeansSafe command input (K.written sink.old) (K.written sink.new))) }
 
+    // The certificate that `ask` leaves behind is one that accepts the plan that is asked about.
+    ensures left { IfOk result (λ _. IfSome (S.remaining source.old) (λ input. IsLeftBy command input (option_map (λ text. text.items) certificate.new))) }
+
     // No fault comes but 20, 60 and 61, of `certify`, `fit` and `refute` 42 and 43 too, and of `run` 41, 42 and 43; and 60 and 61 just
     // where the source and the sink failed.
     ensures known { IfErr result (λ fault. IsTrue (is_known_of command fault.number)) }
@@ -136,6 +139,7 @@ fn serve_on_threads<R: Threads + Wait + Sync, S: Source, K: Sink>(
 ) -> Result<Status, ServeFault>
     requires in_range { IsInRange command }
     requires on_threads { is_alone command ≡ false }
+    ensures left { IfOk result (λ _. IfSome (S.remaining source.old) (λ input. IsLeftBy command input (option_map (λ text. text.items) certificate.new))) }
     ensures answered { IfOk result (λ status. IfSome (S.remaining source.old) (λ input. WritesAnswer command input status (K.written sink.old) (K.written sink.new))) }
     ensures front { IfErr result (λ fault. fault.number ≡ WRITE_FAILED → IfSome (S.remaining source.old) (λ input. WritesFront command input (K.written sink.old) (K.written sink.new))) }
     ensures nothing { IfErr result (λ fault. fault.number ≢ WRITE_FAILED → Keeps (K.written sink.old) (K.written sink.new)) }
@@ -162,6 +166,7 @@ fn answer_on_threads<R: Threads + Wait + Sync>(
     requires in_range { IsInRange command }
     requires on_threads { is_alone command ≡ false }
     ensures answer { IfOk result (IsAnswer command input.items) }
+    ensures left { IfOk result (λ _. IsLeftBy command input.items (option_map (λ text. text.items) certificate.new)) }
     ensures fault { IfErr result (λ fault. IsTrue (is_of_threads command fault.number)) }
 {
     match command {
@@ -169,8 +174,8 @@ fn answer_on_threads<R: Threads + Wait + Sync>(
         Command::Fit { wanted } => fit(rt, alloc, wanted, &input),
         Command::Run { rounds } => Ok(Output::of(run_report(rt, alloc, rounds, &input)?)),
         Command::Refute { states, shown } => refute(rt, alloc, states, shown, input),
-        Command::Ask { given, strict } => {
-            asked(rt, alloc, given, strict, file, certificate, &input)
+        Command::Ask { given, manner } => {
+            asked(rt, alloc, given, manner, file, certificate, &input)
         }
         Command::Replay | Command::Check | Command::Explain => unreachable!(),
     }
@@ -181,18 +186,19 @@ fn asked<R: Threads + Wait + Sync>(
     rt: &R,
     alloc: Global,
     given: Given,
-    strict: bool,
+    manner: Manner,
     file: &str,
     certificate: &mut Option<Vec<u8>>,
     input: &[u8],
 ) -> Result<Output, ServeFault>
-    ensures answer { IfOk result (IsAskAnswer given strict input.now) }
+    ensures answer { IfOk result (IsAskAnswer given manner input.now) }
+    ensures left { IfOk result (λ _. IfSome (option_map (λ text. text.items) certificate.new) (IsKept given input.now)) }
     ensures fault { IfErr result (λ fault. IsTrue (is_of_search fault.number)) }
 {
     let Replied {
         output,
         certificate: found,
-    } = ask(rt, alloc, given, strict, file, input)?;
+    } = ask(rt, alloc, given, manner, file, input)?;
     *certificate = found;
     Ok(output)
 }

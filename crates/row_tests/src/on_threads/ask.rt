@@ -1,31 +1,23 @@
 //! Plans of which the one question is asked.
 
+ghost use Rattle.command_line.specs.Command.{IsInRange};
+
 use crate::on_threads::ended::Ended;
 use crate::on_threads::fit::served;
-use sizing_cli::{Command, Given};
+use sizing_cli::{Command, Form, Given, Manner};
 use std::alloc::{AllocError, Global};
 use std::sync::Wait;
 use std::thread::Threads;
 
-const ASK: Command = Command::Ask {
-    given: Given::PlanAlone,
-    strict: false,
-};
-
-const STRICT: Command = Command::Ask {
-    given: Given::PlanAlone,
-    strict: true,
-};
-
-const WITH: Command = Command::Ask {
-    given: Given::WithCertificate,
-    strict: false,
-};
-
-const WITH_STRICT: Command = Command::Ask {
-    given: Given::WithCertificate,
-    strict: true,
-};
+/// The question of a plan alone, or of a plan with a certificate.
+fn question(given: Given, strict: bool, form: Form) -> Command
+    ensures { IsInRange result }
+{
+    Command::Ask {
+        given,
+        manner: Manner { strict, form },
+    }
+}
 
 /// What `ask` answers to an input of this kind, where it is one.
 pub fn asked<R: Threads + Wait + Sync>(
@@ -34,12 +26,21 @@ pub fn asked<R: Threads + Wait + Sync>(
     kind: &str,
     input: &[u8],
 ) -> Result<String, AllocError> {
+    let plan = Given::PlanAlone;
+    let both = Given::WithCertificate;
     match kind {
-        "ask" => served(rt, alloc, ASK, input),
-        "ask strict" => served(rt, alloc, STRICT, input),
-        "ask head" => Ended::of_input(rt, alloc, ASK, input)?.first_line(alloc),
-        "ask with" => served(rt, alloc, WITH, input),
-        "ask with strict" => served(rt, alloc, WITH_STRICT, input),
+        "ask" => served(rt, alloc, question(plan, false, Form::Words), input),
+        "ask strict" => served(rt, alloc, question(plan, true, Form::Words), input),
+        "ask head" => {
+            let command = question(plan, false, Form::Words);
+            Ended::of_input(rt, alloc, command, input)?.first_line(alloc)
+        }
+        "ask with" => served(rt, alloc, question(both, false, Form::Words), input),
+        "ask with strict" => served(rt, alloc, question(both, true, Form::Words), input),
+        "ask json" => served(rt, alloc, question(plan, false, Form::Json), input),
+        "ask json strict" => served(rt, alloc, question(plan, true, Form::Json), input),
+        "ask json with" => served(rt, alloc, question(both, false, Form::Json), input),
+        "ask dot" => served(rt, alloc, question(plan, false, Form::Dot), input),
         _ => String::from_str(alloc, "no such kind of input"),
     }
 }

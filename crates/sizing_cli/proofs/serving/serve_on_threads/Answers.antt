@@ -1,7 +1,7 @@
 use Rattle.std.proofs.Common.{◌∙◌, ap}
 use Rattle.sizing_cli.specs.Answer.{Answer}
 use Rattle.sizing_cli.proofs.PastTheLimit.{if_err}
-use Rattle.sizing_cli.proofs.ServedAnswers.{answered_by_front, wrote_answer, wrote_answer_front}
+use Rattle.sizing_cli.proofs.ServedAnswers.{answered_by_front, left_by_front, wrote_answer, wrote_answer_front}
 use Rattle.sizing_cli.proofs.serving.serve_on_threads.Goals as goal
 
 pub returns-in_err-write_all-clause-front : goal.returns-in_err-write_all-clause-front
@@ -19,3 +19,7 @@ returns-clause-answered g c =
     (c.deref.ensures.value ∙ ap (λ (a : Answer). a.text) c.output.view_is)
     (ap (λ (a : Answer). a.status) c.output.view_is)
     c.in_ok-write_all.ensures.ok
+
+pub returns-clause-left : goal.returns-clause-left
+returns-clause-left g c =
+    left_by_front (g.S.Source.remaining c.args.source.now) c.in_ok-input.input.items c.args.command _ c.in_ok-input.ensures.front c.in_ok-output.ensures.left

@@ -1,0 +1,151 @@
+#!/usr/bin/env python3
+"""Holds what `sizing ask` writes in its three forms against each other.
+
+    python3 checks/forms.py
+
+Of each plan of ../examples and of mistakes/:
+
+- `ask --json` writes one object on one line, which Python's json reads, with the same keys each time. Its answer, its faults and
+  its warnings are those of `ask`, place by place and word by word, and so is the status.
+- What clients and threads pay for a bound adds up to it, and a standing bound is within the queue.
+- The events of a witness end in a refusal or in jobs that are stuck, by `sizing replay`.
+- The sizes are those of `sizing fit`.
+- `ask --dot` writes a graph that Graphviz draws, where `dot` is installed, with each pool, class and kind of clients in it.
+
+The program is crates/sizing/out/sizing, or the one that the environment variable SIZING names.
+
+Exit status: 0 where all is so, 1 where something is not, 2 where there is no program.
+"""
+
+import json
+import re
+import shutil
+import subprocess
+import sys
+from pathlib import Path
+
+sys.dont_write_bytecode = True
+
+from asking import built_program
+
+HERE = Path(__file__).resolve().parent
+KEYS = ["answer", "faults", "file", "pools", "sizes", "warnings", "witness"]
+POOL_KEYS = ["blocked", "bound", "core", "max", "name", "prestart", "queue", "waits_for"]
+ANSWERS = {"SAFE", "NOT SAFE", "NOT DECIDED"}
+SECONDS = 120
+
+
+def main():
+    if not (program := built_program()):
+        return 2
+    dot = shutil.which("dot")
+    plans = sorted([*(HERE.parent / "examples").glob("*.toml"), *(HERE / "mistakes").glob("*.toml")])
+    wrong = 0
+    for plan in plans:
+        for difference in differences(program, dot, plan):
+            print(f"{plan.name}: {difference}")
+            wrong += 1
+    drawn = "each drawn by Graphviz" if dot else "no picture drawn: there is no `dot` (apt-get install graphviz)"
+    print(f"{len(plans)} plans, {wrong} differences, {drawn}")
+    return 1 if wrong or not plans else 0
+
+
+def differences(program, dot, plan):
+    """What is wrong with the answers to a plan."""
+    words = asked(program, plan)
+    told = asked(program, plan, "--json")
+    if told.returncode != words.returncode:
+        yield f"--json ends with {told.returncode}, and words with {words.returncode}"
+    if told.stdout.count("\n") != 1 or not told.stdout.endswith("\n"):
+        yield "--json is not one line"
+    value = json.loads(told.stdout)
+    if list(value) != KEYS or any(list(pool) != POOL_KEYS for pool in value["pools"]):
+        yield f"the keys are {list(value)}"
+    yield from differences_of_lines(value, words.stdout)
+    yield from differences_of_bounds(value)
+    yield from differences_of_sizes(program, plan, value)
+    yield from differences_of_witness(program, plan, value)
+    if value["answer"] != "FAULTS":
+        yield from differences_of_picture(dot, value, asked(program, plan, "--dot"), words.returncode)
+
+
+def asked(program, plan, *options):
+    words = [program, "ask", *options, plan.name]
+    return subprocess.run(words, cwd=plan.parent, capture_output=True, text=True, timeout=SECONDS, check=False)
+
+
+def differences_of_lines(value, text):
+    """The answer, the faults and the warnings are those of the lines."""
+    lines = text.splitlines()
+    answers = [line for line in lines if line in ANSWERS] or ["FAULTS"]
+    if [value["answer"]] != answers:
+        yield f"the answer is {value['answer']}, and in lines {answers}"
+    file = value["file"]
+    faults = [f"{file}:{it['line']}:{it['column']}: {it['text']} (fault {it['fault']})" for it in value["faults"]]
+    warnings = [f"{file}:{it['line']}:{it['column']}: warning: {it['text']}" for it in value["warnings"]]
+    if [line for line in lines if line.startswith(f"{file}:")] != [*faults, *warnings]:
+        yield "the faults or the warnings are others"
+
+
+def differences_of_bounds(value):
+    """Bounds stand where the plan is safe, and what is paid for one adds up to it."""
+    for pool in value["pools"]:
+        bound = pool["bound"]
+        if (bound is None) != (value["answer"] != "SAFE"):
+            yield f"pool {pool['name']} has the bound {bound}"
+        if bound is None:
+            continue
+        paid = sum(share["jobs"] for share in [*bound["clients"], *bound["threads"]])
+        if paid != bound["total"]:
+            yield f"pool {pool['name']}: {paid} is paid for {bound['total']}"
+        if bound["kind"] == "standing" and bound["total"] > pool["queue"]:
+            yield f"pool {pool['name']}: {bound['total']} may wait in a queue of {pool['queue']}"
+        if pool["blocked"]["most"] + pool["blocked"]["left"] != pool["core"]:
+            yield f"pool {pool['name']}: {pool['blocked']} of {pool['core']} threads"
+
+
+def differences_of_sizes(program, plan, value):
+    """The sizes are those of `fit`, or the cause is."""
+    if (sizes := value["sizes"]) is None:
+        return
+    fit = subprocess.run([program, "fit", plan], capture_output=True, text=True, timeout=SECONDS, check=False)
+    if sizes["cause"] is not None:
+        if fit.stdout != f"no fitting sizes found\n{sizes['cause']}\n":
+            yield f"the cause is {sizes['cause']!r}, and of fit {fit.stdout!r}"
+        return
+    fitted = re.findall(r"(?m)^pool (\w+): core (\d+).*, max (\d+).*, queue (\d+)", fit.stdout)
+    told = [(it["name"], str(it["core"]), str(it["max"]), str(it["queue"])) for it in sizes["pools"]]
+    if told != fitted:
+        yield f"the sizes are {told}, and of fit {fitted}"
+
+
+def differences_of_witness(program, plan, value):
+    """The events of a witness are possible, and end as they are said to."""
+    witness = value["witness"]
+    if (witness is None) != (value["answer"] != "NOT SAFE"):
+        yield f"the witness is {witness}"
+    if witness is None:
+        return
+    given = plan.read_text(encoding="utf-8").rstrip("\n") + "\n%%\n" + "\n".join(witness["events"]) + "\n"
+    done = subprocess.run([program, "replay"], input=given, capture_output=True, text=True, timeout=SECONDS, check=False)
+    *happened, last, _ = done.stdout.splitlines()
+    ending = ": refused by " if witness["ending"] == "refused" else ": stuck yes"
+    if ending not in last or any("refused" in line or "not possible" in line for line in happened):
+        yield f"replay ends in {last!r}"
+
+
+def differences_of_picture(dot, value, told, status):
+    """The picture is drawn, and has everything in it."""
+    if told.returncode != status:
+        yield f"--dot ends with {told.returncode}, and words with {status}"
+    for pool in value["pools"]:
+        if f'label="{pool["name"]}\\n' not in told.stdout:
+            yield f"the picture lacks pool {pool['name']}"
+    if dot:
+        drawn = subprocess.run([dot, "-Tsvg"], input=told.stdout, capture_output=True, text=True, timeout=SECONDS, check=False)
+        if drawn.returncode != 0 or drawn.stderr or "</svg>" not in drawn.stdout:
+            yield f"dot says {drawn.stderr!r}"
+
+
+if __name__ == "__main__":
+    sys.exit(main())

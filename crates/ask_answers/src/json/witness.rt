@@ -1,0 +1,34 @@
+//! A witness as JSON.
+
+use job_bodies::Plan;
+use plan_witnesses::{Ending, Witness};
+use serde_json::{Value, json};
+use std::alloc::{AllocError, Global};
+use witness_lines::push_event_lines;
+
+/// How the witness ends, its story, and its events as `replay` reads them, each a line.
+pub(crate) fn witness_value(
+    alloc: Global,
+    plan: &Plan,
+    witness: &Witness,
+) -> Result<Value, AllocError> {
+    let mut events = String::new(alloc);
+    push_event_lines(&mut events, plan, witness)?;
+    let events = lines_value(alloc, &events)?;
+    let story = witness_lines::told(alloc, plan, witness)?;
+    let story = lines_value(alloc, &story)?;
+    let ending = match &witness.ending {
+        Ending::Refused(_) => "refused",
+        Ending::StuckForEver(_, _) => "stuck for ever",
+        Ending::StuckNow(_) => "stuck now",
+    };
+    json!(in alloc; {"ending": ending, "events": events, "story": story})
+}
+
+fn lines_value(alloc: Global, text: &str) -> Result<Value, AllocError> {
+    let mut values = Vec::new(alloc);
+    for line in text.lines() {
+        values.push(Value::try_from_str(alloc, line)?)?;
+    }
+    Ok(Value::Array(values))
+}

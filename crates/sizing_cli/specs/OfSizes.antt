@@ -1,0 +1,12 @@
+-- What sizes that were found say of the declared ones.
+use Rattle.std.specs.Prelude.{IsTrue}
+use Rattle.job_bodies.specs.Plan.{Plan}
+use Rattle.headline.specs.Accepted.{accepted}
+use Rattle.ask_answers.specs.Finding.{IsOpen}
+use Rattle.sizing_cli.specs.declared.certificate.Declared.{Declared}
+use Rattle.sizing_cli.specs.declared.certificate.Declared.TheVariants.{Accepted, Other}
+
+-- their certificate accepts the plan as it is; or they are others, or none
+abbrev pub IsSaid : Plan → Declared → Type 0
+IsSaid plan (Accepted cert) = IsTrue (accepted plan cert)
+IsSaid plan (Other sizes) = IsOpen plan sizes
