@@ -11,7 +11,7 @@ use crate::output::Output;
 use ask_answers::{Finding, needed_places, told};
 use cert_text::{MOST_TEXT_BYTES, write_cert};
 use job_bodies::Plan;
-use plan_advice::{Warning, push_warnings, warnings_of};
+use plan_advice::{Oddity, Warning, push_warnings, warnings_of};
 use plan_places::Place;
 use std::alloc::{AllocError, Global};
 
@@ -124,6 +124,7 @@ fn stale(alloc: Global) -> Result<Warning, AllocError> {
     let what =
         "the certificate that was given does not show that these sizes are safe: write a new one by --certificate";
     Ok(Warning {
+        oddity: Oddity::StaleCertificate,
         place: Place { line: 1, column: 1 },
         what: String::from_str(alloc, what)?,
     })
