@@ -1,3 +1,4 @@
 pub mod Growing
 pub mod Following
 pub mod Nothing
+pub mod AllClients

@@ -1,16 +1,15 @@
 //! Which of the causes against all sizes a plan has.
 
-ghost use Rattle.std.specs.Prelude.{◌≡◌, ◌<◌, ◌↔◌, ℕ, List, [], ◌∷◌, true, IfOk, IfSome, IfNone, length};
+ghost use Rattle.std.specs.Prelude.{◌≡◌, ◌<◌, ◌↔◌, ℕ, [], ◌∷◌, true, IfOk, IfSome, IfNone, length};
 ghost use Rattle.job_bodies.specs.Plan.{class_at};
 ghost use Rattle.job_bodies.specs.WellFormed.{IsWellFormed};
 ghost use Rattle.steady_certificates.specs.Submitted.{IsSubmitted, IsNeverGot, NoCircle, NeverGotByClients, NeverGotByJobs, IsWithoutCause, repeated_bodies};
-ghost use Rattle.numbered_lists.specs.In.{In};
-ghost use Rattle.job_bodies.specs.declared.action.Action.{Action};
-ghost use Rattle.size_causes.specs.Reaching.{Has, Covers, IsReaching};
+ghost use Rattle.size_causes.specs.Reaching.{Has};
 ghost use Rattle.size_causes.specs.Causes.{IsCause};
 
 use crate::cause::Cause;
 use crate::reached::Reached;
+use crate::submitted::submitted_for_ever;
 use job_bodies::{Action, Plan, is_got};
 use std::alloc::{AllocError, Global};
 
@@ -74,30 +73,6 @@ fn never_got_by_clients(plan: &Plan) -> Option<Cause>
         }
     }
     None
-}
-
-/// The classes that clients submit who repeat, at whatever remove.
-fn submitted_for_ever(alloc: Global, plan: &Plan) -> Result<Reached, AllocError>
-    ensures { IfOk result (λ reached. (k : ℕ) → Has reached k ↔ IsSubmitted plan.now (repeated_bodies plan.now) k) }
-{
-    let mut reached = repeated(alloc, plan)?;
-    reached.add_all(plan)?;
-    Ok(reached)
-}
-
-/// The classes that clients submit themselves who repeat.
-fn repeated(alloc: Global, plan: &Plan) -> Result<Reached, AllocError>
-    ensures reaching { IfOk result (IsReaching plan.now (repeated_bodies plan.now)) }
-    ensures covers { IfOk result (λ reached. (body : List Action) → In body (repeated_bodies plan.now) → Covers reached body) }
-{
-    let mut reached = Reached::nothing(alloc, plan)?;
-    for number in 0..plan.clients().len() {
-        let client = &plan.clients()[number];
-        if client.repeat {
-            reached.add_body(&client.body)?;
-        }
-    }
-    Ok(reached)
 }
 
 /// The first submit of jobs of the classes that were found, and that never get it.

@@ -39,6 +39,13 @@ impl Reached {
         class < self.is_found.len() && self.is_found[class]
     }
 
+    /// Of each class whether it is submitted.
+    pub(crate) fn into_marks(self) -> Vec<bool>
+        ensures { result.items ≡ self.is_found.items }
+    {
+        self.is_found
+    }
+
     /// The class is submitted too.
     fn add(&mut self, class: usize) -> Result<(), AllocError>
         requires { class < length self.old.is_found.items }
@@ -86,8 +93,9 @@ impl Reached {
     /// So are those that jobs of these classes submit, at whatever remove.
     pub(crate) fn add_all(&mut self, plan: &Plan) -> Result<(), AllocError>
         requires { length self.old.is_found.items ≡ length plan.now.classes }
-        ensures { OnOk result ((bodies : List (List Action)) → IsReaching plan.now bodies self.old → ((body : List Action) → In body bodies → Covers self.old body)
+        ensures submitted { OnOk result ((bodies : List (List Action)) → IsReaching plan.now bodies self.old → ((body : List Action) → In body bodies → Covers self.old body)
             → (k : ℕ) → Has self.new k ↔ IsSubmitted plan.now bodies k) }
+        ensures as_many { OnOk result (length self.new.is_found.items ≡ length self.old.is_found.items) }
     {
         for _round in 0..plan.classes().len() {
             self.follow(plan)?;

@@ -1,6 +1,6 @@
 -- What `ask` may answer to an input: a relation, since nothing is said of which certificate, witness or sizes are found, or that
 -- some are, nor of the words for people.
-use Rattle.std.specs.Prelude.{◌≡◌, ◌≤◌, ℕ, nat_lt, Bool, not, ◌&&◌, ◌==◌, if◌then◌else◌, List, [], ◌∷◌, ◌++◌, length, codes, decimal, Option, Some, None, Result, Ok, Err, IsTrue, MatchBool}
+use Rattle.std.specs.Prelude.{◌≡◌, ◌≤◌, ℕ, nat_lt, Bool, true, false, not, ◌&&◌, ◌==◌, if◌then◌else◌, List, [], ◌∷◌, ◌++◌, length, codes, decimal, Option, Some, None, Result, Ok, Err, IsTrue, MatchBool}
 use Rattle.job_bodies.specs.Plan.{Plan}
 use Rattle.job_bodies.specs.declared.fault.PlanFault.{PlanFault}
 use Rattle.plan_text.specs.PlanOf.{plan_of}
@@ -9,7 +9,10 @@ use Rattle.cert_text.specs.CertOf.{cert_of}
 use Rattle.headline.specs.Accepted.{accepted}
 use Rattle.cert_text.specs.declared.fault.CertFault.{CertFault}
 use Rattle.plan_advice.specs.declared.advice.Faults.{Faults}
+use Rattle.plan_advice.specs.declared.oddity.Oddity.{Oddity}
+use Rattle.plan_advice.specs.declared.oddity.Oddity.TheVariants.{StaleCertificate}
 use Rattle.plan_advice.specs.declared.warnings.Warning.{Warning}
+use Rattle.plan_advice.specs.Oddities.{AreOddities, warned_of}
 use Rattle.plan_advice.specs.Advice.{faults_text, warnings_text}
 use Rattle.ask_answers.specs.declared.finding.Finding.{Finding}
 use Rattle.ask_answers.specs.declared.finding.Finding.TheVariants.{Safe, NotSafe, NotDecided}
@@ -74,6 +77,20 @@ status_of strict warnings (Safe cert) = if strict && not (length warnings == 0) 
 status_of strict warnings (NotSafe witness sizes) = Refused
 status_of strict warnings (NotDecided sizes) = Undecided
 
+-- a certificate that was given and does not show it is warned of at the end
+abbrev pub stale_if : Bool → List Oddity
+stale_if true = StaleCertificate ∷ []
+stale_if false = []
+
+-- the warnings are about what is seldom meant in the plan, just that and in its order, where pools need so many places; and about a
+-- certificate that is stale, if one is
+pub record AreWarnings (plan : Plan) (warnings : List Warning) : Type 0 where
+  pub needed : List (Option ℕ)
+  pub oddities : List Oddity
+  pub are_oddities : AreOddities plan needed oddities
+  pub is_stale : Bool
+  pub warned : warned_of warnings ≡ oddities ++ stale_if is_stale
+
 -- the warnings are told, as in a file of some name, and behind them what was found
 pub record TellsFinding (plan : Plan) (warnings : List Warning) (finding : Finding) (text : List ℕ) : Type 0 where
   pub file : List ℕ
@@ -92,6 +109,7 @@ pub record AnswersPlan (manner : Manner) (plan : Plan) (answer : Answer) : Type 
   pub finding : Finding
   pub is_finding : IsFinding plan finding
   pub warnings : List Warning
+  pub are_warnings : AreWarnings plan warnings
   pub tells : TellsFindingIn manner.form plan warnings finding answer.text
   pub status : answer.status ≡ status_of manner.strict warnings finding
 

@@ -1,6 +1,7 @@
 //! The answer to a plan by what was found of it.
 
-ghost use Rattle.std.specs.Prelude.{◌≡◌, IfOk, IfSome, string_bytes};
+ghost use Rattle.std.specs.Prelude.{◌≡◌, ◌++◌, IfOk, IfSome, string_bytes};
+ghost use Rattle.plan_advice.specs.Oddities.{warned_of};
 ghost use Rattle.job_bodies.specs.Plan.{Plan as PlanValue};
 ghost use Rattle.ask_answers.specs.Finding.{IsFinding};
 ghost use Rattle.sizing_cli.specs.Ask as spec;
@@ -13,7 +14,7 @@ use ask_answers::{Finding, finding_json, needed_places, picture_of, told};
 use cert_text::{MOST_TEXT_BYTES, write_cert};
 use command_line::{Form, Manner};
 use job_bodies::Plan;
-use plan_advice::{Warning, push_warnings, warnings_of};
+use plan_advice::{Oddity, Warning, push_warnings, warnings_of};
 use plan_places::Place;
 use std::alloc::{AllocError, Global};
 
@@ -48,12 +49,35 @@ fn warnings_for(
     plan: &Plan,
     finding: &Finding,
     is_stale: bool,
-) -> Result<Vec<Warning>, AllocError> {
-    let needed = match finding {
-        Finding::Safe(cert) => needed_places(alloc, plan, cert)?,
-        Finding::NotSafe(_, _) | Finding::NotDecided(_) => Vec::new(alloc),
-    };
-    let mut warnings = warnings_of(alloc, text, plan, &needed)?;
+) -> Result<Vec<Warning>, AllocError>
+    ensures { IfOk result (λ warnings. spec.AreWarnings plan.now warnings.items) }
+{
+    let needed = needed_of(alloc, plan, finding)?;
+    let warnings = warnings_of(alloc, text, plan, &needed)?;
+    let all = with_stale(alloc, warnings, is_stale)?;
+    Ok(all)
+}
+
+/// How many places each pool needs, as far as a certificate says it.
+fn needed_of(
+    alloc: Global,
+    plan: &Plan,
+    finding: &Finding,
+) -> Result<Vec<Option<u64>>, AllocError> {
+    match finding {
+        Finding::Safe(cert) => needed_places(alloc, plan, cert),
+        Finding::NotSafe(_, _) | Finding::NotDecided(_) => Ok(Vec::new(alloc)),
+    }
+}
+
+/// The warnings, and that a certificate is stale, if it is.
+fn with_stale(
+    alloc: Global,
+    mut warnings: Vec<Warning>,
+    is_stale: bool,
+) -> Result<Vec<Warning>, AllocError>
+    ensures { IfOk result (λ all. warned_of all.items ≡ warned_of warnings.items ++ spec.stale_if is_stale) }
+{
     if is_stale {
         warnings.push(stale(alloc)?)?;
     }
@@ -69,7 +93,8 @@ fn answer_with(
     finding: &Finding,
     warnings: &[Warning],
 ) -> Result<Answer, AllocError>
-    requires { IsFinding plan.now finding.now }
+    requires finding { IsFinding plan.now finding.now }
+    requires warnings { spec.AreWarnings plan.now warnings.now }
     ensures { IfOk result (spec.AnswersPlan manner plan.now) }
 {
     let text = text_of(alloc, manner.form, file, plan, finding, warnings)?;
@@ -142,10 +167,13 @@ fn kept(alloc: Global, finding: &Finding) -> Result<Option<Vec<u8>>, AllocError>
 }
 
 /// That the certificate that was given is no longer what the answer rests on.
-fn stale(alloc: Global) -> Result<Warning, AllocError> {
+fn stale(alloc: Global) -> Result<Warning, AllocError>
+    ensures { IfOk result (λ warning. warning.oddity ≡ Oddity.StaleCertificate) }
+{
     let what =
         "the certificate that was given does not show that these sizes are safe: write a new one by --certificate";
     Ok(Warning {
+        oddity: Oddity::StaleCertificate,
         place: Place { line: 1, column: 1 },
         what: String::from_str(alloc, what)?,
     })

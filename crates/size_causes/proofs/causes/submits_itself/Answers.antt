@@ -34,5 +34,5 @@ returns c =
     let only : (k : ℕ) → Has new k → Has old k ⊎ In (Submit k) first = subst (λ (actions : List Action). (k : ℕ) → Has new k → Has old k ⊎ In (Submit k) actions) body c.in_ok-add_body.ensures.only in
     let reaching : IsReaching plan bodies new = starts plan bodies first old new here c.in_ok-add_body.ensures.grows only (c.in_ok-reached.ensures bodies) in
     let all : (any : List Action) → In any bodies → Covers new any = λ any from. ⊎_elim (λ (same : any ≡ first). subst (Covers new) (sym same) covers) (λ none. absurd (not_In_nil none)) (In-cons_cases from) in
-    let found = c.in_ok-add_all.ensures bodies reaching all number in
+    let found = c.in_ok-add_all.ensures.submitted bodies reaching all number in
     (λ yes. found.0 (sym c.has.ensures ∙ yes), λ submitted. c.has.ensures ∙ found.1 submitted)

@@ -10,8 +10,11 @@ loop-round-preserved c =
     followed_further c.args.plan.now c.args.self.now c.loop-round.self c.follow.new.self c.loop-round._round c.loop-round.invariant
     c.in_ok-follow.ensures.reaching c.in_ok-follow.ensures.kept c.in_ok-follow.ensures.as_many c.in_ok-follow.ensures.fewer c.in_ok-follow.ensures.idle
 
-pub returns : goal.returns
-returns c =
+pub returns-clause-submitted : goal.returns-clause-submitted
+returns-clause-submitted c =
     let plan = c.args.plan.now in
     let count : c.loop-round._round ≡ length plan.classes = omega (arith, c.loop-round-test.false, ap length c.classes-round-end.ensures.value, c.loop-round.auto._round-end) in
     λ bodies. followed_to_the_end plan c.args.self.now c.loop-round.self bodies (subst (IsFollowed plan c.args.self.now c.loop-round.self) count c.loop-round.invariant)
+
+pub returns-clause-as_many : goal.returns-clause-as_many
+returns-clause-as_many c = c.loop-round.invariant.as_many

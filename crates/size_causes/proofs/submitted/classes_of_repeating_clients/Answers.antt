@@ -9,8 +9,8 @@ use Rattle.size_causes.specs.declared.reached.Reached.{Reached}
 use Rattle.size_causes.specs.Reaching.{Has, Covers, IsReaching}
 use Rattle.size_causes.proofs.Following.{client_submits_within, starts, covers_more, AreAdded}
 use Rattle.size_causes.proofs.Nothing.{client_read, is_repeated, covers_next_client, covers_each_repeated}
-use Rattle.size_causes.proofs.causes.repeated.Goals as goal
-use Rattle.size_causes.proofs.causes.repeated.Goals.{then-client+in_ok-add_body, else-client}
+use Rattle.size_causes.proofs.submitted.classes_of_repeating_clients.Goals as goal
+use Rattle.size_causes.proofs.submitted.classes_of_repeating_clients.Goals.{then-client+in_ok-add_body, else-client}
 
 pub loop-number-init : goal.loop-number-init
 loop-number-init c = record {

@@ -1,0 +1,96 @@
+//! What is seldom meant, in words.
+
+use crate::oddity::Oddity;
+use job_bodies::Plan;
+use std::alloc::{AllocError, Global};
+
+/// What the oddity is, and what it means for the answer. Nothing is said of a number that the plan does not have.
+pub(crate) fn words_of(alloc: Global, plan: &Plan, oddity: Oddity) -> Result<String, AllocError> {
+    match oddity {
+        Oddity::NothingToAsk => String::from_str(
+            alloc,
+            "the plan has no pools and no clients: there is nothing to ask about",
+        ),
+        Oddity::NoClients => String::from_str(
+            alloc,
+            "the plan has no clients: nobody submits anything, and any sizes are safe; write a [[client]] for each thread that submits from outside",
+        ),
+        Oddity::NothingSubmitted => {
+            String::from_str(alloc, "no client submits anything: any sizes are safe")
+        }
+        Oddity::PoolWithoutJobs(pool) => words_of_idle_pool(alloc, plan, pool),
+        Oddity::UselessMax(pool) => words_of_max(alloc, plan, pool),
+        Oddity::QueueFarAbove(pool, most) => words_of_queue(alloc, plan, pool, most),
+        Oddity::ClassWithoutJobs(class) => words_of_class(alloc, plan, class),
+        Oddity::GoesOnce(client) => words_of_rounds(alloc, plan, client),
+        Oddity::Crowd(client) => words_of_crowd(alloc, plan, client),
+        Oddity::WorkLikeASize(_, _, _, units) => format!(in alloc;
+            "work {units} looks like a number of threads or jobs: it is a length of time, and changes no answer"
+        ),
+        Oddity::StaleCertificate => String::from_str(alloc, "the certificate is stale"),
+    }
+}
+
+fn words_of_idle_pool(alloc: Global, plan: &Plan, number: usize) -> Result<String, AllocError> {
+    let Some(pool) = plan.pool_at(number) else {
+        return Ok(String::new(alloc));
+    };
+    let name = pool.name.as_str();
+    format!(in alloc; "pool {name} gets no job: nothing is asked of its sizes")
+}
+
+fn words_of_max(alloc: Global, plan: &Plan, number: usize) -> Result<String, AllocError> {
+    let Some(pool) = plan.pool_at(number) else {
+        return Ok(String::new(alloc));
+    };
+    let name = pool.name.as_str();
+    let core = pool.core;
+    let max = pool.max;
+    format!(in alloc;
+        "pool {name}: max {max} buys nothing: its queue never fills, and without that no thread above core {core} is made"
+    )
+}
+
+fn words_of_queue(
+    alloc: Global,
+    plan: &Plan,
+    number: usize,
+    most: u64,
+) -> Result<String, AllocError> {
+    let Some(pool) = plan.pool_at(number) else {
+        return Ok(String::new(alloc));
+    };
+    let name = pool.name.as_str();
+    let queue = pool.queue;
+    format!(in alloc; "pool {name}: queue {queue} is far above the {most} that may wait at once")
+}
+
+fn words_of_class(alloc: Global, plan: &Plan, number: usize) -> Result<String, AllocError> {
+    let Some(class) = plan.class_at(number) else {
+        return Ok(String::new(alloc));
+    };
+    let name = class.name.as_str();
+    format!(in alloc; "nobody submits class {name}: no client does, nor a job that a client causes")
+}
+
+fn words_of_rounds(alloc: Global, plan: &Plan, number: usize) -> Result<String, AllocError> {
+    let Some(client) = plan.client_at(number) else {
+        return Ok(String::new(alloc));
+    };
+    let name = client.name.as_str();
+    let count = client.count;
+    format!(in alloc;
+        "client {name} goes through its body once: the answer is about {count} rounds in all; write repeat = true where it begins again"
+    )
+}
+
+fn words_of_crowd(alloc: Global, plan: &Plan, number: usize) -> Result<String, AllocError> {
+    let Some(client) = plan.client_at(number) else {
+        return Ok(String::new(alloc));
+    };
+    let name = client.name.as_str();
+    let count = client.count;
+    format!(in alloc;
+        "client {name}: {count} of them submit to pools of one core thread whose queues hold fewer"
+    )
+}

@@ -1,0 +1,6 @@
+-- So far as clients were looked at.
+use Rattle.size_causes.proofs.AllClients.{AreBegun}
+use Rattle.size_causes.proofs.submitted.classes_of_clients.Given as goal
+
+abbrev pub invariant-loop-number : goal.invariant-loop-number
+invariant-loop-number l = AreBegun l.plan l.reached l.number
