@@ -12,8 +12,10 @@ where the program computes them.
    what a worker weighs. Done, it weighs as much as it may without weighing more while it is queued, and no more than
    that. A client that repeats weighs at its end what it weighs at its beginning, or there is no vector.
 3. Workers weigh nothing at first. While the total is above its bound, one pool lends: its workers weigh as much as its
-   jobs do at most, where neither they nor done jobs of the pool weigh anything. It is the pool that makes the total the
-   least; where none makes it less, no vector is found.
+   jobs do at most, where neither they nor done jobs of the pool weigh anything. Classes that nobody submits, no client
+   nor a job that a client causes, do not count there. It is the pool that makes the total the least; where none makes it
+   less, no vector is found. (Where a class that nobody submits weighs too much, a pool lends so that it does not. These
+   plans are too small for that.)
 4. In rounds from 0, each pool without a rank whose blocked vector is found gets the round's number. Of the gets only those
    do not count whose jobs reach none but pools with ranks. In round 0 each pool needs a standing vector or else a lifetime
    vector: all jobs of the pool weigh at least 1 everywhere, gets give nothing back, and nobody lends.
@@ -83,6 +85,17 @@ class Client:
 class Plan:
     def __init__(self, pools, classes, clients):
         self.pools, self.classes, self.clients = pools, classes, clients
+        self.submitted = self.submitted_classes()
+
+    def submitted_classes(self):
+        """The classes that clients submit, and those that the jobs of such classes submit."""
+        found, pending = set(), [client.body for client in self.clients]
+        while pending:
+            for word, what in pending.pop():
+                if word == "submit" and what not in found:
+                    found.add(what)
+                    pending.append(self.classes[what].body)
+        return found
 
 
 def plan_by_chance(chance):
@@ -290,7 +303,8 @@ class Weights:
             return row, max(row[0] - worker, need_queued)
 
         row, least = with_done(0)
-        self.peaks[entry.pool] = max(self.peaks[entry.pool], max(row))
+        if number in self.plan.submitted:
+            self.peaks[entry.pool] = max(self.peaks[entry.pool], max(row))
         tries = range(least, -1, -1)
         done = next(done for done in tries if with_done(done)[1] == least)
         self.queued[number], self.done[number] = least, done

@@ -95,6 +95,7 @@ impl Draft {
         let Levels {
             of_classes,
             order: _,
+            submitted: _,
         } = levels;
         let mut pools = Vec::with_capacity(alloc, self.pools.len())?;
         for draft in self.pools {

@@ -44,7 +44,8 @@ impl From<AllocError> for SearchFault {
 /// That the number of workers does not change which certificate is found is shown by tests alone.
 ///
 /// In each round the workers look at the pools that have no rank yet. A pool whose blocked vector is found gets the round's
-/// number as its rank; in the next round gets are not counted that wait for pools with a rank.
+/// number as its rank; in the next round gets are not counted that wait for pools with a rank. A pool whose jobs count the
+/// same gets as in the round before has no blocked vector now either.
 ///
 /// # Errors
 ///
@@ -86,6 +87,7 @@ fn looked_for<R: Threads + Wait + Sync, G: PoolGate>(
         return Ok(None);
     };
     let mut draft = Draft::of(alloc, plan)?;
+    let mut reach_before = Vec::new(alloc);
     for rank in 0..plan.pools().len() as u64 {
         let unranked = draft.unranked();
         if unranked == 0 {
@@ -97,6 +99,7 @@ fn looked_for<R: Threads + Wait + Sync, G: PoolGate>(
             plan,
             levels: &levels,
             reach: &reach,
+            reach_before: &reach_before,
             rank,
         };
         let has_rank = draft.has_rank(alloc)?;
@@ -104,6 +107,7 @@ fn looked_for<R: Threads + Wait + Sync, G: PoolGate>(
         if !draft.note(found, rank) {
             return Ok(None);
         }
+        reach_before = reach;
     }
     Ok(draft.into_cert(alloc, plan, levels)?)
 }

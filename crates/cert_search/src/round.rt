@@ -7,12 +7,12 @@ use crate::SearchFault;
 use crate::board::{Board, claim, give_back};
 use cert_check::PoolGate;
 use held_machines::Locked;
-use job_bodies::{MOST_POOLS, Plan};
+use job_bodies::{Action, MOST_POOLS, Plan};
 use least_vectors::{Levels, blocked_vector, pool_bound};
 use std::alloc::{AllocError, Global};
 use std::sync::Wait;
 use std::sync::atomic::{AtomicBool, Ordering};
-use weights::{Bound, Vector};
+use weights::{Bound, Vector, class_got};
 
 /// What all workers of a round know.
 #[derive(Clone, Copy)]
@@ -21,6 +21,8 @@ pub(crate) struct Round<'a> {
     pub(crate) levels: &'a Levels,
     /// How high each class reaches, where a pool without a rank gets the rank of this round.
     pub(crate) reach: &'a [u64],
+    /// The same in the round before. The first round has none, and nothing stands here.
+    pub(crate) reach_before: &'a [u64],
     /// The rank that pools get in this round, which is its number.
     pub(crate) rank: u64,
 }
@@ -35,7 +37,8 @@ pub(crate) struct Found {
 }
 
 impl Round<'_> {
-    /// Looks at a pool. [`SearchFault::Mixed`] is a pool that the plan does not have.
+    /// Looks at a pool. Where its jobs count the same gets as in the round before, in which no blocked vector of it was found,
+    /// none is looked for again. [`SearchFault::Mixed`] is a pool that the plan does not have.
     fn look_at(&self, alloc: Global, pool: usize) -> Result<Found, SearchFault>
         ensures named { IfOk result (λ found. found.pool ≡ pool) }
         ensures exists { IfOk result (λ _. pool < length self.now.plan.now.pools) }
@@ -50,12 +53,44 @@ impl Round<'_> {
         } else {
             None
         };
-        let blocked = blocked_vector(alloc, self.plan, self.levels, pool, self.rank, self.reach)?;
+        let blocked = if self.counts_as_before(pool) {
+            None
+        } else {
+            blocked_vector(alloc, self.plan, self.levels, pool, self.rank, self.reach)?
+        };
         Ok(Found {
             pool,
             bound,
             blocked,
         })
+    }
+
+    /// Whether the jobs of a pool without a rank count the same gets as in the round before. In the first round they do not.
+    fn counts_as_before(&self, pool: usize) -> bool {
+        if self.rank == 0 {
+            return false;
+        }
+        for class in self.plan.classes() {
+            if class.pool == pool && !self.has_gets_as_before(&class.body) {
+                return false;
+            }
+        }
+        true
+    }
+
+    /// Whether of a job of such a pool with this body the same gets count as in the round before.
+    fn has_gets_as_before(&self, body: &[Action]) -> bool {
+        let rank_before = self.rank.saturating_sub(1);
+        for action in body {
+            if let Action::Get(submit) = action {
+                let class = class_got(body, *submit);
+                let has_counted = reaches(self.reach_before, class, rank_before);
+                if has_counted != reaches(self.reach, class, self.rank) {
+                    return false;
+                }
+            }
+        }
+        true
     }
 
     /// Takes a pool from the board, asks the gate, looks at the pool and gives it back, until no pool is free or the round
@@ -105,4 +140,9 @@ impl Round<'_> {
         }
         found
     }
+}
+
+/// Whether the class reaches the rank.
+fn reaches(reach: &[u64], class: usize, rank: u64) -> bool {
+    reach.get(class).copied().unwrap_or(0) >= rank
 }

@@ -5,6 +5,7 @@ ghost use Rattle.weights.specs.Vector.{vector_fits};
 
 use crate::Levels;
 use crate::numbers::{number_at, put_at};
+use crate::relief::relieving_loan;
 use crate::rows::vector_of;
 use crate::sketch::Sketch;
 use crate::tried::Tried;
@@ -18,10 +19,10 @@ const MOST_LOANS: usize = 256;
 
 /// A pool whose workers weigh so much instead of what they weighed, and where what comes of it stands.
 #[derive(Clone, Copy, Debug)]
-struct Loan {
-    pool: usize,
-    weight: u64,
-    place: usize,
+pub(crate) struct Loan {
+    pub(crate) pool: usize,
+    pub(crate) weight: u64,
+    pub(crate) place: usize,
 }
 
 /// What each pool's workers weigh, and what comes of it.
@@ -38,6 +39,9 @@ pub(crate) struct Loans {
 ///
 /// While the total is above its limit, one pool lends: its workers weigh as much as its jobs do at most, so that its
 /// queued jobs weigh less. Of all pools that may lend one lends which makes the total the least.
+///
+/// Classes that nobody submits have no part in that: a pool that lent what their jobs weigh would lend in vain. Only where one
+/// of them weighs too much, so that there is no vector, a pool lends as little as is enough for it.
 ///
 /// No workers' weights are weighed twice, since all that are tried are kept with what comes of them. A pool that lent
 /// is asked what its jobs weigh where it lends nothing: of the last lender these are the workers from before its loan,
@@ -56,7 +60,7 @@ pub(crate) fn lent(
         if tried.sketch(place).total <= wanted.limit {
             break;
         }
-        let Some(loan) = best_loan(plan, wanted, &mut tried, &mut workers, place)? else {
+        let Some(loan) = next_loan(&mut tried, &mut workers, place)? else {
             break;
         };
         put_at(&mut workers, loan.pool, loan.weight);
@@ -92,13 +96,8 @@ pub(crate) fn least_vector(
     vector_of(alloc, plan, wanted, workers, &sketch)
 }
 
-/// The loan that makes the total the least, if one makes it less than the total at this place, of the workers as they
-/// are. The workers stay so.
-///
-/// A loan is not weighed where its workers alone weigh as much as the least total so far: it cannot make it less.
-fn best_loan(
-    plan: &Plan,
-    wanted: &Wanted,
+/// The loan that comes next behind this place, of the workers as they are. The workers stay so.
+fn next_loan(
     tried: &mut Tried,
     workers: &mut [u64],
     place: usize,
@@ -107,28 +106,53 @@ fn best_loan(
     ensures stands { IfOk result (λ found. IfSome found (λ loan. loan.place < vec_len tried.new.weighings)) }
     ensures kept { vec_len tried.old.weighings ≤ vec_len tried.new.weighings }
 {
+    if tried.sketch(place).strays > 0 {
+        relieving_loan(tried, workers, place)
+    } else {
+        best_loan(tried, workers, place)
+    }
+}
+
+/// The loan that makes the total the least, if one makes it less than the total at this place, of the workers as they
+/// are. The workers stay so.
+///
+/// A loan is not weighed where its workers alone weigh as much as the least total so far: it cannot make it less.
+fn best_loan(
+    tried: &mut Tried,
+    workers: &mut [u64],
+    place: usize,
+) -> Result<Option<Loan>, AllocError>
+    requires { place < vec_len tried.old.weighings }
+    ensures stands { IfOk result (λ found. IfSome found (λ loan. loan.place < vec_len tried.new.weighings)) }
+    ensures kept { vec_len tried.old.weighings ≤ vec_len tried.new.weighings }
+{
+    let plan = tried.plan;
+    let wanted = tried.wanted;
+    let on_loan = tried.sketch(place).on_loan;
     let mut best = None;
     let mut least = tried.sketch(place).total;
-    for pool in 0..plan.pools().len() {
-        if !wanted.may_lend(pool) {
+    for (number, pool) in plan.pools().iter().enumerate() {
+        if !wanted.may_lend(number) {
             continue;
         }
-        let before = number_at(workers, pool);
-        let weight = peak(tried, workers, pool, place)?;
-        put_at(workers, pool, weight);
-        if weight != before && wanted.workers_weigh(plan, workers) < least {
+        let max = wanted.max_of(number, pool);
+        let before = number_at(workers, number);
+        let weight = peak(tried, workers, number, place)?;
+        let others = on_loan.saturating_sub(before.saturating_mul(max));
+        if weight != before && others.saturating_add(weight.saturating_mul(max)) < least {
+            put_at(workers, number, weight);
             let place = tried.place_of(workers)?;
+            put_at(workers, number, before);
             let total = tried.sketch(place).total;
             if total < least {
                 least = total;
                 best = Some(Loan {
-                    pool,
+                    pool: number,
                     weight,
                     place,
                 });
             }
         }
-        put_at(workers, pool, before);
     }
     Ok(best)
 }

@@ -3,19 +3,23 @@
 ghost use Rattle.std.specs.Prelude.{◌≡◌, IfOk, IfSome, length, vec_len};
 
 use crate::numbers::{number_at, put_at};
+use crate::submitted::submitted_classes;
 use job_bodies::{Action, Class, Plan};
 use std::alloc::{AllocError, Global};
 
 /// What stands in place of the level of a class that has none yet.
 const NO_LEVEL: u64 = u64::MAX;
 
-/// The levels of a plan's classes.
+/// The levels of a plan's classes, and which of them are submitted.
 #[derive(Debug, Drop)]
 pub struct Levels {
     /// The level of each class: 1 plus the greatest level of the classes that it submits, and 0 where it submits none.
     pub of_classes: Vec<u64>,
     /// The classes from the lowest level up, so that each stands behind all that it submits.
     pub order: Vec<usize>,
+    /// Whether each class is submitted: by a client, or by a job that a client causes. There are no jobs of another class, so
+    /// that no total counts them.
+    pub submitted: Vec<bool>,
 }
 
 impl Levels {
@@ -31,13 +35,22 @@ impl Levels {
         let mut levels = Levels {
             of_classes: vec![in alloc; NO_LEVEL; count]?,
             order: Vec::with_capacity(alloc, count)?,
+            submitted: Vec::new(alloc),
         };
         let mut known = vec![in alloc; 0usize; count]?;
         for level in 0..count as u64 {
             levels.add_level(plan, level, &mut known)?;
         }
-        let complete = levels.order.len() == count;
-        Ok(if complete { Some(levels) } else { None })
+        if levels.order.len() != count {
+            return Ok(None);
+        }
+        levels.submitted = submitted_classes(alloc, plan, &levels.order)?;
+        Ok(Some(levels))
+    }
+
+    /// Whether the class is submitted.
+    pub(crate) fn is_submitted(&self, class: usize) -> bool {
+        self.submitted.get(class).copied().unwrap_or(false)
     }
 
     /// Gives this level to the classes that submit only classes of lower levels and have no level yet. `known` has, for

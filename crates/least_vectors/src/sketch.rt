@@ -20,8 +20,13 @@ pub(crate) struct Sketch {
     pub(crate) done: Vec<u64>,
     /// Of a client of each kind at its beginning.
     pub(crate) starts: Vec<u64>,
-    /// The most that a job of each pool weighs in its body, where it weighs nothing when it is done.
+    /// The most that a job of each pool weighs in its body, where it weighs nothing when it is done. Classes that nobody
+    /// submits do not count.
     pub(crate) peaks: Vec<u64>,
+    /// What all workers weigh together.
+    pub(crate) on_loan: u64,
+    /// How many classes that nobody submits weigh too much.
+    pub(crate) strays: usize,
     /// What the start of the plan weighs.
     pub(crate) total: u64,
 }
@@ -35,19 +40,21 @@ impl Sketch {
         wanted: &Wanted,
         workers: &[u64],
     ) -> Result<Sketch, AllocError> {
+        let on_loan = wanted.workers_weigh(plan, workers);
         let mut sketch = Sketch {
             queued: vec![in alloc; 0; plan.classes().len()]?,
             done: vec![in alloc; 0; plan.classes().len()]?,
             starts: Vec::with_capacity(alloc, plan.clients().len())?,
             peaks: vec![in alloc; 0; plan.pools().len()]?,
-            total: 0,
+            on_loan,
+            strays: 0,
+            total: on_loan,
         };
         for number in &levels.order {
             if let Some(class) = plan.class_at(*number) {
-                sketch.weigh_class(wanted, workers, *number, class);
+                sketch.weigh_class(wanted, levels, workers, *number, class);
             }
         }
-        sketch.add(wanted.workers_weigh(plan, workers), 1);
         for client in plan.clients() {
             sketch.weigh_client(wanted, client)?;
         }
@@ -56,7 +63,14 @@ impl Sketch {
 
     /// Finds what a job of the class weighs queued and done. Done it weighs as much as it may, so that a get gives much
     /// back, but no more than it weighs queued.
-    fn weigh_class(&mut self, wanted: &Wanted, workers: &[u64], number: usize, class: &Class) {
+    fn weigh_class(
+        &mut self,
+        wanted: &Wanted,
+        levels: &Levels,
+        workers: &[u64],
+        number: usize,
+        class: &Class,
+    ) {
         let worker = number_at(workers, class.pool);
         let mut weight = Weight::at_end(worker).at_least(wanted.need_at_end(class));
         let mut peak = weight.number;
@@ -70,10 +84,16 @@ impl Sketch {
         let queued = weight.less(worker).at_least(wanted.need_queued(class));
         put_at(&mut self.queued, number, queued.number);
         put_at(&mut self.done, number, queued.number.min(queued.slack));
-        let highest = peak.max(number_at(&self.peaks, class.pool));
-        put_at(&mut self.peaks, class.pool, highest);
+        let is_submitted = levels.is_submitted(number);
+        if is_submitted {
+            let highest = peak.max(number_at(&self.peaks, class.pool));
+            put_at(&mut self.peaks, class.pool, highest);
+        }
         if peak > MOST_WEIGHT || queued.number > MOST_WEIGHT {
             self.total = TOO_HEAVY;
+            if !is_submitted {
+                self.strays = self.strays.saturating_add(1);
+            }
         }
     }
 

@@ -19,9 +19,9 @@ struct Weighing {
 #[derive(Drop)]
 pub(crate) struct Tried<'a> {
     alloc: Global,
-    plan: &'a Plan,
+    pub(crate) plan: &'a Plan,
     levels: &'a Levels,
-    wanted: &'a Wanted<'a>,
+    pub(crate) wanted: &'a Wanted<'a>,
     weighings: Vec<Weighing>,
 }
 
@@ -59,6 +59,12 @@ impl<'a> Tried<'a> {
         let workers = Vec::from_slice(self.alloc, workers)?;
         self.weighings.push(Weighing { workers, sketch })?;
         Ok(place)
+    }
+
+    /// How many classes that nobody submits weigh too much, where the workers weigh so much. Nothing of it is kept.
+    pub(crate) fn strays(&self, workers: &[u64]) -> Result<usize, AllocError> {
+        let sketch = Sketch::of(self.alloc, self.plan, self.levels, self.wanted, workers)?;
+        Ok(sketch.strays)
     }
 
     /// The sketch at this place.

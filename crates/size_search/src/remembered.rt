@@ -54,7 +54,8 @@ impl Answered {
             || (before < now && !self.has_lent(pool)))
     }
 
-    /// Whether the pool lent on the way to the answer. Without a vector none did.
+    /// Whether the pool lent on the way to the answer. Where there is no vector none did, unless for the sake of a class that
+    /// nobody submits: for that one larger maximums are not tried again.
     fn has_lent(&self, pool: usize) -> bool {
         match &self.answer {
             Some(weighed) => weighed.lenders.contains(&pool),

@@ -1,0 +1,36 @@
+//! Which classes are submitted.
+
+use job_bodies::{Action, Plan};
+use std::alloc::{AllocError, Global};
+
+/// For each class whether it is submitted: by a client, or by a job that a client causes. In this order each class stands
+/// behind all that it submits.
+pub(crate) fn submitted_classes(
+    alloc: Global,
+    plan: &Plan,
+    order: &[usize],
+) -> Result<Vec<bool>, AllocError> {
+    let mut submitted = vec![in alloc; false; plan.classes().len()]?;
+    for client in plan.clients() {
+        add_submits(&mut submitted, &client.body);
+    }
+    for number in order.iter().rev() {
+        if submitted.get(*number).copied().unwrap_or(false) {
+            if let Some(class) = plan.class_at(*number) {
+                add_submits(&mut submitted, &class.body);
+            }
+        }
+    }
+    Ok(submitted)
+}
+
+/// The classes that the body submits are submitted too.
+fn add_submits(submitted: &mut [bool], body: &[Action]) {
+    for action in body {
+        if let Action::Submit(class) = action {
+            if let Some(submitted) = submitted.get_mut(*class) {
+                *submitted = true;
+            }
+        }
+    }
+}
