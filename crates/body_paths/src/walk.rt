@@ -1,0 +1,106 @@
+//! A walk through a body, along a path.
+
+ghost use Rattle.std.specs.Prelude.{◌≡◌, ◌≤◌, ◌<◌, ℕ, List, [], Option, length, take, drop, slice_get, slice_index_or};
+ghost use Rattle.job_bodies.specs.declared.action.Action.TheVariants.{Work};
+ghost use Rattle.body_paths.specs.declared.deed.Course.{Course};
+ghost use Rattle.body_paths.specs.Way as spec;
+ghost use Rattle.body_paths.specs.Walk.{ends, IsToldOfWalk};
+ghost use Rattle.body_paths.specs.Answer.{IsDecided};
+ghost use Rattle.body_paths.specs.Budget.{IsDecidedWithin};
+
+use crate::answer::Answer;
+use crate::deed::{Course, Deed};
+use crate::way::{Way, way_on};
+use job_bodies::Action;
+
+/// Whether the deeds from a place on are of the actions from a position on. The submits before that position were made at
+/// these places of the path, or left out. It takes a step for each action that it comes to.
+pub(crate) fn walk(
+    body: &[Action],
+    path: &[Deed],
+    course: Course,
+    places: &mut [Option<usize>],
+    position: usize,
+    place: usize,
+    steps: &mut u64,
+) -> Answer
+    requires position { position ≤ length body.now }
+    requires place { place ≤ length path.now }
+    requires room { length body.now ≤ length places.old }
+    ensures told { IsToldOfWalk course (take position places.old) (drop position body.now) place (drop place path.now) result }
+    ensures kept { take position places.new ≡ take position places.old }
+    ensures decided { IsDecidedWithin (drop position body.now) steps.old steps.new result }
+{
+    if *steps == 0 {
+        return Answer::Undecided;
+    }
+    *steps -= 1;
+    if may_end(path, course, place) {
+        return Answer::Fits;
+    }
+    if position == body.len() {
+        return at_end(path, place);
+    }
+    match way_at(body, path, places, position, place) {
+        Way::Stops => Answer::Deviates(place),
+        Way::Passes => {
+            places[position] = None;
+            walk(body, path, course, places, position + 1, place, steps)
+        }
+        Way::Gets => {
+            places[position] = None;
+            walk(body, path, course, places, position + 1, place + 1, steps)
+        }
+        Way::SubmitsOrPasses => {
+            places[position] = Some(place);
+            let submitted = walk(body, path, course, places, position + 1, place + 1, steps);
+            match submitted {
+                Answer::Fits => Answer::Fits,
+                Answer::Undecided => Answer::Undecided,
+                Answer::Deviates(explained) => {
+                    places[position] = None;
+                    let passed = walk(body, path, course, places, position + 1, place, steps);
+                    passed.or_explained(explained)
+                }
+            }
+        }
+    }
+}
+
+/// Whether the path ends before this place, and its actor may go on.
+fn may_end(path: &[Deed], course: Course, place: usize) -> bool
+    ensures { result ≡ ends course (drop place path.now) }
+{
+    match course {
+        Course::Whole => false,
+        Course::Begun => path.get(place).is_none(),
+    }
+}
+
+/// What is told of the deeds from a place on, where nothing is left of the body.
+fn at_end(path: &[Deed], place: usize) -> Answer
+    requires { place ≤ length path.now }
+    ensures told { (course : Course) (places : List (Option ℕ)) → IsToldOfWalk course places [] place (drop place path.now) result }
+    ensures decided { IsDecided result }
+{
+    if place == path.len() {
+        Answer::Fits
+    } else {
+        Answer::Deviates(place)
+    }
+}
+
+/// The ways on from the action at a position, at a place of the path.
+fn way_at(
+    body: &[Action],
+    path: &[Deed],
+    places: &[Option<usize>],
+    position: usize,
+    place: usize,
+) -> Way
+    requires position { position < length body.now }
+    requires room { length body.now ≤ length places.now }
+    ensures { result ≡ spec.way_on (take position places.now) (slice_index_or body.now position (Work 0)) (slice_get path.now place) }
+{
+    way_on(&places[..position], body[position], path.get(place))
+}

@@ -1,0 +1,4 @@
+pub mod Difference
+pub mod Sizes
+pub mod Excess
+pub mod Rounds

@@ -1,0 +1,7 @@
+pub mod Appended
+pub mod Keeping
+pub mod JobsAfter
+pub mod RoundsAfter
+pub mod OffersAfter
+pub mod StandsAfter
+pub mod FirstFaults

@@ -1,0 +1,10 @@
+pub mod LineParts
+pub mod Before
+pub mod Rules
+pub mod Pools
+pub mod Kept
+pub mod StandsFor
+pub mod Changes
+pub mod RuleText
+pub mod Faults
+pub mod FaultText

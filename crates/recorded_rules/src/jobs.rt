@@ -1,0 +1,130 @@
+//! The jobs of a recording.
+
+ghost use Rattle.std.specs.Prelude.{◌≡◌, ◌+◌, ℕ, OnOk, OnErr, None, Some, is_some, if◌then◌else◌, ◌==◌};
+ghost use Rattle.std.specs.Option.{option_map};
+ghost use Rattle.recorded_rules.specs.Kept.{job_at, has_started, is_done, is_settled, offered_by, new_job, with_start, with_cancel, with_offered};
+
+use std::alloc::{AllocError, Global};
+use std::collections::HashMap;
+
+/// What is known of a job that is not done.
+#[derive(Clone, Copy, Debug)]
+pub(crate) struct JobState {
+    started: bool,
+    cancelled: bool,
+    /// The job that it just submitted.
+    offered: Option<usize>,
+}
+
+/// The jobs of the lines so far: how many were submitted, and what is known of each that is not done.
+#[derive(Debug, Drop)]
+pub(crate) struct Jobs {
+    pub(crate) submitted: usize,
+    unfinished: HashMap<usize, JobState>,
+}
+
+impl Jobs {
+    /// None so far.
+    pub(crate) fn new(alloc: Global) -> Jobs
+        ensures submitted { result.submitted ≡ 0 }
+        ensures unfinished { (j : ℕ) → job_at result j ≡ None }
+    {
+        Jobs {
+            submitted: 0,
+            unfinished: HashMap::new(alloc),
+        }
+    }
+
+    fn get(&self, job: usize) -> Option<JobState>
+        ensures { result ≡ job_at self.now job }
+    {
+        self.unfinished.get(&job).copied()
+    }
+
+    pub(crate) fn has_started(&self, job: usize) -> bool
+        ensures { result ≡ has_started self.now job }
+    {
+        job < self.submitted && self.get(job).is_none_or(|state| state.started)
+    }
+
+    pub(crate) fn is_done(&self, job: usize) -> bool
+        ensures { result ≡ is_done self.now job }
+    {
+        job < self.submitted && self.get(job).is_none()
+    }
+
+    /// Whether the job is done or cancelled.
+    pub(crate) fn is_settled(&self, job: usize) -> bool
+        ensures { result ≡ is_settled self.now job }
+    {
+        job < self.submitted && self.get(job).is_none_or(|state| state.cancelled)
+    }
+
+    /// The job that this one just submitted.
+    pub(crate) fn offered(&self, job: usize) -> Option<usize>
+        ensures { result ≡ offered_by (job_at self.now job) }
+    {
+        self.get(job)?.offered
+    }
+
+    /// The job is submitted.
+    ///
+    /// # Errors
+    ///
+    /// `AllocError` where there is no memory for it, or the count of jobs stands at its greatest value. The jobs are then
+    /// unchanged.
+    pub(crate) fn submit(&mut self, job: usize) -> Result<(), AllocError>
+        ensures submitted { OnOk result (self.new.submitted ≡ self.old.submitted + 1) }
+        ensures unfinished { OnOk result ((j : ℕ) → job_at self.new j ≡ (if job == j then Some new_job else job_at self.old j)) }
+        ensures same_submitted { OnErr result (self.new.submitted ≡ self.old.submitted) }
+        ensures same_unfinished { OnErr result ((j : ℕ) → job_at self.new j ≡ job_at self.old j) }
+    {
+        let submitted = self.submitted.checked_add(1).ok_or(AllocError)?;
+        let state = JobState {
+            started: false,
+            cancelled: false,
+            offered: None,
+        };
+        self.unfinished.insert(job, state)?;
+        self.submitted = submitted;
+        Ok(())
+    }
+
+    /// The job, where it is not done, starts.
+    pub(crate) fn start(&mut self, job: usize)
+        ensures submitted { self.new.submitted ≡ self.old.submitted }
+        ensures unfinished { (j : ℕ) → job_at self.new j ≡ (if job == j then option_map with_start (job_at self.old j) else job_at self.old j) }
+    {
+        if let Some(state) = self.unfinished.get_mut(&job) {
+            state.started = true;
+        }
+    }
+
+    /// The job, where it is not done, is cancelled.
+    pub(crate) fn cancel(&mut self, job: usize)
+        ensures submitted { self.new.submitted ≡ self.old.submitted }
+        ensures unfinished { (j : ℕ) → job_at self.new j ≡ (if job == j then option_map with_cancel (job_at self.old j) else job_at self.old j) }
+    {
+        if let Some(state) = self.unfinished.get_mut(&job) {
+            state.cancelled = true;
+        }
+    }
+
+    /// The job, where it is not done, just submitted this one, or did another thing.
+    pub(crate) fn set_offered(&mut self, job: usize, offered: Option<usize>)
+        ensures submitted { self.new.submitted ≡ self.old.submitted }
+        ensures unfinished { (j : ℕ) → job_at self.new j ≡ (if job == j then option_map (with_offered offered) (job_at self.old j) else job_at self.old j) }
+    {
+        if let Some(state) = self.unfinished.get_mut(&job) {
+            state.offered = offered;
+        }
+    }
+
+    /// The job is done.
+    pub(crate) fn finish(&mut self, job: usize)
+        ensures submitted { self.new.submitted ≡ self.old.submitted }
+        ensures unfinished { (j : ℕ) → job_at self.new j ≡ (if job == j then None else job_at self.old j) }
+    {
+        self.unfinished.remove(&job);
+    }
+}

@@ -1,0 +1,77 @@
+//! What a line changes, behind the lines so far.
+
+ghost use Rattle.std.specs.Prelude.{OnOk, OnErr};
+ghost use Rattle.recording_lines.specs.RecordingLine.{line_seen};
+ghost use Rattle.recorded_rules.specs.Changes.{Follows, IsSame, IsAdmitted, IsActed, IsChanged, IsOffered};
+
+use crate::line_parts::is_end;
+use crate::lines_so_far::LinesSoFar;
+use recording_lines::{Actor, Line};
+use std::alloc::AllocError;
+
+/// The line stands behind the lines so far, whose rules it keeps.
+///
+/// # Errors
+///
+/// `AllocError` where there is no memory for what it names. The lines so far are then what they were.
+pub(crate) fn note(lines: &mut LinesSoFar, line: &Line<'_>) -> Result<(), AllocError>
+    ensures noted { OnOk result (Follows lines.old (line_seen line.now) lines.new) }
+    ensures same { OnErr result (IsSame lines.old lines.new) }
+{
+    admit(lines, line)?;
+    note_act(lines, line);
+    note_change(lines, line);
+    lines.begun = true;
+    lines.closed = lines.closed || is_end(line);
+    Ok(())
+}
+
+// The pool, the round or the job of which this is the first line.
+fn admit(lines: &mut LinesSoFar, line: &Line<'_>) -> Result<(), AllocError>
+    ensures noted { OnOk result (IsAdmitted lines.old (line_seen line.now) lines.new) }
+    ensures same { OnErr result (IsSame lines.old lines.new) }
+{
+    match *line {
+        Line::Pool { name, .. } => lines.pools.insert(name),
+        Line::RoundBegins { round, .. } => lines.rounds.begin(round),
+        Line::Submits { job, .. } => lines.jobs.submit(job),
+        _ => Ok(()),
+    }
+}
+
+// What its actor did last.
+fn note_act(lines: &mut LinesSoFar, line: &Line<'_>)
+    ensures { IsActed lines.old (line_seen line.now) lines.new }
+{
+    match *line {
+        Line::Submits { actor, job, .. } => set_offered(lines, actor, Some(job)),
+        Line::Got { actor, .. }
+        | Line::TimedOut { actor, .. }
+        | Line::Interrupted { actor, .. }
+        | Line::Cancels { actor, .. }
+        | Line::InvokesAny { actor, .. } => set_offered(lines, actor, None),
+        _ => {}
+    }
+}
+
+fn set_offered(lines: &mut LinesSoFar, actor: Actor, offered: Option<usize>)
+    ensures { IsOffered lines.old actor offered lines.new }
+{
+    match actor {
+        Actor::Job(job) => lines.jobs.set_offered(job, offered),
+        Actor::Round(round) => lines.rounds.set_offered(round, offered),
+    }
+}
+
+// Where the round or the job has come to.
+fn note_change(lines: &mut LinesSoFar, line: &Line<'_>)
+    ensures { IsChanged lines.old (line_seen line.now) lines.new }
+{
+    match *line {
+        Line::RoundEnds { round } => lines.rounds.end(round),
+        Line::JobStarts { job } => lines.jobs.start(job),
+        Line::Cancels { job, .. } => lines.jobs.cancel(job),
+        Line::JobEnds { job } | Line::JobThrew { job } => lines.jobs.finish(job),
+        _ => {}
+    }
+}

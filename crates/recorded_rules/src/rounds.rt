@@ -1,0 +1,78 @@
+//! The rounds of a recording.
+
+ghost use Rattle.std.specs.Prelude.{◌≡◌, ◌+◌, ℕ, OnOk, OnErr, None, Some, is_some, if◌then◌else◌, ◌==◌};
+ghost use Rattle.std.specs.Option.{option_map};
+ghost use Rattle.recorded_rules.specs.Kept.{round_at, offered_there};
+
+use std::alloc::{AllocError, Global};
+use std::collections::HashMap;
+
+/// The rounds of the lines so far: how many began, and for each that has not ended the job that it just submitted.
+#[derive(Debug, Drop)]
+pub(crate) struct Rounds {
+    pub(crate) begun: usize,
+    open: HashMap<usize, Option<usize>>,
+}
+
+impl Rounds {
+    /// None so far.
+    pub(crate) fn new(alloc: Global) -> Rounds
+        ensures begun { result.begun ≡ 0 }
+        ensures open { (r : ℕ) → round_at result r ≡ None }
+    {
+        Rounds {
+            begun: 0,
+            open: HashMap::new(alloc),
+        }
+    }
+
+    /// Whether the round has begun, and has not ended.
+    pub(crate) fn is_open(&self, round: usize) -> bool
+        ensures { result ≡ is_some (round_at self.now round) }
+    {
+        self.open.contains_key(&round)
+    }
+
+    /// The job that the round just submitted.
+    pub(crate) fn offered(&self, round: usize) -> Option<usize>
+        ensures { result ≡ offered_there (round_at self.now round) }
+    {
+        *self.open.get(&round)?
+    }
+
+    /// The round begins.
+    ///
+    /// # Errors
+    ///
+    /// `AllocError` where there is no memory for it, or the count of rounds stands at its greatest value. The rounds are
+    /// then unchanged.
+    pub(crate) fn begin(&mut self, round: usize) -> Result<(), AllocError>
+        ensures begun { OnOk result (self.new.begun ≡ self.old.begun + 1) }
+        ensures open { OnOk result ((r : ℕ) → round_at self.new r ≡ (if round == r then Some None else round_at self.old r)) }
+        ensures same_begun { OnErr result (self.new.begun ≡ self.old.begun) }
+        ensures same_open { OnErr result ((r : ℕ) → round_at self.new r ≡ round_at self.old r) }
+    {
+        let begun = self.begun.checked_add(1).ok_or(AllocError)?;
+        self.open.insert(round, None)?;
+        self.begun = begun;
+        Ok(())
+    }
+
+    /// The round ends.
+    pub(crate) fn end(&mut self, round: usize)
+        ensures begun { self.new.begun ≡ self.old.begun }
+        ensures open { (r : ℕ) → round_at self.new r ≡ (if round == r then None else round_at self.old r) }
+    {
+        self.open.remove(&round);
+    }
+
+    /// The round, where it is open, just submitted this job, or did another thing.
+    pub(crate) fn set_offered(&mut self, round: usize, offered: Option<usize>)
+        ensures begun { self.new.begun ≡ self.old.begun }
+        ensures open { (r : ℕ) → round_at self.new r ≡ (if round == r then option_map (λ _. offered) (round_at self.old r) else round_at self.old r) }
+    {
+        if let Some(there) = self.open.get_mut(&round) {
+            *there = offered;
+        }
+    }
+}

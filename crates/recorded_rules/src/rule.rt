@@ -1,0 +1,49 @@
+//! The rules of a recording.
+
+ghost use Rattle.std.specs.Prelude.{Some};
+ghost use Rattle.recorded_rules.specs.RuleText.{rule_text};
+
+use std::fmt;
+
+/// What a line of a recording may break, by the lines that stand before it.
+#[derive(Clone, Copy, Debug, PartialEq, Eq)]
+pub enum Rule {
+    /// O1: the first line is `recording 1`, and no other one is. Nothing stands behind `end`.
+    Frame,
+    /// O2: a pool that a line names has a `pool` line before it.
+    Pools,
+    /// O3: jobs are numbered in the order of their `submit` lines, and rounds in that of their `begin` lines. Each other
+    /// line that names a job stands behind its `submit` line.
+    Numbers,
+    /// O4: the lines of a round stand between its `begin` line and its `end` line.
+    Rounds,
+    /// O5: a job has one `start` line, its lines as an actor stand behind that, and `end` or `threw` is the last of them.
+    Jobs,
+    /// O6: `refused` stands behind the `submit` line of the same job by the same actor, with no other line of the actor
+    /// between them, and before the job's `start` line.
+    Refusals,
+    /// O7: `got` stands behind the `end`, `threw` or `cancel` line of its job.
+    Gets,
+}
+
+/// Writes the rule's number, and what it asks for.
+impl fmt::Display for Rule {
+    ghost output = { λ rule. Some (rule_text rule) };
+
+    fn fmt<W: fmt::Write>(&self, f: &mut fmt::Formatter<W>) -> fmt::Result {
+        f.write_str(match self {
+            Rule::Frame =>
+                "O1: the first line is `recording 1`, and no other one is; nothing stands behind `end`",
+            Rule::Pools => "O2: a pool that a line names has a `pool` line before it",
+            Rule::Numbers =>
+                "O3: the `submit` lines have the numbers 0, 1, 2, and so on, and so have the `begin` lines; a job that a line names has its `submit` line before it",
+            Rule::Rounds =>
+                "O4: the lines of a round stand between its `begin` line and its `end` line",
+            Rule::Jobs =>
+                "O5: a job has one `start` line at most; its lines as an actor stand behind that, and the last of them is `end` or `threw`",
+            Rule::Refusals =>
+                "O6: `refused` stands behind the actor's `submit` of the job, with no other line of the actor between them, and before the job's `start`",
+            Rule::Gets => "O7: `got` stands behind an `end`, `threw` or `cancel` line of the job",
+        })
+    }
+}

@@ -1,0 +1,6 @@
+pub mod Names
+pub mod WordByWord
+pub mod WrittenPools
+pub mod WrittenActs
+pub mod WrittenLines
+pub mod LineByLine

@@ -1,0 +1,16 @@
+//! The lines of a recording, which say what a service did with its pools (`job 1 submit 3 query database`).
+//!
+//! [`RecordingLines`] reads them one after another: each by its form alone, and not by what the lines before it say.
+#![tactic(auto)]
+
+mod laws;
+mod line_forms;
+mod lines;
+mod pool_sizes;
+mod recording_line;
+mod words;
+
+pub use laws::recording_lines_are_canonical;
+pub use lines::{BadLine, RecordingLines};
+pub use pool_sizes::{HandlerKind, PoolSizes, QueueKind};
+pub use recording_line::{Actor, Line};

@@ -1,0 +1,64 @@
+//! The lines of a recording, one after another.
+
+ghost use Rattle.std.specs.Prelude.{◌≡◌, ◌≤◌, ◌∷◌, [], length, MatchOption};
+ghost use Rattle.recording_lines.specs.WholeLines.{whole_lines};
+ghost use Rattle.recording_lines.specs.RecordingLine.{line_read, lines_read};
+
+use crate::line_forms::line_of;
+use crate::recording_line::Line;
+use std::marker::Model;
+
+/// Lines of a recording. [`next`](RecordingLines::next) reads them one after another, each once, so that they need no
+/// room beside their text.
+#[derive(Debug, Drop)]
+pub struct RecordingLines<'a> {
+    rest: &'a [u8],
+}
+
+/// A line that has none of the forms of a line of a recording.
+#[derive(Clone, Copy, Debug, PartialEq, Eq)]
+pub struct BadLine;
+
+impl<'a> Model for RecordingLines<'a> {
+    ghost use Rattle.std.specs.Prelude.{List, Option};
+    ghost use Rattle.recording_lines.specs.RecordingLine.{RecordedLine, lines_read};
+
+    ghost Value = { List (Option RecordedLine) };
+
+    ghost view = { λ l. lines_read l.rest.now };
+}
+
+impl<'a> RecordingLines<'a> {
+    /// The lines of a text, by their forms. What stands behind the last newline is left out. A number is at most
+    /// [`MAX_NUMBER`](line_words::MAX_NUMBER), and has no leading zero; a name is as the names of a plan are.
+    pub fn new(text: &'a [u8]) -> RecordingLines<'a>
+        ensures lines { result ≡ lines_read text.now }
+        ensures few { length result ≤ length text.now }
+    {
+        RecordingLines { rest: text }
+    }
+
+    /// The next line; None behind the last one.
+    ///
+    /// # Errors
+    ///
+    /// [`BadLine`] in the place of a line that has none of the forms. The lines behind it can be read.
+    pub fn next(&mut self) -> Option<Result<Line<'a>, BadLine>>
+        ensures { MatchOption result ((self.old ≡ []) × (self.new ≡ [])) (λ line. self.old ≡ line_read line ∷ self.new) }
+    {
+        let (line, behind) = split_whole_line(self.rest)?;
+        self.rest = behind;
+        match line_of(line) {
+            Some(line) => Some(Ok(line)),
+            None => Some(Err(BadLine)),
+        }
+    }
+}
+
+/// The first line, without its newline, and what stands behind it; None where no line is whole.
+fn split_whole_line(text: &[u8]) -> Option<(&[u8], &[u8])>
+    ensures { MatchOption result (whole_lines text.now ≡ []) (λ parts. whole_lines text.now ≡ parts.0.now ∷ whole_lines parts.1.now) }
+{
+    let newline = text.iter().position(|byte| *byte == b'\n')?;
+    Some((&text[..newline], &text[newline + 1..]))
+}

@@ -1,0 +1,142 @@
+//! What a line says of a pool: its sizes, its queue and its handler.
+
+ghost use Rattle.std.specs.Prelude.{◌≡◌, option_map};
+ghost use Rattle.recording_lines.specs.PoolSizes as spec;
+
+use crate::words::{behind, is_word, number_behind, number_then};
+use line_words::split_space;
+
+/// What a pool is. What is above the greatest number of a line is that number here.
+#[derive(Clone, Copy, Debug, PartialEq, Eq)]
+pub struct PoolSizes {
+    pub core: usize,
+    pub max: usize,
+    pub queue: QueueKind,
+    /// Of the queue.
+    pub capacity: usize,
+    /// Whether core threads may time out.
+    pub timeout: bool,
+    /// How many threads the pool had when its recording began.
+    pub prestarted: usize,
+    pub handler: HandlerKind,
+}
+
+/// Where jobs wait. Subclasses of the first two are [`Other`](QueueKind::Other).
+#[derive(Clone, Copy, Debug, PartialEq, Eq)]
+pub enum QueueKind {
+    Array,
+    Linked,
+    Synchronous,
+    Priority,
+    Other,
+}
+
+/// What is called for a job that is refused.
+#[derive(Clone, Copy, Debug, PartialEq, Eq)]
+pub enum HandlerKind {
+    Abort,
+    CallerRuns,
+    Discard,
+    DiscardOldest,
+    Other,
+}
+
+#[tactic(auto, unfolding(crate::specs::PoolSizes::queue_kind_of))]
+fn queue_kind_of(word: &[u8]) -> Option<QueueKind>
+    ensures { result ≡ spec.queue_kind_of word.now }
+{
+    if is_word(word, "array") {
+        Some(QueueKind::Array)
+    } else if is_word(word, "linked") {
+        Some(QueueKind::Linked)
+    } else if is_word(word, "synchronous") {
+        Some(QueueKind::Synchronous)
+    } else if is_word(word, "priority") {
+        Some(QueueKind::Priority)
+    } else if is_word(word, "other") {
+        Some(QueueKind::Other)
+    } else {
+        None
+    }
+}
+
+#[tactic(auto, unfolding(crate::specs::PoolSizes::handler_kind_of))]
+fn handler_kind_of(word: &[u8]) -> Option<HandlerKind>
+    ensures { result ≡ spec.handler_kind_of word.now }
+{
+    if is_word(word, "abort") {
+        Some(HandlerKind::Abort)
+    } else if is_word(word, "caller_runs") {
+        Some(HandlerKind::CallerRuns)
+    } else if is_word(word, "discard") {
+        Some(HandlerKind::Discard)
+    } else if is_word(word, "discard_oldest") {
+        Some(HandlerKind::DiscardOldest)
+    } else if is_word(word, "other") {
+        Some(HandlerKind::Other)
+    } else {
+        None
+    }
+}
+
+#[tactic(auto, unfolding(crate::specs::PoolSizes::yes_or_no))]
+fn yes_or_no(word: &[u8]) -> Option<bool>
+    ensures { result ≡ spec.yes_or_no word.now }
+{
+    if is_word(word, "yes") {
+        Some(true)
+    } else if is_word(word, "no") {
+        Some(false)
+    } else {
+        None
+    }
+}
+
+/// `queue KIND`, and the words behind it.
+#[tactic(auto, unfolding(crate::specs::PoolSizes::queue_then))]
+fn queue_then(text: &[u8]) -> Option<(QueueKind, &[u8])>
+    ensures { option_map (λ read. (read.0, read.1.now)) result ≡ spec.queue_then text.now }
+{
+    let (word, rest) = split_space(behind("queue", text)?)?;
+    Some((queue_kind_of(word)?, rest))
+}
+
+/// `timeout WORD`, and the words behind it.
+#[tactic(auto, unfolding(crate::specs::PoolSizes::timeout_then))]
+fn timeout_then(text: &[u8]) -> Option<(bool, &[u8])>
+    ensures { option_map (λ read. (read.0, read.1.now)) result ≡ spec.timeout_then text.now }
+{
+    let (word, rest) = split_space(behind("timeout", text)?)?;
+    Some((yes_or_no(word)?, rest))
+}
+
+/// `handler KIND`.
+#[tactic(auto, unfolding(crate::specs::PoolSizes::handler_of))]
+fn handler_of(text: &[u8]) -> Option<HandlerKind>
+    ensures { result ≡ spec.handler_of text.now }
+{
+    handler_kind_of(behind("handler", text)?)
+}
+
+/// `core C max C queue KIND C timeout WORD prestarted C handler KIND`.
+#[tactic(auto, unfolding(crate::specs::PoolSizes::pool_sizes_of))]
+pub(crate) fn pool_sizes_of(text: &[u8]) -> Option<PoolSizes>
+    ensures { result ≡ spec.pool_sizes_of text.now }
+{
+    let (core, rest) = number_behind("core", text)?;
+    let (max, rest) = number_behind("max", rest)?;
+    let (queue, rest) = queue_then(rest)?;
+    let (capacity, rest) = number_then(rest)?;
+    let (timeout, rest) = timeout_then(rest)?;
+    let (prestarted, rest) = number_behind("prestarted", rest)?;
+    let handler = handler_of(rest)?;
+    Some(PoolSizes {
+        core,
+        max,
+        queue,
+        capacity,
+        timeout,
+        prestarted,
+        handler,
+    })
+}
