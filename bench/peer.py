@@ -56,7 +56,8 @@ def compared_with_examples(peer):
 
 
 def examples_check():
-    """The module examples/check.py. This folder has another one of that name."""
+    """The module examples/check.py, which has modules of its own beside it. This folder has another one of that name."""
+    sys.path.append(str(EXAMPLES))
     spec = spec_from_file_location("examples_check", EXAMPLES / "check.py")
     module = module_from_spec(spec)
     spec.loader.exec_module(module)

@@ -1,1 +1,3 @@
 mod Paid
+mod Rows
+mod Pairs

@@ -1,5 +1,8 @@
 pub mod Finding
 pub mod Told
+pub mod SafeText
+pub mod AdviceText
 pub mod Payers
-pub mod Json
 pub mod Picture
+pub mod Waits
+pub mod Places

@@ -1,12 +1,15 @@
 -- The text of an answer.
 use Rattle.std.specs.Prelude.{◌≡◌, List, ℕ, [], ◌∷◌, ◌++◌, codes}
 use Rattle.job_bodies.specs.Plan.{Plan}
+use Rattle.certificates.specs.Cert.{Cert}
 use Rattle.plan_witnesses.specs.declared.witness.Witness.{Witness}
 use Rattle.witness_lines.specs.Told.{IsTold}
 use Rattle.size_search.specs.declared.found.SizesFound.{SizesFound}
 use Rattle.size_search.specs.declared.found.SizesFound.TheVariants.{Found, NotFound}
 use Rattle.size_lines.specs.Sizes.{sizes_text}
 use Rattle.size_lines.specs.Cause.{no_sizes_text}
+use Rattle.ask_answers.specs.SafeText.{safe_text}
+use Rattle.ask_answers.specs.AdviceText.{advice_text, open_text}
 use Rattle.ask_answers.specs.declared.finding.Finding.{Finding}
 use Rattle.ask_answers.specs.declared.finding.Finding.TheVariants.{Safe, NotSafe, NotDecided}
 
@@ -28,25 +31,22 @@ abbrev pub sizes_part : Plan → SizesFound → List ℕ
 sizes_part plan (Found fit cert) = fit_part plan fit
 sizes_part plan (NotFound cause) = no_sizes_text plan cause
 
--- the answer, and words behind it that say what it means
-pub record TellsSafe (text : List ℕ) : Type 0 where
-  pub words : List ℕ
-  pub is : text ≡ safe_head ++ words
+-- the answer, and behind it what the certificate says of each pool
+abbrev pub TellsSafe : Plan → Cert → List ℕ → Type 0
+TellsSafe plan cert text = text ≡ safe_head ++ safe_text plan cert
 
--- the answer, the witness's story, the sizes, and words behind them
+-- the answer, the witness's story, the sizes, and what they mean
 pub record TellsNotSafe (plan : Plan) (witness : Witness) (sizes : SizesFound) (text : List ℕ) : Type 0 where
   pub story : List ℕ
   pub is_story : IsTold plan witness story
-  pub words : List ℕ
-  pub is : text ≡ ((not_safe_head ++ story) ++ sizes_part plan sizes) ++ words
+  pub is : text ≡ ((not_safe_head ++ story) ++ sizes_part plan sizes) ++ advice_text plan sizes
 
--- the answer, the sizes, and words behind them
-pub record TellsNotDecided (plan : Plan) (sizes : SizesFound) (text : List ℕ) : Type 0 where
-  pub words : List ℕ
-  pub is : text ≡ (not_decided_head ++ sizes_part plan sizes) ++ words
+-- the answer, the sizes, what they mean, and what stays open
+abbrev pub TellsNotDecided : Plan → SizesFound → List ℕ → Type 0
+TellsNotDecided plan sizes text = text ≡ ((not_decided_head ++ sizes_part plan sizes) ++ advice_text plan sizes) ++ open_text sizes
 
 -- the text tells the finding
 abbrev pub Tells : Plan → Finding → List ℕ → Type 0
-Tells plan (Safe cert) text = TellsSafe text
+Tells plan (Safe cert) text = TellsSafe plan cert text
 Tells plan (NotSafe witness sizes) text = TellsNotSafe plan witness sizes text
 Tells plan (NotDecided sizes) text = TellsNotDecided plan sizes text

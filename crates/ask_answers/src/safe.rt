@@ -1,28 +1,73 @@
 //! What a certificate says of a plan that it accepts, for a person.
 
-use crate::names::{client_name, pool_name};
+ghost use Rattle.std.specs.Prelude.{◌≡◌, ◌++◌, IfOk, IsTrue, OnOk, map, string_bytes};
+ghost use Rattle.decimals.specs.Pushed.{Pushes};
+ghost use Rattle.weights.specs.Vector.{vector_fits};
+ghost use Rattle.ask_answers.specs.Places as places;
+ghost use Rattle.ask_answers.specs.SafeText as spec;
+
 use crate::payers::{Payers, payers_of};
-use crate::waits::waited_by;
-use certificates::Cert;
+use crate::waits::waits_for;
+use certificates::{Cert, PoolCert};
 use job_bodies::{Plan, Pool};
 use std::alloc::{AllocError, Global};
 use weights::{Bound, Vector};
 
-/// A line for each pool, and why no job starves.
+/// Two lines for each pool, and why no job starves.
 pub(crate) fn push_safe(
     alloc: Global,
     text: &mut String,
     plan: &Plan,
     cert: &Cert,
-) -> Result<(), AllocError> {
-    for (number, (pool, parts)) in plan.pools().iter().zip(cert.pools.iter()).enumerate() {
-        push_bound(alloc, text, plan, pool, &parts.bound)?;
-        push_waits(alloc, text, plan, number, pool, &parts.blocked)?;
-    }
+) -> Result<(), AllocError>
+    ensures { Pushes result text.old text.new (spec.safe_text plan.now cert.now) }
+{
+    push_pools(alloc, text, plan, cert)?;
     text.push_str("no submit is ever refused, and no jobs wait for each other for ever\n")
 }
 
-/// How many places of its queue each pool needs at most, where a standing vector says it.
+fn push_pools(alloc: Global, text: &mut String, plan: &Plan, cert: &Cert) -> Result<(), AllocError>
+    ensures { Pushes result text.old text.new (spec.pools_text plan.now cert.now) }
+{
+    for (number, pool) in plan.pools().iter().enumerate() {
+        push_pool(alloc, text, plan, cert, number, pool)?;
+    }
+    Ok(())
+}
+
+/// The lines of a pool for which the certificate has a part.
+fn push_pool(
+    alloc: Global,
+    text: &mut String,
+    plan: &Plan,
+    cert: &Cert,
+    number: usize,
+    pool: &Pool,
+) -> Result<(), AllocError>
+    ensures { Pushes result text.old text.new (spec.pool_lines plan.now cert.now (number, pool.now)) }
+{
+    match cert.pools.get(number) {
+        Some(part) => push_lines(alloc, text, plan, number, pool, part),
+        None => Ok(()),
+    }
+}
+
+fn push_lines(
+    alloc: Global,
+    text: &mut String,
+    plan: &Plan,
+    number: usize,
+    pool: &Pool,
+    part: &PoolCert,
+) -> Result<(), AllocError>
+    ensures { Pushes result text.old text.new (spec.bound_line plan.now pool.now part.now.bound ++ spec.waits_line plan.now number pool.now part.now.blocked) }
+{
+    push_bound(alloc, text, plan, pool, &part.bound)?;
+    push_waits(alloc, text, plan, number, pool, &part.blocked)
+}
+
+/// How many places of its queue each pool needs at most, in the certificate's order, where a standing vector that fits the
+/// plan says it.
 ///
 /// # Errors
 ///
@@ -31,7 +76,9 @@ pub fn needed_places(
     alloc: Global,
     plan: &Plan,
     cert: &Cert,
-) -> Result<Vec<Option<u64>>, AllocError> {
+) -> Result<Vec<Option<u64>>, AllocError>
+    ensures { IfOk result (λ needed. needed.items ≡ places.needed_places plan.now cert.now) }
+{
     let mut needed = Vec::new(alloc);
     for parts in &cert.pools {
         needed.push(places_of(plan, &parts.bound))?;
@@ -39,7 +86,9 @@ pub fn needed_places(
     Ok(needed)
 }
 
-fn places_of(plan: &Plan, bound: &Bound) -> Option<u64> {
+fn places_of(plan: &Plan, bound: &Bound) -> Option<u64>
+    ensures { result ≡ places.places_of plan.now bound.now }
+{
     match bound {
         Bound::Standing(vector) => total_of(plan, vector),
         Bound::Lifetime(_) => None,
@@ -47,7 +96,9 @@ fn places_of(plan: &Plan, bound: &Bound) -> Option<u64> {
 }
 
 /// The total of a vector, where it fits the plan.
-pub(crate) fn total_of(plan: &Plan, vector: &Vector) -> Option<u64> {
+pub fn total_of(plan: &Plan, vector: &Vector) -> Option<u64>
+    ensures { result ≡ places.total_of plan.now vector.now }
+{
     if vector.fits(plan) {
         Some(vector.total(plan))
     } else {
@@ -55,34 +106,53 @@ pub(crate) fn total_of(plan: &Plan, vector: &Vector) -> Option<u64> {
     }
 }
 
-/// What bounds the queue of a pool, and who pays for it.
+/// How many threads a pool has, and its queue.
 fn push_bound(
     alloc: Global,
     text: &mut String,
     plan: &Plan,
     pool: &Pool,
     bound: &Bound,
-) -> Result<(), AllocError> {
+) -> Result<(), AllocError>
+    ensures { Pushes result text.old text.new (spec.bound_line plan.now pool.now bound.now) }
+{
     let name = pool.name.as_str();
-    let queue = pool.queue;
     write!(text, "{name}: ")?;
     push_threads(text, pool)?;
+    push_queue(alloc, text, plan, pool, bound)?;
+    text.push('\n')
+}
+
+/// What bounds the queue of a pool, and who pays for it.
+fn push_queue(
+    alloc: Global,
+    text: &mut String,
+    plan: &Plan,
+    pool: &Pool,
+    bound: &Bound,
+) -> Result<(), AllocError>
+    ensures { Pushes result text.old text.new (spec.queue_text plan.now pool.now bound.now) }
+{
     let vector = bound.vector();
-    match total_of(plan, vector) {
-        Some(0) => writeln!(text, ", queue {queue}: no job waits in it"),
-        Some(total) => {
-            write!(text, ", queue {queue}: ")?;
-            push_most(text, bound, total)?;
-            text.push_str(" (")?;
-            push_payers(alloc, text, plan, vector)?;
-            text.push_str(")\n")
-        }
-        None => text.push_str("\n"),
+    if !vector.fits(plan) {
+        return Ok(());
     }
+    let queue = pool.queue;
+    let total = vector.total(plan);
+    if total == 0 {
+        return write!(text, ", queue {queue}: no job waits in it");
+    }
+    write!(text, ", queue {queue}: ")?;
+    push_most(text, bound, total)?;
+    text.push_str(" (")?;
+    push_payers(alloc, text, plan, vector)?;
+    text.push_str(")")
 }
 
 /// How many jobs a bound is of.
-pub(crate) fn push_most(text: &mut String, bound: &Bound, total: u64) -> Result<(), AllocError> {
+pub(crate) fn push_most(text: &mut String, bound: &Bound, total: u64) -> Result<(), AllocError>
+    ensures { Pushes result text.old text.new (spec.most_text bound.now total) }
+{
     match bound {
         Bound::Standing(_) if total == 1 => text.push_str("up to 1 job waits at once"),
         Bound::Standing(_) => write!(text, "up to {total} jobs wait at once"),
@@ -92,7 +162,9 @@ pub(crate) fn push_most(text: &mut String, bound: &Bound, total: u64) -> Result<
 }
 
 /// How many threads the pool has.
-pub(crate) fn push_threads(text: &mut String, pool: &Pool) -> Result<(), AllocError> {
+pub(crate) fn push_threads(text: &mut String, pool: &Pool) -> Result<(), AllocError>
+    ensures { Pushes result text.old text.new (spec.threads_text pool.now) }
+{
     let core = pool.core;
     let max = pool.max;
     if core != max {
@@ -110,36 +182,79 @@ fn push_payers(
     text: &mut String,
     plan: &Plan,
     vector: &Vector,
-) -> Result<(), AllocError> {
-    if !vector.fits(plan) {
-        return Ok(());
-    }
+) -> Result<(), AllocError>
+    requires { IsTrue (vector_fits plan.now vector.now) }
+    ensures { Pushes result text.old text.new (spec.separated (spec.payers plan.now vector.now)) }
+{
     let Payers { clients, workers } = payers_of(alloc, plan, vector)?;
-    let mut any = false;
-    for (number, share) in clients.iter().copied().enumerate() {
-        if share > 0 {
-            push_comma(text, any)?;
-            any = true;
-            let name = client_name(plan, number);
-            write!(text, "{share} {name}")?;
-        }
-    }
-    for (number, share) in workers.iter().copied().enumerate() {
-        if share > 0 {
-            push_comma(text, any)?;
-            any = true;
-            let name = pool_name(plan, number);
-            write!(text, "{share} from threads of {name}")?;
-        }
+    let mut parts = Vec::new(alloc);
+    push_clients(alloc, &mut parts, plan, &clients)?;
+    push_workers(alloc, &mut parts, plan, &workers)?;
+    push_separated(alloc, text, &parts)
+}
+
+fn push_clients(
+    alloc: Global,
+    parts: &mut Vec<String>,
+    plan: &Plan,
+    shares: &[u64],
+) -> Result<(), AllocError>
+    ensures { OnOk result (map string_bytes parts.new.items ≡ map string_bytes parts.old.items ++ spec.client_parts plan.now shares.now) }
+{
+    for (kind, share) in shares.iter().enumerate() {
+        push_paid(alloc, parts, *share, "", plan.client_name(kind))?;
     }
     Ok(())
 }
 
-fn push_comma(text: &mut String, any: bool) -> Result<(), AllocError> {
-    if any { text.push_str(", ") } else { Ok(()) }
+fn push_workers(
+    alloc: Global,
+    parts: &mut Vec<String>,
+    plan: &Plan,
+    shares: &[u64],
+) -> Result<(), AllocError>
+    ensures { OnOk result (map string_bytes parts.new.items ≡ map string_bytes parts.old.items ++ spec.worker_parts plan.now shares.now) }
+{
+    for (pool, share) in shares.iter().enumerate() {
+        push_paid(
+            alloc,
+            parts,
+            *share,
+            "from threads of ",
+            plan.pool_name(pool),
+        )?;
+    }
+    Ok(())
 }
 
-/// For which pools the jobs of a pool wait, and how many of its threads at most at gets where one must be left.
+/// The part of one that pays, if it does.
+#[tactic(auto, using(std::proofs::lemmas::List::map_push))]
+fn push_paid(
+    alloc: Global,
+    parts: &mut Vec<String>,
+    share: u64,
+    from: &str,
+    name: &str,
+) -> Result<(), AllocError>
+    ensures { OnOk result (map string_bytes parts.new.items ≡ map string_bytes parts.old.items ++ spec.paid share from.now name.now) }
+{
+    if share == 0 {
+        return Ok(());
+    }
+    parts.push(format!(in alloc; "{share} {from}{name}")?)?;
+    Ok(())
+}
+
+/// The parts in a row, a comma between each two.
+#[tactic(auto, using(crate::proofs::Rows::row_seen))]
+fn push_separated(alloc: Global, text: &mut String, parts: &[String]) -> Result<(), AllocError>
+    ensures { Pushes result text.old text.new (spec.separated (map string_bytes parts.now)) }
+{
+    let row = parts.join(alloc, ", ")?;
+    text.push_str(&row)
+}
+
+/// For which pools the jobs of a pool wait, and how many of its threads.
 fn push_waits(
     alloc: Global,
     text: &mut String,
@@ -147,32 +262,87 @@ fn push_waits(
     number: usize,
     pool: &Pool,
     blocked: &Vector,
-) -> Result<(), AllocError> {
-    let waited = waited_by(alloc, plan, number)?;
+) -> Result<(), AllocError>
+    ensures { Pushes result text.old text.new (spec.waits_line plan.now number pool.now blocked.now) }
+{
     let name = pool.name.as_str();
     write!(text, "  {name} waits for ")?;
-    push_waited(text, plan, &waited)?;
-    match total_of(plan, blocked) {
-        Some(most) if most > 0 => {
-            let left = pool.core.saturating_sub(most);
-            let core = pool.core;
-            writeln!(
-                text,
-                ": at most {most} of its {core} core threads at once where others must go on, {left} left"
-            )
-        }
-        _ => text.push_str("\n"),
+    push_waited(alloc, text, plan, number)?;
+    push_left(text, plan, pool, blocked)?;
+    text.push('\n')
+}
+
+/// How many core threads of a pool wait at most at gets where one must be left.
+fn push_left(
+    text: &mut String,
+    plan: &Plan,
+    pool: &Pool,
+    blocked: &Vector,
+) -> Result<(), AllocError>
+    ensures { Pushes result text.old text.new (spec.left_text plan.now pool.now blocked.now) }
+{
+    if blocked.fits(plan) {
+        push_waiting(text, pool, blocked.total(plan))
+    } else {
+        Ok(())
     }
 }
 
-fn push_waited(text: &mut String, plan: &Plan, waited: &[bool]) -> Result<(), AllocError> {
-    let mut any = false;
-    for (number, is_waited) in waited.iter().copied().enumerate() {
-        if is_waited {
-            push_comma(text, any)?;
-            any = true;
-            text.push_str(pool_name(plan, number))?;
-        }
+fn push_waiting(text: &mut String, pool: &Pool, most: u64) -> Result<(), AllocError>
+    ensures { Pushes result text.old text.new (spec.waiting_text pool.now most) }
+{
+    if most == 0 {
+        return Ok(());
     }
-    if any { Ok(()) } else { text.push_str("nobody") }
+    let core = pool.core;
+    let left = core.saturating_sub(most);
+    write!(
+        text,
+        ": at most {most} of its {core} core threads at once where others must go on, {left} left"
+    )
+}
+
+/// The pools for which jobs of the pool of this number wait.
+fn push_waited(
+    alloc: Global,
+    text: &mut String,
+    plan: &Plan,
+    number: usize,
+) -> Result<(), AllocError>
+    ensures { Pushes result text.old text.new (spec.waited_text plan.now number) }
+{
+    let names = waited_names(alloc, plan, number)?;
+    if names.is_empty() {
+        return text.push_str("nobody");
+    }
+    push_separated(alloc, text, &names)
+}
+
+fn waited_names(alloc: Global, plan: &Plan, number: usize) -> Result<Vec<String>, AllocError>
+    ensures { IfOk result (λ names. map string_bytes names.items ≡ spec.waited_names plan.now number) }
+{
+    let mut names = Vec::new(alloc);
+    for (other, pool) in plan.pools().iter().enumerate() {
+        push_if_waited(alloc, &mut names, plan, number, other, pool)?;
+    }
+    Ok(names)
+}
+
+/// The name of the other pool, if jobs of the pool of this number wait for its jobs.
+#[tactic(auto, using(std::proofs::lemmas::List::map_push))]
+fn push_if_waited(
+    alloc: Global,
+    names: &mut Vec<String>,
+    plan: &Plan,
+    number: usize,
+    other: usize,
+    pool: &Pool,
+) -> Result<(), AllocError>
+    ensures { OnOk result (map string_bytes names.new.items ≡ map string_bytes names.old.items ++ spec.waited_name plan.now number (other, pool.now)) }
+{
+    if !waits_for(plan, number, other) {
+        return Ok(());
+    }
+    names.push(String::from_str(alloc, &pool.name)?)?;
+    Ok(())
 }

@@ -5,7 +5,7 @@ ghost use Rattle.ask_answers.specs.Told as spec;
 
 use crate::finding::Finding;
 use crate::safe::push_safe;
-use crate::unsafe_sizes::advice_of;
+use crate::unsafe_sizes::{push_advice, push_open};
 use certificates::Cert;
 use job_bodies::Plan;
 use plan_witnesses::Witness;
@@ -30,12 +30,10 @@ pub fn told(alloc: Global, plan: &Plan, finding: &Finding) -> Result<String, All
 }
 
 fn safe(alloc: Global, plan: &Plan, cert: &Cert) -> Result<String, AllocError>
-    ensures { IfOk result (λ text. spec.TellsSafe (string_bytes text)) }
+    ensures { IfOk result (λ text. spec.TellsSafe plan.now cert.now (string_bytes text)) }
 {
-    let mut words = String::new(alloc);
-    push_safe(alloc, &mut words, plan, cert)?;
     let mut text = String::from_str(alloc, "SAFE\n")?;
-    text.push_str(&words)?;
+    push_safe(alloc, &mut text, plan, cert)?;
     Ok(text)
 }
 
@@ -48,24 +46,20 @@ fn not_safe(
     ensures { IfOk result (λ text. spec.TellsNotSafe plan.now witness.now sizes.now (string_bytes text)) }
 {
     let story = witness_lines::told(alloc, plan, witness)?;
-    let words = advice_of(alloc, plan, sizes)?;
     let mut text = String::from_str(alloc, "NOT SAFE\n")?;
     text.push_str(&story)?;
     push_found(&mut text, plan, sizes)?;
-    text.push_str(&words)?;
+    push_advice(&mut text, plan, sizes)?;
     Ok(text)
 }
 
 fn not_decided(alloc: Global, plan: &Plan, sizes: &SizesFound) -> Result<String, AllocError>
     ensures { IfOk result (λ text. spec.TellsNotDecided plan.now sizes.now (string_bytes text)) }
 {
-    let mut words = advice_of(alloc, plan, sizes)?;
-    words.push_str(
-        "no certificate was found for the declared sizes, nor events that show them wrong: they may be right\n",
-    )?;
     let mut text = String::from_str(alloc, "NOT DECIDED\n")?;
     push_found(&mut text, plan, sizes)?;
-    text.push_str(&words)?;
+    push_advice(&mut text, plan, sizes)?;
+    push_open(&mut text, sizes)?;
     Ok(text)
 }
 

@@ -1,58 +1,104 @@
 //! What to do about a plan that is not safe with its declared sizes, or not shown to be.
 
-use job_bodies::Plan;
+ghost use Rattle.decimals.specs.Pushed.{Pushes};
+ghost use Rattle.ask_answers.specs.AdviceText as spec;
+
+use job_bodies::{Plan, Pool};
 use size_causes::Cause;
 use size_search::{NoSizes, SizesFound};
-use std::alloc::{AllocError, Global};
+use std::alloc::AllocError;
 
 /// What the sizes that were found, or the cause why there are none, mean for whoever has the plan.
-pub(crate) fn advice_of(
-    alloc: Global,
+pub(crate) fn push_advice(
+    text: &mut String,
     plan: &Plan,
     sizes: &SizesFound,
-) -> Result<String, AllocError> {
-    let mut text = String::new(alloc);
+) -> Result<(), AllocError>
+    ensures { Pushes result text.old text.new (spec.advice_text plan.now sizes.now) }
+{
     match sizes {
-        SizesFound::Found { plan: fit, .. } => push_reasons(&mut text, plan, fit)?,
-        SizesFound::NotFound(cause) => push_way(&mut text, *cause)?,
+        SizesFound::Found { plan: fit, .. } => push_reasons(text, plan, fit),
+        SizesFound::NotFound(cause) => push_way(text, *cause),
     }
-    Ok(text)
 }
 
 /// Why each size grows.
-fn push_reasons(text: &mut String, plan: &Plan, fit: &Plan) -> Result<(), AllocError> {
-    for (now, then) in plan.pools().iter().zip(fit.pools()) {
-        let name = now.name.as_str();
-        if now.core != then.core {
-            let core = then.core;
-            let most = core.saturating_sub(1);
-            writeln!(
-                text,
-                "{name}: up to {most} of its jobs may wait for jobs at once, and core {core} leaves a thread"
-            )?;
-        }
-        if now.queue != then.queue {
-            let queue = then.queue;
-            writeln!(
-                text,
-                "{name}: up to {queue} jobs may wait in its queue at once"
-            )?;
-        }
+fn push_reasons(text: &mut String, plan: &Plan, fit: &Plan) -> Result<(), AllocError>
+    ensures { Pushes result text.old text.new (spec.reasons_text plan.now fit.now) }
+{
+    for (declared, fitted) in plan.pools().iter().zip(fit.pools()) {
+        push_pool(text, declared, fitted)?;
     }
     Ok(())
 }
 
-/// What to do where no sizes help.
-fn push_way(text: &mut String, cause: NoSizes) -> Result<(), AllocError> {
+fn push_pool(text: &mut String, declared: &Pool, fit: &Pool) -> Result<(), AllocError>
+    ensures { Pushes result text.old text.new (spec.pool_reasons (declared.now, fit.now)) }
+{
+    push_core(text, declared, fit)?;
+    push_queue(text, declared, fit)
+}
+
+fn push_core(text: &mut String, declared: &Pool, fit: &Pool) -> Result<(), AllocError>
+    ensures { Pushes result text.old text.new (spec.core_reason declared.now fit.now) }
+{
+    if declared.core == fit.core {
+        return Ok(());
+    }
+    push_core_line(text, &declared.name, fit.core)
+}
+
+fn push_core_line(text: &mut String, name: &str, core: u64) -> Result<(), AllocError>
+    ensures { Pushes result text.old text.new (spec.core_line name.now core) }
+{
+    let most = core.saturating_sub(1);
+    writeln!(
+        text,
+        "{name}: up to {most} of its jobs may wait for jobs at once, and core {core} leaves a thread"
+    )
+}
+
+fn push_queue(text: &mut String, declared: &Pool, fit: &Pool) -> Result<(), AllocError>
+    ensures { Pushes result text.old text.new (spec.queue_reason declared.now fit.now) }
+{
+    if declared.queue == fit.queue {
+        return Ok(());
+    }
+    let name = declared.name.as_str();
+    let queue = fit.queue;
+    writeln!(
+        text,
+        "{name}: up to {queue} jobs may wait in its queue at once"
+    )
+}
+
+/// What to do where sizes alone do not help.
+fn push_way(text: &mut String, cause: NoSizes) -> Result<(), AllocError>
+    ensures { Pushes result text.old text.new (spec.way_text cause) }
+{
     match cause {
         NoSizes::Cause(Cause::Circle(_)) => text.push_str(
-            "no sizes help: jobs that submit jobs of their own class grow without end; write the levels as classes of their own\n",
+            "no certificate accepts any sizes while jobs submit jobs of their own class: write the levels as classes of their own\n",
         ),
         NoSizes::Cause(Cause::ClientNeverGets(_, _) | Cause::ClassNeverGets(_, _)) => text.push_str(
-            "no sizes help while nobody waits for these jobs: get the result before the next round, or bound them by permits (docs/PERMITS.md)\n",
+            "no certificate accepts any sizes while nobody waits for these jobs: get the result, or bound them by permits (docs/PERMITS.md)\n",
         ),
         NoSizes::TooLarge(_) => text.push_str(
             "fewer clients, or bodies that have fewer jobs open at one time, need less\n",
+        ),
+    }
+}
+
+/// What stays open.
+pub(crate) fn push_open(text: &mut String, sizes: &SizesFound) -> Result<(), AllocError>
+    ensures { Pushes result text.old text.new (spec.open_text sizes.now) }
+{
+    match sizes {
+        SizesFound::NotFound(NoSizes::Cause(_)) => text.push_str(
+            "no certificate accepts this plan, whatever its sizes, and no events were found that show it wrong\n",
+        ),
+        SizesFound::Found { .. } | SizesFound::NotFound(NoSizes::TooLarge(_)) => text.push_str(
+            "no certificate was found for the declared sizes, nor events that show them wrong: they may be right\n",
         ),
     }
 }

@@ -6,7 +6,7 @@ use Rattle.numbered_lists.proofs.Members.{In-slice_get, list_any_at_In}
 use Rattle.job_bodies.specs.declared.action.Action.{Action}
 use Rattle.job_bodies.specs.declared.action.Action.TheVariants.{Work, Submit, Get}
 use Rattle.job_bodies.specs.Plan.{Plan, submits, class_of_submit, class_got, gets, is_got}
-use Rattle.job_bodies.proofs.Bodies.{IsLawful}
+use Rattle.job_bodies.specs.Lawful.{IsLawful}
 use Rattle.weights.specs.declared.at_get.AtGet.{AtGet}
 use Rattle.weights.specs.Vector.{Vector, queued_weight}
 use Rattle.weights.specs.AtGet.{given_back}

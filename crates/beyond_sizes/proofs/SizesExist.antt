@@ -6,7 +6,7 @@ use Rattle.std.proofs.lemmas.List.{length-map, get_or-map}
 use Rattle.std.proofs.lemmas.List.Sums.{sum_by-cons}
 use Rattle.job_bodies.specs.declared.action.Action.{Action}
 use Rattle.job_bodies.specs.declared.action.Action.TheVariants.{Work, Submit, Get}
-use Rattle.job_bodies.specs.declared.limits.TheConstants.{MOST_UNITS}
+use Rattle.job_bodies.specs.declared.limits.TheConstants.{MAX_SIZE}
 use Rattle.job_bodies.specs.Plan.{Pool, Class, Client, Plan, no_pool, pool_at, class_at, class_got}
 use Rattle.job_bodies.specs.WellFormed.{has_lawful_sizes, IsWellFormed}
 use Rattle.weights.specs.Vector.{Vector, queued_weight, done_weight, workers_weight, has_small_numbers, is_small}
@@ -103,13 +103,13 @@ free-pools plan pools free = record {
 abbrev sized : ℕ → Pool → Pool
 sized n pool = record pool { core = n; max = n; queue = n }
 
-all_lawful : (n : ℕ) (pools : List Pool) → 1 ≤ n → n ≤ MOST_UNITS → list_all has_lawful_sizes (map (sized n) pools) ≡ true
+all_lawful : (n : ℕ) (pools : List Pool) → 1 ≤ n → n ≤ MAX_SIZE → list_all has_lawful_sizes (map (sized n) pools) ≡ true
 all_lawful n [] low high = refl
 all_lawful n (pool ∷ pools) low high =
     let same : n ≤ n = omega arith in
-    and_from _ _ (and_from _ _ (and_from _ _ (and_from _ _ (le-leb 1 n low) (le-leb n MOST_UNITS high)) (and_from _ _ (le-leb n n same) (le-leb n MOST_UNITS high))) (and_from _ _ (le-leb 1 n low) (le-leb n MOST_UNITS high))) (all_lawful n pools low high)
+    and_from _ _ (and_from _ _ (and_from _ _ (and_from _ _ (le-leb 1 n low) (le-leb n MAX_SIZE high)) (and_from _ _ (le-leb n n same) (le-leb n MAX_SIZE high))) (and_from _ _ (le-leb 1 n low) (le-leb n MAX_SIZE high))) (all_lawful n pools low high)
 
-sizes_where_free : (plan : Plan) → IsWellFormed plan → IsTrue (has_small_numbers (steady_vector plan)) → steady_total plan < MOST_UNITS → IsWithoutCause plan → HasSizes plan
+sizes_where_free : (plan : Plan) → IsWellFormed plan → IsTrue (has_small_numbers (steady_vector plan)) → steady_total plan < MAX_SIZE → IsWithoutCause plan → HasSizes plan
 sizes_where_free plan well small low free =
     let n = steady_total plan + 1 in
     let pools = map (sized n) plan.pools in

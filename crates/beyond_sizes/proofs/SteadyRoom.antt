@@ -3,7 +3,7 @@ use Rattle.std.proofs.Common.{◌≡◌, ℕ, zero, suc, ◌+◌, ◌<◌, ◌�
 use Rattle.std.specs.List.{list_all}
 use Rattle.std.proofs.lemmas.Bool.{cases_lt}
 use Rattle.std.proofs.lemmas.List.{length-map, get_or-map, get_or_past}
-use Rattle.job_bodies.specs.declared.limits.TheConstants.{MOST_UNITS}
+use Rattle.job_bodies.specs.declared.limits.TheConstants.{MAX_SIZE}
 use Rattle.job_bodies.specs.Plan.{Pool, Class, Client, Plan, no_pool, pool_at}
 use Rattle.job_bodies.specs.WellFormed.{has_lawful_sizes, IsWellFormed}
 use Rattle.weights.specs.Vector.{Vector, has_small_numbers, total}
@@ -74,7 +74,7 @@ accepts_with plan pools well free small as_many enough =
 abbrev roomy : ℕ → Pool → Pool
 roomy n pool = record pool { core = n; max = max pool.max n; queue = n }
 
-pub some_fit_wide : (plan : Plan) → IsWellFormed plan → IsWithoutCause plan → IsTrue (has_small_numbers (steady_vector plan)) → steady_total plan < MOST_UNITS → NoneFitsWide plan (steady_cert plan) → ⊥
+pub some_fit_wide : (plan : Plan) → IsWellFormed plan → IsWithoutCause plan → IsTrue (has_small_numbers (steady_vector plan)) → steady_total plan < MAX_SIZE → NoneFitsWide plan (steady_cert plan) → ⊥
 some_fit_wide plan well free small low none = none other (record { well_formed = well'; same_outline = same; no_smaller_max = larger; accepts = accepts })
   where
     n : ℕ
@@ -181,7 +181,7 @@ room_is_left plan pools well free small as_many room none =
         let there = at p inside in
         (omega (arith, ap (λ (pool : Pool). pool.queue) there.0), omega (arith, ap (λ (pool : Pool). pool.core) there.0)))
 
-pub some_fit_widened : (plan : Plan) → IsWellFormed plan → IsWithoutCause plan → IsTrue (has_small_numbers (steady_vector plan)) → steady_total plan < MOST_UNITS
+pub some_fit_widened : (plan : Plan) → IsWellFormed plan → IsWithoutCause plan → IsTrue (has_small_numbers (steady_vector plan)) → steady_total plan < MAX_SIZE
     → NoneFits (widened plan (steady_cert plan)) (steady_cert plan) → ⊥
 some_fit_widened plan well free small low none = room_is_left plan pools well' free small as_many left none
   where

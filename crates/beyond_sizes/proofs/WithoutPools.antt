@@ -7,7 +7,7 @@ use Rattle.std.proofs.lemmas.List.Sums.{sum_by-cons}
 use Rattle.numbered_lists.proofs.Members.{list_all_at_In, In-get_or}
 use Rattle.job_bodies.specs.declared.action.Action.{Action}
 use Rattle.job_bodies.specs.declared.action.Action.TheVariants.{Work, Submit, Get}
-use Rattle.job_bodies.specs.declared.limits.TheConstants.{MOST_UNITS}
+use Rattle.job_bodies.specs.declared.limits.TheConstants.{MAX_SIZE}
 use Rattle.job_bodies.specs.Plan.{Pool, Class, Client, Plan, no_pool, no_client, class_at, class_got, is_got}
 use Rattle.job_bodies.specs.WellFormed.{IsWellFormed}
 use Rattle.job_bodies.proofs.Bodies.{ordered}
@@ -129,7 +129,7 @@ bare_plan : (plan : Plan) → IsWellFormed plan → length plan.pools ≡ 0 → 
 bare_plan plan well none = is_without plan (nil_from_length plan.pools none) (no_pools_no_classes plan well none)
 
 -- where the steady certificate is too large, there is a pool
-pub too_large_for_a_pool : (plan : Plan) → IsWellFormed plan → ((has_small_numbers (steady_vector plan) ≡ false) ⊎ (MOST_UNITS ≤ steady_total plan)) → 0 < length plan.pools
+pub too_large_for_a_pool : (plan : Plan) → IsWellFormed plan → ((has_small_numbers (steady_vector plan) ≡ false) ⊎ (MAX_SIZE ≤ steady_total plan)) → 0 < length plan.pools
 too_large_for_a_pool plan well large =
     elim (cases_lt 0 (length plan.pools)) [
       | inl some ↦ some
@@ -137,7 +137,7 @@ too_large_for_a_pool plan well large =
           let bare = bare_plan plan well (omega (arith, past)) in
           ⊎_elim
           (λ (heavy : has_small_numbers (steady_vector plan) ≡ false). absurd (false≢true (sym heavy ∙ (ap (λ (any : Plan). has_small_numbers (steady_vector any)) bare ∙ small_without plan.clients))))
-          (λ (high : MOST_UNITS ≤ steady_total plan).
+          (λ (high : MAX_SIZE ≤ steady_total plan).
           let total : steady_total plan ≡ 0 = ap (λ (any : Plan). steady_total any) bare ∙ total_without plan.clients in
           absurd (omega (arith, high, total)))
           large

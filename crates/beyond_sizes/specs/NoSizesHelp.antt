@@ -1,6 +1,6 @@
 -- Plans for which no sizes will do.
 use Rattle.std.specs.Prelude.{◌≡◌, ◌<◌, ◌↔◌, ℕ, IsTrue}
-use Rattle.job_bodies.specs.declared.limits.TheConstants.{MOST_UNITS}
+use Rattle.job_bodies.specs.declared.limits.TheConstants.{MAX_SIZE}
 use Rattle.job_bodies.specs.Plan.{Plan}
 use Rattle.job_bodies.specs.WellFormed.{IsWellFormed}
 use Rattle.weights.specs.Vector.{has_small_numbers}
@@ -38,4 +38,4 @@ pub record HasSizes (plan : Plan) : Type 0 where
 -- a plan has sizes exactly where no cause holds of it, if its steady weights are within their limit, and its steady total leaves
 -- room below the limit of sizes
 abbrev pub SizesExist : Type 0
-SizesExist = (plan : Plan) → IsWellFormed plan → IsTrue (has_small_numbers (steady_vector plan)) → steady_total plan < MOST_UNITS → HasSizes plan ↔ IsWithoutCause plan
+SizesExist = (plan : Plan) → IsWellFormed plan → IsTrue (has_small_numbers (steady_vector plan)) → steady_total plan < MAX_SIZE → HasSizes plan ↔ IsWithoutCause plan

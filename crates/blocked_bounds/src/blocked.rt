@@ -35,12 +35,12 @@ fn visit_counted_row<C: Counted, V: RowVisitor>(
         Takes V.HasSeen visitor.old visitor.new (if is_get action && C.is_counted counted.now number position then one ∷ [] else []) }
 {
     if matches!(action, Action::Get(_)) && counted.counted(number, position) {
-        visitor.visit(Row {
-            rule: Rule::B1,
-            place: Place::ClassAction(number, position),
-            left: 1,
-            right: vector.class_weights(number)[position + 1],
-        });
+        visitor.visit(Row::new(
+            Rule::B1,
+            Place::ClassAction(number, position),
+            1,
+            vector.class_weights(number)[position + 1],
+        ));
     }
 }
 
@@ -121,12 +121,7 @@ pub fn visit_blocked_rows<C: Counted, V: RowVisitor>(
     vector.visit_rows(plan, AtGet::GivesBack, visitor);
     visit_all_counted_rows(plan, pool, counted, vector, visitor);
     let pool = &plan.pools()[pool];
-    visitor.visit(Row {
-        rule: Rule::B2,
-        place: Place::Total,
-        left: vector.total(plan),
-        right: pool.core - 1,
-    });
+    visitor.visit(Row::new(Rule::B2, Place::Total, vector.total(plan), pool.core - 1));
 }
 
 /// The first of the conditions of the pool's blocked vector that fails: V2 to V7, then B1, then B2. It takes no memory.

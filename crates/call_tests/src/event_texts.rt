@@ -21,6 +21,23 @@ fn plan_of_p_and_q(alloc: Global) -> Result<Plan, Fail> {
     Ok(Plan::build(alloc, pools, Vec::new(alloc), Vec::new(alloc))?)
 }
 
+const BAD_LINES: &[&str] = &[
+    "",
+    "client",
+    "client ",
+    "client 01",
+    "client 1000000001",
+    "client +1",
+    "client 1 ",
+    "client 1\r",
+    " client 1",
+    "Job 1",
+    "take z",
+    "stuck",
+    "stuck ",
+    "stuck 0  1",
+];
+
 /// Each form of line is read. A line of none of them is told in its place, and the lines around it are read.
 #[test]
 fn lines_that_are_read(rt: HostRuntime) -> Result<(), Fail> {
@@ -43,23 +60,7 @@ fn lines_that_are_read(rt: HostRuntime) -> Result<(), Fail> {
     assert_eq!(rt; members.to_vec(rt.alloc())?.as_slice(), [0, 1].as_slice());
     assert!(rt; lines.next().is_none());
     assert!(rt; EventLines::new(&plan, b"").next().is_none());
-    let bad_lines = [
-        "",
-        "client",
-        "client ",
-        "client 01",
-        "client 1000000001",
-        "client +1",
-        "client 1 ",
-        "client 1\r",
-        " client 1",
-        "Job 1",
-        "take z",
-        "stuck",
-        "stuck ",
-        "stuck 0  1",
-    ];
-    for line in bad_lines {
+    for line in BAD_LINES.iter().copied() {
         let text = format!(in rt.alloc(); "client 0\n{line}\nclient 0\n")?;
         let mut lines = EventLines::new(&plan, text.as_bytes());
         assert!(rt; matches!(lines.next(), Some(Ok(_))), "{line}");

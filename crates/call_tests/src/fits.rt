@@ -1,7 +1,7 @@
 //! Plans that are fitted to certificates: the sizes that come of it, worked out by hand.
 
 use cert_check::{Cert, read_cert};
-use fitted_sizes::{Unfit, copied, fitted, smallest, widened};
+use fitted_sizes::{Unfit, fitted, smallest, widened};
 use job_bodies::Plan;
 use plan_text::read_plan;
 use size_search::{SizesFound, search_sizes};
@@ -119,7 +119,7 @@ fn fit_smallest(alloc: Global, plan: &Plan, cert: &Cert) -> Result<Answer, Alloc
 
 // What is widened, fitted, smallest of all, and a copy.
 fn answers(alloc: Global, plan: Plan, cert: &Cert) -> Result<[Answer; 4], AllocError> {
-    let copy = Answer::Sizes(sizes_of(&copied(alloc, &plan)?));
+    let copy = Answer::Sizes(sizes_of(&plan.copied(alloc)?));
     let wide = widen(alloc, &plan, cert)?;
     let least = fit_smallest(alloc, &plan, cert)?;
     Ok([wide, fit(alloc, plan, cert)?, least, copy])

@@ -177,79 +177,109 @@ fn first_findings(plan: &Plan, cert: &Cert) -> Option<Findings> {
     })
 }
 
-fn failing(rule: Rule, place: Place, left: u64, right: u64) -> Option<Row> {
-    Some(Row {
-        rule,
-        place,
-        left,
-        right,
-    })
-}
+const AT_THE_END: Row = Row {
+    rule: Rule::V7,
+    place: Place::Client(0),
+    left: 1,
+    right: 0,
+};
+
+const TOO_HEAVY: Row = Row {
+    rule: Rule::V6,
+    place: Place::Class(0),
+    left: 2,
+    right: 1,
+};
+
+/// A plan, a certificate for it, and what fails first.
+const FINDINGS: &[(&str, &str, Findings)] = &[
+    (ONE_POOL, ONE_POOL_CERT, NONE_FAILS),
+    (
+        WITH_A_MILLION_CLIENTS,
+        WITH_THE_MOST_WEIGHT,
+        Findings {
+            total: 1_000_000_000_000_000,
+            bound: Some(Row {
+                rule: Rule::S2,
+                place: Place::Total,
+                left: 1_000_000_000_000_000,
+                right: 2,
+            }),
+            ..NONE_FAILS
+        },
+    ),
+    (
+        FORGETTING,
+        FORGETTING_CERT,
+        Findings {
+            total: 1,
+            weights: Some(AT_THE_END),
+            bound: Some(AT_THE_END),
+            ..NONE_FAILS
+        },
+    ),
+    (
+        ONE_POOL,
+        WITH_A_HIGH_RANK,
+        Findings {
+            ranks: Some(Row {
+                rule: Rule::K1,
+                place: Place::Class(0),
+                left: 1,
+                right: 0,
+            }),
+            weights: Some(TOO_HEAVY),
+            bound: Some(TOO_HEAVY),
+            ..NONE_FAILS
+        },
+    ),
+    (
+        ONCE_AND_ONE_MORE,
+        LIFETIME_CERT,
+        Findings {
+            total: 4,
+            bound: Some(Row {
+                rule: Rule::L3,
+                place: Place::Total,
+                left: 4,
+                right: 3,
+            }),
+            ..NONE_FAILS
+        },
+    ),
+    (
+        FAN_OUT,
+        FAN_OUT_CERT,
+        Findings {
+            total: 3,
+            bound: Some(Row {
+                rule: Rule::S2,
+                place: Place::Total,
+                left: 3,
+                right: 2,
+            }),
+            ..NONE_FAILS
+        },
+    ),
+    (
+        THERE_AND_BACK,
+        THERE_AND_BACK_CERT,
+        Findings {
+            total: 1,
+            blocked: Some(Row {
+                rule: Rule::B1,
+                place: Place::ClassAction(0, 1),
+                left: 1,
+                right: 0,
+            }),
+            ..NONE_FAILS
+        },
+    ),
+];
 
 #[test]
 fn the_first_condition_that_fails(rt: HostRuntime) -> Result<(), Fail> {
-    let at_the_end = failing(Rule::V7, Place::Client(0), 1, 0);
-    let too_heavy = failing(Rule::V6, Place::Class(0), 2, 1);
-    let table = [
-        (ONE_POOL, ONE_POOL_CERT, NONE_FAILS),
-        (
-            WITH_A_MILLION_CLIENTS,
-            WITH_THE_MOST_WEIGHT,
-            Findings {
-                total: 1_000_000_000_000_000,
-                bound: failing(Rule::S2, Place::Total, 1_000_000_000_000_000, 2),
-                ..NONE_FAILS
-            },
-        ),
-        (
-            FORGETTING,
-            FORGETTING_CERT,
-            Findings {
-                total: 1,
-                weights: at_the_end,
-                bound: at_the_end,
-                ..NONE_FAILS
-            },
-        ),
-        (
-            ONE_POOL,
-            WITH_A_HIGH_RANK,
-            Findings {
-                ranks: failing(Rule::K1, Place::Class(0), 1, 0),
-                weights: too_heavy,
-                bound: too_heavy,
-                ..NONE_FAILS
-            },
-        ),
-        (
-            ONCE_AND_ONE_MORE,
-            LIFETIME_CERT,
-            Findings {
-                total: 4,
-                bound: failing(Rule::L3, Place::Total, 4, 3),
-                ..NONE_FAILS
-            },
-        ),
-        (
-            FAN_OUT,
-            FAN_OUT_CERT,
-            Findings {
-                total: 3,
-                bound: failing(Rule::S2, Place::Total, 3, 2),
-                ..NONE_FAILS
-            },
-        ),
-        (
-            THERE_AND_BACK,
-            THERE_AND_BACK_CERT,
-            Findings {
-                total: 1,
-                blocked: failing(Rule::B1, Place::ClassAction(0, 1), 1, 0),
-                ..NONE_FAILS
-            },
-        ),
-    ];
-    for (plan, cert, wanted) in table {
+    for (plan, cert, wanted) in FINDINGS.iter().copied() {
         let (plan, cert) = read(rt.alloc(), plan, cert)?;
         assert_eq!(rt; first_findings(&plan, &cert), Some(wanted));
     }

@@ -21,7 +21,17 @@ const NESTED: &str = "
     client = [{ name = 'c', count = 1, repeat = true, body = ['submit outer as x', 'get x'] }]
 ";
 
-// The same in a pool that may have eight threads, with so many clients.
+// The same in a pool that may have eight threads.
+const UNUSED_MAX: &str = "
+    pool = [{ name = 'p', core = 1, max = 8, queue = 5 }]
+    class = [
+        { name = 'outer', pool = 'p', body = ['submit inner as x', 'get x'] },
+        { name = 'inner', pool = 'p', body = ['work 1'] },
+    ]
+    client = [{ name = 'c', count = 1, repeat = true, body = ['submit outer as x', 'get x'] }]
+";
+
+// The same with so many clients.
 fn unused_max(alloc: Global, count: u64) -> Result<String, AllocError> {
     format!(in alloc;
         "
@@ -46,8 +56,29 @@ const REFUSED: [Event; 7] = [
     Event::Client(1),
 ];
 
+// The same without its end, and without its begin.
+const NOT_YET_REFUSED: [Event; 6] = [
+    Event::Client(0),
+    Event::Job(0),
+    Event::Job(0),
+    Event::Client(0),
+    Event::Client(0),
+    Event::Client(0),
+];
+
+const WITHOUT_A_BEGIN: [Event; 6] = [
+    Event::Job(0),
+    Event::Job(0),
+    Event::Client(0),
+    Event::Client(0),
+    Event::Client(0),
+    Event::Client(1),
+];
+
 // The outer job starts, and submits the inner one, which is queued.
 const STUCK: [Event; 2] = [Event::Client(0), Event::Job(0)];
+
+const NOT_YET_STUCK: [Event; 1] = [Event::Client(0)];
 
 // The weights of a standing vector of the nested plans: 2 in all, of a queue of 5.
 fn standing(alloc: Global, client: u64) -> Result<Vector, AllocError> {
@@ -73,30 +104,38 @@ fn told(alloc: Global, found: Option<Witness>) -> Result<String, AllocError> {
     }
 }
 
+/// A plan, events, the jobs that are named, and what is found.
+type Case = (
+    &'static str,
+    &'static [Event],
+    &'static [usize],
+    &'static str,
+);
+
+const CASES: &[Case] = &[
+    (TWO_CLIENTS, &REFUSED, &[], "Refused(0) after 7"),
+    (TWO_CLIENTS, &NOT_YET_REFUSED, &[], "none"),
+    (TWO_CLIENTS, &WITHOUT_A_BEGIN, &[], "none"),
+    (
+        NESTED,
+        &STUCK,
+        &[0, 1],
+        "StuckForEver([0, 1], PoolsAreFull) after 2",
+    ),
+    (NESTED, &STUCK, &[1, 0], "none"),
+    (NESTED, &STUCK, &[0, 1, 1], "none"),
+    (NESTED, &STUCK, &[0], "none"),
+    (NESTED, &STUCK, &[], "none"),
+    (NESTED, &NOT_YET_STUCK, &[0, 1], "none"),
+    (UNUSED_MAX, &STUCK, &[0, 1], "StuckNow([0, 1]) after 2"),
+];
+
 /// A list is a witness where its last event is refused, or where the jobs that are named, in rising order, wait only for each
 /// other behind it; and for ever where the pool is full, or a standing vector is given that shows that it stays at core.
 #[test]
 fn lists_that_are_witnesses(rt: HostRuntime) -> Result<(), Fail> {
     let alloc = rt.alloc();
-    let unused_max = unused_max(alloc, 1)?;
-    let cases: [(&str, &[Event], &[usize], &str); 10] = [
-        (TWO_CLIENTS, &REFUSED, &[], "Refused(0) after 7"),
-        (TWO_CLIENTS, &REFUSED[..6], &[], "none"),
-        (TWO_CLIENTS, &REFUSED[1..], &[], "none"),
-        (
-            NESTED,
-            &STUCK,
-            &[0, 1],
-            "StuckForEver([0, 1], PoolsAreFull) after 2",
-        ),
-        (NESTED, &STUCK, &[1, 0], "none"),
-        (NESTED, &STUCK, &[0, 1, 1], "none"),
-        (NESTED, &STUCK, &[0], "none"),
-        (NESTED, &STUCK, &[], "none"),
-        (NESTED, &STUCK[..1], &[0, 1], "none"),
-        (&unused_max, &STUCK, &[0, 1], "StuckNow([0, 1]) after 2"),
-    ];
-    for (text, events, members, wanted) in cases {
+    for (text, events, members, wanted) in CASES.iter().copied() {
         let plan = read_plan(alloc, text.as_bytes())?;
         let events = Vec::from_slice(alloc, events)?;
         let members = Vec::from_slice(alloc, members)?;

@@ -35,6 +35,8 @@ struct Kept;
 impl TextFiles for Kept {
     ghost content = { λ _ _. None };
 
+    ghost made = { λ _ _ _. Unit {0} };
+
     fn read(&self, alloc: Global, name: &str, limit: usize) -> Result<Vec<u8>, InputError> {
         let text = match name {
             "plan.toml" => PLAN,
@@ -76,88 +78,89 @@ const RUN: &str = "jobs 4, units 4, refused 0\n";
 /// Words after the program's name, standard input, the status and what is written.
 type Case = (&'static [&'static str], &'static str, Status, &'static str);
 
+const ANSWERS: &[Case] = &[
+    (
+        &["sizing", "check", "plan.toml", "cert.json"],
+        "",
+        Status::Done,
+        YES,
+    ),
+    (
+        &["sizing", "check", "-", "cert.json"],
+        PLAN,
+        Status::Done,
+        YES,
+    ),
+    (
+        &["sizing", "check", "plan.toml", "-"],
+        CERT,
+        Status::Done,
+        YES,
+    ),
+    (
+        &["sizing", "explain", "plan.toml", "cert.json"],
+        "",
+        Status::Done,
+        "failing 0\n",
+    ),
+    (
+        &["sizing", "replay", "plan.toml", "events"],
+        "",
+        Status::Refused,
+        NO_STEP,
+    ),
+    (&["sizing", "replay", "both"], "", Status::Refused, NO_STEP),
+    (
+        &["sizing", "replay"],
+        PLAN_AND_EVENTS,
+        Status::Refused,
+        NO_STEP,
+    ),
+    (
+        &["sizing", "replay", "-"],
+        PLAN_AND_EVENTS,
+        Status::Refused,
+        NO_STEP,
+    ),
+    (
+        &["sizing", "replay", "plan.toml"],
+        "",
+        Status::BadText,
+        "fault 50 NoSeparator\n",
+    ),
+    (
+        &["sizing", "run", "--rounds", "2", "plan.toml", "cert.json"],
+        "",
+        Status::Done,
+        RUN,
+    ),
+    (&["sizing", "fit", "plan.toml"], "", Status::Done, NO_CHANGE),
+    (&["sizing", "refute", "plan.toml"], "", Status::Done, SAFE),
+    (
+        &["sizing", "ask", "--strict", "plan.toml"],
+        "",
+        Status::Done,
+        ASKED,
+    ),
+    (
+        &[
+            "sizing",
+            "ask",
+            "--certificate",
+            "kept.json",
+            "plan.toml",
+            "cert.json",
+        ],
+        "",
+        Status::Done,
+        ASKED,
+    ),
+];
+
 /// Texts come from the files that the words name, and from standard input where they name none, or `-`.
 #[test]
 fn texts_come_from_files(rt: HostRuntime) -> Result<(), Fail> {
-    let cases: [Case; 14] = [
-        (
-            &["sizing", "check", "plan.toml", "cert.json"],
-            "",
-            Status::Done,
-            YES,
-        ),
-        (
-            &["sizing", "check", "-", "cert.json"],
-            PLAN,
-            Status::Done,
-            YES,
-        ),
-        (
-            &["sizing", "check", "plan.toml", "-"],
-            CERT,
-            Status::Done,
-            YES,
-        ),
-        (
-            &["sizing", "explain", "plan.toml", "cert.json"],
-            "",
-            Status::Done,
-            "failing 0\n",
-        ),
-        (
-            &["sizing", "replay", "plan.toml", "events"],
-            "",
-            Status::Refused,
-            NO_STEP,
-        ),
-        (&["sizing", "replay", "both"], "", Status::Refused, NO_STEP),
-        (
-            &["sizing", "replay"],
-            PLAN_AND_EVENTS,
-            Status::Refused,
-            NO_STEP,
-        ),
-        (
-            &["sizing", "replay", "-"],
-            PLAN_AND_EVENTS,
-            Status::Refused,
-            NO_STEP,
-        ),
-        (
-            &["sizing", "replay", "plan.toml"],
-            "",
-            Status::BadText,
-            "fault 50 NoSeparator\n",
-        ),
-        (
-            &["sizing", "run", "--rounds", "2", "plan.toml", "cert.json"],
-            "",
-            Status::Done,
-            RUN,
-        ),
-        (&["sizing", "fit", "plan.toml"], "", Status::Done, NO_CHANGE),
-        (&["sizing", "refute", "plan.toml"], "", Status::Done, SAFE),
-        (
-            &["sizing", "ask", "--strict", "plan.toml"],
-            "",
-            Status::Done,
-            ASKED,
-        ),
-        (
-            &[
-                "sizing",
-                "ask",
-                "--certificate",
-                "kept.json",
-                "plan.toml",
-                "cert.json",
-            ],
-            "",
-            Status::Done,
-            ASKED,
-        ),
-    ];
-    for (words, given, status, written) in cases {
+    for (words, given, status, written) in ANSWERS.iter().copied() {
         let mut source = MemorySource::new(given.as_bytes());
         let mut sink = MemorySink::new(rt.alloc());
         let ended = serve_words(&rt, rt.alloc(), words, &Kept, &mut source, &mut sink);
@@ -168,37 +171,39 @@ fn texts_come_from_files(rt: HostRuntime) -> Result<(), Fail> {
     Ok(())
 }
 
+/// Words after which nothing is answered, what is told, and the exit status.
+const NO_ANSWERS: &[(&[&str], &str, u8)] = &[
+    (
+        &["sizing", "check", "none.toml", "cert.json"],
+        "unread none.toml",
+        3,
+    ),
+    (
+        &["sizing", "check", "plan.toml", "none.json"],
+        "unread none.json",
+        3,
+    ),
+    (&["sizing", "certify", "none.toml"], "unread none.toml", 3),
+    (&["sizing", "check", "-", "-"], "input twice", 2),
+    (&["sizing", "fit", "--bundle", "--", "-x"], "unread -x", 3),
+    (&["sizing"], "no command", 2),
+    (
+        &["sizing", "chek", "plan.toml"],
+        "words InvalidSubcommand",
+        2,
+    ),
+    (
+        &["sizing", "run", "plan.toml", "cert.json"],
+        "words MissingRequiredArgument",
+        2,
+    ),
+    (&["sizing", "--help"], "words DisplayHelp", 2),
+];
+
 /// What is told where there is no answer, with its exit status.
 #[test]
 fn words_without_an_answer(rt: HostRuntime) -> Result<(), Fail> {
-    let cases: [(&[&str], &str, u8); 9] = [
-        (
-            &["sizing", "check", "none.toml", "cert.json"],
-            "unread none.toml",
-            3,
-        ),
-        (
-            &["sizing", "check", "plan.toml", "none.json"],
-            "unread none.json",
-            3,
-        ),
-        (&["sizing", "certify", "none.toml"], "unread none.toml", 3),
-        (&["sizing", "check", "-", "-"], "input twice", 2),
-        (&["sizing", "fit", "--bundle", "--", "-x"], "unread -x", 3),
-        (&["sizing"], "no command", 2),
-        (
-            &["sizing", "chek", "plan.toml"],
-            "words InvalidSubcommand",
-            2,
-        ),
-        (
-            &["sizing", "run", "plan.toml", "cert.json"],
-            "words MissingRequiredArgument",
-            2,
-        ),
-        (&["sizing", "--help"], "words DisplayHelp", 2),
-    ];
-    for (words, wanted, code) in cases {
+    for (words, wanted, code) in NO_ANSWERS.iter().copied() {
         let mut source = MemorySource::new(b"");
         let mut sink = MemorySink::new(rt.alloc());
         let ended = serve_words(&rt, rt.alloc(), words, &Kept, &mut source, &mut sink);

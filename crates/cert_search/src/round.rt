@@ -7,7 +7,7 @@ use crate::SearchFault;
 use crate::board::{Board, claim, give_back};
 use cert_check::PoolGate;
 use held_machines::Locked;
-use job_bodies::{Action, MOST_POOLS, Plan};
+use job_bodies::{Action, MAX_POOLS, Plan};
 use least_vectors::{Levels, blocked_vector, pool_bound};
 use std::alloc::{AllocError, Global};
 use std::sync::Wait;
@@ -104,7 +104,7 @@ impl Round<'_> {
         gate: &G,
     ) -> Result<Vec<Found>, SearchFault> {
         let mut found = Vec::new(alloc);
-        for _ in 0..MOST_POOLS {
+        for _ in 0..MAX_POOLS {
             if stop.load(Ordering::SeqCst) {
                 break;
             }

@@ -11,14 +11,14 @@ use serde_json::Value;
 use std::alloc::Global;
 
 /// The most bytes of a certificate's text.
-pub const MOST_TEXT_BYTES: usize = 1_048_576;
+pub const MAX_TEXT_BYTES: usize = 1_048_576;
 
 /// The value that the bytes are.
 #[tactic(auto, unfolding(crate::specs::CertOf::document_of))]
 pub fn document_of(alloc: Global, bytes: &[u8]) -> Result<Value, CertError>
     ensures { Gives view result (spec.document_of bytes.now) }
 {
-    if bytes.len() > MOST_TEXT_BYTES {
+    if bytes.len() > MAX_TEXT_BYTES {
         return Err(fault(CERT_TOO_LONG));
     }
     let text = text_of(bytes)?;

@@ -3,7 +3,7 @@ use Rattle.std.specs.Prelude.{ℕ, [], ◌∷◌, true, Some, codes, decimal}
 use Rattle.clap.specs.Words.{App, Rule, Shape, Text, new_app, new_rule, with_rule, with_subcommand}
 use Rattle.clap.specs.declared.builder.action.ArgAction.TheVariants.{Set, SetTrue}
 use Rattle.clap.specs.declared.builder.value_parser.ValueParser.TheVariants as parser
-use Rattle.command_line.specs.declared.command.TheConstants.{DEFAULT_WORKERS, MOST_ROUNDS, MOST_STATES, MOST_WORKERS}
+use Rattle.command_line.specs.declared.command.TheConstants.{DEFAULT_WORKERS, MAX_ROUNDS, MAX_STATES, MAX_WORKERS}
 
 -- an argument that names a file
 abbrev pub file_argument : Text → Rule
@@ -40,7 +40,7 @@ number_option id low high = record (new_rule id) { long = Some id; action = Some
 
 -- how many threads may search
 abbrev pub workers_option : Rule
-workers_option = record (number_option (codes "workers") 1 MOST_WORKERS) { defaults = decimal DEFAULT_WORKERS ∷ [] }
+workers_option = record (number_option (codes "workers") 1 MAX_WORKERS) { defaults = decimal DEFAULT_WORKERS ∷ [] }
 
 abbrev pub certify_shape : Shape
 certify_shape = (with_rule (of_plan (codes "certify")) workers_option).top
@@ -54,14 +54,14 @@ fit_shape = (with_rule (of_plan (codes "fit")) bundle_option).top
 
 -- how often each repeating client goes through its body, which must be said
 abbrev pub rounds_option : Rule
-rounds_option = record (number_option (codes "rounds") 1 MOST_ROUNDS) { required = true }
+rounds_option = record (number_option (codes "rounds") 1 MAX_ROUNDS) { required = true }
 
 abbrev pub run_shape : Shape
 run_shape = (with_rule (of_both (codes "run")) rounds_option).top
 
 -- how many states a search for a witness may go through
 abbrev pub states_option : Rule
-states_option = record (number_option (codes "states") 1 MOST_STATES) { defaults = codes "100000" ∷ [] }
+states_option = record (number_option (codes "states") 1 MAX_STATES) { defaults = codes "100000" ∷ [] }
 
 abbrev pub refute_shape : Shape
 refute_shape = (with_rule (with_rule (of_plan (codes "refute")) states_option) bundle_option).top

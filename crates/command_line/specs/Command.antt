@@ -9,10 +9,13 @@ use Rattle.clap.specs.ValueTests.{accepts}
 use Rattle.clap.specs.declared.builder.value_parser.ValueParser.TheVariants as parser
 use Rattle.clap.specs.declared.error.kind.ErrorKind.TheVariants.{ValueValidation}
 use Rattle.command_line.specs.Application.{sizing}
-use Rattle.command_line.specs.declared.command.TheConstants.{MOST_ROUNDS, MOST_STATES, MOST_WORKERS}
+use Rattle.command_line.specs.declared.command.TheConstants.{MAX_ROUNDS, MAX_STATES, MAX_WORKERS}
 use Rattle.command_line.specs.declared.command.Asked.{Asked}
 use Rattle.command_line.specs.declared.command.Command.{Command}
-use Rattle.command_line.specs.declared.command.Command.TheVariants.{Replay, Check, Explain, Certify, Fit, Run, Refute, Ask}
+use Rattle.command_line.specs.declared.command.Command.TheVariants.{Alone, OnThreads}
+use Rattle.command_line.specs.declared.command.Review.TheVariants.{Replay, Check, Explain}
+use Rattle.command_line.specs.declared.command.Task.{Task}
+use Rattle.command_line.specs.declared.command.Task.TheVariants.{Certify, Fit, Run, Refute, Ask}
 use Rattle.command_line.specs.declared.command.Wanted.TheVariants.{Sizes, Bundle}
 use Rattle.command_line.specs.declared.command.Shown.TheVariants as shown
 use Rattle.command_line.specs.declared.command.Given.{Given}
@@ -32,16 +35,16 @@ number_of id low high rows = option_and_then (number_in low high) (first_of id r
 abbrev pub is_set : Text → List Row → Bool
 is_set id rows = option_map_or (λ text. bytes_eq text (codes "true")) (first_of id rows) false
 
-abbrev pub certify_with : Option ℕ → Option Command
+abbrev pub certify_with : Option ℕ → Option Task
 certify_with = option_map (λ workers. Certify workers)
 
-abbrev pub fit_with : Bool → Command
+abbrev pub fit_with : Bool → Task
 fit_with bundle = Fit (if bundle then Bundle else Sizes)
 
-abbrev pub run_with : Option ℕ → Option Command
+abbrev pub run_with : Option ℕ → Option Task
 run_with = option_map (λ rounds. Run rounds)
 
-abbrev pub refute_with : Bool → Option ℕ → Option Command
+abbrev pub refute_with : Bool → Option ℕ → Option Task
 refute_with bundle = option_map (λ states. Refute states (if bundle then shown.Bundle else shown.Story))
 
 -- a certificate is given where a second file is named
@@ -57,28 +60,28 @@ form_of false true = Some Dot
 form_of true true = None
 
 -- the question in this form
-abbrev pub ask_in : List Row → Form → Command
+abbrev pub ask_in : List Row → Form → Task
 ask_in rows form = Ask (given_among (first_of (codes "SECOND") rows)) (record { strict = is_set (codes "strict") rows; form = form })
 
 -- the question of these rows
-abbrev pub ask_named : List Row → Option Command
+abbrev pub ask_named : List Row → Option Task
 ask_named rows = option_map (ask_in rows) (form_of (is_set (codes "json") rows) (is_set (codes "dot") rows))
 
--- the command that searches or runs, of the subcommand with this name and these rows
-abbrev pub search_named : Text → List Row → Option Command
-search_named name rows =
-    if bytes_eq name (codes "certify") then certify_with (number_of (codes "workers") 1 MOST_WORKERS rows)
+-- the task of the subcommand with this name and these rows
+abbrev pub task_of : Text → List Row → Option Task
+task_of name rows =
+    if bytes_eq name (codes "certify") then certify_with (number_of (codes "workers") 1 MAX_WORKERS rows)
     else (if bytes_eq name (codes "fit") then Some (fit_with (is_set (codes "bundle") rows))
-    else (if bytes_eq name (codes "run") then run_with (number_of (codes "rounds") 1 MOST_ROUNDS rows)
-    else (if bytes_eq name (codes "refute") then refute_with (is_set (codes "bundle") rows) (number_of (codes "states") 1 MOST_STATES rows)
+    else (if bytes_eq name (codes "run") then run_with (number_of (codes "rounds") 1 MAX_ROUNDS rows)
+    else (if bytes_eq name (codes "refute") then refute_with (is_set (codes "bundle") rows) (number_of (codes "states") 1 MAX_STATES rows)
     else (if bytes_eq name (codes "ask") then ask_named rows else None))))
 
 -- the command of the subcommand with this name and these rows
 abbrev pub command_named : Text × List Row → Option Command
 command_named (name, rows) =
-    if bytes_eq name (codes "replay") then Some Replay
-    else (if bytes_eq name (codes "check") then Some Check
-    else (if bytes_eq name (codes "explain") then Some Explain else search_named name rows))
+    if bytes_eq name (codes "replay") then Some (Alone Replay)
+    else (if bytes_eq name (codes "check") then Some (Alone Check)
+    else (if bytes_eq name (codes "explain") then Some (Alone Explain) else option_map (λ task. OnThreads task) (task_of name rows)))
 
 -- the command of the subcommand that was entered, if one was
 abbrev pub command_among : Option (Text × List Row) → Option Command
@@ -130,9 +133,15 @@ is_out_of_range entered = is_some entered && not (is_some (command_among entered
 abbrev pub faults_of : List Text → Kinds
 faults_of words = or_else (fault_of sizing words) (if is_out_of_range (subcommand_of sizing words) then ValueValidation ∷ [] else [])
 
--- the numbers of a command lie in their ranges
+-- the numbers of a task lie in their ranges
+abbrev pub IsTaskInRange : Task → Type 0
+IsTaskInRange (Certify workers) = (1 ≤ workers) × (workers ≤ MAX_WORKERS)
+IsTaskInRange (Fit wanted) = Unit {0}
+IsTaskInRange (Run rounds) = (1 ≤ rounds) × (rounds ≤ MAX_ROUNDS)
+IsTaskInRange (Refute states shown) = (1 ≤ states) × (states ≤ MAX_STATES)
+IsTaskInRange (Ask given manner) = Unit {0}
+
+-- those of a command
 abbrev pub IsInRange : Command → Type 0
-IsInRange (Certify workers) = (1 ≤ workers) × (workers ≤ MOST_WORKERS)
-IsInRange (Run rounds) = (1 ≤ rounds) × (rounds ≤ MOST_ROUNDS)
-IsInRange (Refute states shown) = (1 ≤ states) × (states ≤ MOST_STATES)
-IsInRange _ = Unit {0}
+IsInRange (Alone review) = Unit {0}
+IsInRange (OnThreads task) = IsTaskInRange task

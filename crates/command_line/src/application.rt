@@ -4,7 +4,7 @@ ghost use Rattle.clap.specs.Words.{app_of, new_app, rule_of, shape_of};
 ghost use Rattle.clap.specs.declared.builder.command.Command.TheViews.{out-Command as fields_of};
 ghost use Rattle.command_line.specs.Application.{ask_shape, bundle_option, certificate_option, certify_shape, check_shape, dot_option, explain_shape, file_argument, fit_shape, json_option, number_option, of_both, refute_shape, replay_shape, rounds_option, run_shape, sizing, states_option, strict_option, workers_option};
 
-use crate::command::{MOST_ROUNDS, MOST_STATES, MOST_WORKERS};
+use crate::command::{MAX_ROUNDS, MAX_STATES, MAX_WORKERS};
 use crate::{ask_help, help, search_help};
 use clap::builder::ValueParser;
 use clap::{Arg, ArgAction, Command};
@@ -125,7 +125,7 @@ fn workers<'a>(alloc: Global) -> Arg<'a>
     ensures rule { rule_of result ≡ workers_option }
     ensures local { result.global ≡ false }
 {
-    number(alloc, "workers", 1, MOST_WORKERS)
+    number(alloc, "workers", 1, MAX_WORKERS)
         .default_value("4")
         .help("In how many threads to search and to check, 1 to 64")
 }
@@ -179,7 +179,7 @@ fn rounds<'a>(alloc: Global) -> Arg<'a>
     ensures rule { rule_of result ≡ rounds_option }
     ensures local { result.global ≡ false }
 {
-    number(alloc, "rounds", 1, MOST_ROUNDS)
+    number(alloc, "rounds", 1, MAX_ROUNDS)
         .help("How often each repeating client goes through its body, 1 to 1000000")
         .required(true)
 }
@@ -207,7 +207,7 @@ fn states<'a>(alloc: Global) -> Arg<'a>
     ensures rule { rule_of result ≡ states_option }
     ensures local { result.global ≡ false }
 {
-    number(alloc, "states", 1, MOST_STATES)
+    number(alloc, "states", 1, MAX_STATES)
         .default_value("100000")
         .help("How many states may be searched, 1 to 10000000")
 }
@@ -247,7 +247,7 @@ fn strict<'a>(alloc: Global) -> Arg<'a>
     Arg::new(alloc, "strict")
         .long("strict")
         .action(ArgAction::SetTrue)
-        .help("A warning is a no: status 1")
+        .help("SAFE with a warning is a no: status 1")
 }
 
 // The options that ask for another form than lines.

@@ -29,7 +29,7 @@ answer is the plan as a picture, to be drawn by `dot -Tsvg`; bad text is told as
 
 Exit status:
   0  SAFE (with `--strict`: and no warning)
-  1  NOT SAFE, or with `--strict` a warning
+  1  NOT SAFE, or with `--strict` SAFE and a warning
   2  bad text in PLAN or CERTIFICATE, or bad arguments
   3  memory ran out, or reading, writing or a thread failed
   4  NOT DECIDED

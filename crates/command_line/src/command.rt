@@ -11,26 +11,40 @@ use clap::{ArgMatches, Error};
 use std::alloc::Global;
 
 /// The most threads that a search may have.
-pub const MOST_WORKERS: u64 = 64;
+pub const MAX_WORKERS: u64 = 64;
 
 /// How many threads a search has where it is not said.
 pub const DEFAULT_WORKERS: u64 = 4;
 
 /// The most rounds that a run may have.
-pub const MOST_ROUNDS: u64 = 1_000_000;
+pub const MAX_ROUNDS: u64 = 1_000_000;
 
 /// The most states that a search for a witness may be given.
-pub const MOST_STATES: u64 = 10_000_000;
+pub const MAX_STATES: u64 = 10_000_000;
 
 /// What the program is asked to do.
 #[derive(Clone, Copy, Debug, PartialEq, Eq)]
 pub enum Command {
+    /// Starts no thread, and waits for nobody.
+    Alone(Review),
+    /// Starts threads, and waits for them.
+    OnThreads(Task),
+}
+
+/// What is said of a plan and of the text behind it.
+#[derive(Clone, Copy, Debug, PartialEq, Eq)]
+pub enum Review {
     /// Replays events on a plan, and says what came of each.
     Replay,
     /// Says whether a certificate shows that no submit is refused and no jobs starve.
     Check,
     /// Lists the conditions of a certificate that fail.
     Explain,
+}
+
+/// What is looked for or run.
+#[derive(Clone, Copy, Debug, PartialEq, Eq)]
+pub enum Task {
     /// Looks for a certificate.
     Certify {
         /// In how many threads, 1 to 64.
@@ -186,17 +200,17 @@ fn command_among(matches: &ArgMatches<'_>) -> Option<Command>
     ensures in_range { IfSome result spec.IsInRange }
 {
     match matches.subcommand()? {
-        ("replay", _) => Some(Command::Replay),
-        ("check", _) => Some(Command::Check),
-        ("explain", _) => Some(Command::Explain),
-        (name, options) => search_among(name, options),
+        ("replay", _) => Some(Command::Alone(Review::Replay)),
+        ("check", _) => Some(Command::Alone(Review::Check)),
+        ("explain", _) => Some(Command::Alone(Review::Explain)),
+        (name, options) => Some(Command::OnThreads(task_of(name, options)?)),
     }
 }
 
-// The command that searches or runs, of the subcommand of this name.
-fn search_among(name: &str, options: &ArgMatches<'_>) -> Option<Command>
-    ensures command { result ≡ spec.search_named name.now (rows_of (found_of options.now)) }
-    ensures in_range { IfSome result spec.IsInRange }
+// The task of the subcommand of this name.
+fn task_of(name: &str, options: &ArgMatches<'_>) -> Option<Task>
+    ensures task { result ≡ spec.task_of name.now (rows_of (found_of options.now)) }
+    ensures in_range { IfSome result spec.IsTaskInRange }
 {
     match name {
         "certify" => certify(options),
@@ -208,17 +222,17 @@ fn search_among(name: &str, options: &ArgMatches<'_>) -> Option<Command>
     }
 }
 
-fn certify(options: &ArgMatches<'_>) -> Option<Command>
-    ensures command { result ≡ spec.certify_with (spec.number_of (codes "workers") 1 MOST_WORKERS (rows_of (found_of options.now))) }
-    ensures in_range { IfSome result spec.IsInRange }
+fn certify(options: &ArgMatches<'_>) -> Option<Task>
+    ensures task { result ≡ spec.certify_with (spec.number_of (codes "workers") 1 MAX_WORKERS (rows_of (found_of options.now))) }
+    ensures in_range { IfSome result spec.IsTaskInRange }
 {
-    let workers = number_of(options, "workers", 1, MOST_WORKERS)?;
-    Some(Command::Certify {
+    let workers = number_of(options, "workers", 1, MAX_WORKERS)?;
+    Some(Task::Certify {
         workers: workers as usize,
     })
 }
 
-fn fit(options: &ArgMatches<'_>) -> Command
+fn fit(options: &ArgMatches<'_>) -> Task
     ensures { result ≡ spec.fit_with (spec.is_set (codes "bundle") (rows_of (found_of options.now))) }
 {
     let wanted = if is_set(options, "bundle") {
@@ -226,40 +240,40 @@ fn fit(options: &ArgMatches<'_>) -> Command
     } else {
         Wanted::Sizes
     };
-    Command::Fit { wanted }
+    Task::Fit { wanted }
 }
 
-fn run(options: &ArgMatches<'_>) -> Option<Command>
-    ensures command { result ≡ spec.run_with (spec.number_of (codes "rounds") 1 MOST_ROUNDS (rows_of (found_of options.now))) }
-    ensures in_range { IfSome result spec.IsInRange }
+fn run(options: &ArgMatches<'_>) -> Option<Task>
+    ensures task { result ≡ spec.run_with (spec.number_of (codes "rounds") 1 MAX_ROUNDS (rows_of (found_of options.now))) }
+    ensures in_range { IfSome result spec.IsTaskInRange }
 {
-    let rounds = number_of(options, "rounds", 1, MOST_ROUNDS)?;
-    Some(Command::Run { rounds })
+    let rounds = number_of(options, "rounds", 1, MAX_ROUNDS)?;
+    Some(Task::Run { rounds })
 }
 
-fn refute(options: &ArgMatches<'_>) -> Option<Command>
-    ensures command { result ≡ spec.refute_with (spec.is_set (codes "bundle") (rows_of (found_of options.now))) (spec.number_of (codes "states") 1 MOST_STATES (rows_of (found_of options.now))) }
-    ensures in_range { IfSome result spec.IsInRange }
+fn refute(options: &ArgMatches<'_>) -> Option<Task>
+    ensures task { result ≡ spec.refute_with (spec.is_set (codes "bundle") (rows_of (found_of options.now))) (spec.number_of (codes "states") 1 MAX_STATES (rows_of (found_of options.now))) }
+    ensures in_range { IfSome result spec.IsTaskInRange }
 {
-    let states = number_of(options, "states", 1, MOST_STATES)?;
+    let states = number_of(options, "states", 1, MAX_STATES)?;
     let shown = if is_set(options, "bundle") {
         Shown::Bundle
     } else {
         Shown::Story
     };
-    Some(Command::Refute {
+    Some(Task::Refute {
         states: states as usize,
         shown,
     })
 }
 
-fn ask(options: &ArgMatches<'_>) -> Option<Command>
-    ensures command { result ≡ spec.ask_named (rows_of (found_of options.now)) }
-    ensures in_range { IfSome result spec.IsInRange }
+fn ask(options: &ArgMatches<'_>) -> Option<Task>
+    ensures task { result ≡ spec.ask_named (rows_of (found_of options.now)) }
+    ensures in_range { IfSome result spec.IsTaskInRange }
 {
     let form = form_of(is_set(options, "json"), is_set(options, "dot"))?;
     let strict = is_set(options, "strict");
-    Some(Command::Ask {
+    Some(Task::Ask {
         given: texts_given(options),
         manner: Manner { strict, form },
     })

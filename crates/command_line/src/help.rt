@@ -10,13 +10,13 @@ pub(crate) const SIZING_USAGE: &str = "sizing <COMMAND>";
 
 /// What the program reads, where to begin, and what the exit status says.
 pub(crate) const SIZING_NOTES: &str = "\
-sizing reads files, or standard input where none is named and where the name is `-`. For `certify`,
-`fit` and `refute` it reads a plan. For the others it reads a plan and a second text, which is
+sizing reads files, or standard input where none is named and where the name is `-`. For `ask`,
+`certify`, `fit` and `refute` it reads a plan. For the others it reads a plan and a second text:
   for `replay`                      one event a line
   for `check`, `explain` and `run`  a certificate
-Both are in one text where there is a line between them that is exactly `%%`, and standard input has
-them so. Answers go to standard output. To begin, paste the example of `sizing certify --help` into
-a shell.
+A file may hold both, with a line between them that is exactly `%%`, and standard input has them so.
+`ask` takes a kept certificate too, as a file of its own. Answers go to standard output. To begin,
+paste the example of `sizing ask --help` into a shell.
 
 Exit status:
   0  yes, or done
@@ -24,7 +24,7 @@ Exit status:
      sizes were found, sizes change, or a witness was found
   2  bad text in the input, a run that is too large, or bad arguments
   3  memory ran out, or reading, writing or running failed
-  4  not decided, of `refute` alone";
+  4  not decided, of `ask` and `refute` (with --bundle that is 1)";
 
 /// What `replay` does, in the list of commands and at the top of its own help.
 pub(crate) const REPLAY_ABOUT: &str = "Replays events on a plan, and says what came of each";

@@ -14,6 +14,6 @@ mod number;
 mod search_help;
 
 pub use command::{
-    Asked, Command, DEFAULT_WORKERS, Form, Given, MOST_ROUNDS, MOST_STATES, MOST_WORKERS, Manner,
-    Shown, Wanted, read_words,
+    Asked, Command, DEFAULT_WORKERS, Form, Given, MAX_ROUNDS, MAX_STATES, MAX_WORKERS, Manner,
+    Review, Shown, Task, Wanted, read_words,
 };

@@ -77,7 +77,7 @@ Or the answer is the line `no fitting sizes found`, and one that says why:
   client NAME action I: submits for ever, never got
   class NAME action I: submits for ever, never got
   pool NAME: sizes above 1000000
-With the first three no sizes help. The fourth says that the search came past the limit of a size,
+With the first three no certificate accepts any sizes. The fourth says that the search came past the limit of a size,
 or of a weight; sizes that it did not find may do. None of them says that the plan is unsafe.
 Actions are numbered from 0. With `--bundle` the answer may also be the line
   no bundle: text too long

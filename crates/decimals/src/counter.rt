@@ -1,6 +1,7 @@
 //! A number that counts up.
 
-ghost use Rattle.std.specs.Prelude.{◌≡◌, ◌+◌, ◌<◌, ◌^◌, ◌++◌, OnOk, OnErr, string_bytes, decimal};
+ghost use Rattle.std.specs.Prelude.{◌≡◌, ◌+◌, ◌<◌, ◌^◌, OnOk, OnErr, decimal};
+ghost use Rattle.decimals.specs.Pushed.{Pushes};
 
 use itoa::Buffer;
 use std::alloc::{AllocError, Global};
@@ -78,7 +79,7 @@ impl Counter {
     #[inline(always)]
     #[tactic(auto, using(crate::proofs::Counting::tens_text_digit))]
     pub fn push_to(&self, text: &mut String) -> Result<(), AllocError>
-        ensures { OnOk result (string_bytes text.new ≡ string_bytes text.old ++ decimal self.now) }
+        ensures { Pushes result text.old text.new (decimal self.now) }
     {
         text.push_str(&self.front)?;
         text.push((b'0' + self.last_digit) as char)

@@ -2,7 +2,8 @@
 //! each number.
 #![tactic(auto)]
 
-ghost use Rattle.std.specs.Prelude.{◌≡◌, ◌++◌, OnOk, OnErr, string_bytes, decimal};
+ghost use Rattle.std.specs.Prelude.{◌≡◌, OnErr, string_bytes, decimal};
+ghost use Rattle.decimals.specs.Pushed.{Pushes};
 
 mod counter;
 
@@ -18,7 +19,7 @@ use std::alloc::AllocError;
 #[inline(always)]
 #[tactic(auto, using(std::proofs::lemmas::Fmt::decimal_digit))]
 pub fn push_number(text: &mut String, number: u64) -> Result<(), AllocError>
-    ensures digits { OnOk result (string_bytes text.new ≡ string_bytes text.old ++ decimal number) }
+    ensures digits { Pushes result text.old text.new (decimal number) }
     ensures unchanged { OnErr result (string_bytes text.new ≡ string_bytes text.old) }
 {
     // Most numbers have one digit.

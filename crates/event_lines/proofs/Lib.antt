@@ -1,10 +1,5 @@
-pub mod FirstPieces
-pub mod FirstSpace
 pub mod LineByLine
-pub mod Numbers
-pub mod Splits
 pub mod Verbs
 pub mod WordByWord
 pub mod WrittenLines
-pub mod WrittenNumbers
 pub mod WrittenTexts

@@ -1,50 +1,11 @@
 -- Numbers that a loop reads word by word.
-use Rattle.std.proofs.Common.{◌≡◌, inl, inr, ℕ, ◌+◌, ◌<◌, true, false, nat_lt, List, [], ◌∷◌, ◌++◌, length, take, drop, position, Option, Some, None, is_some, option_map, refl, sym, ap, ◌∙◌, arith, append_assoc, length-drop}
-use Rattle.std.specs.List.{position_or_len}
-use Rattle.std.proofs.lemmas.Bool.{cases_lt, cond-true, lt-ltb, ltb-true, true≢false}
-use Rattle.std.proofs.lemmas.List.Splits.{slice_split_none, slice_split_first}
-use Rattle.std.proofs.lemmas.List.Sums.{fails_before_first}
-use Rattle.std.proofs.lemmas.Option.{cond_some, none-some, same_Some}
-use Rattle.event_lines.specs.Pieces.{is_space, split_space, words_of}
-use Rattle.event_lines.specs.Number.{number_of}
+use Rattle.std.proofs.Common.{◌≡◌, ℕ, true, false, List, [], ◌∷◌, ◌++◌, Option, Some, None, is_some, option_map, refl, sym, ap, ◌∙◌, append_assoc}
+use Rattle.std.proofs.lemmas.Bool.{true≢false}
+use Rattle.std.proofs.lemmas.Option.{none-some, same_Some}
+use Rattle.line_words.specs.Pieces.{split_space}
+use Rattle.line_words.specs.Number.{number_of}
 use Rattle.event_lines.specs.Words.{all_of, or_nothing, members_in}
-use Rattle.event_lines.proofs.WrittenLines.{map_some}
-use Rattle.event_lines.proofs.Numbers.{map_none}
-
--- ---- the words of a text
-abbrev place : List ℕ → ℕ
-place text = position_or_len is_space text
-
--- the first space is there
-space_there : (text word rest : List ℕ) → Some (word, rest) ≡ split_space text → (place text < length text) × (take (place text) text ≡ word) × (drop (place text + 1) text ≡ rest)
-unfolding split_space
-space_there text word rest read =
-    let found = map_some (λ p. (take p text, drop (p + 1) text)) (position is_space text) (word, rest) (sym read) in
-    let at = cond_some (nat_lt (place text) (length text)) _ _ found.1 in (
-      ltb-true _ _ at.0,
-      ap (λ p. take p text) at.1 ∙ ap (λ (x : List ℕ × List ℕ). x.0) found.2,
-      ap (λ p. drop (p + 1) text) at.1 ∙ ap (λ (x : List ℕ × List ℕ). x.1) found.2,
-    )
-
-words_more : (text word rest : List ℕ) → Some (word, rest) ≡ split_space text → words_of text ≡ word ∷ words_of rest
-unfolding words_of
-words_more text word rest read =
-    let cut = space_there text word rest read in
-    slice_split_first is_space text 0 cut.0 ∙ rw (cut.1, cut.2) refl
-
-words_end : (text : List ℕ) → None ≡ split_space text → words_of text ≡ text ∷ []
-unfolding words_of split_space
-words_end text read =
-    let nowhere : position is_space text ≡ None = map_none (λ p. (take p text, drop (p + 1) text)) (position is_space text) read in
-    elim (cases_lt (place text) (length text)) [
-      | inl within ↦ absurd (none-some (place text) (sym nowhere ∙ cond-true _ _ _ (lt-ltb _ _ within)))
-      | inr past ↦ slice_split_none is_space text (λ k d inside. fails_before_first is_space text k d (omega arith))
-    ]
-
-pub rest_shorter : (text word rest : List ℕ) → Some (word, rest) ≡ split_space text → length rest < length text
-rest_shorter text word rest read =
-    let cut = space_there text word rest read in
-    omega (arith, length-drop (place text + 1) text, ap (λ (t : List ℕ). length t) cut.2, cut.0)
+use Rattle.line_words.proofs.FirstSpace.{words_more, words_end}
 
 -- ---- their numbers
 members_more : (text word rest : List ℕ) (n : ℕ) → Some (word, rest) ≡ split_space text → number_of word ≡ Some n → members_in text ≡ option_map (λ ns. n ∷ ns) (members_in rest)

@@ -1,60 +1,29 @@
 -- The line that a text writes is the one whose text it is.
-use Rattle.std.proofs.Common.{◌≡◌, ℕ, zero, suc, ◌+◌, ◌<◌, ◌⊎◌, inl, inr, ⊎_elim, Bool, true, false, cond, not, ◌==◌, nat_lt, nat_le, List, [], ◌∷◌, ◌++◌, length, take, drop, map, flat_map, get_or, slice_index_or, position, codes, decimal, bytes_eq, Option, Some, None, option_map, option_and_then, refl, sym, ap, ap₂, subst, ◌∙◌, arith, append_assoc, length-append, take_at, drop_at}
-use Rattle.std.specs.List.{list_all, list_any, position_or_len, before_first, after_first, join_with_byte}
-use Rattle.std.proofs.lemmas.Bool.{and_parts, and_from, lt-ltb, ltb-true, le-leb, eqb-true, cond-true, not-true, or_parts}
-use Rattle.std.proofs.lemmas.List.{length_push}
-use Rattle.std.proofs.lemmas.List.Sums.{split_at_first, passes_at_first, AllPass-from_list_all}
+use Rattle.std.proofs.Common.{◌≡◌, ℕ, zero, suc, ◌<◌, ◌⊎◌, inl, inr, ⊎_elim, Bool, true, false, cond, not, nat_lt, nat_le, List, [], ◌∷◌, ◌++◌, length, drop, map, flat_map, slice_index_or, codes, decimal, bytes_eq, Option, Some, None, option_map, option_and_then, refl, sym, ap, ap₂, subst, ◌∙◌, arith}
+use Rattle.std.specs.List.{list_all, list_any, position_or_len, join_with_byte}
+use Rattle.std.proofs.lemmas.Bool.{and_parts, and_from, lt-ltb, ltb-true, le-leb, cond-true, not-true, or_parts}
+use Rattle.std.proofs.lemmas.List.Sums.{passes_at_first, AllPass-from_list_all}
 use Rattle.std.proofs.lemmas.List.Splits.{join_with_byte-slice_split, length-slice_split}
-use Rattle.std.proofs.lemmas.Option.{none-some, same_Some, cond_some, option_and_then_some}
+use Rattle.std.proofs.lemmas.Option.{none-some, cond_some, option_and_then_some}
 use Rattle.std.proofs.lemmas.Slice.Eq.{bytes_eq-Decides}
 use Rattle.job_bodies.specs.Plan.{Pool, Plan, no_pool, pool_at, pool_names}
 use Rattle.job_bodies.specs.WellFormed.{are_distinct}
 use Rattle.written_machine.specs.declared.event.Event.{Event}
 use Rattle.written_machine.specs.declared.event.Event.TheVariants.{Client, Job, Take, Retire}
-use Rattle.event_lines.specs.Pieces.{is_space, split_space, words_of}
-use Rattle.event_lines.specs.Number.{number_of}
+use Rattle.line_words.specs.Pieces.{is_space, split_space, words_of}
+use Rattle.line_words.specs.Number.{number_of, is_lawful_number}
 use Rattle.event_lines.specs.EventLine.{Line, Happens, Stuck, pool_named, event_of, stuck_of, line_of_verb, line_of}
 use Rattle.event_lines.specs.Words.{all_of}
-use Rattle.event_lines.specs.LineText.{event_text, line_text, is_lawful_number, is_lawful_event, is_lawful_line}
-use Rattle.event_lines.proofs.Splits.{has_no, cut_at, cut_joined, joined_behind, flat_map-map, is_piece}
-use Rattle.event_lines.proofs.WrittenNumbers.{number_read, number_written, decimal_has_no}
-
--- ---- what a partial reading gives
-pub map_some : {X Y : Type 0} (f : X → Y) (o : Option X) (y : Y) → option_map f o ≡ Some y → (x : X) × (o ≡ Some x) × (f x ≡ y)
-map_some f None y e = absurd (none-some y e)
-map_some f (Some x) y e = (x, refl, same_Some (f x) y e)
+use Rattle.event_lines.specs.LineText.{event_text, line_text, is_lawful_event, is_lawful_line}
+use Rattle.line_words.proofs.Splits.{has_no, has_no-append, cut_at, cut_joined, joined_behind, flat_map-map, is_piece}
+use Rattle.line_words.proofs.FirstSpace.{splits, split_parts}
+use Rattle.line_words.proofs.Partial.{map_some}
+use Rattle.line_words.proofs.WrittenNumbers.{number_read, number_written, decimal_has_no}
 
 -- one branch or the other
 choose : {Y : Type 0} (b : Bool) (x y : Option Y) (z : Y) → cond b x y ≡ Some z → ((b ≡ true) × (x ≡ Some z)) ⊎ (y ≡ Some z)
 choose true x y z e = inl (refl, e)
 choose false x y z e = inr e
-
--- ---- where a text splits
-place_of_space : (front rest : List ℕ) → has_no 32 front ≡ true → position_or_len is_space (front ++ 32 ∷ rest) ≡ length front
-place_of_space [] rest none = refl
-place_of_space (b ∷ front) rest none =
-    let parts = and_parts (not (is_space b)) _ none in
-    rw (parts.0, place_of_space front rest parts.1) (omega arith)
-
-splits : (front rest : List ℕ) → has_no 32 front ≡ true → split_space (front ++ 32 ∷ rest) ≡ Some (front, rest)
-unfolding split_space
-splits front rest none =
-    let at = place_of_space front rest none in
-    let text : List ℕ = front ++ 32 ∷ rest in
-    let within : nat_lt (position_or_len is_space text) (length text) ≡ true = lt-ltb _ _ (omega (arith, at, length-append front (32 ∷ rest))) in
-    let before : before_first is_space text ≡ front = ap (λ n. take n text) at ∙ take_at front (32 ∷ rest) (length front) refl in
-    let after : after_first is_space text ≡ rest = ap (λ n. drop (n + 1) text) at ∙ ap (drop (length front + 1)) (sym (append_assoc front (32 ∷ []) rest)) ∙ drop_at (front ++ 32 ∷ []) rest (length front + 1) (length_push front 32) in
-    ap (λ (o : Option ℕ). option_map (λ place. (take place text, drop (place + 1) text)) o) (cond-true _ _ _ within) ∙ ap₂ (λ (x y : List ℕ). Some (x, y)) before after
-
-pub split_parts : (text : List ℕ) (words : List ℕ × List ℕ) → split_space text ≡ Some words → text ≡ words.0 ++ 32 ∷ words.1
-unfolding split_space
-split_parts text words read =
-    let found = map_some (λ place. (take place text, drop (place + 1) text)) (position is_space text) words read in
-    let place = cond_some (nat_lt (position_or_len is_space text) (length text)) _ _ found.1 in
-    let within : position_or_len is_space text < length text = ltb-true _ _ place.0 in
-    let space : get_or text (position_or_len is_space text) 0 ≡ 32 = eqb-true _ 32 (passes_at_first is_space text 0 within) in
-    let cut : text ≡ before_first is_space text ++ 32 ∷ after_first is_space text = split_at_first is_space text 0 within ∙ ap (λ b. before_first is_space text ++ b ∷ after_first is_space text) space in
-    cut ∙ ap (λ p. take p text ++ 32 ∷ drop (p + 1) text) place.1 ∙ ap (λ (w : List ℕ × List ℕ). w.0 ++ 32 ∷ w.1) found.2
 
 -- ---- names
 name_read : (plan : Plan) (name : List ℕ) (p : ℕ) → pool_named plan name ≡ Some p → (nat_lt p (length plan.pools) ≡ true) × (name ≡ (pool_at plan p).name)
@@ -225,12 +194,6 @@ line_written plan (Stuck (n ∷ members)) distinct lawful =
     ∙ ap (λ o. option_map Stuck o) (members_written (n ∷ members) parts.1)
 
 -- ---- the bytes of a line
-has_no-append : (c : ℕ) (front rest : List ℕ) → has_no c front ≡ true → has_no c rest ≡ true → has_no c (front ++ rest) ≡ true
-has_no-append c [] rest fronts rests = rests
-has_no-append c (b ∷ front) rest fronts rests =
-    let parts = and_parts (not (b == c)) (has_no c front) fronts in
-    and_from _ _ parts.0 (has_no-append c front rest parts.1 rests)
-
 members_on_one_line : (members : List ℕ) → list_all is_lawful_number members ≡ true → has_no 10 (flat_map (λ n. 32 ∷ decimal n) members) ≡ true
 members_on_one_line [] lawful = refl
 members_on_one_line (n ∷ members) lawful =

@@ -1,18 +1,19 @@
 -- The lines that a text writes are those whose text it is, but for the last newline.
-use Rattle.std.proofs.Common.{◌≡◌, ◌⊎◌, inl, inr, ⊎_elim, ℕ, suc, ◌+◌, ◌-◌, ◌<◌, true, false, not, ◌==◌, nat_lt, List, [], ◌∷◌, ◌++◌, length, take, get_or, map, Result, Ok, Err, Option, Some, None, refl, sym, ap, ap₂, subst, ◌∙◌, arith, get_or-append-add, take_at, take_all, take-suc}
+use Rattle.std.proofs.Common.{◌≡◌, ◌⊎◌, inl, inr, ⊎_elim, ℕ, ◌+◌, ◌<◌, true, not, ◌==◌, nat_lt, List, [], ◌∷◌, ◌++◌, length, map, Result, Ok, Err, Option, Some, None, refl, sym, ap, ap₂, subst, ◌∙◌, arith}
 use Rattle.std.specs.List.{list_all, join_with_byte}
-use Rattle.std.proofs.lemmas.Bool.{and_parts, and_from, eqb-true, eq-eqb, ne_eqb, cond-true, cond-false, cases_Bool}
+use Rattle.std.proofs.lemmas.Bool.{and_parts, and_from}
 use Rattle.std.proofs.lemmas.Bool.Decides.{nat_tests}
 use Rattle.std.proofs.lemmas.List.{length_push}
 use Rattle.std.proofs.lemmas.List.Splits.{join_with_byte-slice_split, length-slice_split}
 use Rattle.readings.specs.Reading.{◌>>=◌, some_or, read_each}
 use Rattle.job_bodies.specs.Plan.{Plan, Pool, pool_names}
 use Rattle.job_bodies.specs.WellFormed.{is_name_byte, is_lawful_name, is_lawful_pool, has_lawful_sizes, are_distinct}
-use Rattle.event_lines.specs.Pieces.{is_newline, without_last_newline, lines_of}
+use Rattle.line_words.specs.Pieces.{is_newline, without_last_newline, lines_of}
 use Rattle.event_lines.specs.EventLine.{Line, line_of, line_at, event_lines}
 use Rattle.event_lines.specs.LineText.{line_text, lines_text, is_lawful_line}
 use Rattle.event_lines.specs.Laws.{EventLinesAreCanonical}
-use Rattle.event_lines.proofs.Splits.{has_no, cut_at, cut_joined, joined_before, flat_map-map, is_piece, joined_ends}
+use Rattle.line_words.proofs.LastNewline.{last_newline, cut_off, stays, lines_of_some}
+use Rattle.line_words.proofs.Splits.{has_no, cut_at, cut_joined, joined_before, flat_map-map, is_piece, joined_ends}
 use Rattle.event_lines.proofs.WrittenLines.{line_read, line_written, has_plain_name, line_on_one_line}
 
 -- ---- one line after another
@@ -67,32 +68,6 @@ joined plan lines = join_with_byte 10 (map (line_text plan) lines)
 joined_is : (plan : Plan) (line : Line) (lines : List Line) → joined plan (line ∷ lines) ++ 10 ∷ [] ≡ lines_text plan (line ∷ lines)
 joined_is plan line lines = joined_before 10 (line_text plan line) (map (line_text plan) lines) ∙ flat_map-map (λ x. x ++ 10 ∷ []) (line_text plan) (line ∷ lines)
 
--- the text has the newline at its end, or none is cut off
-pub last_newline : (text : List ℕ) → 0 < length text → (text ≡ without_last_newline text ++ 10 ∷ []) ⊎ (text ≡ without_last_newline text)
-unfolding without_last_newline
-last_newline text some =
-    elim (cases_Bool (get_or text (length text - 1) 0 == 10)) [
-      | inl ended ↦
-          let last : get_or text (length text - 1) 0 ≡ 10 = eqb-true _ 10 ended in
-          let place : suc (length text - 1) ≡ length text = omega arith in
-          let whole : text ≡ take (length text - 1) text ++ 10 ∷ [] =
-          sym (take_all (length text) text (omega arith)) ∙ ap (λ n. take n text) (sym place) ∙ take-suc text (length text - 1) 0 (omega arith) ∙ ap (λ b. take (length text - 1) text ++ b ∷ []) last
-          in
-          inl (whole ∙ ap (λ (t : List ℕ). t ++ 10 ∷ []) (sym (cond-true _ _ _ ended)))
-      | inr other ↦ inr (sym (cond-false _ _ _ other))
-    ]
-
-pub cut_off : (text : List ℕ) → without_last_newline (text ++ 10 ∷ []) ≡ text
-unfolding without_last_newline
-cut_off text =
-    let long : length (text ++ 10 ∷ []) - 1 ≡ length text = omega (arith, length_push text 10) in
-    let last : get_or (text ++ 10 ∷ []) (length (text ++ 10 ∷ []) - 1) 0 ≡ 10 = ap (λ i. get_or (text ++ 10 ∷ []) i 0) (long ∙ omega arith) ∙ get_or-append-add text (10 ∷ []) 0 0 in
-    cond-true _ _ _ (eq-eqb _ 10 last) ∙ ap (λ n. take n (text ++ 10 ∷ [])) long ∙ take_at text (10 ∷ []) (length text) refl
-
-pub stays : (text : List ℕ) → (get_or text (length text - 1) 0 == 10) ≡ false → without_last_newline text ≡ text
-unfolding without_last_newline
-stays text other = cond-false _ _ _ other
-
 same_fronts : (xs ys : List ℕ) (c : ℕ) → xs ++ c ∷ [] ≡ ys ++ c ∷ [] → xs ≡ ys
 same_fronts [] [] c e = refl
 same_fronts [] (y ∷ ys) c e = absurd (omega (arith, length_push ys c, ap (λ (l : List ℕ). length l) e))
@@ -101,10 +76,6 @@ same_fronts (x ∷ xs) (y ∷ ys) c e =
     let head : x ≡ y = cc in
     let tail : xs ++ c ∷ [] ≡ ys ++ c ∷ [] = cc in
     ap₂ (λ (z : ℕ) (zs : List ℕ). z ∷ zs) head (same_fronts xs ys c tail)
-
-pub lines_of_some : (text : List ℕ) → 0 < length text → lines_of text ≡ cut_at 10 (without_last_newline text)
-unfolding lines_of
-lines_of_some text some = cond-false _ _ _ (ne_eqb (length text) 0 (λ e. omega arith))
 
 -- ---- whole texts
 -- some lines are read of a text that is not empty

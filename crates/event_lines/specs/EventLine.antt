@@ -8,8 +8,8 @@ use Rattle.written_machine.specs.declared.event.Event.TheVariants as event
 use Rattle.event_lines.specs.declared.event_line.EventLine.{EventLine}
 use Rattle.event_lines.specs.declared.event_line.EventLine.TheVariants as code
 use Rattle.event_lines.specs.declared.lines.BadLine.{BadLine}
-use Rattle.event_lines.specs.Pieces.{lines_of, split_space, first_line, behind_line}
-use Rattle.event_lines.specs.Number.{number_of}
+use Rattle.line_words.specs.Pieces.{lines_of, split_space, first_line, behind_line}
+use Rattle.line_words.specs.Number.{number_of}
 use Rattle.event_lines.specs.Words.{members_in}
 
 pub data Line : Type 0 where

@@ -1,5 +1,3 @@
-pub mod Pieces
-pub mod Number
 pub mod Words
 pub mod EventLine
 pub mod LineText

@@ -1,11 +1,11 @@
 -- The lines of events as they are written, and which lines there can be.
 use Rattle.std.specs.Prelude.{ℕ, Bool, ◌&&◌, nat_lt, nat_le, List, [], ◌∷◌, ◌++◌, length, codes, decimal, flat_map}
 use Rattle.std.specs.List.{list_all}
+use Rattle.line_words.specs.Number.{is_lawful_number}
 use Rattle.job_bodies.specs.Plan.{Plan, pool_at}
 use Rattle.written_machine.specs.declared.event.Event.{Event}
 use Rattle.written_machine.specs.declared.event.Event.TheVariants.{Client, Job, Take, Retire}
 use Rattle.event_lines.specs.EventLine.{Line, Happens, Stuck}
-use Rattle.event_lines.specs.declared.number.TheConstants.{MOST_NUMBER}
 
 -- an event
 abbrev pub event_text : Plan → Event → List ℕ
@@ -22,10 +22,6 @@ line_text plan (Stuck members) = codes "stuck" ++ flat_map (λ n. 32 ∷ decimal
 -- lines, each with its newline
 abbrev pub lines_text : Plan → List Line → List ℕ
 lines_text plan lines = flat_map (λ line. line_text plan line ++ 10 ∷ []) lines
-
--- a number within the limit
-abbrev pub is_lawful_number : ℕ → Bool
-is_lawful_number n = nat_le n MOST_NUMBER
 
 -- an event of a number within the limit, or of a pool that there is
 abbrev pub is_lawful_event : Plan → Event → Bool

@@ -1,7 +1,7 @@
 -- The numbers that the words of a text write.
 use Rattle.std.specs.Prelude.{ℕ, List, [], ◌∷◌, Option, Some, None, option_map, option_and_then}
-use Rattle.event_lines.specs.Pieces.{words_of}
-use Rattle.event_lines.specs.Number.{number_of}
+use Rattle.line_words.specs.Pieces.{words_of}
+use Rattle.line_words.specs.Number.{number_of}
 
 -- what each element gives, or None where one gives nothing
 abbrev pub all_of : {X Y : Type 0} → (X → Option Y) → List X → Option (List Y)

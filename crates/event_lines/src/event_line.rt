@@ -1,14 +1,13 @@
 //! What a line of events says.
 
 ghost use Rattle.std.specs.Prelude.{◌≡◌, ◌≢◌, ◌++◌, ℕ, List, codes, option_map, MatchOption};
-ghost use Rattle.event_lines.specs.Number.{split_number_line};
+ghost use Rattle.line_words.specs.Number.{split_number_line};
 ghost use Rattle.event_lines.specs.EventLine.{line_seen};
 ghost use Rattle.event_lines.specs.EventLine as spec;
 
-use crate::members::Members;
-use crate::number::leading_number;
-use crate::pieces::split_line;
+use crate::named_jobs::NamedJobs;
 use job_bodies::Plan;
+use line_words::{leading_number, split_line};
 use written_machine::Event;
 
 /// What a line of events says.
@@ -17,7 +16,7 @@ pub enum EventLine<'a> {
     /// This event is to happen.
     Happens(Event),
     /// Do these jobs wait for each other alone?
-    Stuck(Members<'a>),
+    Stuck(NamedJobs<'a>),
 }
 
 /// What the first line of a text says, and what stands behind that line; None where it says nothing.
@@ -72,7 +71,7 @@ fn line_of_others<'a>(plan: &Plan, line: &'a [u8]) -> Option<EventLine<'a>>
         let pool = pool_named(plan, pool)?;
         return Some(EventLine::Happens(Event::Retire(pool)));
     }
-    let members = Members::read(line.strip_prefix(b"stuck ")?)?;
+    let members = NamedJobs::read(line.strip_prefix(b"stuck ")?)?;
     Some(EventLine::Stuck(members))
 }
 

@@ -8,14 +8,12 @@
 mod event_line;
 mod laws;
 mod lines;
-mod members;
-mod number;
-mod pieces;
+mod named_jobs;
 mod reply;
 
 pub use event_line::EventLine;
 pub use laws::event_lines_are_canonical;
+pub use line_words::MAX_NUMBER;
 pub use lines::{BadLine, EventLines};
-pub use members::Members;
-pub use number::MOST_NUMBER;
+pub use named_jobs::NamedJobs;
 pub use reply::{Reply, push_reply, push_summary};

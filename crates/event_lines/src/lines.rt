@@ -4,8 +4,8 @@ ghost use Rattle.std.specs.Prelude.{◌≡◌, ◌≤◌, ◌∷◌, [], length,
 ghost use Rattle.event_lines.specs.EventLine.{line_read, lines_read};
 
 use crate::event_line::{EventLine, split_event_line};
-use crate::pieces::split_line;
 use job_bodies::Plan;
+use line_words::split_line;
 use std::marker::Model;
 
 /// Lines of events. [`next`](EventLines::next) reads them one after another, each once, so that they need no room beside
@@ -31,7 +31,7 @@ impl<'a> Model for EventLines<'a> {
 
 impl<'a> EventLines<'a> {
     /// The lines of a text, each `client N`, `job N`, `take POOL`, `retire POOL` or `stuck N N ..`. A number is at most
-    /// [`MOST_NUMBER`](crate::MOST_NUMBER), and has no leading zero; a pool is one of the plan's, by its name. The last
+    /// [`MAX_NUMBER`](crate::MAX_NUMBER), and has no leading zero; a pool is one of the plan's, by its name. The last
     /// newline may be missing.
     pub fn new(plan: &'a Plan, text: &'a [u8]) -> EventLines<'a>
         ensures lines { result ≡ lines_read plan.now text.now }

@@ -1,7 +1,7 @@
 //! What lines of events are answered.
 
-ghost use Rattle.std.specs.Prelude.{◌≡◌, ◌++◌, OnOk, string_bytes, codes, decimal};
-ghost use Rattle.job_bodies.specs.Plan.{pool_at};
+ghost use Rattle.std.specs.Prelude.{◌++◌, codes, decimal};
+ghost use Rattle.decimals.specs.Pushed.{Pushes};
 ghost use Rattle.event_lines.specs.Reply.{numbered, outcome_text, reply_text, summary};
 
 use decimals::{Counter, push_number};
@@ -32,7 +32,7 @@ pub fn push_reply(
     number: &Counter,
     reply: Reply,
 ) -> Result<(), AllocError>
-    ensures { OnOk result (string_bytes text.new ≡ string_bytes text.old ++ numbered number.now (reply_text plan.now reply)) }
+    ensures { Pushes result text.old text.new (numbered number.now (reply_text plan.now reply)) }
 {
     number.push_to(text)?;
     push_reply_text(text, plan, reply)?;
@@ -41,7 +41,7 @@ pub fn push_reply(
 
 /// What stands behind the number of a line, with the colon: a piece for each number and name, and no more.
 fn push_reply_text(text: &mut String, plan: &Plan, reply: Reply) -> Result<(), AllocError>
-    ensures { OnOk result (string_bytes text.new ≡ string_bytes text.old ++ (codes ": " ++ reply_text plan.now reply)) }
+    ensures { Pushes result text.old text.new (codes ": " ++ reply_text plan.now reply) }
 {
     match reply {
         Reply::Happened(outcome) => push_outcome(text, plan, outcome),
@@ -52,12 +52,12 @@ fn push_reply_text(text: &mut String, plan: &Plan, reply: Reply) -> Result<(), A
 }
 
 fn push_outcome(text: &mut String, plan: &Plan, outcome: Outcome) -> Result<(), AllocError>
-    ensures { OnOk result (string_bytes text.new ≡ string_bytes text.old ++ (codes ": " ++ outcome_text plan.now outcome)) }
+    ensures { Pushes result text.old text.new (codes ": " ++ outcome_text plan.now outcome) }
 {
     match outcome {
         Outcome::Started(job) => push_counted(text, ": started job ", job as u64),
         Outcome::Queued(job) => push_counted(text, ": queued job ", job as u64),
-        Outcome::Refused(pool) => push_named(text, ": refused by ", pool_name(plan, pool)),
+        Outcome::Refused(pool) => push_named(text, ": refused by ", plan.pool_name(pool)),
         Outcome::Worked(units) => push_counted(text, ": worked ", u64::from(units)),
         Outcome::Got(job) => push_counted(text, ": got job ", job as u64),
         Outcome::Looped => text.push_str(": looped"),
@@ -69,7 +69,7 @@ fn push_outcome(text: &mut String, plan: &Plan, outcome: Outcome) -> Result<(), 
 
 /// Words, and a number behind them.
 fn push_counted(text: &mut String, words: &str, number: u64) -> Result<(), AllocError>
-    ensures { OnOk result (string_bytes text.new ≡ string_bytes text.old ++ (words.now ++ decimal number)) }
+    ensures { Pushes result text.old text.new (words.now ++ decimal number) }
 {
     text.push_str(words)?;
     push_number(text, number)
@@ -77,20 +77,10 @@ fn push_counted(text: &mut String, words: &str, number: u64) -> Result<(), Alloc
 
 /// Words, and a name behind them.
 fn push_named(text: &mut String, words: &str, name: &str) -> Result<(), AllocError>
-    ensures { OnOk result (string_bytes text.new ≡ string_bytes text.old ++ (words.now ++ name.now)) }
+    ensures { Pushes result text.old text.new (words.now ++ name.now) }
 {
     text.push_str(words)?;
     text.push_str(name)
-}
-
-/// The name of the pool, which is empty where there is no such pool.
-fn pool_name(plan: &Plan, pool: usize) -> &str
-    ensures { result.now ≡ (pool_at plan.now pool).name }
-{
-    match plan.pool_at(pool) {
-        Some(pool) => pool.name.as_str(),
-        None => "",
-    }
 }
 
 /// Ends a replay: how many jobs were refused, and how many were not finished, as `refusals 0, unfinished 2`.
@@ -99,7 +89,7 @@ fn pool_name(plan: &Plan, pool: usize) -> &str
 ///
 /// [`AllocError`] where memory runs out.
 pub fn push_summary(text: &mut String, refusals: u64, unfinished: u64) -> Result<(), AllocError>
-    ensures { OnOk result (string_bytes text.new ≡ string_bytes text.old ++ summary refusals unfinished) }
+    ensures { Pushes result text.old text.new (summary refusals unfinished) }
 {
     writeln!(text, "refusals {refusals}, unfinished {unfinished}")
 }

@@ -4,7 +4,7 @@ use Rattle.std.specs.Prelude.{nat_lt}
 use Rattle.std.specs.List.{list_all}
 use Rattle.std.proofs.lemmas.Bool.{and_parts, and_from, le-leb}
 use Rattle.numbered_lists.proofs.Members.{list_all_at_In, In-get_or}
-use Rattle.job_bodies.specs.declared.limits.TheConstants.{MOST_UNITS}
+use Rattle.job_bodies.specs.declared.limits.TheConstants.{MAX_SIZE}
 use Rattle.job_bodies.specs.Plan.{Pool, Class, Client, Plan, no_pool, pool_at}
 use Rattle.job_bodies.proofs.Bodies.{within_bounds}
 use Rattle.job_bodies.specs.WellFormed.{is_lawful_name, is_within, has_lawful_sizes, is_lawful_pool, is_lawful_class, is_lawful_client, is_lawful_body, are_distinct, IsWellFormed}
@@ -78,7 +78,7 @@ well_formed_changed plan other well same sized =
 
     same_clients : other.classes ≡ plan.classes → other.clients ≡ plan.clients → list_all (is_lawful_client other) other.clients ≡ list_all (is_lawful_client plan) plan.clients
     same_clients classes clients =
-        list_all-agree (is_lawful_client other) (is_lawful_client plan) other.clients (λ client. ap (λ (all : List Class). is_lawful_name client.name && is_within 1 MOST_UNITS client.count && is_lawful_body (length all) client.body) classes)
+        list_all-agree (is_lawful_client other) (is_lawful_client plan) other.clients (λ client. ap (λ (all : List Class). is_lawful_name client.name && is_within 1 MAX_SIZE client.count && is_lawful_body (length all) client.body) classes)
         ∙ ap (list_all (is_lawful_client plan)) clients
 
 -- plans of one shape have one outline
@@ -94,20 +94,20 @@ outline_of_shape plan other same = sym (outline-shape other) ∙ (ap outline sam
 pub record HasSizes (pool : Pool) : Type 0 where
   pub core : 1 ≤ pool.core
   pub max : pool.core ≤ pool.max
-  pub most_max : pool.max ≤ MOST_UNITS
+  pub most_max : pool.max ≤ MAX_SIZE
   pub queue : 1 ≤ pool.queue
-  pub most_queue : pool.queue ≤ MOST_UNITS
+  pub most_queue : pool.queue ≤ MAX_SIZE
 
 pub has_sizes : (pool : Pool) → has_lawful_sizes pool ≡ true → HasSizes pool
 has_sizes pool lawful =
-    let parts = and_parts (is_within 1 MOST_UNITS pool.core && is_within pool.core MOST_UNITS pool.max) (is_within 1 MOST_UNITS pool.queue) lawful in
-    let front = and_parts (is_within 1 MOST_UNITS pool.core) (is_within pool.core MOST_UNITS pool.max) parts.0 in
+    let parts = and_parts (is_within 1 MAX_SIZE pool.core && is_within pool.core MAX_SIZE pool.max) (is_within 1 MAX_SIZE pool.queue) lawful in
+    let front = and_parts (is_within 1 MAX_SIZE pool.core) (is_within pool.core MAX_SIZE pool.max) parts.0 in
     record {
-      core = (within_bounds 1 MOST_UNITS pool.core front.0).0;
-      max = (within_bounds pool.core MOST_UNITS pool.max front.1).0;
-      most_max = (within_bounds pool.core MOST_UNITS pool.max front.1).1;
-      queue = (within_bounds 1 MOST_UNITS pool.queue parts.1).0;
-      most_queue = (within_bounds 1 MOST_UNITS pool.queue parts.1).1;
+      core = (within_bounds 1 MAX_SIZE pool.core front.0).0;
+      max = (within_bounds pool.core MAX_SIZE pool.max front.1).0;
+      most_max = (within_bounds pool.core MAX_SIZE pool.max front.1).1;
+      queue = (within_bounds 1 MAX_SIZE pool.queue parts.1).0;
+      most_queue = (within_bounds 1 MAX_SIZE pool.queue parts.1).1;
     }
 
 is_within_from : (low high n : ℕ) → low ≤ n → n ≤ high → is_within low high n ≡ true
@@ -115,9 +115,9 @@ is_within_from low high n above below = and_from _ _ (le-leb low n above) (le-le
 
 pub lawful_from_sizes : (pool : Pool) → HasSizes pool → has_lawful_sizes pool ≡ true
 lawful_from_sizes pool sizes =
-    and_from (is_within 1 MOST_UNITS pool.core && is_within pool.core MOST_UNITS pool.max) (is_within 1 MOST_UNITS pool.queue)
-    (and_from (is_within 1 MOST_UNITS pool.core) (is_within pool.core MOST_UNITS pool.max) (is_within_from 1 MOST_UNITS pool.core sizes.core (omega (arith, sizes.max, sizes.most_max))) (is_within_from pool.core MOST_UNITS pool.max sizes.max sizes.most_max))
-    (is_within_from 1 MOST_UNITS pool.queue sizes.queue sizes.most_queue)
+    and_from (is_within 1 MAX_SIZE pool.core && is_within pool.core MAX_SIZE pool.max) (is_within 1 MAX_SIZE pool.queue)
+    (and_from (is_within 1 MAX_SIZE pool.core) (is_within pool.core MAX_SIZE pool.max) (is_within_from 1 MAX_SIZE pool.core sizes.core (omega (arith, sizes.max, sizes.most_max))) (is_within_from pool.core MAX_SIZE pool.max sizes.max sizes.most_max))
+    (is_within_from 1 MAX_SIZE pool.queue sizes.queue sizes.most_queue)
 
 -- the sizes of a pool of a well-formed plan
 pub sizes_at : (plan : Plan) (p : ℕ) → IsWellFormed plan → p < length plan.pools → HasSizes (pool_at plan p)

@@ -5,7 +5,7 @@ use Rattle.std.proofs.lemmas.Bool.{cases_lt, and_parts}
 use Rattle.std.proofs.lemmas.List.{get_or_past}
 use Rattle.std.proofs.lemmas.List.Sums.{sum_by-cons}
 use Rattle.std.proofs.Math.Nat.{mul-le-mul_left}
-use Rattle.job_bodies.specs.declared.limits.TheConstants.{MOST_UNITS}
+use Rattle.job_bodies.specs.declared.limits.TheConstants.{MAX_SIZE}
 use Rattle.job_bodies.specs.Plan.{Pool, Client, Plan, no_pool, pool_at}
 use Rattle.weights.specs.Vector.{Vector, workers_weight, client_weight, total}
 use Rattle.certificates.specs.Cert.{Cert, pool_cert_at, cert_fits}
@@ -138,7 +138,7 @@ wide_fit_fits plan other cert fits =
     ∙ (cert_fits-pools other (outline other).pools cert (length-outline other) ∙ (and_parts (cert_fits other cert) (is_nil (failing other cert)) fits.accepts).0))
 
 -- no max passes the limit
-pub wide_fit_has_room : (plan other : Plan) (cert : Cert) (p : ℕ) → IsWideFit plan cert other → p < length (widened plan cert).pools → (pool_at (widened plan cert) p).max ≤ MOST_UNITS
+pub wide_fit_has_room : (plan other : Plan) (cert : Cert) (p : ℕ) → IsWideFit plan cert other → p < length (widened plan cert).pools → (pool_at (widened plan cert) p).max ≤ MAX_SIZE
 wide_fit_has_room plan other cert p fits there =
     let as_many : length other.pools ≡ length plan.pools = sym (length-outline other) ∙ (ap (λ (any : Plan). length any.pools) fits.same_outline ∙ length-outline plan) in
     let inside : p < length other.pools = subst (λ (n : ℕ). p < n) (length-widened plan cert ∙ sym as_many) there in

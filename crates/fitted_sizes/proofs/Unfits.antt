@@ -4,7 +4,7 @@ use Rattle.std.specs.List.{enumerate_from, find, list_all}
 use Rattle.std.specs.Option.{option_or, option_map}
 use Rattle.std.proofs.lemmas.Bool.{and_parts, and_from, ltb-true, ltb-false, le-ltb, false_from_ne_true}
 use Rattle.numbered_lists.proofs.Members.{list_all_at_In, In-get_or}
-use Rattle.job_bodies.specs.declared.limits.TheConstants.{MOST_UNITS}
+use Rattle.job_bodies.specs.declared.limits.TheConstants.{MAX_SIZE}
 use Rattle.job_bodies.specs.Plan.{Pool, Plan, no_pool, pool_at}
 use Rattle.job_bodies.specs.WellFormed.{has_lawful_sizes, IsWellFormed}
 use Rattle.certificates.specs.Cert.{Cert, cert_fits}
@@ -72,25 +72,25 @@ none_found {X} test (x ∷ xs) all =
 -- a pool that is not unfit has its core within max, and max and queue within their limit
 record IsWithin (pool : Pool) : Type 0 where
   core : pool.core ≤ pool.max
-  max : pool.max ≤ MOST_UNITS
-  queue : pool.queue ≤ MOST_UNITS
+  max : pool.max ≤ MAX_SIZE
+  queue : pool.queue ≤ MAX_SIZE
 
 within : (p : ℕ) (pool : Pool) → unfit_pool p pool ≡ None → IsWithin pool
-within p pool none = at_tests (ltb pool.max pool.core) refl (ltb MOST_UNITS pool.max) refl (ltb MOST_UNITS pool.queue) refl none
+within p pool none = at_tests (ltb pool.max pool.core) refl (ltb MAX_SIZE pool.max) refl (ltb MAX_SIZE pool.queue) refl none
   where
-    at_tests : (a : Bool) → ltb pool.max pool.core ≡ a → (b : Bool) → ltb MOST_UNITS pool.max ≡ b → (d : Bool) → ltb MOST_UNITS pool.queue ≡ d
+    at_tests : (a : Bool) → ltb pool.max pool.core ≡ a → (b : Bool) → ltb MAX_SIZE pool.max ≡ b → (d : Bool) → ltb MAX_SIZE pool.queue ≡ d
         → cond (a || b) (Some (Core p)) (cond d (Some (Queue p)) None) ≡ None → IsWithin pool
     at_tests true is b more d also e = absurd cc
     at_tests false is true more d also e = absurd cc
     at_tests false is false more true also e = absurd cc
-    at_tests false is false more false also e = record { core = ltb-false pool.max pool.core is; max = ltb-false MOST_UNITS pool.max more; queue = ltb-false MOST_UNITS pool.queue also }
+    at_tests false is false more false also e = record { core = ltb-false pool.max pool.core is; max = ltb-false MAX_SIZE pool.max more; queue = ltb-false MAX_SIZE pool.queue also }
 
 -- and a pool with lawful sizes is not unfit
 lawful_fits : (p : ℕ) (pool : Pool) → has_lawful_sizes pool ≡ true → unfit_pool p pool ≡ None
 lawful_fits p pool lawful =
     let sizes = has_sizes pool lawful in
-    let room = ap₂ (λ (a b : Bool). a || b) (le-ltb pool.max pool.core sizes.max) (le-ltb MOST_UNITS pool.max sizes.most_max) in
-    ap₂ (λ (b d : Bool). cond b (Some (Core p)) (cond d (Some (Queue p)) None)) room (le-ltb MOST_UNITS pool.queue sizes.most_queue)
+    let room = ap₂ (λ (a b : Bool). a || b) (le-ltb pool.max pool.core sizes.max) (le-ltb MAX_SIZE pool.max sizes.most_max) in
+    ap₂ (λ (b d : Bool). cond b (Some (Core p)) (cond d (Some (Queue p)) None)) room (le-ltb MAX_SIZE pool.queue sizes.most_queue)
 
 -- ---- the fitted plan
 
@@ -166,7 +166,7 @@ none_fits_where_unfit plan cert unfit well some = none_fits plan cert well (none
 -- ---- the widened plan
 
 -- the sizes of its pools are lawful, but for a max above the limit
-widened_sizes : (plan : Plan) (cert : Cert) (p : ℕ) → IsWellFormed plan → p < length (widened plan cert).pools → (pool_at (widened plan cert) p).max ≤ MOST_UNITS → HasSizes (pool_at (widened plan cert) p)
+widened_sizes : (plan : Plan) (cert : Cert) (p : ℕ) → IsWellFormed plan → p < length (widened plan cert).pools → (pool_at (widened plan cert) p).max ≤ MAX_SIZE → HasSizes (pool_at (widened plan cert) p)
 widened_sizes plan cert p well there small =
     let inside : p < length plan.pools = subst (λ (n : ℕ). p < n) (length-widened plan cert) there in
     let declared = sizes_at plan p well inside in
@@ -212,15 +212,15 @@ none_fits_where_not_widened plan cert unfit well some other fits =
 -- it is that of the pool, whose core is above max, or whose max is above the limit
 record IsAbove (p : ℕ) (pool : Pool) (told : ℕ) : Type 0 where
   number : p ≡ told
-  above : (pool.max < pool.core) ⊎ (MOST_UNITS < pool.max)
+  above : (pool.max < pool.core) ⊎ (MAX_SIZE < pool.max)
 
 core_above : (p : ℕ) (pool : Pool) (told : ℕ) → unfit_pool p pool ≡ Some (Core told) → IsAbove p pool told
-core_above p pool told some = at_tests (ltb pool.max pool.core) refl (ltb MOST_UNITS pool.max) refl (ltb MOST_UNITS pool.queue) some
+core_above p pool told some = at_tests (ltb pool.max pool.core) refl (ltb MAX_SIZE pool.max) refl (ltb MAX_SIZE pool.queue) some
   where
-    at_tests : (a : Bool) → ltb pool.max pool.core ≡ a → (b : Bool) → ltb MOST_UNITS pool.max ≡ b → (d : Bool)
+    at_tests : (a : Bool) → ltb pool.max pool.core ≡ a → (b : Bool) → ltb MAX_SIZE pool.max ≡ b → (d : Bool)
         → cond (a || b) (Some (Core p)) (cond d (Some (Queue p)) None) ≡ Some (Core told) → IsAbove p pool told
     at_tests true is b more d e = record { number = cc; above = inl (ltb-true pool.max pool.core is) }
-    at_tests false is true more d e = record { number = cc; above = inr (ltb-true MOST_UNITS pool.max more) }
+    at_tests false is true more d e = record { number = cc; above = inr (ltb-true MAX_SIZE pool.max more) }
     at_tests false is false more true e = absurd cc
     at_tests false is false more false e = absurd cc
 
@@ -271,7 +271,7 @@ told_cores_need_larger_maxes plan other cert p well some fits =
     let wide = ap (λ (pool : Pool). pool.max) (widened_at plan cert p inside) in
     let declared = sizes_at plan p well inside in
     let least = (widened_maxes_are_least.maxes plan other cert fits).no_smaller_max p in
-    elim (subst (λ (i : ℕ). ((get_or pools i no_pool).max < (get_or pools i no_pool).core) ⊎ (MOST_UNITS < (get_or pools i no_pool).max)) at told.is_above.above) [
+    elim (subst (λ (i : ℕ). ((get_or pools i no_pool).max < (get_or pools i no_pool).core) ⊎ (MAX_SIZE < (get_or pools i no_pool).max)) at told.is_above.above) [
       | inl above ↦ omega (arith, above, declared.max)
       | inr above ↦ absurd (omega (arith, above, declared.most_max))
     ]

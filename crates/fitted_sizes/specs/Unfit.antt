@@ -2,7 +2,7 @@
 use Rattle.std.specs.Prelude.{◌≡◌, ◌<◌, ℕ, not, ◌||◌, nat_lt, if◌then◌else◌, List, [], ◌∷◌, Option, Some, None}
 use Rattle.std.specs.List.{enumerate_from, find}
 use Rattle.std.specs.Option.{option_or, option_map}
-use Rattle.job_bodies.specs.declared.limits.TheConstants.{MOST_UNITS}
+use Rattle.job_bodies.specs.declared.limits.TheConstants.{MAX_SIZE}
 use Rattle.job_bodies.specs.Plan.{Pool, Plan, pool_at}
 use Rattle.job_bodies.specs.WellFormed.{IsWellFormed}
 use Rattle.certificates.specs.Cert.{Cert, cert_fits}
@@ -19,7 +19,7 @@ failing_elsewhere plan cert = find (λ note. not (is_total note.place)) (failing
 
 -- a raised core above its pool's max, a max that was raised above the limit for a core, or a raised queue above its limit
 abbrev pub unfit_pool : ℕ → Pool → Option Unfit
-unfit_pool p pool = if nat_lt pool.max pool.core || nat_lt MOST_UNITS pool.max then Some (Core p) else (if nat_lt MOST_UNITS pool.queue then Some (Queue p) else None)
+unfit_pool p pool = if nat_lt pool.max pool.core || nat_lt MAX_SIZE pool.max then Some (Core p) else (if nat_lt MAX_SIZE pool.queue then Some (Queue p) else None)
 
 -- the first of these pools, each with its number, that is so
 abbrev pub first_unfit : List (ℕ × Pool) → Option Unfit

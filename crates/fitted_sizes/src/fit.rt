@@ -12,7 +12,6 @@ ghost use Rattle.fitted_sizes.specs.Widened.{HasLeastCores};
 ghost use Rattle.fitted_sizes.specs.Unfit.{failing_elsewhere, why_unfit};
 
 use crate::Unfit;
-use crate::resized::{copied_pool, with_pools};
 use crate::unfit::unfit_pools;
 use certificates::Cert;
 use headline::Note;
@@ -54,7 +53,7 @@ fn raised_pool(alloc: Global, plan: &Plan, cert: &Cert, number: usize) -> Result
     ensures { IfOk result (λ raised. raised ≡ spec.raised_pool plan.now (pool_cert_at cert.now number) (pool_at plan.now number)) }
 {
     let needs = cert.pool_at(number);
-    let mut raised = copied_pool(alloc, &plan.pools()[number])?;
+    let mut raised = plan.pools()[number].copied(alloc)?;
     raised.core = raised.core.max(core_needed(plan, &needs.blocked));
     raised.queue = raised.queue.max(queue_needed(plan, &needs.bound, &raised));
     Ok(raised)
@@ -145,14 +144,14 @@ pub fn fitted(
     let pools = raised_pools(alloc, &plan, cert)?;
     match unfit(alloc, &plan, cert, &pools)? {
         Some(unfit) => Ok(Err((plan, unfit))),
-        None => Ok(Ok(with_pools(alloc, &plan, pools)?)),
+        None => Ok(Ok(plan.with_pools(pools))),
     }
 }
 
 fn smallest_pool(alloc: Global, pool: &Pool) -> Result<Pool, AllocError>
     ensures { IfOk result (λ small. small ≡ record pool.now { core = 1; queue = 1 }) }
 {
-    let mut small = copied_pool(alloc, pool)?;
+    let mut small = pool.copied(alloc)?;
     small.core = 1;
     small.queue = 1;
     Ok(small)
@@ -179,5 +178,5 @@ pub fn smallest(alloc: Global, plan: &Plan) -> Result<Plan, AllocError>
     ensures { IfOk result (λ small. small ≡ spec.smallest plan.now) }
 {
     let pools = smallest_pools(alloc, plan)?;
-    with_pools(alloc, plan, pools)
+    Ok(plan.copied(alloc)?.with_pools(pools))
 }

@@ -6,7 +6,6 @@
 
 mod fit;
 mod laws;
-mod resized;
 mod unfit;
 mod wide;
 
@@ -15,6 +14,5 @@ pub use laws::{
     accepted_plans_fit, fitted_sizes_are_least, larger_sizes_are_accepted, smallest_fit_is_least,
     told_cores_need_larger_maxes, widened_maxes_are_least,
 };
-pub use resized::copied;
 pub use unfit::Unfit;
 pub use wide::widened;

@@ -5,7 +5,7 @@ ghost use Rattle.std.specs.List.{enumerate_from};
 ghost use Rattle.fitted_sizes.specs.Unfit as spec;
 
 use headline::Note;
-use job_bodies::{MOST_UNITS, Pool};
+use job_bodies::{MAX_SIZE, Pool};
 
 /// Why no cores and queues make a plan one that a certificate accepts.
 #[derive(Clone, Copy, Debug, PartialEq, Eq)]
@@ -24,9 +24,9 @@ pub enum Unfit {
 fn unfit_pool(number: usize, pool: &Pool) -> Option<Unfit>
     ensures { result ≡ spec.unfit_pool number pool.now }
 {
-    if pool.core > pool.max || pool.max > MOST_UNITS {
+    if pool.core > pool.max || pool.max > MAX_SIZE {
         Some(Unfit::Core(number))
-    } else if pool.queue > MOST_UNITS {
+    } else if pool.queue > MAX_SIZE {
         Some(Unfit::Queue(number))
     } else {
         None

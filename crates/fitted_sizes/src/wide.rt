@@ -9,7 +9,6 @@ ghost use Rattle.fitted_sizes.specs.Unfit.{why_not_widened};
 
 use crate::Unfit;
 use crate::fit::core_needed;
-use crate::resized::{copied_pool, with_pools};
 use crate::unfit::unfit_pools;
 use certificates::Cert;
 use job_bodies::{Plan, Pool};
@@ -22,7 +21,7 @@ fn widened_pool(alloc: Global, plan: &Plan, cert: &Cert, number: usize) -> Resul
     ensures { IfOk result (λ wide. wide ≡ spec.with_max plan.now (pool_cert_at cert.now number).blocked (pool_at plan.now number)) }
 {
     let needs = cert.pool_at(number);
-    let mut wide = copied_pool(alloc, &plan.pools()[number])?;
+    let mut wide = plan.pools()[number].copied(alloc)?;
     wide.max = wide.max.max(core_needed(plan, &needs.blocked));
     Ok(wide)
 }
@@ -63,6 +62,6 @@ pub fn widened(alloc: Global, plan: &Plan, cert: &Cert) -> Result<Result<Plan, U
     let pools = widened_pools(alloc, plan, cert)?;
     match unfit_pools(&pools) {
         Some(unfit) => Ok(Err(unfit)),
-        None => Ok(Ok(with_pools(alloc, plan, pools)?)),
+        None => Ok(Ok(plan.copied(alloc)?.with_pools(pools))),
     }
 }

@@ -8,7 +8,8 @@ use Rattle.std.proofs.lemmas.Option.{same_Some}
 use Rattle.job_bodies.specs.declared.action.Action.TheVariants.{Submit, Get}
 use Rattle.job_bodies.specs.Plan.{Plan}
 use Rattle.job_bodies.specs.WellFormed.{IsWellFormed}
-use Rattle.job_bodies.proofs.Bodies.{IsLawful, IsOrdered, ordered}
+use Rattle.job_bodies.specs.Lawful.{IsLawful}
+use Rattle.job_bodies.proofs.Bodies.{IsOrdered, ordered}
 use Rattle.written_machine.specs.declared.parent.Parent.{Parent}
 use Rattle.written_machine.specs.declared.parent.Parent.TheVariants as parent
 use Rattle.pool_machine.specs.PoolState.{PoolView}
@@ -26,7 +27,6 @@ use Rattle.live_views.proofs.View.{length-pools, pool_at_view, view_at, point_se
 use Rattle.interleaving.specs.declared.next_action.NextAction.{NextAction}
 use Rattle.interleaving.specs.NextAction.{next_action_at}
 use Rattle.interleaving.specs.OfPlan.{IsOf, HasWorker, IsAtWork}
-use Rattle.interleaving.proofs.Reached.{class_inside}
 
 -- the view has the pools of the plan
 pub as_many_pools : (plan : Plan) (view : View) → IsOf plan view → length view.pools ≡ length plan.pools
@@ -78,6 +78,10 @@ past_start plan view a next t w e gets =
     omega (arith, behind, same)
 
 -- ---- jobs at work
+
+-- a job at work is of a class of the plan
+pub class_inside : (plan : Plan) (s : State) (j i : ℕ) → IsReached plan s → IsWellFormed plan → (job_at s j).stage ≡ Stage.At i → (job_at s j).class < length plan.classes
+class_inside plan s j i reached w stage = (kept plan s w reached).classes j no_job (job_made s j (At≢Claimed stage))
 
 count_by-some : {X : Type 0} (test : X → Bool) (xs : List X) (i : ℕ) (d : X) → i < length xs → test (get_or xs i d) ≡ true → 1 ≤ count_by test xs
 count_by-some test [] i d inside passes = absurd (omega arith)

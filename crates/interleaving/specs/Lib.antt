@@ -1,15 +1,6 @@
-pub mod WorldValue
+pub mod World
 pub mod OfPlan
 pub mod Answers
 pub mod NextAction
-pub mod ClientList
-pub mod Clients
-pub mod PlaceList
-pub mod PlaceRow
-pub mod Places
-pub mod CallList
-pub mod LatestList
-pub mod JobList
-pub mod LiveJobs
 pub mod Stuck
-pub mod Shares
+pub mod Share

@@ -1,5 +1,5 @@
 -- Where an actor stands.
-use Rattle.std.specs.Prelude.{◌≡◌, ℕ, ◌&&◌, ◌⊎◌, List, Some, IsSome, slice_get}
+use Rattle.std.specs.Prelude.{◌≡◌, ℕ, ◌<◌, ◌&&◌, ◌⊎◌, List, Some, IsSome, slice_get}
 use Rattle.job_bodies.specs.declared.action.Action.{Action}
 use Rattle.job_bodies.specs.declared.action.Action.TheVariants.{Submit}
 use Rattle.job_bodies.specs.Plan.{Plan, submits, is_got}
@@ -11,7 +11,12 @@ use Rattle.written_machine.specs.Step.{Point}
 use Rattle.live_views.specs.LiveView.{View}
 use Rattle.live_views.specs.ViewStep.{point_in}
 use Rattle.interleaving.specs.declared.next_action.NextAction.{NextAction}
-use Rattle.interleaving.specs.ClientList.{IsFirst}
+use Rattle.live_actors.specs.Clients.{IsFirst}
+
+-- the actor is one of so many clients, or one of so many jobs
+abbrev pub IsAmong : ℕ → ℕ → Parent → Type 0
+IsAmong clients jobs (parent.Client c) = c < clients
+IsAmong clients jobs (parent.Job j) = j < jobs
 
 -- the position in the body, the action there, and whether it is a submit whose job a get of the body asks for
 abbrev pub next_action_in : List Action → ℕ → NextAction

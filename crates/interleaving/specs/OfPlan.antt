@@ -1,5 +1,5 @@
 -- Views of a plan, and what holds of them.
-use Rattle.std.specs.Prelude.{◌≡◌, ℕ, ◌<◌, true, length, Some, IfSome}
+use Rattle.std.specs.Prelude.{◌≡◌, ◌≢◌, ℕ, ◌<◌, true, List, length, Option, Some, IfSome}
 use Rattle.job_bodies.specs.Plan.{Plan}
 use Rattle.pool_machine.specs.PoolState.{PoolView, taken}
 use Rattle.written_machine.specs.declared.parent.Parent.{Parent}
@@ -27,3 +27,8 @@ pub record HasWorker (plan : Plan) (view : View) (job : JobView) : Type 0 where
 abbrev pub IsAtWork : Plan → View → Parent → Type 0
 IsAtWork plan view (parent.Client c) = Unit {0}
 IsAtWork plan view (parent.Job j) = IfSome (live_job view.jobs j) (HasWorker plan view)
+
+-- where the actor is a live job another one made it
+abbrev pub MadeByOther : List (Option JobView) → Parent → Type 0
+MadeByOther jobs (parent.Client c) = Unit {0}
+MadeByOther jobs (parent.Job j) = (job : JobView) → live_job jobs j ≡ Some job → job.parent ≢ parent.Job j

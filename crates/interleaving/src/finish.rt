@@ -3,7 +3,7 @@
 ghost use Rattle.std.specs.Prelude.{◌≡◌, ◌≢◌, ◌<◌, true, false, length, slice_get, Some};
 ghost use Rattle.written_machine.specs.State.{pool_of};
 ghost use Rattle.written_machine.specs.declared.parent.Parent.TheVariants.{Job};
-ghost use Rattle.interleaving.specs.LiveJobs.{DoneAreLatest, MadeByOther};
+ghost use Rattle.live_actors.specs.LiveJobs.{DoneAreLatest};
 ghost use Rattle.live_views.specs.ViewStep.{live_job, is_done, may_ask_for, pool_in, looped_in, finished_job_in, ended_in};
 
 use crate::World;
@@ -14,7 +14,7 @@ use written_machine::{Outcome, Parent};
 
 impl World {
     ghost use Rattle.interleaving.specs.Answers.{AreOf};
-    ghost use Rattle.interleaving.specs.OfPlan.{IsAtWork};
+    ghost use Rattle.interleaving.specs.OfPlan.{IsAtWork, MadeByOther};
 
     /// At the end of its body a job finishes, and a client of a kind that repeats begins again.
     pub(crate) fn end(&mut self, plan: &Plan, actor: Parent) -> Option<Outcome>

@@ -1,8 +1,8 @@
 //! Gets.
 
 ghost use Rattle.std.specs.Prelude.{◌≡◌, ◌+◌, ◌<◌, ◌^◌, true};
-ghost use Rattle.interleaving.specs.ClientList.{StandsAt};
-ghost use Rattle.interleaving.specs.LiveJobs.{IsAlone};
+ghost use Rattle.live_actors.specs.Clients.{StandsAt};
+ghost use Rattle.live_actors.specs.LiveJobs.{IsAlone};
 ghost use Rattle.live_views.specs.ViewStep.{got_child_in, live_child, may_ask_for};
 
 use crate::World;

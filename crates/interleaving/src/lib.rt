@@ -1,18 +1,11 @@
-//! The running machine of a plan: many bounded thread pools, the clients that submit to them, and the live jobs.
+//! The running machine of a plan: many bounded thread pools, and the steps of the clients and the jobs that use them.
 #![tactic(auto)]
 
-mod calls;
-mod clients;
 mod finish;
 mod get;
-mod latest;
-mod live_jobs;
 mod members;
-mod moved_clients;
 mod moves;
 mod next_action;
-mod place_row;
-mod places;
 mod plans;
 mod pools;
 mod shares;

@@ -2,11 +2,10 @@
 
 ghost use Rattle.std.specs.Prelude.{◌≡◌, true};
 ghost use Rattle.live_views.specs.LiveView.{View};
-ghost use Rattle.interleaving.specs.ClientList.{CanMove};
+ghost use Rattle.live_actors.specs.Clients.{CanMove};
 ghost use Rattle.live_views.specs.ViewStep.{may_ask_for, moved_live_jobs, moved_live_clients};
 
-use crate::clients::Clients;
-use crate::live_jobs::LiveJobs;
+use live_actors::{Clients, LiveJobs};
 use written_machine::Parent;
 
 /// The actor, which is not done, comes to this position of its body. There is room for it.

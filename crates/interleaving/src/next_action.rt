@@ -5,9 +5,8 @@ ghost use Rattle.job_bodies.specs.WellFormed.{IsWellFormed};
 ghost use Rattle.std.specs.Option.{option_map};
 ghost use Rattle.written_machine.specs.declared.parent.Parent.TheVariants as parent;
 ghost use Rattle.live_views.specs.ViewStep.{point_in, may_ask_for};
-ghost use Rattle.interleaving.specs.ClientList.{StandsAt};
-ghost use Rattle.interleaving.specs.LiveJobs.{IsAmong};
-ghost use Rattle.interleaving.specs.NextAction.{next_action_in};
+ghost use Rattle.live_actors.specs.Clients.{StandsAt};
+ghost use Rattle.interleaving.specs.NextAction.{IsAmong, next_action_in};
 
 use crate::World;
 use crate::plans::{body_of_class, body_of_kind};

@@ -2,12 +2,12 @@
 
 ghost use Rattle.std.specs.Prelude.{◌≡◌, ◌+◌, ◌<◌, ◌^◌, ℕ};
 ghost use Rattle.job_bodies.specs.WellFormed.{IsWellFormed};
-ghost use Rattle.interleaving.specs.Shares.{share_of, share_at, share_with};
+ghost use Rattle.interleaving.specs.Share.{share_of, share_at, share_with};
 
 use crate::World;
 use crate::members::Members;
 use crate::plans::pool_of;
-use job_bodies::{MOST_POOLS, Plan};
+use job_bodies::{MAX_POOLS, Plan};
 use live_views::Phase;
 
 /// What the members of a set do in one pool.
@@ -43,15 +43,15 @@ impl World {
     ghost use Rattle.interleaving.specs.OfPlan.{IsOf};
 
     /// What the members do in each pool. Each of them is looked up once.
-    pub(crate) fn shares(&self, plan: &Plan, members: &Members<'_>) -> [Share; MOST_POOLS]
+    pub(crate) fn shares(&self, plan: &Plan, members: &Members<'_>) -> [Share; MAX_POOLS]
         requires of_plan { IsOf plan.now self.now.view }
         requires well_formed { IsWellFormed plan.now }
-        ensures { (p : ℕ) → p < MOST_POOLS → share_at result p ≡ share_of plan.now self.now.view members.now p }
+        ensures { (p : ℕ) → p < MAX_POOLS → share_at result p ≡ share_of plan.now self.now.view members.now p }
     {
         let mut shares = [Share {
             queued: false,
             at_work: 0,
-        }; MOST_POOLS];
+        }; MAX_POOLS];
         for (place, &number) in members.numbers().iter().enumerate() {
             if let Some(job) = self.jobs.get(number) {
                 let pool = pool_of(plan, job.class);

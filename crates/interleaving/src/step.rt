@@ -17,9 +17,9 @@ use written_machine::{Event, Outcome, Parent};
 impl World {
     ghost use Rattle.interleaving.specs.Answers.{AreOf, AnswersIn};
     ghost use Rattle.interleaving.specs.NextAction.{MayGrow, ActorMayGrow};
-    ghost use Rattle.interleaving.specs.ClientList.{StandsAt, IsFirst};
+    ghost use Rattle.live_actors.specs.Clients.{StandsAt, IsFirst};
     ghost use Rattle.interleaving.specs.OfPlan.{IsOf};
-    ghost use Rattle.interleaving.specs.WorldValue.{UsesPlacesAgain};
+    ghost use Rattle.interleaving.specs.World.{UsesPlacesAgain};
 
     /// Makes the event, if it is possible, and says what came of it: None where it is not possible.
     ///

@@ -10,7 +10,7 @@ ghost use Rattle.live_views.specs.LiveView.{live_view};
 ghost use Rattle.live_views.specs.ViewStep.{pool_in, live_job, live_child, may_ask_for};
 ghost use Rattle.live_views.specs.Waiting.{is_waiting_set_in};
 ghost use Rattle.interleaving.specs.Stuck.{job_waits_unless_queued, unqueued_wait, QueuesWait};
-ghost use Rattle.interleaving.specs.Shares.{leaves_none};
+ghost use Rattle.interleaving.specs.Share.{leaves_none};
 
 use crate::World;
 use crate::members::Members;

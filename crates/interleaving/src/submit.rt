@@ -3,8 +3,9 @@
 ghost use Rattle.std.specs.Prelude.{◌≡◌, ◌+◌, ◌<◌, ◌^◌, length, true, None, IfOk, OnErr};
 ghost use Rattle.written_machine.specs.State.{pool_of};
 ghost use Rattle.live_views.specs.ViewStep.{live_child, may_ask_for, submitted_in};
-ghost use Rattle.interleaving.specs.ClientList.{StandsAt};
-ghost use Rattle.interleaving.specs.LiveJobs.{IsAmong, DoneAreLatest};
+ghost use Rattle.live_actors.specs.Clients.{StandsAt};
+ghost use Rattle.live_actors.specs.LiveJobs.{DoneAreLatest};
+ghost use Rattle.interleaving.specs.NextAction.{IsAmong};
 
 use crate::World;
 use crate::moves::move_actor;
@@ -17,7 +18,7 @@ use std::alloc::AllocError;
 use written_machine::{Outcome, Parent};
 
 impl World {
-    ghost use Rattle.interleaving.specs.WorldValue.{UsesPlacesAgain};
+    ghost use Rattle.interleaving.specs.World.{UsesPlacesAgain};
 
     /// The actor, at a submit, offers a job of the class to the class's pool. Where a get of its body asks for the job, the
     /// earlier ones of this submit were got. All growths come first.

@@ -8,10 +8,9 @@ ghost use Rattle.job_bodies.specs.Plan as spec;
 ghost use Rattle.written_machine.specs.State.{State, is_unfinished};
 ghost use Rattle.written_machine.specs.Reach.{start};
 
-use crate::clients::Clients;
-use crate::live_jobs::LiveJobs;
 use crate::pools::new_pools;
 use job_bodies::Plan;
+use live_actors::{Clients, LiveJobs};
 use live_views::JobView;
 use pool_machine::PoolState;
 use std::alloc::{AllocError, Global};
@@ -32,7 +31,7 @@ pub struct World {
 }
 
 impl Model for World {
-    ghost use Rattle.interleaving.specs.WorldValue.{WorldValue};
+    ghost use Rattle.interleaving.specs.World.{WorldValue};
 
     ghost Value = { WorldValue };
 
@@ -41,7 +40,7 @@ impl Model for World {
 
 impl World {
     ghost use Rattle.interleaving.specs.OfPlan.{IsOf};
-    ghost use Rattle.interleaving.specs.WorldValue.{live_jobs};
+    ghost use Rattle.interleaving.specs.World.{live_jobs};
 
     /// The plan's world before its first event: no jobs, core idle workers in each pool that is prestarted and no threads
     /// in the others, each client at the start of its body.

@@ -7,19 +7,10 @@ use Rattle.std.proofs.lemmas.List.Folds.{list_any_at}
 use Rattle.std.proofs.lemmas.Option.{slice_get_within, slice_get-get_or, get_or_from_slice_get}
 use Rattle.job_bodies.specs.declared.action.Action.{Action}
 use Rattle.job_bodies.specs.declared.action.Action.TheVariants.{Work, Submit, Get}
-use Rattle.job_bodies.specs.declared.limits.TheConstants.{MOST_ACTIONS, MOST_UNITS}
+use Rattle.job_bodies.specs.declared.limits.TheConstants.{MAX_SIZE, MAX_WORK}
 use Rattle.job_bodies.specs.Plan.{Pool, Plan, no_pool, no_class, no_client, pool_at, class_at, client_at, submits, gets}
+use Rattle.job_bodies.specs.Lawful.{IsLawful}
 use Rattle.job_bodies.specs.WellFormed.{is_within, is_lawful_action, is_lawful_body, is_lawful_pool, is_lawful_class, is_lawful_client, IsWellFormed}
-
--- work is of a lawful length, a submit names a class, a get stands behind a submit at the position that it names, and
--- no two gets name one submit
-pub record IsLawful (plan : Plan) (body : List Action) : Type 0 where
-  pub short : length body ≤ MOST_ACTIONS
-  pub work : (i u : ℕ) → slice_get body i ≡ Some (Work u) → (1 ≤ u) × (u ≤ MOST_UNITS)
-  pub submit : (i k : ℕ) → slice_get body i ≡ Some (Submit k) → k < length plan.classes
-  pub behind : (g t : ℕ) → slice_get body g ≡ Some (Get t) → t < g
-  pub of_submit : (g t : ℕ) → slice_get body g ≡ Some (Get t) → submits (slice_get body t) ≡ true
-  pub once : (g h t : ℕ) → g < h → slice_get body g ≡ Some (Get t) → slice_get body h ≡ Some (Get t) → ⊥
 
 -- every body is lawful, every class has a pool, and every size and count is in its range
 pub record IsOrdered (plan : Plan) : Type 0 where
@@ -28,11 +19,11 @@ pub record IsOrdered (plan : Plan) : Type 0 where
   pub pools : (k : ℕ) → k < length plan.classes → (class_at plan k).pool < length plan.pools
   pub core : (p : ℕ) → p < length plan.pools → 1 ≤ (pool_at plan p).core
   pub max : (p : ℕ) → p < length plan.pools → (pool_at plan p).core ≤ (pool_at plan p).max
-  pub most_max : (p : ℕ) → p < length plan.pools → (pool_at plan p).max ≤ MOST_UNITS
+  pub most_max : (p : ℕ) → p < length plan.pools → (pool_at plan p).max ≤ MAX_SIZE
   pub queue : (p : ℕ) → p < length plan.pools → 1 ≤ (pool_at plan p).queue
-  pub most_queue : (p : ℕ) → p < length plan.pools → (pool_at plan p).queue ≤ MOST_UNITS
+  pub most_queue : (p : ℕ) → p < length plan.pools → (pool_at plan p).queue ≤ MAX_SIZE
   pub count : (c : ℕ) → c < length plan.clients → 1 ≤ (client_at plan c).count
-  pub most_count : (c : ℕ) → c < length plan.clients → (client_at plan c).count ≤ MOST_UNITS
+  pub most_count : (c : ℕ) → c < length plan.clients → (client_at plan c).count ≤ MAX_SIZE
 
 -- both bounds
 pub within_bounds : (low high n : ℕ) → is_within low high n ≡ true → (low ≤ n) × (n ≤ high)
@@ -89,7 +80,7 @@ lawful_get classes body g t h e =
 pub lawful_body : (plan : Plan) (body : List Action) → is_lawful_body (length plan.classes) body ≡ true → IsLawful plan body
 lawful_body plan body h = record {
   short = leb-true _ _ (and_parts _ _ h).0;
-  work = λ i u e. within_bounds 1 MOST_UNITS u (lawful_action _ body i (Work u) h e);
+  work = λ i u e. within_bounds 1 MAX_WORK u (lawful_action _ body i (Work u) h e);
   submit = λ i k e. ltb-true _ _ (lawful_action _ body i (Submit k) h e);
   behind = λ g t e. (lawful_get _ body g t h e).behind;
   of_submit = λ g t e. (lawful_get _ body g t h e).of_submit;
@@ -118,27 +109,27 @@ client_body plan w c = elim (cases_lt c (length plan.clients)) [
 record AreLawfulSizes (pool : Pool) : Type 0 where
   core : 1 ≤ pool.core
   max : pool.core ≤ pool.max
-  most_max : pool.max ≤ MOST_UNITS
+  most_max : pool.max ≤ MAX_SIZE
   queue : 1 ≤ pool.queue
-  most_queue : pool.queue ≤ MOST_UNITS
+  most_queue : pool.queue ≤ MAX_SIZE
 
 pool_sizes : (plan : Plan) → IsWellFormed plan → (p : ℕ) → p < length plan.pools → AreLawfulSizes (pool_at plan p)
 pool_sizes plan w p inside =
     let sizes = (and_parts _ _ (list_all_get is_lawful_pool plan.pools p _ w.pools (slice_get-get_or plan.pools p no_pool inside))).1 in
     let threads_and_queue = and_parts _ _ sizes in
     let core_and_max = and_parts _ _ threads_and_queue.0 in
-    let core = within_bounds 1 MOST_UNITS _ core_and_max.0 in
-    let max = within_bounds (pool_at plan p).core MOST_UNITS _ core_and_max.1 in
-    let queue = within_bounds 1 MOST_UNITS _ threads_and_queue.1 in
+    let core = within_bounds 1 MAX_SIZE _ core_and_max.0 in
+    let max = within_bounds (pool_at plan p).core MAX_SIZE _ core_and_max.1 in
+    let queue = within_bounds 1 MAX_SIZE _ threads_and_queue.1 in
     record { core = core.0; max = max.0; most_max = max.1; queue = queue.0; most_queue = queue.1 }
 
 class_pool : (plan : Plan) → IsWellFormed plan → (k : ℕ) → k < length plan.classes → (class_at plan k).pool < length plan.pools
 class_pool plan w k inside =
     ltb-true _ _ (and_parts _ _ (and_parts _ _ (list_all_get (is_lawful_class plan) plan.classes k _ w.classes (slice_get-get_or plan.classes k no_class inside))).0).1
 
-client_count : (plan : Plan) → IsWellFormed plan → (c : ℕ) → c < length plan.clients → (1 ≤ (client_at plan c).count) × ((client_at plan c).count ≤ MOST_UNITS)
+client_count : (plan : Plan) → IsWellFormed plan → (c : ℕ) → c < length plan.clients → (1 ≤ (client_at plan c).count) × ((client_at plan c).count ≤ MAX_SIZE)
 client_count plan w c inside =
-    within_bounds 1 MOST_UNITS _ (and_parts _ _ (and_parts _ _ (list_all_get (is_lawful_client plan) plan.clients c _ w.clients (slice_get-get_or plan.clients c no_client inside))).0).1
+    within_bounds 1 MAX_SIZE _ (and_parts _ _ (and_parts _ _ (list_all_get (is_lawful_client plan) plan.clients c _ w.clients (slice_get-get_or plan.clients c no_client inside))).0).1
 
 pub ordered : (plan : Plan) → IsWellFormed plan → IsOrdered plan
 ordered plan w = record {

@@ -12,7 +12,7 @@ use Rattle.job_bodies.specs.declared.fault.PlanFault.{PlanFault}
 use Rattle.job_bodies.specs.declared.fault.Part.{Part}
 use Rattle.job_bodies.specs.declared.fault.Part.TheVariants as part
 use Rattle.faults.specs.declared.number.TheConstants.{BAD_NUMBER, NO_SUCH_POOL}
-use Rattle.job_bodies.specs.declared.limits.TheConstants.{MOST_POOLS, MOST_CLASSES, MOST_ACTIONS, MOST_UNITS}
+use Rattle.job_bodies.specs.declared.limits.TheConstants.{MAX_POOLS, MAX_CLASSES, MAX_ACTIONS, MAX_SIZE}
 use Rattle.job_bodies.specs.Plan.{Class, Client, Plan}
 use Rattle.job_bodies.specs.WellFormed.{is_within, is_lawful_name, has_lawful_sizes, are_distinct, is_lawful_action, is_lawful_pool, is_lawful_class, is_lawful_client, IsWellFormed}
 use Rattle.job_bodies.specs.Checks.{at_entry, check_name, check_length, check_action, check_body}
@@ -50,10 +50,10 @@ entries_pass name test part number xs w = each_passes (check_entry name test par
     both_pass _ _ tt (both_pass _ _ tt (test_passes _ _ (w.names i x e)) (test_passes _ _ new)) (test_passes _ _ (w.tests i x e)))
 
 -- ---- lengths
-lengths_passed : {X : Type 0} (body : X → List Action) (part : Part) (xs : List X) → check_each (λ index x. check_length part index (body x)) 0 xs ≡ Ok tt → EachPlace xs (λ i x. nat_le (length (body x)) MOST_ACTIONS ≡ true)
+lengths_passed : {X : Type 0} (body : X → List Action) (part : Part) (xs : List X) → check_each (λ index x. check_length part index (body x)) 0 xs ≡ Ok tt → EachPlace xs (λ i x. nat_le (length (body x)) MAX_ACTIONS ≡ true)
 lengths_passed body part xs h i x e = test_passed _ _ (each_passed (λ index x. check_length part index (body x)) xs h i x e)
 
-lengths_pass : {X : Type 0} (body : X → List Action) (part : Part) (xs : List X) → EachPlace xs (λ i x. nat_le (length (body x)) MOST_ACTIONS ≡ true) → check_each (λ index x. check_length part index (body x)) 0 xs ≡ Ok tt
+lengths_pass : {X : Type 0} (body : X → List Action) (part : Part) (xs : List X) → EachPlace xs (λ i x. nat_le (length (body x)) MAX_ACTIONS ≡ true) → check_each (λ index x. check_length part index (body x)) 0 xs ≡ Ok tt
 lengths_pass body part xs h = each_passes (λ index x. check_length part index (body x)) xs (λ i x e. test_passes _ _ (h i x e))
 
 -- ---- bodies
@@ -112,15 +112,15 @@ all_pass plan p =
 pub well_formed : (plan built : Plan) → build plan ≡ Ok built → IsWellFormed plan
 well_formed plan built h =
     let p = all_passed plan built h in
-    let few_pools = both_passed (holds_or (nat_le (length plan.pools) MOST_POOLS) _) _ tt p.counts in
-    let few = both_passed (holds_or (nat_le (length plan.classes) MOST_CLASSES) _) _ tt few_pools.1 in
+    let few_pools = both_passed (holds_or (nat_le (length plan.pools) MAX_POOLS) _) _ tt p.counts in
+    let few = both_passed (holds_or (nat_le (length plan.classes) MAX_CLASSES) _) _ tt few_pools.1 in
     let lengths = both_passed (check_each (λ index class. check_length part.Class index class.body) 0 plan.classes) _ tt p.lengths in
     let pool_entries = both_passed (check_each (check_entry (λ pool. pool.name) has_lawful_sizes part.Pool BAD_NUMBER plan.pools) 0 plan.pools) _ tt p.entries in
     let entries = both_passed (check_each (check_entry (λ class. class.name) (λ class. nat_lt class.pool (length plan.pools)) part.Class NO_SUCH_POOL plan.classes) 0 plan.classes) _ tt pool_entries.1 in
     let bodies = both_passed (check_each (λ index class. check_body (length plan.classes) part.Class index class.body) 0 plan.classes) _ tt p.bodies in
     let pools = entries_passed (λ pool. pool.name) has_lawful_sizes part.Pool BAD_NUMBER plan.pools pool_entries.0 in
     let classes = entries_passed (λ class. class.name) (λ class. nat_lt class.pool (length plan.pools)) part.Class NO_SUCH_POOL plan.classes entries.0 in
-    let clients = entries_passed (λ client. client.name) (λ client. is_within 1 MOST_UNITS client.count) part.Client BAD_NUMBER plan.clients entries.1 in
+    let clients = entries_passed (λ client. client.name) (λ client. is_within 1 MAX_SIZE client.count) part.Client BAD_NUMBER plan.clients entries.1 in
     let class_lengths = lengths_passed (λ class. class.body) part.Class plan.classes lengths.0 in
     let client_lengths = lengths_passed (λ client. client.body) part.Client plan.clients lengths.1 in
     let class_bodies = bodies_passed (λ class. class.body) (length plan.classes) part.Class plan.classes bodies.0 in
@@ -152,7 +152,7 @@ builds plan w =
       tests = λ i class e. (and_parts _ _ (class_parts i class e).0).1;
     } in
     let client_parts = λ (i : ℕ) (client : Client) (e : slice_get plan.clients i ≡ Some client). and_parts _ _ (list_all_get (is_lawful_client plan) plan.clients i client w.clients e) in
-    let clients : AreLawful (λ client. client.name) (λ client. is_within 1 MOST_UNITS client.count) plan.clients = record {
+    let clients : AreLawful (λ client. client.name) (λ client. is_within 1 MAX_SIZE client.count) plan.clients = record {
       distinct = w.client_names;
       names = λ i client e. (and_parts _ _ (client_parts i client e).0).0;
       tests = λ i client e. (and_parts _ _ (client_parts i client e).0).1;
@@ -166,7 +166,7 @@ builds plan w =
           (entries_pass (λ pool. pool.name) has_lawful_sizes part.Pool BAD_NUMBER plan.pools pools)
           (both_pass _ _ tt
           (entries_pass (λ class. class.name) (λ class. nat_lt class.pool (length plan.pools)) part.Class NO_SUCH_POOL plan.classes classes)
-          (entries_pass (λ client. client.name) (λ client. is_within 1 MOST_UNITS client.count) part.Client BAD_NUMBER plan.clients clients));
+          (entries_pass (λ client. client.name) (λ client. is_within 1 MAX_SIZE client.count) part.Client BAD_NUMBER plan.clients clients));
       bodies = both_pass _ _ tt
           (bodies_pass (λ class. class.body) (length plan.classes) part.Class plan.classes (λ i class e. (and_parts _ _ (class_parts i class e).1).1))
           (bodies_pass (λ client. client.body) (length plan.classes) part.Client plan.clients (λ i client e. (and_parts _ _ (client_parts i client e).1).1));

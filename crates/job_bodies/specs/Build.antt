@@ -4,7 +4,7 @@ use Rattle.readings.specs.Reading.{◌>>=◌, holds_or, check_each}
 use Rattle.job_bodies.specs.declared.fault.PlanFault.{PlanFault}
 use Rattle.job_bodies.specs.declared.fault.Part.TheVariants as part
 use Rattle.faults.specs.declared.number.TheConstants.{TOO_MANY}
-use Rattle.job_bodies.specs.declared.limits.TheConstants.{MOST_POOLS, MOST_CLASSES, MOST_CLIENTS}
+use Rattle.job_bodies.specs.declared.limits.TheConstants.{MAX_POOLS, MAX_CLASSES, MAX_CLIENT_KINDS}
 use Rattle.job_bodies.specs.Plan.{Pool, Class, Client, Plan}
 use Rattle.job_bodies.specs.Checks.{at_text, check_pool, check_class, check_client, check_length, check_body}
 
@@ -15,9 +15,9 @@ given pools classes clients = record { pools = pools; classes = classes; clients
 -- no list is too long
 abbrev pub check_counts : Plan → Result (Unit {0}) PlanFault
 check_counts plan =
-    holds_or (nat_le (length plan.pools) MOST_POOLS) (at_text TOO_MANY) >>= λ _.
-    holds_or (nat_le (length plan.classes) MOST_CLASSES) (at_text TOO_MANY) >>= λ _.
-    holds_or (nat_le (length plan.clients) MOST_CLIENTS) (at_text TOO_MANY)
+    holds_or (nat_le (length plan.pools) MAX_POOLS) (at_text TOO_MANY) >>= λ _.
+    holds_or (nat_le (length plan.classes) MAX_CLASSES) (at_text TOO_MANY) >>= λ _.
+    holds_or (nat_le (length plan.clients) MAX_CLIENT_KINDS) (at_text TOO_MANY)
 
 -- no body is too long
 abbrev pub check_lengths : Plan → Result (Unit {0}) PlanFault

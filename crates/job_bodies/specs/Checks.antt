@@ -9,7 +9,7 @@ use Rattle.job_bodies.specs.declared.fault.PlanFault.{PlanFault}
 use Rattle.job_bodies.specs.declared.fault.Part.{Part}
 use Rattle.job_bodies.specs.declared.fault.Part.TheVariants as part
 use Rattle.faults.specs.declared.number.TheConstants.{TOO_MANY, BAD_NAME, DOUBLE_NAME, BAD_NUMBER, NO_SUCH_POOL, NO_SUCH_CLASS, SLOT_EMPTY}
-use Rattle.job_bodies.specs.declared.limits.TheConstants.{MOST_ACTIONS, MOST_UNITS}
+use Rattle.job_bodies.specs.declared.limits.TheConstants.{MAX_ACTIONS, MAX_SIZE, MAX_WORK}
 use Rattle.job_bodies.specs.Plan.{Pool, Class, Client}
 use Rattle.job_bodies.specs.WellFormed.{is_lawful_name, has_lawful_sizes, is_within, is_lawful_get}
 
@@ -43,15 +43,15 @@ check_class pools earlier index class =
 -- a client's name and count
 abbrev pub check_client : List (List ℕ) → ℕ → Client → Result (Unit {0}) PlanFault
 check_client earlier index client =
-    check_name earlier part.Client index client.name >>= λ _. holds_or (is_within 1 MOST_UNITS client.count) (at_entry part.Client index BAD_NUMBER)
+    check_name earlier part.Client index client.name >>= λ _. holds_or (is_within 1 MAX_SIZE client.count) (at_entry part.Client index BAD_NUMBER)
 
 -- the body has no more actions than a body may have
 abbrev pub check_length : Part → ℕ → List Action → Result (Unit {0}) PlanFault
-check_length part index body = holds_or (nat_le (length body) MOST_ACTIONS) (at_entry part index TOO_MANY)
+check_length part index body = holds_or (nat_le (length body) MAX_ACTIONS) (at_entry part index TOO_MANY)
 
 -- the action at position i of the body, where there are so many classes
 abbrev pub check_action : ℕ → Part → ℕ → List Action → ℕ → Action → Result (Unit {0}) PlanFault
-check_action classes part index body i (Work u) = holds_or (is_within 1 MOST_UNITS u) (at_action part index i BAD_NUMBER)
+check_action classes part index body i (Work u) = holds_or (is_within 1 MAX_WORK u) (at_action part index i BAD_NUMBER)
 check_action classes part index body i (Submit k) = holds_or (nat_lt k classes) (at_action part index i NO_SUCH_CLASS)
 check_action classes part index body i (Get t) = holds_or (is_lawful_get body i t) (at_action part index i SLOT_EMPTY)
 

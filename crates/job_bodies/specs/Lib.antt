@@ -1,5 +1,6 @@
 pub mod Plan
 pub mod WellFormed
+pub mod Lawful
 pub mod Got
 pub mod Checks
 pub mod Build

@@ -5,7 +5,7 @@ use Rattle.std.specs.List.{list_all, list_any, enumerate_from}
 use Rattle.std.specs.Str.{bytes_eq}
 use Rattle.job_bodies.specs.declared.action.Action.{Action}
 use Rattle.job_bodies.specs.declared.action.Action.TheVariants.{Work, Submit, Get}
-use Rattle.job_bodies.specs.declared.limits.TheConstants.{MOST_POOLS, MOST_CLASSES, MOST_CLIENTS, MOST_ACTIONS, MOST_UNITS, MOST_NAME_BYTES}
+use Rattle.job_bodies.specs.declared.limits.TheConstants.{MAX_POOLS, MAX_CLASSES, MAX_CLIENT_KINDS, MAX_ACTIONS, MAX_SIZE, MAX_WORK, MAX_NAME_BYTES}
 use Rattle.job_bodies.specs.Plan.{Pool, Class, Client, Plan, submits, is_got}
 
 abbrev pub is_within : ℕ → ℕ → ℕ → Bool
@@ -21,7 +21,7 @@ is_name_byte b = is_letter b || is_within 48 57 b || b == 95
 
 -- a letter, and name bytes behind it
 abbrev pub is_lawful_name : List ℕ → Bool
-is_lawful_name name = is_within 1 MOST_NAME_BYTES (length name) && is_letter (slice_index name 0) && list_all is_name_byte name
+is_lawful_name name = is_within 1 MAX_NAME_BYTES (length name) && is_letter (slice_index name 0) && list_all is_name_byte name
 
 abbrev pub are_distinct : List (List ℕ) → Bool
 are_distinct [] = true
@@ -29,7 +29,7 @@ are_distinct (x ∷ xs) = not (list_any (bytes_eq x) xs) && are_distinct xs
 
 -- core at least 1, max at least core, a queue of at least 1, none above the limit
 abbrev pub has_lawful_sizes : Pool → Bool
-has_lawful_sizes pool = is_within 1 MOST_UNITS pool.core && is_within pool.core MOST_UNITS pool.max && is_within 1 MOST_UNITS pool.queue
+has_lawful_sizes pool = is_within 1 MAX_SIZE pool.core && is_within pool.core MAX_SIZE pool.max && is_within 1 MAX_SIZE pool.queue
 
 abbrev pub is_lawful_pool : Pool → Bool
 is_lawful_pool pool = is_lawful_name pool.name && has_lawful_sizes pool
@@ -40,23 +40,23 @@ is_lawful_get body i t = nat_lt t i && submits (slice_get body t) && not (is_got
 
 -- the action that stands at position i of the body, where so many classes are declared
 abbrev pub is_lawful_action : ℕ → List Action → ℕ → Action → Bool
-is_lawful_action classes body i (Work u) = is_within 1 MOST_UNITS u
+is_lawful_action classes body i (Work u) = is_within 1 MAX_WORK u
 is_lawful_action classes body i (Submit k) = nat_lt k classes
 is_lawful_action classes body i (Get t) = is_lawful_get body i t
 
 abbrev pub is_lawful_body : ℕ → List Action → Bool
-is_lawful_body classes body = nat_le (length body) MOST_ACTIONS && list_all (λ entry. is_lawful_action classes body entry.0 entry.1) (enumerate_from 0 body)
+is_lawful_body classes body = nat_le (length body) MAX_ACTIONS && list_all (λ entry. is_lawful_action classes body entry.0 entry.1) (enumerate_from 0 body)
 
 abbrev pub is_lawful_class : Plan → Class → Bool
 is_lawful_class plan class = is_lawful_name class.name && nat_lt class.pool (length plan.pools) && is_lawful_body (length plan.classes) class.body
 
 abbrev pub is_lawful_client : Plan → Client → Bool
-is_lawful_client plan client = is_lawful_name client.name && is_within 1 MOST_UNITS client.count && is_lawful_body (length plan.classes) client.body
+is_lawful_client plan client = is_lawful_name client.name && is_within 1 MAX_SIZE client.count && is_lawful_body (length plan.classes) client.body
 
 pub record IsWellFormed (plan : Plan) : Type 0 where
-  pub few_pools : length plan.pools ≤ MOST_POOLS
-  pub few_classes : length plan.classes ≤ MOST_CLASSES
-  pub few_clients : length plan.clients ≤ MOST_CLIENTS
+  pub few_pools : length plan.pools ≤ MAX_POOLS
+  pub few_classes : length plan.classes ≤ MAX_CLASSES
+  pub few_clients : length plan.clients ≤ MAX_CLIENT_KINDS
   pub pool_names : IsTrue (are_distinct (map (λ pool. pool.name) plan.pools))
   pub class_names : IsTrue (are_distinct (map (λ class. class.name) plan.classes))
   pub client_names : IsTrue (are_distinct (map (λ client. client.name) plan.clients))

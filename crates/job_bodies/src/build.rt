@@ -9,7 +9,7 @@ ghost use Rattle.job_bodies.specs.Build.{given, check_counts, check_lengths, che
 
 use crate::checks::{check_body, check_class, check_client, check_length, check_pool};
 use crate::fault::holds_or;
-use crate::limits::{MOST_CLASSES, MOST_CLIENTS, MOST_POOLS};
+use crate::limits::{MAX_CLASSES, MAX_CLIENT_KINDS, MAX_POOLS};
 use crate::{Class, Client, Part, PlanFault, Pool};
 use faults::number::TOO_MANY;
 
@@ -21,11 +21,11 @@ pub(crate) fn check_counts(
 ) -> Result<(), PlanFault>
     ensures { result ≡ check_counts (given pools.now classes.now clients.now) }
 {
-    let few_pools = pools.len() <= MOST_POOLS;
+    let few_pools = pools.len() <= MAX_POOLS;
     holds_or(few_pools, PlanFault::at_text(TOO_MANY))?;
-    let few_classes = classes.len() <= MOST_CLASSES;
+    let few_classes = classes.len() <= MAX_CLASSES;
     holds_or(few_classes, PlanFault::at_text(TOO_MANY))?;
-    let few_clients = clients.len() <= MOST_CLIENTS;
+    let few_clients = clients.len() <= MAX_CLIENT_KINDS;
     holds_or(few_clients, PlanFault::at_text(TOO_MANY))
 }
 

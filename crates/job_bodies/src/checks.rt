@@ -9,7 +9,7 @@ ghost use Rattle.job_bodies.specs.Got.{IsTableOf};
 ghost use Rattle.job_bodies.specs.Checks.{check_pool, check_class, check_client, check_length, check_action, check_body};
 
 use crate::fault::holds_or;
-use crate::limits::{MOST_ACTIONS, MOST_UNITS, is_within};
+use crate::limits::{MAX_ACTIONS, MAX_SIZE, MAX_WORK, is_within};
 use crate::names::check_name;
 use crate::{Action, Class, Client, Part, PlanFault, Pool, is_got};
 use faults::number::{BAD_NUMBER, NO_SUCH_CLASS, NO_SUCH_POOL, SLOT_EMPTY, TOO_MANY};
@@ -46,7 +46,7 @@ pub(crate) fn check_client(clients: &[Client], index: usize) -> Result<(), PlanF
 {
     let client = &clients[index];
     check_name(clients, Part::Client, index, &client.name)?;
-    let lawful = is_within(1, MOST_UNITS, client.count);
+    let lawful = is_within(1, MAX_SIZE, client.count);
     holds_or(lawful, PlanFault::at_entry(Part::Client, index, BAD_NUMBER))
 }
 
@@ -54,12 +54,12 @@ pub(crate) fn check_client(clients: &[Client], index: usize) -> Result<(), PlanF
 pub(crate) fn check_length(part: Part, index: usize, body: &[Action]) -> Result<(), PlanFault>
     ensures { result ≡ check_length part index body.now }
 {
-    let short = body.len() <= MOST_ACTIONS;
+    let short = body.len() <= MAX_ACTIONS;
     holds_or(short, PlanFault::at_entry(part, index, TOO_MANY))
 }
 
 /// Whether one of these actions gets the submit. Their table tells it at once, for all that a lawful body may name.
-fn is_got_by(actions: &[Action], got: &[bool; MOST_ACTIONS], submit: usize) -> bool
+fn is_got_by(actions: &[Action], got: &[bool; MAX_ACTIONS], submit: usize) -> bool
     requires { IsTableOf actions.now got.now }
     ensures { result ≡ is_got actions.now submit }
 {
@@ -70,23 +70,18 @@ fn is_got_by(actions: &[Action], got: &[bool; MOST_ACTIONS], submit: usize) -> b
 }
 
 /// Makes a table of some actions one of these and this action.
-fn add_to_table(got: &mut [bool; MOST_ACTIONS], action: Action)
+fn add_to_table(got: &mut [bool; MAX_ACTIONS], action: Action)
     ensures { (actions : List Action) → IsTableOf actions got.old → IsTableOf (actions ++ action ∷ []) got.new }
 {
     if let Action::Get(submit) = action {
-        if submit < MOST_ACTIONS {
+        if submit < MAX_ACTIONS {
             got[submit] = true;
         }
     }
 }
 
 /// A get at this position names an earlier submit of its body that no earlier get names.
-fn is_lawful_get(
-    body: &[Action],
-    got: &[bool; MOST_ACTIONS],
-    position: usize,
-    submit: usize,
-) -> bool
+fn is_lawful_get(body: &[Action], got: &[bool; MAX_ACTIONS], position: usize, submit: usize) -> bool
     requires position { position < length body.now }
     requires table { IsTableOf (take position body.now) got.now }
     ensures { result ≡ is_lawful_get body.now position submit }
@@ -102,7 +97,7 @@ fn check_action(
     part: Part,
     index: usize,
     body: &[Action],
-    got: &[bool; MOST_ACTIONS],
+    got: &[bool; MAX_ACTIONS],
     position: usize,
 ) -> Result<(), PlanFault>
     requires position { position < length body.now }
@@ -111,7 +106,7 @@ fn check_action(
         result ≡ check_action classes part index body.now position action }
 {
     let (lawful, number) = match body[position] {
-        Action::Work(units) => (is_within(1, MOST_UNITS, u64::from(units)), BAD_NUMBER),
+        Action::Work(units) => (is_within(1, MAX_WORK, u64::from(units)), BAD_NUMBER),
         Action::Submit(class) => (class < classes, NO_SUCH_CLASS),
         Action::Get(submit) => (is_lawful_get(body, got, position, submit), SLOT_EMPTY),
     };
@@ -128,7 +123,7 @@ pub(crate) fn check_body(
 ) -> Result<(), PlanFault>
     ensures { result ≡ check_body classes part index body.now }
 {
-    let mut got = [false; MOST_ACTIONS];
+    let mut got = [false; MAX_ACTIONS];
     for position in 0..body.len() {
         check_action(classes, part, index, body, &got, position)?;
         add_to_table(&mut got, body[position]);

@@ -7,15 +7,15 @@ use crate::{Part, PlanFault};
 use faults::Head;
 use std::fmt;
 
-/// The entry of which a fault speaks.
+/// Where a fault is: the entry of which it speaks.
 #[derive(Clone, Copy)]
-struct Entry {
+struct AtEntry {
     part: Part,
     index: usize,
 }
 
-impl fmt::Display for Entry {
-    ghost output = { λ entry. Some (part_text entry.part entry.index) };
+impl fmt::Display for AtEntry {
+    ghost output = { λ at. Some (part_text at.part at.index) };
 
     fn fmt<W: fmt::Write>(&self, f: &mut fmt::Formatter<W>) -> fmt::Result {
         match self.part {
@@ -49,7 +49,7 @@ impl fmt::Display for PlanFault {
 
     fn fmt<W: fmt::Write>(&self, f: &mut fmt::Formatter<W>) -> fmt::Result {
         let head = Head(self.number);
-        let entry = Entry {
+        let entry = AtEntry {
             part: self.part,
             index: self.index,
         };

@@ -8,6 +8,7 @@
 mod action;
 mod build;
 mod checks;
+mod copies;
 mod fault;
 mod fault_text;
 mod limits;
@@ -17,7 +18,8 @@ mod plan;
 pub use action::{Action, is_got};
 pub use fault::{Part, PlanFault};
 pub use limits::{
-    MOST_ACTIONS, MOST_CLASSES, MOST_CLIENTS, MOST_NAME_BYTES, MOST_POOLS, MOST_UNITS, is_within,
+    MAX_ACTIONS, MAX_CLASSES, MAX_CLIENT_KINDS, MAX_NAME_BYTES, MAX_POOLS, MAX_SIZE, MAX_WORK,
+    is_within,
 };
 pub use names::is_lawful_name;
 pub use plan::{Class, Client, Plan, Pool};

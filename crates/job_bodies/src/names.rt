@@ -7,7 +7,7 @@ ghost use Rattle.job_bodies.specs.WellFormed.{is_letter, is_name_byte, is_lawful
 ghost use Rattle.job_bodies.specs.Checks.{check_name};
 
 use crate::fault::holds_or;
-use crate::limits::{MOST_NAME_BYTES, is_within};
+use crate::limits::{MAX_NAME_BYTES, is_within};
 use crate::{Class, Client, Part, PlanFault, Pool};
 use faults::number::{BAD_NAME, DOUBLE_NAME};
 
@@ -35,7 +35,7 @@ pub fn is_lawful_name(name: &str) -> bool
     ensures { result ≡ is_lawful_name name.now }
 {
     let bytes = name.as_bytes();
-    is_within(1, MOST_NAME_BYTES as u64, bytes.len() as u64)
+    is_within(1, MAX_NAME_BYTES as u64, bytes.len() as u64)
         && is_letter(bytes[0])
         && are_name_bytes(bytes)
 }

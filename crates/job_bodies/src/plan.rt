@@ -6,7 +6,7 @@ ghost use Rattle.job_bodies.specs.WellFormed.{IsWellFormed, has_lawful_sizes};
 ghost use Rattle.job_bodies.specs.Build.{given, build};
 
 use crate::build::{check_bodies, check_counts, check_entries, check_lengths};
-use crate::limits::{MOST_UNITS, is_within};
+use crate::limits::{MAX_SIZE, is_within};
 use crate::{Action, PlanFault};
 use std::alloc::Global;
 use std::marker::Model;
@@ -15,7 +15,7 @@ use std::marker::Model;
 /// handler, `AbortPolicy`. What it does with a job that comes is told once, at `PoolState::offer` of `pool_machine`.
 ///
 /// The constructors' ranges are those of the Javadoc (a maximum of at least 1 and of at least core, a capacity of at
-/// least 1), and narrower in two ways: core is at least 1, and no size is above [`MOST_UNITS`].
+/// least 1), and narrower in two ways: core is at least 1, and no size is above [`MAX_SIZE`].
 #[derive(Debug, Drop)]
 pub struct Pool {
     /// What the pool is called, in plans and in answers.
@@ -42,9 +42,9 @@ impl Pool {
     pub fn has_lawful_sizes(&self) -> bool
         ensures { result ≡ has_lawful_sizes self.now }
     {
-        is_within(1, MOST_UNITS, self.core)
-            && is_within(self.core, MOST_UNITS, self.max)
-            && is_within(1, MOST_UNITS, self.queue)
+        is_within(1, MAX_SIZE, self.core)
+            && is_within(self.core, MAX_SIZE, self.max)
+            && is_within(1, MAX_SIZE, self.queue)
     }
 
     /// How many workers the pool begins with, all of them idle: core where they are started beforehand, else none.
@@ -154,6 +154,18 @@ impl Plan {
         }
     }
 
+    /// The plan with these pools in place of its own. It takes no memory, and lets go of the old ones.
+    pub fn with_pools(self, pools: Vec<Pool>) -> Plan
+        requires { IsWellFormed (given pools.items self.classes self.clients) }
+        ensures { result ≡ record self { pools = pools.items } }
+    {
+        Plan {
+            pools,
+            classes: self.classes,
+            clients: self.clients,
+        }
+    }
+
     /// The pools, in the plan's order: at most 64.
     pub fn pools(&self) -> &[Pool]
         ensures value { result.now ≡ self.now.pools }
@@ -203,5 +215,35 @@ impl Plan {
         ensures exists { IsSome result ↔ (client < length self.now.clients) }
     {
         self.clients.get(client)
+    }
+
+    /// The name of the pool of this number, counted from 0; empty where there is no such pool.
+    pub fn pool_name(&self, pool: usize) -> &str
+        ensures { result.now ≡ (spec.pool_at self.now pool).name }
+    {
+        match self.pool_at(pool) {
+            Some(pool) => pool.name.as_str(),
+            None => "",
+        }
+    }
+
+    /// The name of the class of this number, counted from 0; empty where there is no such class.
+    pub fn class_name(&self, class: usize) -> &str
+        ensures { result.now ≡ (spec.class_at self.now class).name }
+    {
+        match self.class_at(class) {
+            Some(class) => class.name.as_str(),
+            None => "",
+        }
+    }
+
+    /// The name of the kind of clients of this number, counted from 0; empty where there is no such kind.
+    pub fn client_name(&self, client: usize) -> &str
+        ensures { result.now ≡ (spec.client_at self.now client).name }
+    {
+        match self.client_at(client) {
+            Some(client) => client.name.as_str(),
+            None => "",
+        }
     }
 }

@@ -15,7 +15,7 @@ use std::alloc::{AllocError, Global};
 use weights::Vector;
 
 /// The most loans that are tried for one vector: each makes the total smaller, so that few are enough.
-const MOST_LOANS: usize = 256;
+const MAX_LOANS: usize = 256;
 
 /// A pool whose workers weigh so much instead of what they weighed, and where what comes of it stands.
 #[derive(Clone, Copy, Debug)]
@@ -56,7 +56,7 @@ pub(crate) fn lent(
     let mut lenders = Vec::new(alloc);
     let mut tried = Tried::new(alloc, plan, levels, wanted);
     let mut place = tried.place_of(&workers)?;
-    for _ in 0..MOST_LOANS {
+    for _ in 0..MAX_LOANS {
         if tried.sketch(place).total <= wanted.limit {
             break;
         }

@@ -5,10 +5,10 @@ ghost use Rattle.std.specs.Prelude.{◌<◌, ◌≤◌, IfOk, IfSome, vec_len};
 use crate::lending::Loan;
 use crate::numbers::{number_at, put_at};
 use crate::tried::Tried;
-use job_bodies::MOST_UNITS;
+use job_bodies::MAX_SIZE;
 use std::alloc::AllocError;
 
-/// So often the weights up to [`MOST_UNITS`] are halved until one is left.
+/// So often the weights up to [`MAX_SIZE`] are halved until one is left.
 const HALVINGS: usize = 20;
 
 /// The loan behind which the fewest classes that nobody submits weigh too much; of several such loans the one with which all
@@ -33,7 +33,7 @@ pub(crate) fn relieving_loan(
             continue;
         }
         let before = number_at(workers, pool);
-        put_at(workers, pool, MOST_UNITS);
+        put_at(workers, pool, MAX_SIZE);
         let strays = tried.strays(workers)?;
         if strays <= fewest {
             let weight = least_weight(tried, workers, pool, strays)?;
@@ -64,7 +64,7 @@ fn least_weight(
     strays: usize,
 ) -> Result<u64, AllocError> {
     let mut low = 0u64;
-    let mut high = MOST_UNITS;
+    let mut high = MAX_SIZE;
     for _ in 0..HALVINGS {
         let middle = low.saturating_add(high) / 2;
         put_at(workers, pool, middle);

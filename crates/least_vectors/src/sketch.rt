@@ -6,7 +6,7 @@ use crate::wanted::Wanted;
 use crate::weight::Weight;
 use job_bodies::{Action, Class, Client, Plan};
 use std::alloc::{AllocError, Global};
-use weights::{MOST_WEIGHT, class_got};
+use weights::{MAX_WEIGHT, class_got};
 
 /// What is said of a vector that is too heavy for every bound, or that there is not.
 pub(crate) const TOO_HEAVY: u64 = u64::MAX;
@@ -89,7 +89,7 @@ impl Sketch {
             let highest = peak.max(number_at(&self.peaks, class.pool));
             put_at(&mut self.peaks, class.pool, highest);
         }
-        if peak > MOST_WEIGHT || queued.number > MOST_WEIGHT {
+        if peak > MAX_WEIGHT || queued.number > MAX_WEIGHT {
             self.total = TOO_HEAVY;
             if !is_submitted {
                 self.strays = self.strays.saturating_add(1);
@@ -107,7 +107,7 @@ impl Sketch {
             peak = weight.number.max(peak);
         }
         self.add(weight.number, client.count);
-        if peak > MOST_WEIGHT || (client.repeat && weight.slack < weight.number) {
+        if peak > MAX_WEIGHT || (client.repeat && weight.slack < weight.number) {
             self.total = TOO_HEAVY;
         }
         self.starts.push(weight.number)?;

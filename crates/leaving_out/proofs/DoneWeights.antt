@@ -8,7 +8,8 @@ use Rattle.numbered_lists.proofs.Members.{In-cons_cases}
 use Rattle.job_bodies.specs.declared.action.Action.{Action}
 use Rattle.job_bodies.specs.declared.action.Action.TheVariants as action
 use Rattle.job_bodies.specs.Plan.{Plan, submits, class_of_submit, class_at, class_got}
-use Rattle.job_bodies.proofs.Bodies.{IsLawful, IsOrdered, ordered}
+use Rattle.job_bodies.specs.Lawful.{IsLawful}
+use Rattle.job_bodies.proofs.Bodies.{IsOrdered, ordered}
 use Rattle.written_machine.proofs.KeptActors.{no_get}
 use Rattle.weights.specs.declared.at_get.AtGet.{AtGet}
 use Rattle.weights.specs.declared.at_get.AtGet.TheVariants.{GivesBack, GivesNothing}

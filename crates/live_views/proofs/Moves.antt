@@ -4,7 +4,7 @@ use Rattle.std.specs.Option.{option_map}
 use Rattle.job_bodies.specs.declared.action.Action.{Action}
 use Rattle.job_bodies.specs.declared.action.Action.TheVariants.{Get}
 use Rattle.job_bodies.specs.Plan.{Plan, client_at}
-use Rattle.job_bodies.proofs.Bodies.{IsLawful}
+use Rattle.job_bodies.specs.Lawful.{IsLawful}
 use Rattle.written_machine.specs.declared.client_state.ClientState.{ClientState}
 use Rattle.written_machine.specs.declared.parent.Parent.{Parent}
 use Rattle.written_machine.specs.declared.parent.Parent.TheVariants as parent

@@ -9,7 +9,7 @@ use Rattle.numbered_lists.proofs.LastPlace.{last_where_push, last_where_push_fai
 use Rattle.job_bodies.specs.declared.action.Action.{Action}
 use Rattle.job_bodies.specs.declared.action.Action.TheVariants.{Submit, Get}
 use Rattle.job_bodies.specs.Plan.{Plan, class_at}
-use Rattle.job_bodies.proofs.Bodies.{IsLawful}
+use Rattle.job_bodies.specs.Lawful.{IsLawful}
 use Rattle.written_machine.specs.declared.parent.Parent.{Parent}
 use Rattle.written_machine.specs.declared.parent.Parent.TheVariants as parent
 use Rattle.written_machine.specs.State.{Stage, Made, State, no_job, no_client_state, job_at, is_unfinished, is_made_by, child}

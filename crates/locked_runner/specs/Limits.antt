@@ -3,7 +3,7 @@ use Rattle.std.specs.Prelude.{ℕ, Bool, ◌||◌, nat_lt, sum_by}
 use Rattle.job_bodies.specs.Plan.{Plan}
 use Rattle.pool_ranks.specs.Ranks.{Ranks}
 use Rattle.run_histories.specs.RunNumbers.{bound}
-use Rattle.locked_runner.specs.declared.limits.TheConstants.{MOST_RUN_CLIENTS, MOST_RUN_CARRIERS, MOST_RUN_EVENTS}
+use Rattle.locked_runner.specs.declared.limits.TheConstants.{MAX_RUN_CLIENTS, MAX_RUN_CARRIERS, MAX_RUN_EVENTS}
 
 -- the clients of all kinds
 abbrev pub clients : Plan → ℕ
@@ -15,7 +15,7 @@ carriers plan = sum_by (λ pool. pool.max) plan.pools
 
 -- a limit is passed, where a run has so many events at most
 abbrev pub is_beyond : Plan → ℕ → Bool
-is_beyond plan events = nat_lt MOST_RUN_CLIENTS (clients plan) || nat_lt MOST_RUN_CARRIERS (carriers plan) || nat_lt MOST_RUN_EVENTS events
+is_beyond plan events = nat_lt MAX_RUN_CLIENTS (clients plan) || nat_lt MAX_RUN_CARRIERS (carriers plan) || nat_lt MAX_RUN_EVENTS events
 
 abbrev pub is_too_large : Plan → Ranks → ℕ → Bool
 is_too_large plan ranks rounds = is_beyond plan (bound plan ranks rounds)

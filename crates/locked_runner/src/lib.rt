@@ -15,6 +15,6 @@ mod threads;
 pub use certified_worlds::{CertifiedWorld, TracedWorld, held_worlds_refuse_nothing};
 pub use gate::{Actor, Gate, GateFault};
 pub use held_machines::{Held, Locked, Machine, Receipt};
-pub use limits::{MOST_RUN_CARRIERS, MOST_RUN_CLIENTS, MOST_RUN_EVENTS};
+pub use limits::{MAX_RUN_CARRIERS, MAX_RUN_CLIENTS, MAX_RUN_EVENTS};
 pub use run_histories::{RunFault, RunReport};
 pub use running::run;

@@ -7,20 +7,20 @@ ghost use Rattle.locked_runner.specs.Limits as spec;
 use job_bodies::Plan;
 
 /// The most clients of a run.
-pub const MOST_RUN_CLIENTS: u64 = 64;
+pub const MAX_RUN_CLIENTS: u64 = 64;
 /// The most threads that the pools of a run may have together.
-pub const MOST_RUN_CARRIERS: u64 = 64;
+pub const MAX_RUN_CARRIERS: u64 = 64;
 /// The greatest bound on the events of a run.
-pub const MOST_RUN_EVENTS: u64 = 1_000_000;
+pub const MAX_RUN_EVENTS: u64 = 1_000_000;
 
 /// Whether a limit of a run is passed, where it has so many events at most.
 pub(crate) fn is_beyond(plan: &Plan, events: u64) -> bool
     ensures value { result ≡ spec.is_beyond plan.now events }
     ensures well_formed { IsWellFormed plan.now }
 {
-    clients_of(plan) > MOST_RUN_CLIENTS
-        || carriers_of(plan) > MOST_RUN_CARRIERS
-        || events > MOST_RUN_EVENTS
+    clients_of(plan) > MAX_RUN_CLIENTS
+        || carriers_of(plan) > MAX_RUN_CARRIERS
+        || events > MAX_RUN_EVENTS
 }
 
 /// How many clients there are, of all kinds.

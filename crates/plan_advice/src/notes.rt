@@ -6,7 +6,7 @@ use plan_places::Place;
 use std::alloc::{AllocError, Global};
 
 /// How many faults are told at most beside the first.
-const MOST_FOUND: usize = 100;
+const MAX_FOUND: usize = 100;
 
 /// What was found so far.
 #[derive(Drop)]
@@ -30,7 +30,7 @@ impl Notes {
         place: Place,
         what: String,
     ) -> Result<(), AllocError> {
-        if self.found.len() < MOST_FOUND {
+        if self.found.len() < MAX_FOUND {
             self.found.push(Advice { fault, place, what })?;
         }
         Ok(())

@@ -3,11 +3,11 @@
 use crate::entry::Entry;
 use crate::notes::Notes;
 use faults::number::BAD_NUMBER;
-use job_bodies::MOST_UNITS;
+use job_bodies::MAX_SIZE;
 use std::alloc::AllocError;
 
 /// The greatest size and count.
-const MOST: i64 = MOST_UNITS as i64;
+const MOST: i64 = MAX_SIZE as i64;
 
 fn is_lawful(number: i64) -> bool {
     (1..=MOST).contains(&number)

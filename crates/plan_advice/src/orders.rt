@@ -2,7 +2,7 @@
 
 use crate::names::name_rule;
 use crate::near::meant;
-use job_bodies::{MOST_UNITS, is_lawful_name};
+use job_bodies::{MAX_WORK, is_lawful_name};
 use std::alloc::{AllocError, Global};
 
 /// An action as its text gives it.
@@ -59,7 +59,7 @@ fn is_length(text: &str) -> bool {
         return false;
     }
     match text.parse::<u32>() {
-        Ok(units) => 1 <= units && u64::from(units) <= MOST_UNITS,
+        Ok(units) => 1 <= units && u64::from(units) <= MAX_WORK,
         Err(_) => false,
     }
 }
@@ -100,7 +100,7 @@ fn work_slip(alloc: Global, units: &str, count: usize) -> Result<String, AllocEr
         );
     }
     format!(in alloc;
-        "a work is a whole number of units from 1 to {MOST_UNITS}, as work 5, and not {units}"
+        "a work is a whole number of units from 1 to {MAX_WORK}, as work 5, and not {units}"
     )
 }
 
@@ -131,6 +131,9 @@ fn submit_slip(
             alloc,
             "a submit names a class: write submit CLASS, or submit CLASS as NAME",
         );
+    }
+    if class == "as" && count == 3 {
+        return format!(in alloc; "a submit names a class before as: write submit CLASS as {word}");
     }
     if !is_lawful_name(class) {
         return name_rule(alloc, class);

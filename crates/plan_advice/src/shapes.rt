@@ -4,7 +4,7 @@ use crate::entry::{Entry, list_of};
 use crate::near::meant;
 use crate::notes::Notes;
 use faults::number::{MISSING_KEY, TOO_MANY, UNKNOWN_KEY, WRONG_TYPE};
-use job_bodies::{MOST_ACTIONS, Part};
+use job_bodies::{MAX_ACTIONS, Part};
 use std::alloc::AllocError;
 use toml::Value;
 
@@ -189,7 +189,7 @@ fn body(notes: &mut Notes, entry: &Entry<'_>, value: &Value) -> Result<(), Alloc
             "body is to be a list of texts, as [\"work 5\", \"submit query as rows\", \"get rows\"]";
         return entry.tell(notes, WRONG_TYPE, place, words);
     };
-    if actions.len() > MOST_ACTIONS {
+    if actions.len() > MAX_ACTIONS {
         let words = "a body has at most 256 actions";
         return entry.tell(notes, TOO_MANY, place, words);
     }

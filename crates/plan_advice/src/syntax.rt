@@ -66,10 +66,23 @@ fn hint_of(line: &str) -> Option<&'static str> {
     if line.contains('\u{201c}') || line.contains('\u{201d}') || line.contains('\u{201e}') {
         return Some("the quotes are to be plain ones, \"");
     }
-    if matches!(line, "[pool]" | "[class]" | "[client]") {
-        return Some("a plan has many of these: write two brackets, as [[pool]]");
+    if let Some(hint) = bracket_hint(line) {
+        return Some(hint);
     }
     value_hint(line)
+}
+
+/// What was meant by the head of an entry: a list of entries is no table, and is given in one way alone.
+fn bracket_hint(line: &str) -> Option<&'static str> {
+    match line.split('#').next().unwrap_or("").trim() {
+        "[pool]" | "[class]" | "[client]" => {
+            Some("a plan has many of these: write two brackets, as [[pool]]")
+        }
+        "[[pool]]" | "[[class]]" | "[[client]]" => Some(
+            "an earlier line gives these in another way: write two brackets before each, as here",
+        ),
+        _ => None,
+    }
 }
 
 fn value_hint(line: &str) -> Option<&'static str> {

@@ -79,8 +79,9 @@ fn words_of_rounds(alloc: Global, plan: &Plan, number: usize) -> Result<String, 
     };
     let name = client.name.as_str();
     let count = client.count;
+    let rounds = if count == 1 { "round" } else { "rounds" };
     format!(in alloc;
-        "client {name} goes through its body once: the answer is about {count} rounds in all; write repeat = true where it begins again"
+        "client {name} goes through its body once: the answer is about {count} {rounds} in all; write repeat = true where it begins again"
     )
 }
 
@@ -91,6 +92,6 @@ fn words_of_crowd(alloc: Global, plan: &Plan, number: usize) -> Result<String, A
     let name = client.name.as_str();
     let count = client.count;
     format!(in alloc;
-        "client {name}: {count} of them submit to pools of one core thread whose queues hold fewer"
+        "client {name}: {count} of them submit to pools of one core thread whose queues hold fewer jobs"
     )
 }

@@ -13,7 +13,7 @@ use Rattle.job_bodies.specs.declared.action.Action.{Action}
 use Rattle.job_bodies.specs.declared.action.Action.TheVariants.{Work, Submit, Get}
 use Rattle.job_bodies.specs.declared.fault.PlanFault.{PlanFault}
 use Rattle.job_bodies.specs.declared.fault.Part.{Part}
-use Rattle.job_bodies.specs.declared.limits.TheConstants.{MOST_UNITS}
+use Rattle.job_bodies.specs.declared.limits.TheConstants.{MAX_WORK}
 use Rattle.job_bodies.specs.Plan.{submits, gets}
 use Rattle.job_bodies.specs.WellFormed.{is_within, is_lawful_get, is_lawful_action}
 use Rattle.job_bodies.specs.Checks.{at_action, check_action, check_body}

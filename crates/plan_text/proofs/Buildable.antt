@@ -8,7 +8,7 @@ use Rattle.readings.proofs.Laws.{read_length, read_at, read_images}
 use Rattle.job_bodies.specs.declared.fault.PlanFault.{PlanFault}
 use Rattle.job_bodies.specs.declared.fault.Part.{Part}
 use Rattle.job_bodies.specs.declared.fault.Part.TheVariants as part
-use Rattle.job_bodies.specs.declared.limits.TheConstants.{MOST_POOLS, MOST_CLASSES, MOST_CLIENTS, MOST_ACTIONS}
+use Rattle.job_bodies.specs.declared.limits.TheConstants.{MAX_POOLS, MAX_CLASSES, MAX_CLIENT_KINDS, MAX_ACTIONS}
 use Rattle.job_bodies.specs.Plan.{Pool, Class, Client, Plan}
 use Rattle.faults.specs.declared.number.TheConstants.{TOO_MANY}
 use Rattle.job_bodies.specs.Checks.{at_text, check_pool, check_class, check_client, check_length, check_body}
@@ -33,16 +33,16 @@ few key most document values e =
     let same : found.0 ≡ values = given_same {F = PlanFault} found.0 values passed.2 in
     subst (λ (vs : List Data). nat_le (length vs) most ≡ true) same (holds_ok _ _ passed.1)
 
-few_texts : (entry : Entry) (key : List ℕ) (texts : List (List ℕ)) → texts_at entry key ≡ Ok texts → nat_le (length texts) MOST_ACTIONS ≡ true
+few_texts : (entry : Entry) (key : List ℕ) (texts : List (List ℕ)) → texts_at entry key ≡ Ok texts → nat_le (length texts) MAX_ACTIONS ≡ true
 unfolding texts_at
 few_texts entry key texts e =
     let value = bind_ok (value_at entry key) _ _ e in
     let values = bind_ok (some_or (as_list value.0) _) _ _ value.2 in
-    let passed = bind_ok (holds_or (nat_le (length values.0) MOST_ACTIONS) _) _ _ values.2 in
+    let passed = bind_ok (holds_or (nat_le (length values.0) MAX_ACTIONS) _) _ _ values.2 in
     let long = read_length (action_text entry.part entry.index) 0 values.0 texts passed.2 in
     rw long (holds_ok _ _ passed.1)
 
-class_short : (index : ℕ) (value : Data) (class : ClassEntry) → read_class index value ≡ Ok class → nat_le (length class.body) MOST_ACTIONS ≡ true
+class_short : (index : ℕ) (value : Data) (class : ClassEntry) → read_class index value ≡ Ok class → nat_le (length class.body) MAX_ACTIONS ≡ true
 unfolding read_class
 class_short index value class e =
     let entry = bind_ok (entry_of part.Class index _ value) _ _ e in
@@ -50,9 +50,9 @@ class_short index value class e =
     let pool = bind_ok (text_at entry.0 (codes "pool")) _ _ name.2 in
     let body = bind_ok (texts_at entry.0 (codes "body")) _ _ pool.2 in
     let same : body.0 ≡ class.body = ap (λ (c : ClassEntry). c.body) (given_same {F = PlanFault} _ class body.2) in
-    subst (λ (texts : List (List ℕ)). nat_le (length texts) MOST_ACTIONS ≡ true) same (few_texts entry.0 (codes "body") body.0 body.1)
+    subst (λ (texts : List (List ℕ)). nat_le (length texts) MAX_ACTIONS ≡ true) same (few_texts entry.0 (codes "body") body.0 body.1)
 
-client_short : (index : ℕ) (value : Data) (client : ClientEntry) → read_client index value ≡ Ok client → nat_le (length client.body) MOST_ACTIONS ≡ true
+client_short : (index : ℕ) (value : Data) (client : ClientEntry) → read_client index value ≡ Ok client → nat_le (length client.body) MAX_ACTIONS ≡ true
 unfolding read_client
 client_short index value client e =
     let entry = bind_ok (entry_of part.Client index _ value) _ _ e in
@@ -61,22 +61,22 @@ client_short index value client e =
     let repeat = bind_ok (flag_at entry.0 (codes "repeat")) _ _ count.2 in
     let body = bind_ok (texts_at entry.0 (codes "body")) _ _ repeat.2 in
     let same : body.0 ≡ client.body = ap (λ (c : ClientEntry). c.body) (given_same {F = PlanFault} _ client body.2) in
-    subst (λ (texts : List (List ℕ)). nat_le (length texts) MOST_ACTIONS ≡ true) same (few_texts entry.0 (codes "body") body.0 body.1)
+    subst (λ (texts : List (List ℕ)). nat_le (length texts) MAX_ACTIONS ≡ true) same (few_texts entry.0 (codes "body") body.0 body.1)
 
 -- entries that were read are within the limits
 pub are_within_limits : (document : Members) (entries : Entries) → entries_of document ≡ Ok entries → AreWithinLimits entries
 unfolding entries_of
 are_within_limits document entries e =
-    let pools = bind_ok (list_at (codes "pool") MOST_POOLS document) _ _ e in
-    let classes = bind_ok (list_at (codes "class") MOST_CLASSES document) _ _ pools.2 in
-    let clients = bind_ok (list_at (codes "client") MOST_CLIENTS document) _ _ classes.2 in
+    let pools = bind_ok (list_at (codes "pool") MAX_POOLS document) _ _ e in
+    let classes = bind_ok (list_at (codes "class") MAX_CLASSES document) _ _ pools.2 in
+    let clients = bind_ok (list_at (codes "client") MAX_CLIENT_KINDS document) _ _ classes.2 in
     let p = bind_ok (read_each read_pool 0 pools.0) _ _ clients.2 in
     let k = bind_ok (read_each read_class 0 classes.0) _ _ p.2 in
     let c = bind_ok (read_each read_client 0 clients.0) _ _ k.2 in
     let short : AreWithinLimits (record { pools = p.0; classes = k.0; clients = c.0 }) = record {
-      few_pools = rw (read_length read_pool 0 pools.0 p.0 p.1) (few (codes "pool") MOST_POOLS document pools.0 pools.1);
-      few_classes = rw (read_length read_class 0 classes.0 k.0 k.1) (few (codes "class") MOST_CLASSES document classes.0 classes.1);
-      few_clients = rw (read_length read_client 0 clients.0 c.0 c.1) (few (codes "client") MOST_CLIENTS document clients.0 clients.1);
+      few_pools = rw (read_length read_pool 0 pools.0 p.0 p.1) (few (codes "pool") MAX_POOLS document pools.0 pools.1);
+      few_classes = rw (read_length read_class 0 classes.0 k.0 k.1) (few (codes "class") MAX_CLASSES document classes.0 classes.1);
+      few_clients = rw (read_length read_client 0 clients.0 c.0 c.1) (few (codes "client") MAX_CLIENT_KINDS document clients.0 clients.1);
       classes = λ i class here. let found = read_at read_class classes.0 k.0 i class k.1 here in class_short i found.0 class found.2;
       clients = λ i client here. let found = read_at read_client clients.0 c.0 i client c.1 here in client_short i found.0 client found.2;
     } in
@@ -167,7 +167,7 @@ is_read entries plan e next =
     }))))))
 
 -- ---- the checks of the plan
-counts_pass : (plan : Plan) → nat_le (length plan.pools) MOST_POOLS ≡ true → nat_le (length plan.classes) MOST_CLASSES ≡ true → nat_le (length plan.clients) MOST_CLIENTS ≡ true → check_counts plan ≡ Ok tt
+counts_pass : (plan : Plan) → nat_le (length plan.pools) MAX_POOLS ≡ true → nat_le (length plan.classes) MAX_CLASSES ≡ true → nat_le (length plan.clients) MAX_CLIENT_KINDS ≡ true → check_counts plan ≡ Ok tt
 counts_pass plan few_pools few_classes few_clients =
     both_pass _ _ tt (test_passes _ (at_text TOO_MANY) few_pools) (both_pass _ _ tt (test_passes _ (at_text TOO_MANY) few_classes) (test_passes _ (at_text TOO_MANY) few_clients))
 
@@ -233,9 +233,9 @@ bodies_pass entries pools classes plan r =
 -- what is read passes the checks of a plan
 builds_read : (entries : Entries) (plan : Plan) → AreWithinLimits entries → plan_of_entries entries ≡ Ok plan → build plan ≡ Ok plan
 builds_read entries plan limits e = is_read entries plan e (λ pools classes r.
-    let few_pools : nat_le (length plan.pools) MOST_POOLS ≡ true = rw (← r.pools_are) limits.few_pools in
-    let few_classes : nat_le (length plan.classes) MOST_CLASSES ≡ true = rw (read_length (class_of pools classes) 0 entries.classes plan.classes r.classes_are) limits.few_classes in
-    let few_clients : nat_le (length plan.clients) MOST_CLIENTS ≡ true = rw (read_length (client_of classes) 0 entries.clients plan.clients r.clients_are) limits.few_clients in
+    let few_pools : nat_le (length plan.pools) MAX_POOLS ≡ true = rw (← r.pools_are) limits.few_pools in
+    let few_classes : nat_le (length plan.classes) MAX_CLASSES ≡ true = rw (read_length (class_of pools classes) 0 entries.classes plan.classes r.classes_are) limits.few_classes in
+    let few_clients : nat_le (length plan.clients) MAX_CLIENT_KINDS ≡ true = rw (read_length (client_of classes) 0 entries.clients plan.clients r.clients_are) limits.few_clients in
     both_pass (check_counts plan) _ plan (counts_pass plan few_pools few_classes few_clients)
     (both_pass (check_lengths plan) _ plan (lengths_pass entries pools classes plan limits r)
     (both_pass (check_entries plan) _ plan (entries_pass entries pools classes plan r)

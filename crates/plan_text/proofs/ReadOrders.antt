@@ -8,7 +8,7 @@ use Rattle.std.proofs.lemmas.Bool.{cases_Bool, and_parts, and_from, leb-true, lt
 use Rattle.std.proofs.lemmas.Fmt.{decimal-digits_value}
 use Rattle.std.proofs.lemmas.Option.{option_and_then_some, cond_some}
 use Rattle.std.proofs.lemmas.Slice.Eq.{bytes_eq-Decides}
-use Rattle.job_bodies.specs.declared.limits.TheConstants.{MOST_UNITS}
+use Rattle.job_bodies.specs.declared.limits.TheConstants.{MAX_WORK}
 use Rattle.job_bodies.specs.WellFormed.{is_within, is_lawful_name}
 use Rattle.plan_text.specs.Orders.{Order, work, submit, submit_as, get, split_space, name_of, are_digits, is_positive_decimal, units_of, submit_as_of, submit_parts, submit_of, order_of_verb, order_of, spelling, IsLawfulOrder}
 use Rattle.plan_text.proofs.Numbers.{digits_are, not_empty}
@@ -44,17 +44,17 @@ joined text words e =
     whole ∙ ap (λ (parts : List ℕ × List ℕ). parts.0 ++ 32 ∷ parts.1) found.1
 
 -- ---- numbers and names
-units_spelled : (text : List ℕ) (units : ℕ) → units_of text ≡ Some units → (is_within 1 MOST_UNITS units ≡ true) × (text ≡ decimal units)
+units_spelled : (text : List ℕ) (units : ℕ) → units_of text ≡ Some units → (is_within 1 MAX_WORK units ≡ true) × (text ≡ decimal units)
 unfolding units_of
 units_spelled text units e =
-    let found = cond_some (is_positive_decimal text && is_within 1 MOST_UNITS (digits_value 10 text)) _ _ e in
+    let found = cond_some (is_positive_decimal text && is_within 1 MAX_WORK (digits_value 10 text)) _ _ e in
     let parts = and_parts (is_positive_decimal text) _ found.0 in
     let shape = and_parts _ (are_digits text) parts.0 in
     let lead = and_parts (not (length text == 0)) (not (slice_index text 0 == 48)) shape.0 in
-    let small = (and_parts _ (nat_le (digits_value 10 text) MOST_UNITS) parts.1).1 in
+    let small = (and_parts _ (nat_le (digits_value 10 text) MAX_WORK) parts.1).1 in
     let first : slice_index text 0 ≡ 48 → length text ≡ 1 = λ zero_first. let same = eq-eqb (slice_index text 0) 48 zero_first in let none = rw same at lead.1 in absurd cc in
     let spelled : decimal (digits_value 10 text) ≡ text = decimal-digits_value digits_are text shape.1 (not_empty text lead.0) first (omega (arith, leb-true _ _ small)) in
-    (subst (λ (n : ℕ). is_within 1 MOST_UNITS n ≡ true) found.1 parts.1, sym spelled ∙ ap decimal found.1)
+    (subst (λ (n : ℕ). is_within 1 MAX_WORK n ≡ true) found.1 parts.1, sym spelled ∙ ap decimal found.1)
 
 name_spelled : (text name : List ℕ) → name_of text ≡ Some name → (is_lawful_name name ≡ true) × (text ≡ name)
 name_spelled text name e =

@@ -8,7 +8,7 @@ use Rattle.std.proofs.lemmas.Bool.{and_parts, and_from, or_left, or_right, leb-t
 use Rattle.std.proofs.lemmas.Bool.Decides.{nat_tests}
 use Rattle.std.proofs.lemmas.List.{take_at, drop_at, length-append, length_push}
 use Rattle.std.proofs.lemmas.Fmt.{decimal_nonempty, length-decimal-le, first_decimal, digits_decimal, digits_value-decimal, decimal_injective}
-use Rattle.job_bodies.specs.declared.limits.TheConstants.{MOST_UNITS}
+use Rattle.job_bodies.specs.declared.limits.TheConstants.{MAX_WORK}
 use Rattle.job_bodies.specs.WellFormed.{is_within, is_letter, is_name_byte, is_lawful_name}
 use Rattle.plan_text.proofs.Numbers.{digits_are}
 use Rattle.plan_text.specs.Orders.{Order, work, submit, submit_as, get, split_space, name_of, is_digit, are_digits, is_positive_decimal, units_of, submit_as_of, submit_parts, submit_of, order_of_verb, order_of, spelling, IsLawfulOrder}
@@ -70,17 +70,17 @@ digits_in_name (b ∷ digits) h =
     let parts = and_parts (is_digit b) _ h in
     and_from _ _ (digit_in_name b parts.0) (digits_in_name digits parts.1)
 
-units_read : (units : ℕ) → is_within 1 MOST_UNITS units ≡ true → units_of (decimal units) ≡ Some units
+units_read : (units : ℕ) → is_within 1 MAX_WORK units ≡ true → units_of (decimal units) ≡ Some units
 unfolding units_of
 units_read units within =
-    let bounds = and_parts (nat_le 1 units) (nat_le units MOST_UNITS) within in
+    let bounds = and_parts (nat_le 1 units) (nat_le units MAX_WORK) within in
     let some : 1 ≤ units = leb-true _ _ bounds.0 in
     let small : units < 2 ^ 64 = omega (arith, leb-true _ _ bounds.1) in
     let value : digits_value 10 (decimal units) ≡ units = digits_value-decimal digits_are units small in
     let filled : not (length (decimal units) == 0) ≡ true = not_from_false _ (ne_eqb _ 0 (λ e. omega (arith, decimal_nonempty units small))) in
     let leading : not (slice_index (decimal units) 0 == 48) ≡ true = not_from_false _ (ne_eqb _ 48 (λ e. omega (arith, first_decimal units some small))) in
     let full : is_positive_decimal (decimal units) ≡ true = and_from _ _ (and_from _ _ filled leading) (digits_decimal digits_are units small) in
-    let fits : is_within 1 MOST_UNITS (digits_value 10 (decimal units)) ≡ true = subst (λ (n : ℕ). is_within 1 MOST_UNITS n ≡ true) (sym value) within in
+    let fits : is_within 1 MAX_WORK (digits_value 10 (decimal units)) ≡ true = subst (λ (n : ℕ). is_within 1 MAX_WORK n ≡ true) (sym value) within in
     cond-true _ _ _ (and_from _ _ full fits) ∙ ap (λ (n : ℕ). Some n) value
 
 -- ---- the spellings
@@ -112,7 +112,7 @@ submit_as_read class slot lawful named =
     ∙ ap (λ o. with_class o slot) (name_read class lawful)
     ∙ ap (with_slot class) (name_read slot named)
 
-spelled_work : (units : ℕ) → is_within 1 MOST_UNITS units ≡ true → order_of (codes "work " ++ decimal units) ≡ Some (work units)
+spelled_work : (units : ℕ) → is_within 1 MAX_WORK units ≡ true → order_of (codes "work " ++ decimal units) ≡ Some (work units)
 unfolding order_of_verb
 spelled_work units within = by_verb (codes "work") (decimal units) refl ∙ ap (λ o. option_and_then (λ n. Some (work n)) o) (units_read units within)
 

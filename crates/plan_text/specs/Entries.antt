@@ -4,7 +4,7 @@ use Rattle.toml.specs.Data.{Data, Members}
 use Rattle.readings.specs.Reading.{◌>>=◌, read_each}
 use Rattle.job_bodies.specs.declared.fault.PlanFault.{PlanFault}
 use Rattle.job_bodies.specs.declared.fault.Part.TheVariants as part
-use Rattle.job_bodies.specs.declared.limits.TheConstants.{MOST_POOLS, MOST_CLASSES, MOST_CLIENTS, MOST_ACTIONS}
+use Rattle.job_bodies.specs.declared.limits.TheConstants.{MAX_POOLS, MAX_CLASSES, MAX_CLIENT_KINDS, MAX_ACTIONS}
 use Rattle.job_bodies.specs.Plan.{Pool}
 use Rattle.plan_text.specs.Document.{list_at}
 use Rattle.plan_text.specs.Entry.{entry_of, text_at, number_at, flag_at, texts_at}
@@ -30,11 +30,11 @@ pub record Entries : Type 0 where
 
 -- no list and no body is too long
 pub record AreWithinLimits (entries : Entries) : Type 0 where
-  pub few_pools : nat_le (length entries.pools) MOST_POOLS ≡ true
-  pub few_classes : nat_le (length entries.classes) MOST_CLASSES ≡ true
-  pub few_clients : nat_le (length entries.clients) MOST_CLIENTS ≡ true
-  pub classes : (i : ℕ) (class : ClassEntry) → slice_get entries.classes i ≡ Some class → nat_le (length class.body) MOST_ACTIONS ≡ true
-  pub clients : (i : ℕ) (client : ClientEntry) → slice_get entries.clients i ≡ Some client → nat_le (length client.body) MOST_ACTIONS ≡ true
+  pub few_pools : nat_le (length entries.pools) MAX_POOLS ≡ true
+  pub few_classes : nat_le (length entries.classes) MAX_CLASSES ≡ true
+  pub few_clients : nat_le (length entries.clients) MAX_CLIENT_KINDS ≡ true
+  pub classes : (i : ℕ) (class : ClassEntry) → slice_get entries.classes i ≡ Some class → nat_le (length class.body) MAX_ACTIONS ≡ true
+  pub clients : (i : ℕ) (client : ClientEntry) → slice_get entries.clients i ≡ Some client → nat_le (length client.body) MAX_ACTIONS ≡ true
 
 -- a pool
 unfoldable pub read_pool : ℕ → Data → Result Pool PlanFault
@@ -69,9 +69,9 @@ read_client index value =
 -- the entries of a document: first the three lists, then each entry's shape
 unfoldable pub entries_of : Members → Result Entries PlanFault
 entries_of document =
-    list_at (codes "pool") MOST_POOLS document >>= λ pools.
-    list_at (codes "class") MOST_CLASSES document >>= λ classes.
-    list_at (codes "client") MOST_CLIENTS document >>= λ clients.
+    list_at (codes "pool") MAX_POOLS document >>= λ pools.
+    list_at (codes "class") MAX_CLASSES document >>= λ classes.
+    list_at (codes "client") MAX_CLIENT_KINDS document >>= λ clients.
     read_each read_pool 0 pools >>= λ pools.
     read_each read_class 0 classes >>= λ classes.
     read_each read_client 0 clients >>= λ clients.

@@ -6,7 +6,7 @@ use Rattle.readings.specs.Reading.{◌>>=◌, holds_or, some_or, read_each}
 use Rattle.job_bodies.specs.declared.fault.PlanFault.{PlanFault}
 use Rattle.job_bodies.specs.declared.fault.Part.{Part}
 use Rattle.faults.specs.declared.number.TheConstants.{TOO_MANY, UNKNOWN_KEY, MISSING_KEY, WRONG_TYPE}
-use Rattle.job_bodies.specs.declared.limits.TheConstants.{MOST_ACTIONS}
+use Rattle.job_bodies.specs.declared.limits.TheConstants.{MAX_ACTIONS}
 use Rattle.job_bodies.specs.Checks.{at_entry, at_action}
 use Rattle.plan_text.specs.declared.entry.Entry as read
 use Rattle.plan_text.specs.Document.{has_only, as_list}
@@ -70,5 +70,5 @@ unfoldable pub texts_at : Entry → List ℕ → Result (List (List ℕ)) PlanFa
 texts_at entry key =
     value_at entry key >>= λ value.
     some_or (as_list value) (fault_at entry WRONG_TYPE) >>= λ values.
-    holds_or (nat_le (length values) MOST_ACTIONS) (fault_at entry TOO_MANY) >>= λ _.
+    holds_or (nat_le (length values) MAX_ACTIONS) (fault_at entry TOO_MANY) >>= λ _.
     read_each (action_text entry.part entry.index) 0 values

@@ -3,7 +3,7 @@ use Rattle.std.specs.Prelude.{◌≡◌, ℕ, Bool, true, ◌++◌, decimal, ◌
 use Rattle.std.specs.List.{list_all, position_or_len, before_first, after_first}
 use Rattle.std.specs.Str.{bytes_eq}
 use Rattle.std.specs.Str.Parse.{digits_value}
-use Rattle.job_bodies.specs.declared.limits.TheConstants.{MOST_UNITS}
+use Rattle.job_bodies.specs.declared.limits.TheConstants.{MAX_WORK}
 use Rattle.job_bodies.specs.WellFormed.{is_lawful_name, is_within}
 use Rattle.plan_text.specs.declared.order.Order as read
 use Rattle.plan_text.specs.declared.order.Order.TheVariants.{Work, Submit, SubmitAs, Get}
@@ -49,7 +49,7 @@ is_positive_decimal digits = not (length digits == 0) && not (slice_index digits
 
 -- the length of a piece of work: a decimal number from 1 to the limit
 unfoldable pub units_of : List ℕ → Option ℕ
-units_of text = if is_positive_decimal text && is_within 1 MOST_UNITS (digits_value 10 text) then Some (digits_value 10 text) else None
+units_of text = if is_positive_decimal text && is_within 1 MAX_WORK (digits_value 10 text) then Some (digits_value 10 text) else None
 
 -- a submit that fills a slot, from its class and what stands after the class
 unfoldable pub submit_as_of : List ℕ → List ℕ → Option Order
@@ -86,7 +86,7 @@ spelling (get slot) = codes "get " ++ slot
 
 -- its length of work is within the limit, or its names are lawful
 abbrev pub is_lawful_order : Order → Bool
-is_lawful_order (work units) = is_within 1 MOST_UNITS units
+is_lawful_order (work units) = is_within 1 MAX_WORK units
 is_lawful_order (submit class) = is_lawful_name class
 is_lawful_order (submit_as class slot) = is_lawful_name class && is_lawful_name slot
 is_lawful_order (get slot) = is_lawful_name slot

@@ -9,7 +9,7 @@ use crate::entries::{ClassEntry, ClientEntry};
 use crate::fault::TextError;
 use crate::names::Names;
 use faults::number::{BAD_NAME, BAD_NUMBER, DOUBLE_NAME, NO_SUCH_POOL};
-use job_bodies::{MOST_UNITS, Part, PlanFault, Pool, is_lawful_name, is_within};
+use job_bodies::{MAX_SIZE, Part, PlanFault, Pool, is_lawful_name, is_within};
 use readings::ReadError;
 use std::alloc::Global;
 
@@ -68,7 +68,7 @@ fn check_client<'a>(
     ensures names { OnOk result (names.new ≡ names.old ++ client.now.name ∷ []) }
 {
     check_name(names, Part::Client, index, client.name)?;
-    if !is_within(1, MOST_UNITS, client.count) {
+    if !is_within(1, MAX_SIZE, client.count) {
         return Err(ReadError::Fault(PlanFault::at_entry(Part::Client, index, BAD_NUMBER)));
     }
     Ok(())

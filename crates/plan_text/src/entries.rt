@@ -9,7 +9,7 @@ ghost use Rattle.plan_text.specs.Entries as spec;
 use crate::document::list_at;
 use crate::entry::Entry;
 use crate::fault::TextError;
-use job_bodies::{MOST_CLASSES, MOST_CLIENTS, MOST_POOLS, Part, Pool};
+use job_bodies::{MAX_CLASSES, MAX_CLIENT_KINDS, MAX_POOLS, Part, Pool};
 use readings::read_each;
 use std::alloc::Global;
 use std::marker::Model;
@@ -139,9 +139,9 @@ fn client_entries_of(alloc: Global, values: &[Value]) -> Result<Vec<ClientEntry<
 pub fn entries_of(alloc: Global, document: &Table) -> Result<Entries<'_>, TextError>
     ensures { Gives (λ entries. entries) result (spec.entries_of (table_view document.now)) }
 {
-    let pools = list_at(document, "pool", MOST_POOLS)?;
-    let classes = list_at(document, "class", MOST_CLASSES)?;
-    let clients = list_at(document, "client", MOST_CLIENTS)?;
+    let pools = list_at(document, "pool", MAX_POOLS)?;
+    let classes = list_at(document, "class", MAX_CLASSES)?;
+    let clients = list_at(document, "client", MAX_CLIENT_KINDS)?;
     let pools = pools_of(alloc, pools)?;
     let classes = class_entries_of(alloc, classes)?;
     let clients = client_entries_of(alloc, clients)?;

@@ -10,7 +10,7 @@ ghost use Rattle.plan_text.specs.Entry.{entry_view};
 use crate::document::{has_only, list_in, value_at};
 use crate::fault::TextError;
 use faults::number::{MISSING_KEY, TOO_MANY, UNKNOWN_KEY, WRONG_TYPE};
-use job_bodies::{MOST_ACTIONS, Part, PlanFault};
+use job_bodies::{MAX_ACTIONS, Part, PlanFault};
 use readings::{ReadError, read_each};
 use std::alloc::Global;
 use toml::{Table, Value};
@@ -101,7 +101,7 @@ impl<'a> Entry<'a> {
         let Some(values) = list_in(value) else {
             return Err(self.refuses(WRONG_TYPE));
         };
-        if values.len() > MOST_ACTIONS {
+        if values.len() > MAX_ACTIONS {
             return Err(self.refuses(TOO_MANY));
         }
         action_texts(alloc, self.part, self.index, values)

@@ -3,7 +3,7 @@
 ghost use Rattle.std.specs.Prelude.{◌≡◌, Some, option_map};
 ghost use Rattle.plan_text.specs.Orders as spec;
 
-use job_bodies::{MOST_UNITS, is_lawful_name, is_within};
+use job_bodies::{MAX_WORK, is_lawful_name, is_within};
 
 /// An action as its text gives it: classes and slots by name.
 #[derive(Clone, Copy, Debug, PartialEq, Eq)]
@@ -83,7 +83,7 @@ fn units_of(text: &str) -> Option<u32>
     }
     match text.parse::<u32>() {
         Ok(units) => {
-            if is_within(1, MOST_UNITS, u64::from(units)) {
+            if is_within(1, MAX_WORK, u64::from(units)) {
                 Some(units)
             } else {
                 None

@@ -28,9 +28,9 @@ no_refusal plan events p safe ends =
 -- a safe plan has none
 no_witness : (plan : Plan) (events : List Event) (ending : Ending) → Safe plan → IsWitness plan events ending → ⊥
 no_witness plan events (Refused p) safe ends = no_refusal plan events p safe ends
-no_witness plan events (StuckForEver members PoolsAreFull) safe led = (safe events led.0 led.1).none_waits members.items led.2.waits
-no_witness plan events (StuckForEver members PoolsStayAtCore) safe led = (safe events led.0 led.1).none_waits members.items led.2.waits
-no_witness plan events (StuckNow members) safe led = (safe events led.0 led.1).none_waits members.items led.2
+no_witness plan events (StuckForEver members PoolsAreFull) safe led = (safe events led.1.0 led.1.1).none_waits members.items led.1.2.waits
+no_witness plan events (StuckForEver members PoolsStayAtCore) safe led = (safe events led.1.0 led.1.1).none_waits members.items led.1.2.waits
+no_witness plan events (StuckNow members) safe led = (safe events led.1.0 led.1.1).none_waits members.items led.1.2.waits
 
 pub not_accepted : WitnessedPlansAreNotAccepted
 not_accepted plan cert events ending well_formed is_witness =

@@ -1,21 +1,22 @@
 -- What is confirmed, and that it is a witness.
-use Rattle.std.proofs.Common.{◌≡◌, ℕ, inl, inr, ⊎_elim, ◌↔◌, Bool, IsTrue, List, take, drop, Option, Some, sym, subst}
+use Rattle.std.proofs.Common.{◌≡◌, ℕ, inl, inr, ⊎_elim, ◌↔◌, Bool, IsTrue, List, take, drop, Option, Some, None, sym, subst}
 use Rattle.std.proofs.lemmas.List.{take-append-drop}
 use Rattle.job_bodies.specs.Plan.{Plan}
 use Rattle.written_machine.specs.declared.event.Event.{Event}
 use Rattle.written_machine.specs.State.{State}
 use Rattle.written_machine.specs.Reach.{IsReached}
 use Rattle.written_machine.specs.Waiting.{IsWaitingSet}
-use Rattle.written_machine.specs.FullWaitingSets.{IsFull}
+use Rattle.written_machine.specs.FullWaitingSets.{IsFull, IsFullWaitingSet}
 use Rattle.live_views.specs.LiveView.{View, live_view}
 use Rattle.weights.specs.Vector.{Vector}
 use Rattle.plan_witnesses.specs.declared.ending.Ending.{Ending}
 use Rattle.plan_witnesses.specs.declared.ending.Ending.TheVariants.{Refused, StuckForEver, StuckNow}
 use Rattle.plan_witnesses.specs.declared.ending.Reason.{Reason}
 use Rattle.plan_witnesses.specs.declared.ending.Reason.TheVariants.{PoolsAreFull, PoolsStayAtCore}
-use Rattle.plan_witnesses.specs.Witness.{LeadsTo, EndsRefused, StaysFor, IsWitness}
+use Rattle.plan_witnesses.specs.Rising.{are_rising}
+use Rattle.plan_witnesses.specs.Witness.{LeadsTo, EndsRefused, StaysFor, WaitsForNow, IsWitness}
 use Rattle.plan_witnesses.specs.Replayed.{ComesTo}
-use Rattle.plan_witnesses.specs.Confirmed.{GivenStanding, IsReason, IsStuck, BeginsWith, EndsSo, are_rising}
+use Rattle.plan_witnesses.specs.Confirmed.{GivenStanding, IsReason, IsStuck, BeginsWith, EndsSo}
 
 -- ---- it is a witness
 
@@ -26,18 +27,28 @@ stays_for plan s members standing PoolsStayAtCore waits shown = record {
   lasting = λ p j member queued. ⊎_elim (λ (full : IsFull plan s p). inl full) (λ (given : GivenStanding plan standing p). inr (record { vector = given.vector; hold = given.hold })) (shown.1 p j member queued);
 }
 
+-- where it is not shown that it is for ever, the set is not full
+waits_for_now : (plan : Plan) (s : State) (members : List ℕ) (standing : List Vector) → IsWaitingSet plan s members → IsReason plan members standing s None → WaitsForNow plan members s
+waits_for_now plan s members standing waits shown = record {
+  waits = waits;
+  not_full = λ (full : IsFullWaitingSet plan s members). shown (λ p j member queued. inl (full.full p j member queued));
+}
+
+named_rising : (named members : List ℕ) → named ≡ members → IsTrue (are_rising members) → IsTrue (are_rising named)
+named_rising named members same rising = subst (λ (numbers : List ℕ). IsTrue (are_rising numbers)) (sym same) rising
+
 pub is_witness : (plan : Plan) (events : List Event) (members : List ℕ) (standing : List Vector) (front : List Event) (ending : Ending) → EndsSo plan events members standing front ending → IsWitness plan front ending
 is_witness plan events members standing front (Refused p) ends = ends.1
 is_witness plan events members standing front (StuckForEver stuck reason) ends =
     let led = ends.2.leads in
     let stays : LeadsTo plan events (StaysFor plan members reason) = (led.0, led.1, stays_for plan led.0 members standing reason led.2.0 led.2.1) in
     let of_stuck : LeadsTo plan events (StaysFor plan stuck.items reason) = subst (λ (numbers : List ℕ). LeadsTo plan events (StaysFor plan numbers reason)) (sym ends.1) stays in
-    subst (λ (list : List Event). LeadsTo plan list (StaysFor plan stuck.items reason)) (sym ends.0) of_stuck
+    (named_rising stuck.items members ends.1 ends.2.rising, subst (λ (list : List Event). LeadsTo plan list (StaysFor plan stuck.items reason)) (sym ends.0) of_stuck)
 is_witness plan events members standing front (StuckNow stuck) ends =
     let led = ends.2.leads in
-    let waits : LeadsTo plan events (λ s. IsWaitingSet plan s members) = (led.0, led.1, led.2.0) in
-    let of_stuck : LeadsTo plan events (λ s. IsWaitingSet plan s stuck.items) = subst (λ (numbers : List ℕ). LeadsTo plan events (λ s. IsWaitingSet plan s numbers)) (sym ends.1) waits in
-    subst (λ (list : List Event). LeadsTo plan list (λ s. IsWaitingSet plan s stuck.items)) (sym ends.0) of_stuck
+    let waits : LeadsTo plan events (WaitsForNow plan members) = (led.0, led.1, waits_for_now plan led.0 members standing led.2.0 led.2.1) in
+    let of_stuck : LeadsTo plan events (WaitsForNow plan stuck.items) = subst (λ (numbers : List ℕ). LeadsTo plan events (WaitsForNow plan numbers)) (sym ends.1) waits in
+    (named_rising stuck.items members ends.1 ends.2.rising, subst (λ (list : List Event). LeadsTo plan list (WaitsForNow plan stuck.items)) (sym ends.0) of_stuck)
 
 -- ---- the cases
 

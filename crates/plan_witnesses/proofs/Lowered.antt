@@ -6,7 +6,8 @@ use Rattle.std.proofs.lemmas.Grind.{common_steps}
 use Rattle.job_bodies.specs.declared.action.Action.{Action}
 use Rattle.job_bodies.specs.declared.action.Action.TheVariants as action
 use Rattle.job_bodies.specs.Plan.{Pool, Plan, no_pool, pool_at, class_at, client_at}
-use Rattle.job_bodies.proofs.Bodies.{IsLawful, IsOrdered}
+use Rattle.job_bodies.specs.Lawful.{IsLawful}
+use Rattle.job_bodies.proofs.Bodies.{IsOrdered}
 use Rattle.pool_machine.specs.declared.offer.Offer.{Offer}
 use Rattle.pool_machine.specs.declared.offer.Offer.TheVariants as offer
 use Rattle.pool_machine.specs.PoolState.{PoolView, new_pool, answer}

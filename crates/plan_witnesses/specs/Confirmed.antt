@@ -1,5 +1,5 @@
 -- What the call that confirms a witness answers.
-use Rattle.std.specs.Prelude.{◌≡◌, ◌⊎◌, ℕ, nat_lt, Bool, true, ◌&&◌, IsTrue, List, [], ◌∷◌, ◌++◌, Option, Some, None, slice_get}
+use Rattle.std.specs.Prelude.{◌≡◌, ◌⊎◌, ℕ, IsTrue, List, ◌++◌, Option, Some, None, slice_get}
 use Rattle.job_bodies.specs.Plan.{Plan}
 use Rattle.written_machine.specs.declared.event.Event.{Event}
 use Rattle.written_machine.specs.State.{State}
@@ -13,6 +13,7 @@ use Rattle.plan_witnesses.specs.declared.ending.Ending.TheVariants.{Refused, Stu
 use Rattle.plan_witnesses.specs.declared.ending.Reason.{Reason}
 use Rattle.plan_witnesses.specs.declared.ending.Reason.TheVariants.{PoolsAreFull, PoolsStayAtCore}
 use Rattle.plan_witnesses.specs.declared.witness.Witness.{Witness}
+use Rattle.plan_witnesses.specs.Rising.{are_rising}
 use Rattle.plan_witnesses.specs.Witness.{LeadsTo, NoneRefused, EndsRefused}
 
 -- ---- why members wait for ever
@@ -39,16 +40,6 @@ IsReason plan members standing s (Some PoolsStayAtCore) = (¬ AreFull plan s mem
 IsReason plan members standing s None = ¬ AreShown plan s members standing
 
 -- ---- the answer
-
--- the first number is above this one, and each other one above the one before it
-abbrev pub rise_above : ℕ → List ℕ → Bool
-rise_above last [] = true
-rise_above last (n ∷ rest) = nat_lt last n && rise_above n rest
-
--- each number is above the one before it
-abbrev pub are_rising : List ℕ → Bool
-are_rising [] = true
-are_rising (n ∷ rest) = rise_above n rest
 
 -- the members wait only for each other behind all the events, of which none is refused, for this reason
 pub record IsStuck (plan : Plan) (events : List Event) (members : List ℕ) (standing : List Vector) (reason : Option Reason) : Type 0 where

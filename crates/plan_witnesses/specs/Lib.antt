@@ -1,3 +1,4 @@
+pub mod Rising
 pub mod Lasting
 pub mod Witness
 pub mod Replayed

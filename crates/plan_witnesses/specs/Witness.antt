@@ -1,5 +1,5 @@
 -- Lists of events that show that a plan is wrong.
-use Rattle.std.specs.Prelude.{◌≡◌, ℕ, List, [], ◌∷◌, ◌++◌, Some, IsFalse}
+use Rattle.std.specs.Prelude.{◌≡◌, ℕ, List, [], ◌∷◌, ◌++◌, Some, IsTrue, IsFalse}
 use Rattle.numbered_lists.specs.In.{In}
 use Rattle.job_bodies.specs.Plan.{Plan}
 use Rattle.job_bodies.specs.WellFormed.{IsWellFormed}
@@ -17,6 +17,7 @@ use Rattle.plan_witnesses.specs.declared.ending.Ending.{Ending}
 use Rattle.plan_witnesses.specs.declared.ending.Ending.TheVariants.{Refused, StuckForEver, StuckNow}
 use Rattle.plan_witnesses.specs.declared.ending.Reason.{Reason}
 use Rattle.plan_witnesses.specs.declared.ending.Reason.TheVariants.{PoolsAreFull, PoolsStayAtCore}
+use Rattle.plan_witnesses.specs.Rising.{are_rising}
 use Rattle.plan_witnesses.specs.Lasting.{IsLastingWaitingSet}
 
 -- the events, each of them possible, lead from the plan's start to a state of which this holds
@@ -43,11 +44,16 @@ abbrev pub StaysFor : Plan → List ℕ → Reason → State → Type 0
 StaysFor plan members PoolsAreFull s = IsFullWaitingSet plan s members
 StaysFor plan members PoolsStayAtCore s = IsLastingWaitingSet plan s members
 
--- the events end so
+-- the members are a waiting set, and one of them waits in the queue of a pool that may have more threads
+pub record WaitsForNow (plan : Plan) (members : List ℕ) (s : State) : Type 0 where
+  pub waits : IsWaitingSet plan s members
+  pub not_full : ¬ IsFullWaitingSet plan s members
+
+-- the events end so, and the members are named in rising order
 abbrev pub IsWitness : Plan → List Event → Ending → Type 0
 IsWitness plan events (Refused p) = EndsRefused plan events p
-IsWitness plan events (StuckForEver members reason) = LeadsTo plan events (StaysFor plan members.items reason)
-IsWitness plan events (StuckNow members) = LeadsTo plan events (λ s. IsWaitingSet plan s members.items)
+IsWitness plan events (StuckForEver members reason) = IsTrue (are_rising members.items) × LeadsTo plan events (StaysFor plan members.items reason)
+IsWitness plan events (StuckNow members) = IsTrue (are_rising members.items) × LeadsTo plan events (WaitsForNow plan members.items)
 
 -- no certificate accepts a plan that has a witness
 abbrev pub WitnessedPlansAreNotAccepted : Type 0

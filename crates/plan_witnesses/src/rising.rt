@@ -1,7 +1,7 @@
 //! Numbers in rising order.
 
 ghost use Rattle.std.specs.Prelude.{◌≡◌};
-ghost use Rattle.plan_witnesses.specs.Confirmed.{are_rising, rise_above};
+ghost use Rattle.plan_witnesses.specs.Rising.{are_rising, rise_above};
 
 /// Whether each number is above the one before it.
 pub(crate) fn are_rising(numbers: &[usize]) -> bool

@@ -18,7 +18,8 @@ use Rattle.job_bodies.specs.declared.fault.Part.{Part}
 use Rattle.job_bodies.specs.Plan.{Plan, submits, gets}
 use Rattle.job_bodies.specs.WellFormed.{are_distinct, is_lawful_name, is_lawful_action, is_lawful_body}
 use Rattle.job_bodies.specs.Checks.{at_action}
-use Rattle.job_bodies.proofs.Bodies.{IsLawful, lawful_action, lawful_body}
+use Rattle.job_bodies.specs.Lawful.{IsLawful}
+use Rattle.job_bodies.proofs.Bodies.{lawful_action, lawful_body}
 use Rattle.job_bodies.proofs.DistinctNames.{distinct_before}
 use Rattle.job_bodies.proofs.Passing.{EachPlace, list_any_get}
 use Rattle.plan_text.specs.Checks.{place_of}

@@ -7,7 +7,7 @@ use Rattle.toml.specs.View.{items_of}
 use Rattle.readings.specs.Reading.{read_each}
 use Rattle.job_bodies.specs.declared.fault.Part.{Part}
 use Rattle.job_bodies.specs.declared.fault.Part.TheVariants as part
-use Rattle.job_bodies.specs.declared.limits.TheConstants.{MOST_POOLS, MOST_CLASSES, MOST_CLIENTS, MOST_ACTIONS}
+use Rattle.job_bodies.specs.declared.limits.TheConstants.{MAX_POOLS, MAX_CLASSES, MAX_CLIENT_KINDS, MAX_ACTIONS}
 use Rattle.job_bodies.specs.Plan.{Pool, Class, Client, Plan, pool_names}
 use Rattle.job_bodies.proofs.Passing.{EachPlace}
 use Rattle.plan_text.specs.Document.{has_only, list_at}
@@ -47,7 +47,7 @@ class_entry pools classes class = record { name = class.name; pool = name_at poo
 abbrev pub client_entry : List (List ℕ) → Client → ClientEntry
 client_entry classes client = record { name = client.name; count = client.count; repeat = client.repeat; body = body_texts classes client.body }
 
-texts_back : (entry : Entry) (key : List ℕ) (texts : List (List ℕ)) → get_member key entry.table ≡ Some (texts_data texts) → nat_le (length texts) MOST_ACTIONS ≡ true → texts_at entry key ≡ Ok texts
+texts_back : (entry : Entry) (key : List ℕ) (texts : List (List ℕ)) → get_member key entry.table ≡ Some (texts_data texts) → nat_le (length texts) MAX_ACTIONS ≡ true → texts_at entry key ≡ Ok texts
 unfolding texts_at
 texts_back entry key texts found short =
     let long : length (map string texts) ≡ length texts = length-map texts string in
@@ -66,12 +66,12 @@ abbrev entry_at : Part → ℕ → Data → Entry
 entry_at part index (table members) = record { table = members; part = part; index = index }
 entry_at part index _ = record { table = no_members; part = part; index = index }
 
-class_back : (pools classes : List (List ℕ)) (index : ℕ) (class : Class) → nat_le (length (body_texts classes class.body)) MOST_ACTIONS ≡ true
+class_back : (pools classes : List (List ℕ)) (index : ℕ) (class : Class) → nat_le (length (body_texts classes class.body)) MAX_ACTIONS ≡ true
     → read_class index (class_data pools classes class) ≡ Ok (class_entry pools classes class)
 unfolding read_class class_data entry_of text_at
 class_back pools classes index class short = rw (texts_back (entry_at part.Class index (class_data pools classes class)) (codes "body") (body_texts classes class.body) refl short) refl
 
-client_back : (classes : List (List ℕ)) (index : ℕ) (client : Client) → nat_le (length (body_texts classes client.body)) MOST_ACTIONS ≡ true
+client_back : (classes : List (List ℕ)) (index : ℕ) (client : Client) → nat_le (length (body_texts classes client.body)) MAX_ACTIONS ≡ true
     → read_client index (client_data classes client) ≡ Ok (client_entry classes client)
 unfolding read_client client_data entry_of text_at number_at flag_at
 client_back classes index client short = rw (texts_back (entry_at part.Client index (client_data classes client)) (codes "body") (body_texts classes client.body) refl short) refl
@@ -89,11 +89,11 @@ entries_in plan = record {
 
 -- no list and no body is too long
 pub record IsShort (plan : Plan) : Type 0 where
-  pub few_pools : nat_le (length plan.pools) MOST_POOLS ≡ true
-  pub few_classes : nat_le (length plan.classes) MOST_CLASSES ≡ true
-  pub few_clients : nat_le (length plan.clients) MOST_CLIENTS ≡ true
-  pub classes : EachPlace plan.classes (λ i class. nat_le (length (body_texts (class_names_of plan) class.body)) MOST_ACTIONS ≡ true)
-  pub clients : EachPlace plan.clients (λ i client. nat_le (length (body_texts (class_names_of plan) client.body)) MOST_ACTIONS ≡ true)
+  pub few_pools : nat_le (length plan.pools) MAX_POOLS ≡ true
+  pub few_classes : nat_le (length plan.classes) MAX_CLASSES ≡ true
+  pub few_clients : nat_le (length plan.clients) MAX_CLIENT_KINDS ≡ true
+  pub classes : EachPlace plan.classes (λ i class. nat_le (length (body_texts (class_names_of plan) class.body)) MAX_ACTIONS ≡ true)
+  pub clients : EachPlace plan.clients (λ i client. nat_le (length (body_texts (class_names_of plan) client.body)) MAX_ACTIONS ≡ true)
 
 list_back : {X : Type 0} (key : List ℕ) (most : ℕ) (document : Members) (make : X → Data) (xs : List X) → get_member key document ≡ Some (list_data (map make xs)) → nat_le (length xs) most ≡ true
     → list_at key most document ≡ Ok (map make xs)
@@ -108,9 +108,9 @@ entries_back plan s =
     let pools = pool_names plan in
     let classes = class_names_of plan in
     rw (
-      list_back (codes "pool") MOST_POOLS (plan_document plan) pool_data plan.pools refl s.few_pools,
-      list_back (codes "class") MOST_CLASSES (plan_document plan) (class_data pools classes) plan.classes refl s.few_classes,
-      list_back (codes "client") MOST_CLIENTS (plan_document plan) (client_data classes) plan.clients refl s.few_clients,
+      list_back (codes "pool") MAX_POOLS (plan_document plan) pool_data plan.pools refl s.few_pools,
+      list_back (codes "class") MAX_CLASSES (plan_document plan) (class_data pools classes) plan.classes refl s.few_classes,
+      list_back (codes "client") MAX_CLIENT_KINDS (plan_document plan) (client_data classes) plan.clients refl s.few_clients,
       read_again read_pool pool_data plan.pools (λ i pool e. pool_back i pool),
       read_made read_class (class_data pools classes) (class_entry pools classes) plan.classes (λ i class e. class_back pools classes i class (s.classes i class e)),
       read_made read_client (client_data classes) (client_entry classes) plan.clients (λ i client e. client_back classes i client (s.clients i client e)),

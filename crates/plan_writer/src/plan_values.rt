@@ -3,7 +3,7 @@
 ghost use Rattle.std.specs.Prelude.{◌≡◌, ◌≤◌, true, if◌then◌else◌, map, IfOk, OnOk};
 ghost use Rattle.toml.specs.Data.{boolean};
 ghost use Rattle.toml.specs.View.{view, table_view};
-ghost use Rattle.job_bodies.specs.declared.limits.TheConstants.{MOST_UNITS};
+ghost use Rattle.job_bodies.specs.declared.limits.TheConstants.{MAX_SIZE};
 ghost use Rattle.job_bodies.specs.Plan.{pool_names};
 ghost use Rattle.job_bodies.specs.WellFormed.{is_lawful_pool, is_within, IsWellFormed};
 ghost use Rattle.plan_writer.specs.Spelling.{name_at};
@@ -34,7 +34,7 @@ fn put_flag(alloc: Global, table: &mut Table, key: &str, flag: bool) -> Result<(
 }
 
 fn number_value(number: u64) -> Value
-    requires { number ≤ MOST_UNITS }
+    requires { number ≤ MAX_SIZE }
     ensures { view result ≡ spec.number_data number }
 {
     Value::Integer(number as i64)
@@ -98,7 +98,7 @@ fn class_value(
 }
 
 fn client_value(alloc: Global, classes: &[Class], client: &Client) -> Result<Value, AllocError>
-    requires { is_within 1 MOST_UNITS client.now.count ≡ true }
+    requires { is_within 1 MAX_SIZE client.now.count ≡ true }
     ensures { IfOk result (λ value. view value ≡ spec.client_data (map (λ class. class.name) classes.now) client.now) }
 {
     let mut table = Table::new(alloc);

@@ -1,7 +1,7 @@
 -- One pool by itself: what it shows, and the four things that can happen to it. The rules are those of
 -- ThreadPoolExecutor: core and maximum sizes, queuing, rejected tasks.
 use Rattle.std.specs.Prelude.{ℕ, zero, suc, ◌+◌, ◌-◌, ◌≤◌, nat_lt, if◌then◌else◌, List, [], ◌∷◌, ◌++◌, length, Option, None, Some}
-use Rattle.job_bodies.specs.declared.limits.TheConstants.{MOST_UNITS}
+use Rattle.job_bodies.specs.declared.limits.TheConstants.{MAX_SIZE}
 use Rattle.job_bodies.specs.Plan.{Pool, first_workers}
 use Rattle.pool_machine.specs.declared.offer.Offer.{Offer}
 use Rattle.pool_machine.specs.declared.offer.Offer.TheVariants.{Started, Queued, Refused}
@@ -62,9 +62,9 @@ retired pool = retired_of pool pool.idle
 pub record IsSound (pool : PoolView) : Type 0 where
   pub some_core : 1 ≤ pool.core
   pub core_within_max : pool.core ≤ pool.max
-  pub max_within_limit : pool.max ≤ MOST_UNITS
+  pub max_within_limit : pool.max ≤ MAX_SIZE
   pub some_capacity : 1 ≤ pool.capacity
-  pub capacity_within_limit : pool.capacity ≤ MOST_UNITS
+  pub capacity_within_limit : pool.capacity ≤ MAX_SIZE
   pub idle_within_threads : pool.idle ≤ pool.threads
   pub threads_within_max : pool.threads ≤ pool.max
   pub queue_within_capacity : length pool.queue ≤ pool.capacity

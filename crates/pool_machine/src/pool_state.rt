@@ -57,7 +57,7 @@ impl PoolState {
     /// threads, which are made as jobs come.
     ///
     /// The sizes are lawful: core from 1, the maximum from core and the queue from 1, each up to
-    /// `MOST_UNITS`. Takes no memory.
+    /// `MAX_SIZE`. Takes no memory.
     pub fn new(alloc: Global, pool: &Pool) -> PoolState
         requires { IsTrue (has_lawful_sizes pool.now) }
         ensures { result ≡ new_pool pool.now }
@@ -161,14 +161,14 @@ impl PoolState {
         self.core
     }
 
-    /// How many threads there can be: core to `MOST_UNITS`.
+    /// How many threads there can be: core to `MAX_SIZE`.
     pub fn max(&self) -> u64
         ensures { result ≡ self.now.max }
     {
         self.max
     }
 
-    /// How many jobs the queue can hold: 1 to `MOST_UNITS`.
+    /// How many jobs the queue can hold: 1 to `MAX_SIZE`.
     pub fn capacity(&self) -> u64
         ensures { result ≡ self.now.capacity }
     {

@@ -7,8 +7,9 @@ use Rattle.job_bodies.specs.declared.action.Action.{Action}
 use Rattle.job_bodies.specs.declared.action.Action.TheVariants.{Work, Get}
 use Rattle.job_bodies.specs.Plan.{Class, Plan, no_class, class_at, class_got}
 use Rattle.job_bodies.specs.WellFormed.{IsWellFormed}
-use Rattle.job_bodies.proofs.Bodies.{IsLawful, ordered}
-use Rattle.weights.specs.declared.limits.TheConstants.{MOST_WEIGHT}
+use Rattle.job_bodies.specs.Lawful.{IsLawful}
+use Rattle.job_bodies.proofs.Bodies.{ordered}
+use Rattle.weights.specs.declared.limits.TheConstants.{MAX_WEIGHT}
 use Rattle.weights.proofs.Fitting.{small_in, got_known}
 use Rattle.pool_ranks.specs.Ranks.{Ranks, rank, reach, level, ranks_fit, is_counted, is_counted_action}
 
@@ -16,7 +17,7 @@ pub record RanksFit (plan : Plan) (ranks : Ranks) : Type 0 where
   pub pools : length ranks.pools ≡ length plan.pools
   pub reach : length ranks.reach ≡ length plan.classes
   pub levels : length ranks.levels ≡ length plan.classes
-  pub small_level : (k : ℕ) → level ranks k ≤ MOST_WEIGHT
+  pub small_level : (k : ℕ) → level ranks k ≤ MAX_WEIGHT
 
 pub fitting : (plan : Plan) (ranks : Ranks) → IsTrue (ranks_fit plan ranks) → RanksFit plan ranks
 fitting plan ranks all =

@@ -34,12 +34,12 @@ fn get_row(
     ensures { let reached = spec.reach ranks.now (class_got class.now.body submit) in
         result ≡ row K2 (place.ClassAction number position) reached (spec.reach ranks.now number) }
 {
-    Row {
-        rule: Rule::K2,
-        place: Place::ClassAction(number, position),
-        left: ranks.reach_of(class_got(&class.body, submit)),
-        right: ranks.reach_of(number),
-    }
+    Row::new(
+        Rule::K2,
+        Place::ClassAction(number, position),
+        ranks.reach_of(class_got(&class.body, submit)),
+        ranks.reach_of(number),
+    )
 }
 
 /// K3 of a submit at this position: the class is of a higher level than the class that it submits.
@@ -49,12 +49,12 @@ fn submit_row(plan: &Plan, ranks: &Ranks, number: usize, position: usize, submit
     requires submitted { submitted < length plan.now.classes }
     ensures { result ≡ row K3 (place.ClassAction number position) (spec.level ranks.now submitted + 1) (spec.level ranks.now number) }
 {
-    Row {
-        rule: Rule::K3,
-        place: Place::ClassAction(number, position),
-        left: ranks.levels[submitted] + 1,
-        right: ranks.levels[number],
-    }
+    Row::new(
+        Rule::K3,
+        Place::ClassAction(number, position),
+        ranks.levels[submitted] + 1,
+        ranks.levels[number],
+    )
 }
 
 /// Looks at the row of the action at this position of a class: K2 of a get, K3 of a submit.
@@ -91,12 +91,12 @@ fn own_row(plan: &Plan, ranks: &Ranks, number: usize, class: &Class) -> Row
     requires class { slice_get plan.now.classes number ≡ Some class.now }
     ensures { result ≡ row K1 (place.Class number) (spec.rank ranks.now class.now.pool) (spec.reach ranks.now number) }
 {
-    Row {
-        rule: Rule::K1,
-        place: Place::Class(number),
-        left: ranks.rank_of(class.pool),
-        right: ranks.reach_of(number),
-    }
+    Row::new(
+        Rule::K1,
+        Place::Class(number),
+        ranks.rank_of(class.pool),
+        ranks.reach_of(number),
+    )
 }
 
 /// Looks at the rows of a class's actions.

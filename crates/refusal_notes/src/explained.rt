@@ -1,6 +1,7 @@
 //! The lines that explain a refusal.
 
-ghost use Rattle.std.specs.Prelude.{◌≡◌, ◌+◌, ◌++◌, ◌∷◌, [], IsTrue, IfOk, OnOk, length, string_bytes};
+ghost use Rattle.std.specs.Prelude.{◌≡◌, ◌+◌, ◌++◌, ◌∷◌, [], IsTrue, IfOk, length};
+ghost use Rattle.decimals.specs.Pushed.{Pushes};
 ghost use Rattle.certificates.specs.Cert.{cert_fits};
 ghost use Rattle.headline.specs.Conditions.{failing};
 ghost use Rattle.refusal_notes.specs.Explanation as spec;
@@ -26,7 +27,7 @@ pub fn push_explanation(
     cert: &Cert,
 ) -> Result<usize, AllocError>
     requires { IsTrue (cert_fits plan.now cert.now) }
-    ensures text { OnOk result (string_bytes text.new ≡ string_bytes text.old ++ spec.explanation plan.now (failing plan.now cert.now)) }
+    ensures text { Pushes result text.old text.new (spec.explanation plan.now (failing plan.now cert.now)) }
     ensures count { IfOk result (λ count. count ≡ length (failing plan.now cert.now)) }
 {
     let count = push_all_lines(alloc, text, plan, cert)?;
@@ -42,7 +43,7 @@ fn push_all_lines(
     cert: &Cert,
 ) -> Result<usize, AllocError>
     requires { IsTrue (cert_fits plan.now cert.now) }
-    ensures text { OnOk result (string_bytes text.new ≡ string_bytes text.old ++ spec.lines plan.now (failing plan.now cert.now)) }
+    ensures text { Pushes result text.old text.new (spec.lines plan.now (failing plan.now cert.now)) }
     ensures count { IfOk result (λ count. count ≡ length (failing plan.now cert.now)) }
 {
     let mut notes = Vec::new(alloc);
@@ -73,7 +74,7 @@ fn push_lines(
     plan: &Plan,
     notes: &[Note],
 ) -> Result<(), AllocError>
-    ensures { OnOk result (string_bytes text.new ≡ string_bytes text.old ++ spec.lines plan.now notes.now) }
+    ensures { Pushes result text.old text.new (spec.lines plan.now notes.now) }
 {
     let mut section = Section::Ranks;
     let mut head = head_of(alloc, plan, section)?;
@@ -95,7 +96,7 @@ fn push_line_behind(
     note: &Note,
 ) -> Result<(), AllocError>
     requires { head.now ≡ line.head plan.now note.now.section }
-    ensures { OnOk result (string_bytes text.new ≡ string_bytes text.old ++ (line.line plan.now note.now ++ 10 ∷ [])) }
+    ensures { Pushes result text.old text.new (line.line plan.now note.now ++ 10 ∷ []) }
 {
     text.push_str(head)?;
     push_condition(text, plan, note)?;

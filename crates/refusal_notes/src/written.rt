@@ -1,7 +1,8 @@
 //! The line that tells a failing condition.
 
-ghost use Rattle.std.specs.Prelude.{◌≡◌, ◌++◌, ◌∷◌, [], IfOk, OnOk, string_bytes, codes, decimal};
-ghost use Rattle.job_bodies.specs.Plan.{pool_at, class_at, client_at};
+ghost use Rattle.std.specs.Prelude.{◌≡◌, ◌++◌, ◌∷◌, [], IfOk, string_bytes, codes, decimal};
+ghost use Rattle.decimals.specs.Pushed.{Pushes};
+ghost use Rattle.job_bodies.specs.Plan.{pool_at};
 ghost use Rattle.refusal_notes.specs.Line as spec;
 
 use crate::{Note, Section};
@@ -9,36 +10,6 @@ use decimals::push_number;
 use job_bodies::Plan;
 use std::alloc::{AllocError, Global};
 use weights::{Place, Rule};
-
-/// The name of the pool, which is empty where there is no such pool.
-fn pool_name(plan: &Plan, pool: usize) -> &str
-    ensures { result.now ≡ (pool_at plan.now pool).name }
-{
-    match plan.pool_at(pool) {
-        Some(pool) => pool.name.as_str(),
-        None => "",
-    }
-}
-
-/// The name of the class, which is empty where there is no such class.
-fn class_name(plan: &Plan, class: usize) -> &str
-    ensures { result.now ≡ (class_at plan.now class).name }
-{
-    match plan.class_at(class) {
-        Some(class) => class.name.as_str(),
-        None => "",
-    }
-}
-
-/// The name of the kind of clients, which is empty where there is no such kind.
-fn client_name(plan: &Plan, client: usize) -> &str
-    ensures { result.now ≡ (client_at plan.now client).name }
-{
-    match plan.client_at(client) {
-        Some(client) => client.name.as_str(),
-        None => "",
-    }
-}
 
 /// The name of the rule.
 fn rule_name(rule: Rule) -> &'static str
@@ -67,14 +38,14 @@ fn rule_name(rule: Rule) -> &'static str
 
 /// A name, after the word that says what it names.
 fn push_named(text: &mut String, word: &str, name: &str) -> Result<(), AllocError>
-    ensures { OnOk result (string_bytes text.new ≡ string_bytes text.old ++ word.now ++ name.now) }
+    ensures { Pushes result text.old text.new (word.now ++ name.now) }
 {
     text.push_str(word)?;
     text.push_str(name)
 }
 
 fn push_section(text: &mut String, plan: &Plan, section: Section) -> Result<(), AllocError>
-    ensures { OnOk result (string_bytes text.new ≡ string_bytes text.old ++ spec.section_text plan.now section) }
+    ensures { Pushes result text.old text.new (spec.section_text plan.now section) }
 {
     match section {
         Section::Ranks => text.push_str("ranks"),
@@ -86,41 +57,41 @@ fn push_section(text: &mut String, plan: &Plan, section: Section) -> Result<(), 
 
 /// One vector of the pool's certificate.
 fn push_vector(text: &mut String, plan: &Plan, pool: usize, vector: &str) -> Result<(), AllocError>
-    ensures { OnOk result (string_bytes text.new ≡ string_bytes text.old ++ (codes "pool " ++ (pool_at plan.now pool).name ++ vector.now)) }
+    ensures { Pushes result text.old text.new (codes "pool " ++ (pool_at plan.now pool).name ++ vector.now) }
 {
-    push_named(text, "pool ", pool_name(plan, pool))?;
+    push_named(text, "pool ", plan.pool_name(pool))?;
     text.push_str(vector)
 }
 
 fn push_action(text: &mut String, position: usize) -> Result<(), AllocError>
-    ensures { OnOk result (string_bytes text.new ≡ string_bytes text.old ++ (codes " action " ++ decimal position)) }
+    ensures { Pushes result text.old text.new (codes " action " ++ decimal position) }
 {
     text.push_str(" action ")?;
     push_number(text, position as u64)
 }
 
 fn push_place(text: &mut String, plan: &Plan, place: Place) -> Result<(), AllocError>
-    ensures { OnOk result (string_bytes text.new ≡ string_bytes text.old ++ spec.place_text plan.now place) }
+    ensures { Pushes result text.old text.new (spec.place_text plan.now place) }
 {
     match place {
-        Place::Class(class) => push_named(text, "class ", class_name(plan, class)),
+        Place::Class(class) => push_named(text, "class ", plan.class_name(class)),
         Place::ClassAction(class, position) => {
-            push_named(text, "class ", class_name(plan, class))?;
+            push_named(text, "class ", plan.class_name(class))?;
             push_action(text, position)
         }
-        Place::Client(client) => push_named(text, "client ", client_name(plan, client)),
+        Place::Client(client) => push_named(text, "client ", plan.client_name(client)),
         Place::ClientAction(client, position) => {
-            push_named(text, "client ", client_name(plan, client))?;
+            push_named(text, "client ", plan.client_name(client))?;
             push_action(text, position)
         }
-        Place::Worker(pool) => push_named(text, "workers ", pool_name(plan, pool)),
+        Place::Worker(pool) => push_named(text, "workers ", plan.pool_name(pool)),
         Place::Total => text.push_str("total"),
     }
 }
 
 /// What the note's rule compares.
 fn push_sides(text: &mut String, note: &Note) -> Result<(), AllocError>
-    ensures { OnOk result (string_bytes text.new ≡ string_bytes text.old ++ spec.rule_text note.now.rule ++ codes " " ++ decimal note.now.left ++ codes " above " ++ decimal note.now.right) }
+    ensures { Pushes result text.old text.new (spec.rule_text note.now.rule ++ codes " " ++ decimal note.now.left ++ codes " above " ++ decimal note.now.right) }
 {
     text.push_str(rule_name(note.rule))?;
     text.push_str(" ")?;
@@ -130,7 +101,7 @@ fn push_sides(text: &mut String, note: &Note) -> Result<(), AllocError>
 }
 
 fn push_head(text: &mut String, plan: &Plan, section: Section) -> Result<(), AllocError>
-    ensures { OnOk result (string_bytes text.new ≡ string_bytes text.old ++ spec.head plan.now section) }
+    ensures { Pushes result text.old text.new (spec.head plan.now section) }
 {
     push_section(text, plan, section)?;
     text.push_str(", ")
@@ -147,7 +118,7 @@ pub(crate) fn head_of(alloc: Global, plan: &Plan, section: Section) -> Result<St
 
 /// What the line of the note tells behind its head.
 pub(crate) fn push_condition(text: &mut String, plan: &Plan, note: &Note) -> Result<(), AllocError>
-    ensures { OnOk result (string_bytes text.new ≡ string_bytes text.old ++ spec.condition plan.now note.now) }
+    ensures { Pushes result text.old text.new (spec.condition plan.now note.now) }
 {
     push_place(text, plan, note.place)?;
     text.push_str(": ")?;
@@ -156,7 +127,7 @@ pub(crate) fn push_condition(text: &mut String, plan: &Plan, note: &Note) -> Res
 
 /// The line of the note, without its newline.
 fn push_note(text: &mut String, plan: &Plan, note: &Note) -> Result<(), AllocError>
-    ensures { OnOk result (string_bytes text.new ≡ string_bytes text.old ++ spec.line plan.now note.now) }
+    ensures { Pushes result text.old text.new (spec.line plan.now note.now) }
 {
     push_head(text, plan, note.section)?;
     push_condition(text, plan, note)
@@ -169,7 +140,7 @@ fn push_note(text: &mut String, plan: &Plan, note: &Note) -> Result<(), AllocErr
 ///
 /// [`AllocError`] where memory runs out.
 pub fn push_line(text: &mut String, plan: &Plan, note: &Note) -> Result<(), AllocError>
-    ensures { OnOk result (string_bytes text.new ≡ string_bytes text.old ++ (spec.line plan.now note.now ++ 10 ∷ [])) }
+    ensures { Pushes result text.old text.new (spec.line plan.now note.now ++ 10 ∷ []) }
 {
     push_note(text, plan, note)?;
     text.push('\n')

@@ -4,14 +4,13 @@ mod ended;
 mod failing;
 mod words;
 
-ghost use Rattle.std.specs.Prelude.{◌<◌, IsTrue};
-ghost use Rattle.sizing_cli.specs.Report.{is_alone};
+ghost use Rattle.std.specs.Prelude.{◌<◌};
 
 use crate::files::Suite;
 use crate::served::ended::{Ended, serve};
 use crate::served::failing::Case;
 use crate::served::words::asked;
-use sizing_cli::{Command, MemorySink, MemorySource};
+use sizing_cli::{MemorySink, MemorySource, Review};
 use std::alloc::{AllocError, Global};
 
 /// What the program is given.
@@ -34,77 +33,65 @@ const LONG: usize = 20_000;
 impl Suite for Served {
     fn answer(&self, alloc: Global, kind: &str, input: &[u8]) -> Result<String, AllocError> {
         match kind {
-            "replay" => answered(alloc, Command::Replay, input),
-            "check" => answered(alloc, Command::Check, input),
-            "explain" => answered(alloc, Command::Explain, input),
+            "replay" => answered(alloc, Review::Replay, input),
+            "check" => answered(alloc, Review::Check, input),
+            "explain" => answered(alloc, Review::Explain, input),
             "check and explain" => checked_and_explained(alloc, input),
-            "fronts of a replay" => fronts(alloc, Command::Replay, input),
-            "fronts of a check" => fronts(alloc, Command::Check, input),
-            "fronts of an explain" => fronts(alloc, Command::Explain, input),
+            "fronts of a replay" => fronts(alloc, Review::Replay, input),
+            "fronts of a check" => fronts(alloc, Review::Check, input),
+            "fronts of an explain" => fronts(alloc, Review::Explain, input),
             "words" => asked(alloc, input),
             _ => String::from_str(alloc, "no such kind of input"),
         }
     }
 }
 
-fn whole(alloc: Global, command: Command, input: &[u8]) -> Result<Ended, AllocError>
-    requires { IsTrue (is_alone command) }
-{
+fn whole(alloc: Global, review: Review, input: &[u8]) -> Result<Ended, AllocError> {
     let sink = MemorySink::new(alloc);
-    serve(alloc, command, &mut MemorySource::new(input), sink)
+    serve(alloc, review, &mut MemorySource::new(input), sink)
 }
 
 // What is answered where a call reads and writes at most so many bytes.
-fn in_pieces(
-    alloc: Global,
-    command: Command,
-    input: &[u8],
-    most: usize,
-) -> Result<Ended, AllocError>
-    requires command { IsTrue (is_alone command) }
-    requires most { 0 < most }
+fn in_pieces(alloc: Global, review: Review, input: &[u8], most: usize) -> Result<Ended, AllocError>
+    requires { 0 < most }
 {
     let mut source = MemorySource::new(input).at_most(most);
     let sink = MemorySink::new(alloc).at_most(most);
-    serve(alloc, command, &mut source, sink)
+    serve(alloc, review, &mut source, sink)
 }
 
-fn answered(alloc: Global, command: Command, input: &[u8]) -> Result<String, AllocError>
-    requires { IsTrue (is_alone command) }
-{
-    let ended = whole(alloc, command, input)?;
+fn answered(alloc: Global, review: Review, input: &[u8]) -> Result<String, AllocError> {
+    let ended = whole(alloc, review, input)?;
     let mut answer = ended.shown(alloc)?;
     let in_pieces = if input.len() <= LONG {
-        in_pieces(alloc, command, input, 1)?
+        in_pieces(alloc, review, input, 1)?
     } else {
-        in_pieces(alloc, command, input, 5_000)?
+        in_pieces(alloc, review, input, 5_000)?
     };
     if in_pieces != ended {
         answer.push_str(", but not in pieces")?;
     }
     if input.len() <= SHORT {
         let case = Case { input, ended };
-        case.push_otherwise(alloc, command, &mut answer)?;
+        case.push_otherwise(alloc, review, &mut answer)?;
     }
     Ok(answer)
 }
 
 fn checked_and_explained(alloc: Global, input: &[u8]) -> Result<String, AllocError> {
-    let mut answer = answered(alloc, Command::Check, input)?;
-    let explained = answered(alloc, Command::Explain, input)?;
+    let mut answer = answered(alloc, Review::Check, input)?;
+    let explained = answered(alloc, Review::Explain, input)?;
     if explained != answer {
         write!(answer, "\n{explained}")?;
     }
     Ok(answer)
 }
 
-fn fronts(alloc: Global, command: Command, input: &[u8]) -> Result<String, AllocError>
-    requires { IsTrue (is_alone command) }
-{
-    let mut last = whole(alloc, command, &[])?;
+fn fronts(alloc: Global, review: Review, input: &[u8]) -> Result<String, AllocError> {
+    let mut last = whole(alloc, review, &[])?;
     let mut answer = last.shown(alloc)?;
     for length in 0..input.len() {
-        let ended = whole(alloc, command, &input[..length])?;
+        let ended = whole(alloc, review, &input[..length])?;
         if ended != last {
             let shown = ended.shown(alloc)?;
             write!(answer, "\nfrom {length} bytes:\n{shown}")?;

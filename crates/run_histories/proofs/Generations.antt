@@ -6,9 +6,11 @@ use Rattle.job_bodies.specs.declared.action.Action.{Action}
 use Rattle.job_bodies.specs.declared.action.Action.TheVariants.{Work, Submit, Get}
 use Rattle.job_bodies.specs.Plan.{Plan, Class, Client, class_at, no_class, no_client}
 use Rattle.job_bodies.specs.WellFormed.{IsWellFormed}
-use Rattle.job_bodies.proofs.Bodies.{IsLawful, ordered}
+use Rattle.job_bodies.specs.Lawful.{IsLawful}
+use Rattle.job_bodies.proofs.Bodies.{ordered}
 use Rattle.run_histories.specs.Complete.{rounds_of}
-use Rattle.run_histories.specs.RunNumbers.{capped, AreCapped, AreCaused, of_submit, submitted, submitted_by, caused_within}
+use Rattle.starvation_laws.specs.Drain.{of_submit}
+use Rattle.run_histories.specs.RunNumbers.{capped, AreCapped, AreCaused, submitted, submitted_by, caused_within}
 use Rattle.run_histories.proofs.Capped.{capped_sums, capped_products}
 
 -- a body submits only classes of the plan

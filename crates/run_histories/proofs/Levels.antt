@@ -8,7 +8,8 @@ use Rattle.pool_ranks.specs.Ranks.{Ranks, level}
 use Rattle.starvation_laws.proofs.RankLaws.{RankLaws, rank_laws}
 use Rattle.run_histories.specs.declared.numbers.Measure.TheVariants.{Jobs, Units, Events}
 use Rattle.run_histories.specs.Complete.{rounds_of}
-use Rattle.run_histories.specs.RunNumbers.{of_submit, submitted, caused_within, greatest, caused, submitted_by, by_jobs, own, units_of_clients, events_of_clients, CausedIsWhole, NumbersAreOfThePlan}
+use Rattle.starvation_laws.specs.Drain.{of_submit}
+use Rattle.run_histories.specs.RunNumbers.{submitted, caused_within, greatest, caused, submitted_by, by_jobs, own, units_of_clients, events_of_clients, CausedIsWhole, NumbersAreOfThePlan}
 
 -- two sums whose terms agree at each element
 sums_agree : {X : Type 0} (f g : X → ℕ) (xs : List X) → ((i : ℕ) (x : X) → slice_get xs i ≡ Some x → f x ≡ g x) → sum_by f xs ≡ sum_by g xs

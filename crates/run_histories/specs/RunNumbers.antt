@@ -1,10 +1,11 @@
 -- How many jobs, units and events a whole run has.
 use Rattle.std.specs.Prelude.{◌≡◌, ◌<◌, ◌-◌, ◌^◌, ℕ, zero, suc, ◌+◌, ◌*◌, List, length, slice_index, sum_by, fold, min, max}
 use Rattle.job_bodies.specs.declared.action.Action.{Action}
-use Rattle.job_bodies.specs.declared.action.Action.TheVariants.{Work, Submit}
+use Rattle.job_bodies.specs.declared.action.Action.TheVariants.{Work}
 use Rattle.job_bodies.specs.Plan.{Plan, Class, Client, class_at}
 use Rattle.weights.specs.Row.{AllHold}
 use Rattle.pool_ranks.specs.Ranks.{Ranks, rank_rows}
+use Rattle.starvation_laws.specs.Drain.{of_submit}
 use Rattle.run_histories.specs.declared.numbers.Measure.{Measure}
 use Rattle.run_histories.specs.declared.numbers.Measure.TheVariants.{Jobs, Units, Events}
 use Rattle.run_histories.specs.Complete.{rounds_of, events_of_client}
@@ -16,11 +17,6 @@ units_of _ = 0
 -- the work that a body declares
 abbrev pub units_in : List Action → ℕ
 units_in body = sum_by units_of body
-
--- f of the class that the action submits, else 0
-abbrev pub of_submit : (ℕ → ℕ) → Action → ℕ
-of_submit f (Submit k) = f k
-of_submit f _ = 0
 
 -- f of each class that the body submits, added up
 abbrev pub submitted : (ℕ → ℕ) → List Action → ℕ

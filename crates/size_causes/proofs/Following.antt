@@ -7,7 +7,8 @@ use Rattle.job_bodies.specs.declared.action.Action.{Action}
 use Rattle.job_bodies.specs.declared.action.Action.TheVariants.{Submit}
 use Rattle.job_bodies.specs.Plan.{Plan, class_at, client_at}
 use Rattle.job_bodies.specs.WellFormed.{IsWellFormed}
-use Rattle.job_bodies.proofs.Bodies.{IsLawful, ordered}
+use Rattle.job_bodies.specs.Lawful.{IsLawful}
+use Rattle.job_bodies.proofs.Bodies.{ordered}
 use Rattle.size_causes.specs.declared.reached.Reached.{Reached}
 use Rattle.steady_certificates.specs.Submitted.{IsSubmitted, begins, follows, repeated_bodies}
 use Rattle.size_causes.specs.Reaching.{Has, Covers, Grows, IsReaching, unfound}

@@ -13,7 +13,7 @@ use crate::submitted::submitted_for_ever;
 use job_bodies::{Action, Plan, is_got};
 use std::alloc::{AllocError, Global};
 
-/// The first cause against all sizes that the plan has; None exactly where it has none.
+/// A cause against all sizes that the plan has; None exactly where it has none.
 ///
 /// # Errors
 ///

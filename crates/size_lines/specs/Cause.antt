@@ -1,6 +1,6 @@
 -- The lines that tell why no sizes were found.
 use Rattle.std.specs.Prelude.{List, ℕ, [], ◌∷◌, ◌++◌, codes, decimal}
-use Rattle.job_bodies.specs.declared.limits.TheConstants.{MOST_UNITS}
+use Rattle.job_bodies.specs.declared.limits.TheConstants.{MAX_SIZE}
 use Rattle.job_bodies.specs.Plan.{Plan, pool_at, class_at, client_at}
 use Rattle.size_search.specs.declared.found.NoSizes.{NoSizes}
 use Rattle.size_causes.specs.declared.cause.Cause.TheVariants.{Circle, ClientNeverGets, ClassNeverGets}
@@ -16,7 +16,7 @@ never_got_text kind name action = kind ++ (codes " " ++ (name ++ (codes " action
 
 -- sizes of a pool that would pass the limit
 abbrev pub above_text : List ℕ → List ℕ
-above_text name = codes "pool " ++ name ++ codes ": sizes above " ++ decimal MOST_UNITS ++ 10 ∷ []
+above_text name = codes "pool " ++ name ++ codes ": sizes above " ++ decimal MAX_SIZE ++ 10 ∷ []
 
 -- the line of the cause
 abbrev pub cause_text : Plan → NoSizes → List ℕ

@@ -1,6 +1,7 @@
 //! The sizes of a plan that was fitted, each beside what is declared.
 
-ghost use Rattle.std.specs.Prelude.{◌≡◌, ◌++◌, OnOk, IfOk, string_bytes};
+ghost use Rattle.std.specs.Prelude.{◌≡◌, IfOk};
+ghost use Rattle.decimals.specs.Pushed.{Pushes};
 ghost use Rattle.size_lines.specs.Sizes as spec;
 
 use job_bodies::{Plan, Pool};
@@ -13,7 +14,7 @@ use std::alloc::AllocError;
 ///
 /// [`AllocError`] where memory runs out.
 pub fn push_sizes(text: &mut String, declared: &Plan, fit: &Plan) -> Result<u64, AllocError>
-    ensures text { OnOk result (string_bytes text.new ≡ string_bytes text.old ++ spec.sizes_text declared.now fit.now) }
+    ensures text { Pushes result text.old text.new (spec.sizes_text declared.now fit.now) }
     ensures changes { IfOk result (λ changes. changes ≡ spec.changes declared.now fit.now) }
 {
     let mut changes = 0;
@@ -26,7 +27,7 @@ pub fn push_sizes(text: &mut String, declared: &Plan, fit: &Plan) -> Result<u64,
 }
 
 fn push_pool(text: &mut String, declared: &Pool, fit: &Pool) -> Result<(), AllocError>
-    ensures { OnOk result (string_bytes text.new ≡ string_bytes text.old ++ spec.pool_text declared.now fit.now) }
+    ensures { Pushes result text.old text.new (spec.pool_text declared.now fit.now) }
 {
     let name = &fit.name;
     write!(text, "pool {name}: core ")?;
@@ -39,7 +40,7 @@ fn push_pool(text: &mut String, declared: &Pool, fit: &Pool) -> Result<(), Alloc
 }
 
 fn push_size(text: &mut String, declared: u64, fit: u64) -> Result<(), AllocError>
-    ensures { OnOk result (string_bytes text.new ≡ string_bytes text.old ++ spec.size_text declared fit) }
+    ensures { Pushes result text.old text.new (spec.size_text declared fit) }
 {
     if declared == fit {
         write!(text, "{fit}")

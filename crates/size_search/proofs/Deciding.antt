@@ -2,7 +2,7 @@
 use Rattle.std.proofs.Common.{◌≡◌, ◌≤◌, subst, arith, inl, inr}
 use Rattle.std.specs.Prelude.{IsTrue}
 use Rattle.std.proofs.lemmas.Bool.{cases_lt}
-use Rattle.job_bodies.specs.declared.limits.TheConstants.{MOST_UNITS}
+use Rattle.job_bodies.specs.declared.limits.TheConstants.{MAX_SIZE}
 use Rattle.job_bodies.specs.Plan.{Plan}
 use Rattle.job_bodies.specs.WellFormed.{IsWellFormed}
 use Rattle.weights.specs.Vector.{has_small_numbers}
@@ -42,17 +42,17 @@ decided_without_cause plan (NotFound (TooLarge p)) free large = (free, large.1)
 
 -- ---- the steady certificate is fitted, but where its total leaves no room
 
-pub too_high_where_not_wide : (plan : Plan) (cert : Cert) → IsWellFormed plan → IsWithoutCause plan → IsTrue (has_small_numbers (steady_vector plan)) → cert ≡ steady_cert plan → NoneFitsWide plan cert → MOST_UNITS ≤ steady_total plan
+pub too_high_where_not_wide : (plan : Plan) (cert : Cert) → IsWellFormed plan → IsWithoutCause plan → IsTrue (has_small_numbers (steady_vector plan)) → cert ≡ steady_cert plan → NoneFitsWide plan cert → MAX_SIZE ≤ steady_total plan
 too_high_where_not_wide plan cert well free small is none =
-    elim (cases_lt (steady_total plan) MOST_UNITS) [
+    elim (cases_lt (steady_total plan) MAX_SIZE) [
       | inl low ↦ absurd (some_fit_wide plan well free small low (subst (NoneFitsWide plan) is none))
       | inr high ↦ high
     ]
 
 pub too_high_where_not_fitted : (plan wide : Plan) (cert : Cert) → IsWellFormed plan → IsWithoutCause plan → IsTrue (has_small_numbers (steady_vector plan)) → cert ≡ steady_cert plan → wide ≡ widened plan cert → NoneFits wide cert
-    → MOST_UNITS ≤ steady_total plan
+    → MAX_SIZE ≤ steady_total plan
 too_high_where_not_fitted plan wide cert well free small is wide_is none =
-    elim (cases_lt (steady_total plan) MOST_UNITS) [
+    elim (cases_lt (steady_total plan) MAX_SIZE) [
       | inl low ↦ absurd (some_fit_widened plan well free small low (subst (λ (any : Cert). NoneFits (widened plan any) any) is (subst (λ (any : Plan). NoneFits any cert) wide_is none)))
       | inr high ↦ high
     ]

@@ -1,6 +1,6 @@
 -- Sizes with which a certificate accepts a plan.
 use Rattle.std.specs.Prelude.{◌≡◌, ◌≤◌, ◌<◌, ◌⊎◌, ℕ, false, length, IsTrue}
-use Rattle.job_bodies.specs.declared.limits.TheConstants.{MOST_UNITS}
+use Rattle.job_bodies.specs.declared.limits.TheConstants.{MAX_SIZE}
 use Rattle.job_bodies.specs.Plan.{Plan, pool_at}
 use Rattle.weights.specs.Vector.{has_small_numbers}
 use Rattle.certificates.specs.Cert.{Cert}
@@ -27,7 +27,7 @@ pub record IsSized (plan : Plan) (cert : Cert) (fit : Plan) : Type 0 where
 
 -- a weight of the plan's steady certificate is above its limit, or its total leaves no room below the limit of sizes
 abbrev pub IsTooLarge : Plan → Type 0
-IsTooLarge plan = (has_small_numbers (steady_vector plan) ≡ false) ⊎ (MOST_UNITS ≤ steady_total plan)
+IsTooLarge plan = (has_small_numbers (steady_vector plan) ≡ false) ⊎ (MAX_SIZE ≤ steady_total plan)
 
 -- where sizes were found it is so of them; else a cause against all sizes holds, or a pool is told, and the steady certificate
 -- is too large

@@ -16,7 +16,7 @@ use job_bodies::Plan;
 use std::alloc::{AllocError, Global};
 
 /// How often it is looked for what sizes that were found lack.
-const MOST_TURNS: usize = 4;
+const MAX_TURNS: usize = 4;
 
 /// What the search finds for sizes that it has found.
 #[derive(Debug, Drop)]
@@ -44,7 +44,7 @@ pub(crate) fn lasting(
 {
     let mut fit = fit;
     let mut cert = cert;
-    for _turn in 0..MOST_TURNS {
+    for _turn in 0..MAX_TURNS {
         let more = match found_again(alloc, plan, &fit)? {
             Again::Same => return Ok(SizesFound::Found { plan: fit, cert }),
             Again::More(more) => more,

@@ -7,7 +7,7 @@ use std::alloc::{AllocError, Global};
 use weights::class_got;
 
 /// How many vectors are looked for at most, so that a search ends soon. No plan is known that needs a fourth of them.
-const MOST_VECTORS: usize = 32_768;
+const MAX_VECTORS: usize = 32_768;
 
 /// Which vector of a pool was looked for.
 #[derive(Debug, PartialEq, Drop)]
@@ -121,7 +121,7 @@ impl<'a> Remembered<'a> {
             plan,
             levels,
             pools,
-            vectors_left: MOST_VECTORS,
+            vectors_left: MAX_VECTORS,
         })
     }
 

@@ -3,7 +3,7 @@
 use crate::found::{Halt, Limit};
 use crate::remembered::{Look, Remembered};
 use crate::rooms::{Room, maxes_of};
-use job_bodies::MOST_UNITS;
+use job_bodies::MAX_SIZE;
 use least_vectors::{Kind, reach};
 use std::alloc::{AllocError, Global};
 
@@ -143,7 +143,7 @@ fn core_for(look: &Look) -> u64 {
 fn within_limit(alloc: Global, looks: &[Look]) -> Result<Vec<Look>, AllocError> {
     looks
         .iter()
-        .filter(|look| core_for(look) <= MOST_UNITS)
+        .filter(|look| core_for(look) <= MAX_SIZE)
         .copied()
         .collect(alloc)
 }

@@ -17,8 +17,7 @@ use crate::settled::settled;
 use crate::steadily::steadily;
 use cert_check::accepts;
 use certificates::Cert;
-use fitted_sizes::copied;
-use job_bodies::{MOST_POOLS, Plan};
+use job_bodies::{MAX_POOLS, Plan};
 use least_vectors::Levels;
 use size_causes::cause_of;
 use std::alloc::{AllocError, Global};
@@ -60,7 +59,7 @@ pub fn search_sizes(
 {
     if let Some(cert) = first {
         if accepts(plan, &cert) {
-            let plan = copied(alloc, plan)?;
+            let plan = plan.copied(alloc)?;
             return Ok(SizesFound::Found { plan, cert });
         }
     }
@@ -123,7 +122,7 @@ fn cheapest(alloc: Global, known: &mut Remembered) -> Result<Result<Attempt, Lim
     let first = outcome(tried(alloc, known, Vec::from_slice(alloc, &declared)?, 0))?;
     let choices = match &first {
         Ok(first) => first.choices,
-        Err(_) => MOST_POOLS,
+        Err(_) => MAX_POOLS,
     };
     let mut best = first;
     for passed_over in 1..choices.min(1 + FURTHER_ATTEMPTS) {

@@ -2,7 +2,7 @@
 
 ghost use Rattle.std.specs.Prelude.{◌≡◌, ◌≤◌, IfOk, IfSome, IfNone, IsTrue};
 ghost use Rattle.job_bodies.specs.WellFormed.{IsWellFormed};
-ghost use Rattle.job_bodies.specs.declared.limits.TheConstants.{MOST_UNITS};
+ghost use Rattle.job_bodies.specs.declared.limits.TheConstants.{MAX_SIZE};
 ghost use Rattle.weights.specs.Vector.{has_small_numbers};
 ghost use Rattle.fitted_sizes.specs.Widened.{IsLeastWide};
 ghost use Rattle.fitted_sizes.specs.Widened as spec;
@@ -64,7 +64,7 @@ fn least_steadily(alloc: Global, plan: &Plan, cert: &Cert) -> Result<Option<Plan
     requires steady { cert.now ≡ steady_cert plan.now }
     requires small { IsTrue (has_small_numbers (steady_vector plan.now)) }
     ensures sized { IfOk result (λ found. IfSome found (IsSized plan.now cert.now)) }
-    ensures none { IfOk result (λ found. IfNone found (MOST_UNITS ≤ steady_total plan.now)) }
+    ensures none { IfOk result (λ found. IfNone found (MAX_SIZE ≤ steady_total plan.now)) }
 {
     // Workers weigh nothing in it: so its total stays, and once is enough.
     match widened(alloc, plan, cert)? {
@@ -87,7 +87,7 @@ fn least_wide(
     requires wide { wide ≡ spec.widened plan.now cert.now }
     requires least { IsLeastWide plan.now cert.now wide }
     ensures sized { IfOk result (λ found. IfSome found (IsSized plan.now cert.now)) }
-    ensures none { IfOk result (λ found. IfNone found (MOST_UNITS ≤ steady_total plan.now)) }
+    ensures none { IfOk result (λ found. IfNone found (MAX_SIZE ≤ steady_total plan.now)) }
 {
     match fitted(alloc, wide, cert)? {
         Ok(fit) => Ok(Some(fit)),

@@ -7,7 +7,7 @@ use Rattle.job_bodies.specs.Plan.{Plan}
 use Rattle.job_bodies.specs.declared.fault.PlanFault.{PlanFault}
 use Rattle.plan_text.specs.PlanOf.{plan_of}
 use Rattle.certificates.specs.Cert.{Cert}
-use Rattle.cert_text.specs.declared.document.TheConstants.{MOST_TEXT_BYTES}
+use Rattle.cert_text.specs.declared.document.TheConstants.{MAX_TEXT_BYTES}
 use Rattle.cert_text.specs.CertText.{cert_text}
 use Rattle.headline.specs.Accepted.{accepted}
 use Rattle.headline.proofs.Promised.{promises}
@@ -18,7 +18,7 @@ use Rattle.size_search.specs.Sized.{IsSized, IsFound}
 use Rattle.size_lines.specs.Sizes.{changes}
 use Rattle.size_lines.proofs.Unchanged.{unchanged}
 use Rattle.command_line.specs.declared.command.Wanted.TheVariants.{Sizes, Bundle}
-use Rattle.sizing_cli.specs.declared.limits.TheConstants.{MOST_INPUT_BYTES}
+use Rattle.sizing_cli.specs.declared.limits.TheConstants.{MAX_INPUT_BYTES}
 use Rattle.sizing_cli.specs.declared.status.Status.TheVariants.{Done, Refused, BadText}
 use Rattle.sizing_cli.specs.Answer.{Answer, yes_or_no, input_too_long}
 use Rattle.sizing_cli.specs.SafeInput.{IsSafePlan}
@@ -43,14 +43,14 @@ sized_as_it_is plan fit cert sized none =
     subst (λ (p : Plan). IsTrue (accepted p cert)) (unchanged plan fit sized.fits.same_outline none) sized.fits.accepts
 
 -- the text of a certificate that is as long as one may be is too long with its newline
-pub long_with_newline : (cert : Cert) (text : List ℕ) → text ≡ cert_text cert → MOST_TEXT_BYTES ≤ length text → HasLongText cert
-long_with_newline cert text is long = subst (λ (t : List ℕ). MOST_TEXT_BYTES < length (t ++ 10 ∷ [])) is (longer text long)
+pub long_with_newline : (cert : Cert) (text : List ℕ) → text ≡ cert_text cert → MAX_TEXT_BYTES ≤ length text → HasLongText cert
+long_with_newline cert text is long = subst (λ (t : List ℕ). MAX_TEXT_BYTES < length (t ++ 10 ∷ [])) is (longer text long)
   where
-    longer : (t : List ℕ) → MOST_TEXT_BYTES ≤ length t → MOST_TEXT_BYTES < length (t ++ 10 ∷ [])
+    longer : (t : List ℕ) → MAX_TEXT_BYTES ≤ length t → MAX_TEXT_BYTES < length (t ++ 10 ∷ [])
     longer t long = omega (arith, long, length-append t (10 ∷ []))
 
 pub sizes_mean_safe : (input : List ℕ) (answer : Answer) → IsFitAnswer Sizes input answer → answer.status ≡ Done → IsSafePlan input
-sizes_mean_safe input answer is done = by_length (nat_lt MOST_INPUT_BYTES (length input)) is
+sizes_mean_safe input answer is done = by_length (nat_lt MAX_INPUT_BYTES (length input)) is
   where
     by_found : (plan : Plan) → plan_of input ≡ Ok plan → (found : SizesFound) → IsFound plan found → AnswersFound Sizes plan found answer → IsSafePlan input
     by_found plan is_plan (NotFound cause) is_cause is = absurd (refused_is_not_done answer (no_sizes_answer plan cause) is refl done)
@@ -79,7 +79,7 @@ pub record IsFittedTo (input text : List ℕ) : Type 0 where
   pub bundle : IsFittedBundle plan text
 
 pub bundle_means_fitted : (input : List ℕ) (answer : Answer) → IsFitAnswer Bundle input answer → answer.status ≡ Done → IsFittedTo input answer.text
-bundle_means_fitted input answer is done = by_length (nat_lt MOST_INPUT_BYTES (length input)) is
+bundle_means_fitted input answer is done = by_length (nat_lt MAX_INPUT_BYTES (length input)) is
   where
     by_found : (plan : Plan) → plan_of input ≡ Ok plan → (found : SizesFound) → IsFound plan found → AnswersFound Bundle plan found answer → IsFittedTo input answer.text
     by_found plan is_plan (NotFound cause) is_cause is = absurd (refused_is_not_done answer (no_sizes_answer plan cause) is refl done)

@@ -9,7 +9,7 @@ use Rattle.plan_text.specs.PlanOf.{plan_of}
 use Rattle.headline.proofs.Promised.{promises}
 use Rattle.cert_check.proofs.Yes.{plans_read_are_well_formed}
 use Rattle.command_line.specs.declared.command.Shown.TheVariants.{Story, Bundle}
-use Rattle.sizing_cli.specs.declared.limits.TheConstants.{MOST_INPUT_BYTES}
+use Rattle.sizing_cli.specs.declared.limits.TheConstants.{MAX_INPUT_BYTES}
 use Rattle.sizing_cli.specs.declared.status.Status.TheVariants.{Done, Refused, Undecided}
 use Rattle.sizing_cli.specs.Answer.{Answer, input_too_long}
 use Rattle.sizing_cli.specs.SafeInput.{IsSafePlan}
@@ -24,7 +24,7 @@ answered_by states shown text plan answer (Some witness) searched uncertified is
 answered_by states shown text plan answer None searched uncertified is_witness within shows nothing = inr (inl (record { uncertified = uncertified; searched = searched; within = within; told = nothing }))
 
 pub refuted_means_safe : (states : ℕ) (input : List ℕ) (answer : Answer) → IsRefuteAnswer states Story input answer → answer.status ≡ Done → IsSafePlan (whole_lines input)
-refuted_means_safe states input answer is done = by_length (nat_lt MOST_INPUT_BYTES (length input)) is
+refuted_means_safe states input answer is done = by_length (nat_lt MAX_INPUT_BYTES (length input)) is
   where
     by_answer : (plan : Plan) → plan_of (whole_lines input) ≡ Ok plan → AnswersPlan states Story (whole_lines input) plan answer → IsSafePlan (whole_lines input)
     by_answer plan is_plan (inl safe) =
@@ -54,7 +54,7 @@ abbrev Shows : List ℕ → Answer → Type 0
 Shows input answer = IsWitnessBundle input answer.text
 
 pub bundle_means_witness : (states : ℕ) (input : List ℕ) (answer : Answer) → IsRefuteAnswer states Bundle input answer → answer.status ≡ Done → Shows input answer
-bundle_means_witness states input answer is done = by_length (nat_lt MOST_INPUT_BYTES (length input)) is
+bundle_means_witness states input answer is done = by_length (nat_lt MAX_INPUT_BYTES (length input)) is
   where
     by_shown : (plan : Plan) → plan_of (whole_lines input) ≡ Ok plan → (refutes : Refutes Bundle (whole_lines input) plan answer) → Shows input answer
     by_shown plan is_plan refutes =

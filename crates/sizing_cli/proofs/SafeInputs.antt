@@ -1,5 +1,5 @@
 -- A yes of `check` is true of the input.
-use Rattle.std.proofs.Common.{◌≡◌, ℕ, Bool, true, false, cond, ltb, List, length, Option, Some, None, Result, Ok, Err, IfSome, refl, sym, ap, subst, ◌∙◌}
+use Rattle.std.proofs.Common.{◌≡◌, ℕ, Bool, true, false, cond, ltb, List, length, Option, Some, None, Result, Ok, Err, refl}
 use Rattle.job_bodies.specs.Plan.{Plan}
 use Rattle.job_bodies.specs.declared.fault.PlanFault.{PlanFault}
 use Rattle.plan_text.specs.PlanOf.{plan_of}
@@ -9,14 +9,12 @@ use Rattle.cert_text.specs.CertOf.{cert_of}
 use Rattle.headline.specs.Accepted.{accepted}
 use Rattle.cert_check.specs.Check.{IsSafeWith, IsSafeToRun}
 use Rattle.cert_check.proofs.Yes.{plans_read_are_well_formed, safe_with}
-use Rattle.command_line.specs.declared.command.Command.{Command}
-use Rattle.command_line.specs.declared.command.Command.TheVariants.{Check, Run}
-use Rattle.sizing_cli.specs.declared.limits.TheConstants.{MOST_INPUT_BYTES}
-use Rattle.sizing_cli.specs.declared.status.Status.{Status}
+use Rattle.command_line.specs.declared.command.Review.TheVariants.{Check}
+use Rattle.sizing_cli.specs.declared.limits.TheConstants.{MAX_INPUT_BYTES}
 use Rattle.sizing_cli.specs.declared.status.Status.TheVariants.{Done}
 use Rattle.sizing_cli.specs.Answer.{Answer, yes_or_no, input_too_long}
 use Rattle.sizing_cli.specs.Bundle.{Bundle, bundle_of}
-use Rattle.sizing_cli.specs.Report.{check_of_cert, run_of_cert, run_of_accepted, not_run, answer_of_plan, answer_of_bundle, report}
+use Rattle.sizing_cli.specs.Report.{check, check_of_cert, run, run_of_cert, run_of_accepted, run_report, not_run, answer_of_plan, answer_of_bundle, report}
 use Rattle.sizing_cli.specs.SafeInput.{IsSafeInput, YesMeansSafe}
 
 -- a question that ends as done is answered yes
@@ -30,19 +28,19 @@ with_cert plan text (Err fault) bytes is_plan is done = absurd cc
 with_cert plan text (Ok cert) bytes is_plan is done = safe_with plan cert text (plans_read_are_well_formed bytes plan is_plan) is (yes_from_done (accepted plan cert) done)
 
 -- with a plan that was read
-with_plan : (bytes text : List ℕ) (found : Result Plan PlanFault) → plan_of bytes ≡ found → (answer_of_plan Check text found).status ≡ Done → IsSafeToRun bytes text
+with_plan : (bytes text : List ℕ) (found : Result Plan PlanFault) → plan_of bytes ≡ found → (answer_of_plan check text found).status ≡ Done → IsSafeToRun bytes text
 with_plan bytes text (Err fault) is done = absurd cc
 with_plan bytes text (Ok plan) is done = record { plan = plan; is_plan = is; with_cert = with_cert plan text (cert_of text plan) bytes is refl done }
 
 -- with an input that was split
-with_bundle : (input : List ℕ) (found : Option Bundle) → bundle_of input ≡ found → (answer_of_bundle Check found).status ≡ Done → IsSafeInput input
+with_bundle : (input : List ℕ) (found : Option Bundle) → bundle_of input ≡ found → (answer_of_bundle check found).status ≡ Done → IsSafeInput input
 with_bundle input None is done = absurd cc
 with_bundle input (Some bundle) is done = record { bundle = bundle; is_bundle = is; safe = with_plan bundle.plan bundle.second (plan_of bundle.plan) refl done }
 
 pub yes_means_safe : YesMeansSafe
-yes_means_safe input done = by_length (ltb MOST_INPUT_BYTES (length input)) done
+yes_means_safe input done = by_length (ltb MAX_INPUT_BYTES (length input)) done
   where
-    by_length : (long : Bool) → (cond long input_too_long (answer_of_bundle Check (bundle_of input))).status ≡ Done → IsSafeInput input
+    by_length : (long : Bool) → (cond long input_too_long (answer_of_bundle check (bundle_of input))).status ≡ Done → IsSafeInput input
     by_length true done = absurd cc
     by_length false done = with_bundle input (bundle_of input) refl done
 
@@ -56,30 +54,17 @@ run_with_cert rounds plan text (Ok cert) bytes is_plan is done = safe_with plan 
     by_test true done = refl
     by_test false done = absurd cc
 
-run_with_plan : (rounds : ℕ) (bytes text : List ℕ) (found : Result Plan PlanFault) → plan_of bytes ≡ found → (answer_of_plan (Run rounds) text found).status ≡ Done → IsSafeToRun bytes text
+run_with_plan : (rounds : ℕ) (bytes text : List ℕ) (found : Result Plan PlanFault) → plan_of bytes ≡ found → (answer_of_plan (run rounds) text found).status ≡ Done → IsSafeToRun bytes text
 run_with_plan rounds bytes text (Err fault) is done = absurd cc
 run_with_plan rounds bytes text (Ok plan) is done = record { plan = plan; is_plan = is; with_cert = run_with_cert rounds plan text (cert_of text plan) bytes is refl done }
 
-run_with_bundle : (rounds : ℕ) (input : List ℕ) (found : Option Bundle) → bundle_of input ≡ found → (answer_of_bundle (Run rounds) found).status ≡ Done → IsSafeInput input
+run_with_bundle : (rounds : ℕ) (input : List ℕ) (found : Option Bundle) → bundle_of input ≡ found → (answer_of_bundle (run rounds) found).status ≡ Done → IsSafeInput input
 run_with_bundle rounds input None is done = absurd cc
 run_with_bundle rounds input (Some bundle) is done = record { bundle = bundle; is_bundle = is; safe = run_with_plan rounds bundle.plan bundle.second (plan_of bundle.plan) refl done }
 
-pub run_means_safe : (rounds : ℕ) (input : List ℕ) → (report (Run rounds) input).status ≡ Done → IsSafeInput input
-run_means_safe rounds input done = by_length (ltb MOST_INPUT_BYTES (length input)) done
+pub run_means_safe : (rounds : ℕ) (input : List ℕ) → (run_report rounds input).status ≡ Done → IsSafeInput input
+run_means_safe rounds input done = by_length (ltb MAX_INPUT_BYTES (length input)) done
   where
-    by_length : (long : Bool) → (cond long input_too_long (answer_of_bundle (Run rounds) (bundle_of input))).status ≡ Done → IsSafeInput input
+    by_length : (long : Bool) → (cond long input_too_long (answer_of_bundle (run rounds) (bundle_of input))).status ≡ Done → IsSafeInput input
     by_length true done = absurd cc
     by_length false done = run_with_bundle rounds input (bundle_of input) refl done
-
--- of what was read, where the answer is its report
-pub safe_where_known : (remaining : Option (List ℕ)) (command : Command) (status : Status) → IfSome remaining (λ input. status ≡ (report command input).status)
-    → command ≡ Check → status ≡ Done → IfSome remaining IsSafeInput
-safe_where_known None command status is is_check done = tt
-safe_where_known (Some input) command status is is_check done =
-    yes_means_safe input (sym (subst (λ (c : Command). status ≡ (report c input).status) is_check is) ∙ done)
-
--- the status is that of the report
-pub known_status : (remaining : Option (List ℕ)) (command : Command) (answer : Answer) (status : Status) → IfSome remaining (λ input. answer ≡ report command input) → status ≡ answer.status
-    → IfSome remaining (λ input. status ≡ (report command input).status)
-known_status None command answer status is same = tt
-known_status (Some input) command answer status is same = same ∙ ap (λ (a : Answer). a.status) is

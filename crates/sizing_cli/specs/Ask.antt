@@ -1,6 +1,6 @@
--- What `ask` may answer to an input: a relation, since nothing is said of which certificate, witness or sizes are found, or that
--- some are, nor of the words for people.
-use Rattle.std.specs.Prelude.{◌≡◌, ◌≤◌, ℕ, nat_lt, Bool, true, false, not, ◌&&◌, ◌==◌, if◌then◌else◌, List, [], ◌∷◌, ◌++◌, length, codes, decimal, Option, Some, None, Result, Ok, Err, IsTrue, MatchBool}
+-- What `ask` may answer to an input, and the certificate that it leaves: a relation, since nothing is said of which certificate,
+-- witness or sizes are found, or that some are, nor of the words of faults and of a witness's story.
+use Rattle.std.specs.Prelude.{◌≡◌, ℕ, nat_lt, Bool, true, false, not, ◌&&◌, ◌==◌, if◌then◌else◌, List, [], ◌∷◌, ◌++◌, length, codes, decimal, Option, Some, None, IfSome, Result, Ok, Err, option_map, IsTrue, MatchBool}
 use Rattle.job_bodies.specs.Plan.{Plan}
 use Rattle.job_bodies.specs.declared.fault.PlanFault.{PlanFault}
 use Rattle.plan_text.specs.PlanOf.{plan_of}
@@ -17,19 +17,22 @@ use Rattle.plan_advice.specs.Advice.{faults_text, warnings_text}
 use Rattle.ask_answers.specs.declared.finding.Finding.{Finding}
 use Rattle.ask_answers.specs.declared.finding.Finding.TheVariants.{Safe, NotSafe, NotDecided}
 use Rattle.ask_answers.specs.Finding.{IsFinding}
+use Rattle.ask_answers.specs.Places.{needed_places}
 use Rattle.ask_answers.specs.Told.{Tells}
-use Rattle.ask_answers.specs.Json as json
+use Rattle.json_answers.specs.Json as json
 use Rattle.ask_answers.specs.Picture.{IsPicture}
 use Rattle.command_line.specs.declared.command.Given.{Given}
 use Rattle.command_line.specs.declared.command.Given.TheVariants.{PlanAlone, WithCertificate}
 use Rattle.command_line.specs.declared.command.Form.{Form}
 use Rattle.command_line.specs.declared.command.Form.TheVariants.{Words, Json, Dot}
 use Rattle.command_line.specs.declared.command.Manner.{Manner}
-use Rattle.sizing_cli.specs.declared.limits.TheConstants.{MOST_INPUT_BYTES}
+use Rattle.sizing_cli.specs.declared.limits.TheConstants.{MAX_INPUT_BYTES}
 use Rattle.sizing_cli.specs.declared.status.Status.{Status}
 use Rattle.sizing_cli.specs.declared.status.Status.TheVariants.{Done, Refused, BadText, Undecided}
 use Rattle.sizing_cli.specs.Answer.{Answer, no_separator, input_too_long}
 use Rattle.sizing_cli.specs.Bundle.{Bundle, bundle_of}
+use Rattle.sizing_cli.specs.Certify.{HasLongText}
+use Rattle.sizing_cli.specs.declared.asking.Replied.{Replied}
 use Rattle.sizing_cli.specs.SafeInput.{IsSafePlan}
 
 -- ---- faults
@@ -82,14 +85,27 @@ abbrev pub stale_if : Bool → List Oddity
 stale_if true = StaleCertificate ∷ []
 stale_if false = []
 
+-- a certificate that was given is stale where it does not accept the plan
+abbrev pub is_stale : Plan → Option Cert → Bool
+is_stale plan None = false
+is_stale plan (Some cert) = not (accepted plan cert)
+
+-- a certificate that was given and accepts the plan is what the answer rests on
+abbrev pub RestsOnGiven : Plan → Option Cert → Finding → Type 0
+RestsOnGiven plan given finding = IfSome given (λ cert. IsTrue (accepted plan cert) → finding ≡ Safe cert)
+
+-- how many places each pool needs, as the certificate that was found says it
+abbrev pub needed_of : Plan → Finding → List (Option ℕ)
+needed_of plan (Safe cert) = needed_places plan cert
+needed_of plan (NotSafe witness sizes) = []
+needed_of plan (NotDecided sizes) = []
+
 -- the warnings are about what is seldom meant in the plan, just that and in its order, where pools need so many places; and about a
--- certificate that is stale, if one is
-pub record AreWarnings (plan : Plan) (warnings : List Warning) : Type 0 where
-  pub needed : List (Option ℕ)
+-- certificate that is stale, where it is
+pub record AreWarnings (plan : Plan) (finding : Finding) (stale : Bool) (warnings : List Warning) : Type 0 where
   pub oddities : List Oddity
-  pub are_oddities : AreOddities plan needed oddities
-  pub is_stale : Bool
-  pub warned : warned_of warnings ≡ oddities ++ stale_if is_stale
+  pub are_oddities : AreOddities plan (needed_of plan finding) oddities
+  pub warned : warned_of warnings ≡ oddities ++ stale_if stale
 
 -- the warnings are told, as in a file of some name, and behind them what was found
 pub record TellsFinding (plan : Plan) (warnings : List Warning) (finding : Finding) (text : List ℕ) : Type 0 where
@@ -104,64 +120,65 @@ TellsFindingIn Words plan warnings finding text = TellsFinding plan warnings fin
 TellsFindingIn Json plan warnings finding text = json.TellsFinding finding text
 TellsFindingIn Dot plan warnings finding text = IsPicture text
 
--- something was found that is so of the plan, it is told, and the status follows from it and from the warnings
-pub record AnswersPlan (manner : Manner) (plan : Plan) (answer : Answer) : Type 0 where
-  pub finding : Finding
-  pub is_finding : IsFinding plan finding
+-- what was found is told, with the warnings, and the status follows from both
+pub record AnswersFinding (manner : Manner) (plan : Plan) (finding : Finding) (stale : Bool) (answer : Answer) : Type 0 where
   pub warnings : List Warning
-  pub are_warnings : AreWarnings plan warnings
+  pub are_warnings : AreWarnings plan finding stale warnings
   pub tells : TellsFindingIn manner.form plan warnings finding answer.text
   pub status : answer.status ≡ status_of manner.strict warnings finding
 
-abbrev pub AnswersCert : Manner → Plan → Result Cert CertFault → Answer → Type 0
-AnswersCert manner plan (Err f) answer = AnswersCertFault manner.form f answer
-AnswersCert manner plan (Ok cert) answer = AnswersPlan manner plan answer
+-- ---- the certificate that an answer leaves
+
+-- the text is that of the certificate, with which it is left; none is where that is too long to be read
+abbrev pub IsTextLeft : Plan → Cert → Option (List ℕ) → Type 0
+IsTextLeft plan cert (Some text) = cert_of text plan ≡ Ok cert
+IsTextLeft plan cert None = HasLongText cert
+
+-- what a finding leaves: the certificate that accepts the plan, where one does
+abbrev pub IsLeftOf : Plan → Finding → Option (List ℕ) → Type 0
+IsLeftOf plan (Safe cert) left = IsTextLeft plan cert left
+IsLeftOf plan (NotSafe witness sizes) left = left ≡ None
+IsLeftOf plan (NotDecided sizes) left = left ≡ None
+
+-- the certificate that is left beside an answer
+abbrev pub left_in : Replied → Option (List ℕ)
+left_in replied = option_map (λ text. text.items) replied.certificate
+
+-- ---- to an input
+
+-- something was found that is so of the plan, by the certificate that was given where that accepts it; it is told, and it leaves
+-- what it leaves
+pub record AnswersPlan (manner : Manner) (plan : Plan) (given : Option Cert) (left : Option (List ℕ)) (answer : Answer) : Type 0 where
+  pub finding : Finding
+  pub is_finding : IsFinding plan finding
+  pub rests : RestsOnGiven plan given finding
+  pub answers : AnswersFinding manner plan finding (is_stale plan given) answer
+  pub leaves : IsLeftOf plan finding left
+
+abbrev pub AnswersCert : Manner → Plan → Result Cert CertFault → Option (List ℕ) → Answer → Type 0
+AnswersCert manner plan (Err f) left answer = (left ≡ None) × AnswersCertFault manner.form f answer
+AnswersCert manner plan (Ok cert) left answer = AnswersPlan manner plan (Some cert) left answer
 
 -- to a plan, and to the text of a certificate where one is given
-abbrev pub AnswersGiven : Manner → Option (List ℕ) → Plan → Answer → Type 0
-AnswersGiven manner None plan answer = AnswersPlan manner plan answer
-AnswersGiven manner (Some cert) plan answer = AnswersCert manner plan (cert_of cert plan) answer
+abbrev pub AnswersGiven : Manner → Option (List ℕ) → Plan → Option (List ℕ) → Answer → Type 0
+AnswersGiven manner None plan left answer = AnswersPlan manner plan None left answer
+AnswersGiven manner (Some cert) plan left answer = AnswersCert manner plan (cert_of cert plan) left answer
 
-abbrev pub AnswersReading : Manner → Option (List ℕ) → Result Plan PlanFault → Answer → Type 0
-AnswersReading manner cert (Err f) answer = AnswersFault manner.form f answer
-AnswersReading manner cert (Ok plan) answer = AnswersGiven manner cert plan answer
+abbrev pub AnswersReading : Manner → Option (List ℕ) → Result Plan PlanFault → Option (List ℕ) → Answer → Type 0
+AnswersReading manner cert (Err f) left answer = (left ≡ None) × AnswersFault manner.form f answer
+AnswersReading manner cert (Ok plan) left answer = AnswersGiven manner cert plan left answer
 
-abbrev pub AnswersBundle : Manner → Option Bundle → Answer → Type 0
-AnswersBundle manner None answer = answer ≡ no_separator
-AnswersBundle manner (Some bundle) answer = AnswersReading manner (Some bundle.second) (plan_of bundle.plan) answer
+abbrev pub AnswersBundle : Manner → Option Bundle → Option (List ℕ) → Answer → Type 0
+AnswersBundle manner None left answer = (left ≡ None) × (answer ≡ no_separator)
+AnswersBundle manner (Some bundle) left answer = AnswersReading manner (Some bundle.second) (plan_of bundle.plan) left answer
 
-abbrev pub AnswersInput : Given → Manner → List ℕ → Answer → Type 0
-AnswersInput PlanAlone manner input answer = AnswersReading manner None (plan_of input) answer
-AnswersInput WithCertificate manner input answer = AnswersBundle manner (bundle_of input) answer
+abbrev pub AnswersInput : Given → Manner → List ℕ → Option (List ℕ) → Answer → Type 0
+AnswersInput PlanAlone manner input left answer = AnswersReading manner None (plan_of input) left answer
+AnswersInput WithCertificate manner input left answer = AnswersBundle manner (bundle_of input) left answer
 
--- to an input
-abbrev pub IsAskAnswer : Given → Manner → List ℕ → Answer → Type 0
-IsAskAnswer given manner input answer = MatchBool (nat_lt MOST_INPUT_BYTES (length input)) (answer ≡ input_too_long) (AnswersInput given manner input answer)
-
--- ---- the certificate that an answer rests on
-
--- the text is that of a certificate, and it accepts the plan
-pub record IsCertificateOf (plan : Plan) (text : List ℕ) : Type 0 where
-  pub cert : Cert
-  pub reads : cert_of text plan ≡ Ok cert
-  pub accepts : IsTrue (accepted plan cert)
-
-abbrev pub IsCertificateRead : Result Plan PlanFault → List ℕ → Type 0
-IsCertificateRead (Err f) text = ⊥
-IsCertificateRead (Ok plan) text = IsCertificateOf plan text
-
-abbrev pub IsCertificateBehind : Option Bundle → List ℕ → Type 0
-IsCertificateBehind None text = ⊥
-IsCertificateBehind (Some bundle) text = IsCertificateRead (plan_of bundle.plan) text
-
--- the plan that is asked about has this certificate
-abbrev pub IsCertificateAsked : Given → List ℕ → List ℕ → Type 0
-IsCertificateAsked PlanAlone input text = IsCertificateRead (plan_of input) text
-IsCertificateAsked WithCertificate input text = IsCertificateBehind (bundle_of input) text
-
--- it comes of an input that is not too long
-abbrev pub IsKept : Given → List ℕ → List ℕ → Type 0
-IsKept given input text = (length input ≤ MOST_INPUT_BYTES) × IsCertificateAsked given input text
+abbrev pub IsAskAnswer : Given → Manner → List ℕ → Option (List ℕ) → Answer → Type 0
+IsAskAnswer given manner input left answer =
+    MatchBool (nat_lt MAX_INPUT_BYTES (length input)) ((left ≡ None) × (answer ≡ input_too_long)) (AnswersInput given manner input left answer)
 
 -- ---- what status 0 means
 

@@ -6,14 +6,14 @@ use Rattle.job_bodies.specs.FaultText.{fault_line}
 use Rattle.job_bodies.specs.declared.fault.PlanFault.{PlanFault}
 use Rattle.plan_text.specs.PlanOf.{plan_of}
 use Rattle.certificates.specs.Cert.{Cert}
-use Rattle.cert_text.specs.declared.document.TheConstants.{MOST_TEXT_BYTES}
+use Rattle.cert_text.specs.declared.document.TheConstants.{MAX_TEXT_BYTES}
 use Rattle.cert_text.specs.CertText.{cert_text}
 use Rattle.headline.specs.Accepted.{accepted}
 use Rattle.size_search.specs.declared.found.SizesFound.{SizesFound}
 use Rattle.ask_answers.specs.Finding.{IsOpen}
 use Rattle.cert_check.specs.Verdict.{Verdict}
 use Rattle.cert_check.specs.Check.{checked, IsSafeToRun}
-use Rattle.sizing_cli.specs.declared.limits.TheConstants.{MOST_INPUT_BYTES}
+use Rattle.sizing_cli.specs.declared.limits.TheConstants.{MAX_INPUT_BYTES}
 use Rattle.sizing_cli.specs.declared.status.Status.TheVariants.{Done, Refused}
 use Rattle.sizing_cli.specs.Answer.{Answer, fault, input_too_long}
 use Rattle.sizing_cli.specs.Bundle.{bundle_of}
@@ -52,7 +52,7 @@ pub record IsCertified (plan : List ℕ) (answer : Answer) : Type 0 where
 
 -- the certificate's text with its newline is too long to be read
 abbrev pub HasLongText : Cert → Type 0
-HasLongText cert = MOST_TEXT_BYTES < length (cert_text cert ++ 10 ∷ [])
+HasLongText cert = MAX_TEXT_BYTES < length (cert_text cert ++ 10 ∷ [])
 
 -- a certificate accepts the plan, and its text is too long
 pub record IsTooLong (plan : Plan) : Type 0 where
@@ -77,4 +77,4 @@ AnswersReading text (Ok plan) answer = AnswersPlan text plan answer
 -- to an input
 abbrev pub IsCertifyAnswer : List ℕ → Answer → Type 0
 IsCertifyAnswer input answer =
-    MatchBool (nat_lt MOST_INPUT_BYTES (length input)) (answer ≡ input_too_long) (AnswersReading (whole_lines input) (plan_of (whole_lines input)) answer)
+    MatchBool (nat_lt MAX_INPUT_BYTES (length input)) (answer ≡ input_too_long) (AnswersReading (whole_lines input) (plan_of (whole_lines input)) answer)

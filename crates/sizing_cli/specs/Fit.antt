@@ -1,13 +1,15 @@
 -- What `fit` may answer to an input: a relation, since nothing is said of which sizes are found.
-use Rattle.std.specs.Prelude.{◌≡◌, ◌⊎◌, ◌<◌, ℕ, nat_lt, ◌==◌, List, [], ◌∷◌, ◌++◌, length, codes, Result, Ok, Err, MatchBool}
+use Rattle.std.specs.Prelude.{◌≡◌, ◌⊎◌, ◌<◌, ℕ, nat_lt, ◌==◌, List, [], ◌∷◌, ◌++◌, length, codes, Result, Ok, Err, IsTrue, MatchBool}
 use Rattle.job_bodies.specs.Plan.{Plan}
 use Rattle.job_bodies.specs.FaultText.{fault_line}
 use Rattle.job_bodies.specs.declared.fault.PlanFault.{PlanFault}
-use Rattle.plan_text.specs.declared.document.TheConstants.{MOST_TEXT_BYTES}
+use Rattle.plan_text.specs.declared.document.TheConstants.{MAX_TEXT_BYTES}
 use Rattle.plan_text.specs.PlanOf.{plan_of}
 use Rattle.plan_writer.specs.PlanDocument.{IsPlanText}
 use Rattle.certificates.specs.Cert.{Cert}
 use Rattle.cert_text.specs.CertText.{cert_text}
+use Rattle.headline.specs.Accepted.{accepted}
+use Rattle.steady_certificates.specs.Steady.{steady_cert}
 use Rattle.size_search.specs.declared.found.NoSizes.{NoSizes}
 use Rattle.size_search.specs.declared.found.SizesFound.{SizesFound}
 use Rattle.size_search.specs.declared.found.SizesFound.TheVariants.{Found, NotFound}
@@ -17,7 +19,7 @@ use Rattle.size_lines.specs.Sizes.{changes, sizes_text}
 use Rattle.size_lines.specs.Cause.{no_sizes_text}
 use Rattle.command_line.specs.declared.command.Wanted.{Wanted}
 use Rattle.command_line.specs.declared.command.Wanted.TheVariants.{Sizes, Bundle}
-use Rattle.sizing_cli.specs.declared.limits.TheConstants.{MOST_INPUT_BYTES}
+use Rattle.sizing_cli.specs.declared.limits.TheConstants.{MAX_INPUT_BYTES}
 use Rattle.sizing_cli.specs.declared.status.Status.TheVariants.{Done, Refused}
 use Rattle.sizing_cli.specs.Answer.{Answer, fault, input_too_long, yes_or_no}
 use Rattle.sizing_cli.specs.Certify.{IsBundleWith, HasLongText}
@@ -41,7 +43,7 @@ told plan (NotFound cause) = no_sizes_answer plan cause
 pub record HasLongPlanText (plan : Plan) : Type 0 where
   pub text : List ℕ
   pub is_text : IsPlanText plan text
-  pub long : MOST_TEXT_BYTES < length text
+  pub long : MAX_TEXT_BYTES < length text
 
 -- the bundle of the text of the fitted plan, as it is written, and of the certificate: `check` says yes to it
 pub record IsBundleOf (fit : Plan) (cert : Cert) (text : List ℕ) : Type 0 where
@@ -64,11 +66,18 @@ AnswersFound Sizes plan found answer = answer ≡ told plan found
 AnswersFound Bundle plan (Found fit cert) answer = BundlesSizes fit cert answer
 AnswersFound Bundle plan (NotFound cause) answer = answer ≡ no_sizes_answer plan cause
 
--- to a plan: something was found that is so of the plan and that decides whether there are sizes, and it is answered
+-- no size is another one: some certificate accepts the plan as it is
+pub record IsAsDeclared (plan : Plan) (found : SizesFound) : Type 0 where
+  pub cert : Cert
+  pub is : found ≡ Found plan cert
+
+-- to a plan: something was found that is so of the plan and that decides whether there are sizes, and it is answered; where the
+-- steady certificate accepts the plan, no size is another one
 pub record AnswersPlan (wanted : Wanted) (plan : Plan) (answer : Answer) : Type 0 where
   pub found : SizesFound
   pub is_found : IsFound plan found
   pub is_decided : IsDecided plan found
+  pub unchanged : IsTrue (accepted plan (steady_cert plan)) → IsAsDeclared plan found
   pub answers : AnswersFound wanted plan found answer
 
 abbrev pub AnswersReading : Wanted → Result Plan PlanFault → Answer → Type 0
@@ -77,7 +86,7 @@ AnswersReading wanted (Ok plan) answer = AnswersPlan wanted plan answer
 
 -- to an input
 abbrev pub IsFitAnswer : Wanted → List ℕ → Answer → Type 0
-IsFitAnswer wanted input answer = MatchBool (nat_lt MOST_INPUT_BYTES (length input)) (answer ≡ input_too_long) (AnswersReading wanted (plan_of input) answer)
+IsFitAnswer wanted input answer = MatchBool (nat_lt MAX_INPUT_BYTES (length input)) (answer ≡ input_too_long) (AnswersReading wanted (plan_of input) answer)
 
 -- what status 0 means of a bundle: it is that of such sizes and of the certificate for which they are the least
 pub record IsFittedBundle (plan : Plan) (text : List ℕ) : Type 0 where

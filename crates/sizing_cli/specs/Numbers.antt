@@ -1,42 +1,43 @@
 -- The limits and the numbers of faults, written out: definitions and code read them from the constants that are named here.
 use Rattle.std.specs.Prelude.{◌≡◌}
 use Rattle.faults.specs.declared.number.TheConstants as fault
-use Rattle.job_bodies.specs.declared.limits.TheConstants.{MOST_POOLS, MOST_CLASSES, MOST_CLIENTS, MOST_ACTIONS, MOST_UNITS, MOST_NAME_BYTES}
-use Rattle.weights.specs.declared.limits.TheConstants.{MOST_WEIGHT}
+use Rattle.job_bodies.specs.declared.limits.TheConstants.{MAX_POOLS, MAX_CLASSES, MAX_CLIENT_KINDS, MAX_ACTIONS, MAX_SIZE, MAX_WORK, MAX_NAME_BYTES}
+use Rattle.weights.specs.declared.limits.TheConstants.{MAX_WEIGHT}
 use Rattle.plan_text.specs.declared.document.TheConstants as plan_text
 use Rattle.cert_text.specs.declared.document.TheConstants as cert_text
-use Rattle.event_lines.specs.declared.number.TheConstants.{MOST_NUMBER}
-use Rattle.locked_runner.specs.declared.limits.TheConstants.{MOST_RUN_CLIENTS, MOST_RUN_CARRIERS, MOST_RUN_EVENTS}
-use Rattle.command_line.specs.declared.command.TheConstants.{MOST_WORKERS, DEFAULT_WORKERS, MOST_ROUNDS, MOST_STATES}
-use Rattle.sizing_cli.specs.declared.limits.TheConstants.{MOST_INPUT_BYTES, MOST_EVENT_BYTES}
+use Rattle.line_words.specs.declared.number.TheConstants.{MAX_NUMBER}
+use Rattle.locked_runner.specs.declared.limits.TheConstants.{MAX_RUN_CLIENTS, MAX_RUN_CARRIERS, MAX_RUN_EVENTS}
+use Rattle.command_line.specs.declared.command.TheConstants.{MAX_WORKERS, DEFAULT_WORKERS, MAX_ROUNDS, MAX_STATES}
+use Rattle.sizing_cli.specs.declared.limits.TheConstants.{MAX_INPUT_BYTES, MAX_EVENT_BYTES}
 
 -- what a plan may have, and how large its numbers, and the weights of a certificate, may be
 pub record PlanLimitsAreStated : Type 0 where
-  pub pools : MOST_POOLS ≡ 64
-  pub classes : MOST_CLASSES ≡ 256
-  pub clients : MOST_CLIENTS ≡ 256
-  pub actions : MOST_ACTIONS ≡ 256
-  pub numbers : MOST_UNITS ≡ 1000000
-  pub name : MOST_NAME_BYTES ≡ 32
-  pub weight : MOST_WEIGHT ≡ 1000000000
+  pub pools : MAX_POOLS ≡ 64
+  pub classes : MAX_CLASSES ≡ 256
+  pub clients : MAX_CLIENT_KINDS ≡ 256
+  pub actions : MAX_ACTIONS ≡ 256
+  pub size : MAX_SIZE ≡ 1000000
+  pub work : MAX_WORK ≡ 1000000
+  pub name : MAX_NAME_BYTES ≡ 32
+  pub weight : MAX_WEIGHT ≡ 1000000000
 
 -- how long texts may be, and how large a number in a line of events
 pub record TextLimitsAreStated : Type 0 where
-  pub plan : plan_text.MOST_TEXT_BYTES ≡ 1048576
-  pub certificate : cert_text.MOST_TEXT_BYTES ≡ 1048576
-  pub events : MOST_EVENT_BYTES ≡ 1048576
-  pub input : MOST_INPUT_BYTES ≡ 2097155
-  pub number : MOST_NUMBER ≡ 1000000000
+  pub plan : plan_text.MAX_TEXT_BYTES ≡ 1048576
+  pub certificate : cert_text.MAX_TEXT_BYTES ≡ 1048576
+  pub events : MAX_EVENT_BYTES ≡ 1048576
+  pub input : MAX_INPUT_BYTES ≡ 2097155
+  pub number : MAX_NUMBER ≡ 1000000000
 
 -- how many threads a search may have, and has where it is not said, how many states, and what a run may have
 pub record RunLimitsAreStated : Type 0 where
-  pub workers : MOST_WORKERS ≡ 64
+  pub workers : MAX_WORKERS ≡ 64
   pub workers_unsaid : DEFAULT_WORKERS ≡ 4
-  pub rounds : MOST_ROUNDS ≡ 1000000
-  pub states : MOST_STATES ≡ 10000000
-  pub clients : MOST_RUN_CLIENTS ≡ 64
-  pub threads : MOST_RUN_CARRIERS ≡ 64
-  pub events : MOST_RUN_EVENTS ≡ 1000000
+  pub rounds : MAX_ROUNDS ≡ 1000000
+  pub states : MAX_STATES ≡ 10000000
+  pub clients : MAX_RUN_CLIENTS ≡ 64
+  pub threads : MAX_RUN_CARRIERS ≡ 64
+  pub events : MAX_RUN_EVENTS ≡ 1000000
 
 -- the numbers by which faults are told
 pub record FaultNumbersAreStated : Type 0 where

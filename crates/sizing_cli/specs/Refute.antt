@@ -14,7 +14,7 @@ use Rattle.witness_lines.specs.EventLines.{witness_lines}
 use Rattle.witness_lines.specs.Told.{IsTold}
 use Rattle.command_line.specs.declared.command.Shown.{Shown}
 use Rattle.command_line.specs.declared.command.Shown.TheVariants.{Story, Bundle}
-use Rattle.sizing_cli.specs.declared.limits.TheConstants.{MOST_INPUT_BYTES, MOST_EVENT_BYTES}
+use Rattle.sizing_cli.specs.declared.limits.TheConstants.{MAX_INPUT_BYTES, MAX_EVENT_BYTES}
 use Rattle.sizing_cli.specs.declared.status.Status.{Status}
 use Rattle.sizing_cli.specs.declared.status.Status.TheVariants.{Done, Refused, Undecided}
 use Rattle.sizing_cli.specs.Answer.{Answer, fault, input_too_long}
@@ -25,7 +25,7 @@ pub record HasCertificate (plan : Plan) : Type 0 where
   pub cert : Cert
   pub accepts : IsTrue (accepted plan cert)
 
--- the plan has this witness
+-- the plan has this witness, whose jobs, if it names some, are named in rising order
 abbrev pub IsWitnessOf : Plan → Witness → Type 0
 IsWitnessOf plan witness = IsWitness plan witness.events.items witness.ending
 
@@ -70,13 +70,13 @@ event_lines_of plan witness = lines_text plan (witness_lines witness)
 -- the plan's text, a line `%%`, and the lines of its events, which are not too long to be read
 pub record BundlesWitness (text : List ℕ) (plan : Plan) (witness : Witness) (answer : Answer) : Type 0 where
   pub bundle : answer.text ≡ text ++ (codes "%%" ++ 10 ∷ event_lines_of plan witness)
-  pub short : length (event_lines_of plan witness) ≤ MOST_EVENT_BYTES
+  pub short : length (event_lines_of plan witness) ≤ MAX_EVENT_BYTES
   pub status : answer.status ≡ Done
 
 abbrev pub ShowsWitness : Shown → List ℕ → Plan → Witness → Answer → Type 0
 ShowsWitness Story text plan witness answer = TellsWitness plan witness answer
 ShowsWitness Bundle text plan witness answer =
-    ((answer ≡ events_too_long) × (MOST_EVENT_BYTES < length (event_lines_of plan witness))) ⊎ BundlesWitness text plan witness answer
+    ((answer ≡ events_too_long) × (MAX_EVENT_BYTES < length (event_lines_of plan witness))) ⊎ BundlesWitness text plan witness answer
 
 -- the plan has a witness, and it is shown
 pub record Refutes (shown : Shown) (text : List ℕ) (plan : Plan) (answer : Answer) : Type 0 where
@@ -91,7 +91,7 @@ pub record IsWitnessBundle (input text : List ℕ) : Type 0 where
   pub witness : Witness
   pub is_witness : IsWitnessOf plan witness
   pub bundle : text ≡ whole_lines input ++ (codes "%%" ++ 10 ∷ event_lines_of plan witness)
-  pub short : length (event_lines_of plan witness) ≤ MOST_EVENT_BYTES
+  pub short : length (event_lines_of plan witness) ≤ MAX_EVENT_BYTES
 
 -- ---- the whole
 
@@ -107,4 +107,4 @@ AnswersReading states shown text (Ok plan) answer = AnswersPlan states shown tex
 -- to an input
 abbrev pub IsRefuteAnswer : ℕ → Shown → List ℕ → Answer → Type 0
 IsRefuteAnswer states shown input answer =
-    MatchBool (nat_lt MOST_INPUT_BYTES (length input)) (answer ≡ input_too_long) (AnswersReading states shown (whole_lines input) (plan_of (whole_lines input)) answer)
+    MatchBool (nat_lt MAX_INPUT_BYTES (length input)) (answer ≡ input_too_long) (AnswersReading states shown (whole_lines input) (plan_of (whole_lines input)) answer)

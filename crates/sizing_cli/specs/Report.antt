@@ -1,5 +1,5 @@
 -- What the program writes for an input: a function of the bytes that it reads.
-use Rattle.std.specs.Prelude.{ℕ, Bool, true, false, nat_lt, [], ◌∷◌, ◌++◌, codes, if◌then◌else◌, List, length, Option, Some, None, Result, Ok, Err}
+use Rattle.std.specs.Prelude.{ℕ, nat_lt, [], ◌∷◌, ◌++◌, codes, if◌then◌else◌, List, length, Option, Some, None, Result, Ok, Err}
 use Rattle.std.specs.Fmt.{decimal}
 use Rattle.job_bodies.specs.Plan.{Plan}
 use Rattle.job_bodies.specs.FaultText.{fault_line}
@@ -19,9 +19,9 @@ use Rattle.written_machine.specs.Reach.{start}
 use Rattle.run_histories.specs.RunNumbers.{jobs, units}
 use Rattle.locked_runner.specs.Limits.{is_too_large}
 use Rattle.event_lines.specs.EventLine.{Line, event_lines}
-use Rattle.command_line.specs.declared.command.Command.{Command}
-use Rattle.command_line.specs.declared.command.Command.TheVariants.{Replay, Check, Explain, Certify, Fit, Run, Refute, Ask}
-use Rattle.sizing_cli.specs.declared.limits.TheConstants.{MOST_INPUT_BYTES, MOST_EVENT_BYTES}
+use Rattle.command_line.specs.declared.command.Review.{Review}
+use Rattle.command_line.specs.declared.command.Review.TheVariants.{Replay, Check, Explain}
+use Rattle.sizing_cli.specs.declared.limits.TheConstants.{MAX_INPUT_BYTES, MAX_EVENT_BYTES}
 use Rattle.sizing_cli.specs.declared.status.Status.TheVariants.{Done, Refused}
 use Rattle.sizing_cli.specs.Answer.{Answer, fault, no_separator, input_too_long, bad_event, yes_or_no}
 use Rattle.sizing_cli.specs.Bundle.{Bundle, bundle_of}
@@ -35,7 +35,7 @@ replay_of_lines plan (Ok lines) = transcript plan (start plan) 1 lines
 
 -- the replay of the event lines on the plan, or the number of the first bad line, whatever comes of those before it
 abbrev pub replay : Plan → List ℕ → Answer
-replay plan second = if nat_lt MOST_EVENT_BYTES (length second) then input_too_long else replay_of_lines plan (event_lines plan second)
+replay plan second = if nat_lt MAX_EVENT_BYTES (length second) then input_too_long else replay_of_lines plan (event_lines plan second)
 
 -- ---- check
 
@@ -82,53 +82,34 @@ run_of_cert plan rounds (Err f) = fault (head f.number)
 run_of_cert plan rounds (Ok cert) = if accepted plan cert then run_of_accepted plan cert rounds else not_run
 
 -- the run of the plan with the certificate that the second part is
-abbrev pub run : Plan → ℕ → List ℕ → Answer
-run plan rounds second = run_of_cert plan rounds (cert_of second plan)
+abbrev pub run : ℕ → Plan → List ℕ → Answer
+run rounds plan second = run_of_cert plan rounds (cert_of second plan)
 
 -- ---- the whole
 
--- the command waits for nobody
-abbrev pub is_alone : Command → Bool
-is_alone Replay = true
-is_alone Check = true
-is_alone Explain = true
-is_alone (Certify workers) = false
-is_alone (Fit wanted) = false
-is_alone (Run rounds) = false
-is_alone (Refute states shown) = false
-is_alone (Ask given manner) = false
-
--- the command has a report
-abbrev pub has_report : Command → Bool
-has_report Replay = true
-has_report Check = true
-has_report Explain = true
-has_report (Certify workers) = false
-has_report (Fit wanted) = false
-has_report (Run rounds) = true
-has_report (Refute states shown) = false
-has_report (Ask given manner) = false
-
--- what stands where there is no report
-abbrev nothing : Answer
-nothing = record { text = []; status = Done }
-
-abbrev pub answer_of_plan : Command → List ℕ → Result Plan PlanFault → Answer
-answer_of_plan command second (Err f) = fault (fault_line f)
-answer_of_plan Replay second (Ok plan) = replay plan second
-answer_of_plan Check second (Ok plan) = check plan second
-answer_of_plan Explain second (Ok plan) = explain plan second
-answer_of_plan (Certify workers) second (Ok plan) = nothing
-answer_of_plan (Fit wanted) second (Ok plan) = nothing
-answer_of_plan (Run rounds) second (Ok plan) = run plan rounds second
-answer_of_plan (Refute states shown) second (Ok plan) = nothing
-answer_of_plan (Ask given manner) second (Ok plan) = nothing
-
 -- the plan's fault comes before what the second part has to say
-abbrev pub answer_of_bundle : Command → Option Bundle → Answer
-answer_of_bundle command None = no_separator
-answer_of_bundle command (Some bundle) = answer_of_plan command bundle.second (plan_of bundle.plan)
+abbrev pub answer_of_plan : (Plan → List ℕ → Answer) → List ℕ → Result Plan PlanFault → Answer
+answer_of_plan answers second (Err f) = fault (fault_line f)
+answer_of_plan answers second (Ok plan) = answers plan second
 
--- the answer to an input
-abbrev pub report : Command → List ℕ → Answer
-report command input = if nat_lt MOST_INPUT_BYTES (length input) then input_too_long else answer_of_bundle command (bundle_of input)
+abbrev pub answer_of_bundle : (Plan → List ℕ → Answer) → Option Bundle → Answer
+answer_of_bundle answers None = no_separator
+answer_of_bundle answers (Some bundle) = answer_of_plan answers bundle.second (plan_of bundle.plan)
+
+-- the answer to an input, where its plan and its second part are answered so
+abbrev pub answer_by : (Plan → List ℕ → Answer) → List ℕ → Answer
+answer_by answers input = if nat_lt MAX_INPUT_BYTES (length input) then input_too_long else answer_of_bundle answers (bundle_of input)
+
+-- what is said of a plan and of its second part
+abbrev pub answer_of : Review → Plan → List ℕ → Answer
+answer_of Replay plan second = replay plan second
+answer_of Check plan second = check plan second
+answer_of Explain plan second = explain plan second
+
+-- what is said of an input
+abbrev pub report : Review → List ℕ → Answer
+report review input = answer_by (answer_of review) input
+
+-- the answer of a run of so many rounds
+abbrev pub run_report : ℕ → List ℕ → Answer
+run_report rounds input = answer_by (run rounds) input

@@ -1,11 +1,13 @@
 -- The faults that end a call that serves, and how often one was answered.
-use Rattle.std.specs.Prelude.{ℕ, Bool, false, ◌==◌, ◌||◌, if◌then◌else◌, Result, Ok, Err}
+use Rattle.std.specs.Prelude.{ℕ, Bool, ◌==◌, ◌||◌, if◌then◌else◌, Result, Ok, Err}
 use Rattle.byte_streams.specs.declared.reading.InputError.{InputError}
 use Rattle.byte_streams.specs.declared.reading.InputError.TheVariants.{Memory, Fault}
 use Rattle.cert_search.specs.declared.finding.SearchFault.{SearchFault}
 use Rattle.cert_search.specs.declared.finding.SearchFault.TheVariants as search
 use Rattle.command_line.specs.declared.command.Command.{Command}
-use Rattle.command_line.specs.declared.command.Command.TheVariants.{Replay, Check, Explain, Certify, Fit, Run, Refute, Ask}
+use Rattle.command_line.specs.declared.command.Command.TheVariants.{Alone, OnThreads}
+use Rattle.command_line.specs.declared.command.Task.{Task}
+use Rattle.command_line.specs.declared.command.Task.TheVariants.{Certify, Fit, Run, Refute, Ask}
 use Rattle.faults.specs.declared.number.TheConstants.{MEMORY, STRANGE, MIXED, GATE, READ_FAILED, WRITE_FAILED}
 use Rattle.sizing_cli.specs.declared.status.Status.{Status}
 use Rattle.sizing_cli.specs.declared.status.ServeFault.{ServeFault}
@@ -38,11 +40,8 @@ is_of_search number = number == MEMORY || number == MIXED || number == GATE
 abbrev pub is_of_run : ℕ → Bool
 is_of_run number = number == STRANGE || is_of_search number
 
--- the answer of a command on threads ends with no fault of another number
-abbrev pub is_of_threads : Command → ℕ → Bool
-is_of_threads Replay number = false
-is_of_threads Check number = false
-is_of_threads Explain number = false
+-- the answer of a task ends with no fault of another number
+abbrev pub is_of_threads : Task → ℕ → Bool
 is_of_threads (Certify workers) number = is_of_search number
 is_of_threads (Fit wanted) number = is_of_search number
 is_of_threads (Run rounds) number = is_of_run number
@@ -51,4 +50,5 @@ is_of_threads (Ask given manner) number = is_of_search number
 
 -- a call that serves the command ends with no fault of another number
 abbrev pub is_known_of : Command → ℕ → Bool
-is_known_of command number = is_known number || is_of_threads command number
+is_known_of (Alone review) number = is_known number
+is_known_of (OnThreads task) number = is_known number || is_of_threads task number

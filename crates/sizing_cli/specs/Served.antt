@@ -1,32 +1,43 @@
 -- What is written for a command, and what it means.
-use Rattle.std.specs.Prelude.{◌≡◌, ℕ, List, Option, Ok, IfSome}
-use Rattle.std.specs.Io.KnownBytes.{Appends}
+use Rattle.std.specs.Prelude.{◌≡◌, ◌≢◌, ◌+◌, ℕ, List, Option, Result, Ok, IfOk, IfErr, IfSome, IsTrue}
+use Rattle.std.specs.Io.KnownBytes.{Appends, Keeps}
+use Rattle.byte_streams.specs.Reading.{ConsumesAtMost}
 use Rattle.byte_streams.specs.Writing.{AppendsFront}
+use Rattle.faults.specs.declared.number.TheConstants.{READ_FAILED, WRITE_FAILED}
 use Rattle.job_bodies.specs.Plan.{Plan}
 use Rattle.plan_text.specs.PlanOf.{plan_of}
 use Rattle.command_line.specs.declared.command.Command.{Command}
-use Rattle.command_line.specs.declared.command.Command.TheVariants.{Replay, Check, Explain, Certify, Fit, Run, Refute, Ask}
+use Rattle.command_line.specs.declared.command.Command.TheVariants.{Alone, OnThreads}
+use Rattle.command_line.specs.declared.command.Review.TheVariants.{Replay, Check, Explain}
+use Rattle.command_line.specs.declared.command.Task.{Task}
+use Rattle.command_line.specs.declared.command.Task.TheVariants.{Certify, Fit, Run, Refute, Ask}
 use Rattle.command_line.specs.declared.command.Wanted.TheVariants.{Sizes, Bundle}
 use Rattle.command_line.specs.declared.command.Shown.TheVariants as shown
+use Rattle.sizing_cli.specs.declared.limits.TheConstants.{MAX_INPUT_BYTES}
+use Rattle.sizing_cli.specs.declared.status.ServeFault.{ServeFault}
 use Rattle.sizing_cli.specs.declared.status.Status.{Status}
+use Rattle.sizing_cli.specs.declared.status.Status.TheVariants.{Done}
+use Rattle.sizing_cli.specs.ServeFault.{count_of, is_known_of}
 use Rattle.sizing_cli.specs.Answer.{Answer}
-use Rattle.sizing_cli.specs.Report.{report}
+use Rattle.sizing_cli.specs.Report.{report, run_report}
 use Rattle.sizing_cli.specs.SafeInput.{IsSafeInput, IsSafePlan}
 use Rattle.sizing_cli.specs.Certify.{IsCertifyAnswer, IsCertifiedBundle, whole_lines}
 use Rattle.sizing_cli.specs.Fit.{IsFitAnswer, IsFittedBundle}
 use Rattle.sizing_cli.specs.Refute.{IsRefuteAnswer, IsWitnessBundle}
-use Rattle.sizing_cli.specs.Ask.{IsAskAnswer, IsKept, IsSafeAsked}
+use Rattle.sizing_cli.specs.Ask.{IsAskAnswer, IsSafeAsked}
+
+-- the answer is one that the task may come to
+abbrev pub IsTaskAnswer : Task → List ℕ → Answer → Type 0
+IsTaskAnswer (Certify workers) input answer = IsCertifyAnswer input answer
+IsTaskAnswer (Fit wanted) input answer = IsFitAnswer wanted input answer
+IsTaskAnswer (Run rounds) input answer = answer ≡ run_report rounds input
+IsTaskAnswer (Refute states shown) input answer = IsRefuteAnswer states shown input answer
+IsTaskAnswer (Ask given manner) input answer = (left : Option (List ℕ)) × IsAskAnswer given manner input left answer
 
 -- the answer is one that the command may give to the input
 abbrev pub IsAnswer : Command → List ℕ → Answer → Type 0
-IsAnswer Replay input answer = answer ≡ report Replay input
-IsAnswer Check input answer = answer ≡ report Check input
-IsAnswer Explain input answer = answer ≡ report Explain input
-IsAnswer (Certify workers) input answer = IsCertifyAnswer input answer
-IsAnswer (Fit wanted) input answer = IsFitAnswer wanted input answer
-IsAnswer (Run rounds) input answer = answer ≡ report (Run rounds) input
-IsAnswer (Refute states shown) input answer = IsRefuteAnswer states shown input answer
-IsAnswer (Ask given manner) input answer = IsAskAnswer given manner input answer
+IsAnswer (Alone review) input answer = answer ≡ report review input
+IsAnswer (OnThreads task) input answer = IsTaskAnswer task input answer
 
 -- such an answer was written, and the status is its
 pub record WritesAnswer (command : Command) (input : List ℕ) (status : Status) (old new : Option (List ℕ)) : Type 0 where
@@ -65,18 +76,61 @@ pub record WritesWitness (input : List ℕ) (old new : Option (List ℕ)) : Type
 -- what status 0 means: of `check`, `run`, `ask`, the sizes of `fit` and the story of `refute`, that the input's plan is safe; of `certify`
 -- and the bundle of `fit`, that what was written is a plan that is; of the bundle of `refute`, that what was written has a witness
 abbrev pub MeansSafe : Command → List ℕ → Option (List ℕ) → Option (List ℕ) → Type 0
-MeansSafe Replay input old new = Unit {0}
-MeansSafe Check input old new = IsSafeInput input
-MeansSafe Explain input old new = Unit {0}
-MeansSafe (Certify workers) input old new = WritesCertified input old new
-MeansSafe (Fit Sizes) input old new = IsSafePlan input
-MeansSafe (Fit Bundle) input old new = WritesFitted input old new
-MeansSafe (Run rounds) input old new = IsSafeInput input
-MeansSafe (Refute states shown.Story) input old new = IsSafePlan (whole_lines input)
-MeansSafe (Refute states shown.Bundle) input old new = WritesWitness input old new
-MeansSafe (Ask given manner) input old new = IsSafeAsked given input
+MeansSafe (Alone Replay) input old new = Unit {0}
+MeansSafe (Alone Check) input old new = IsSafeInput input
+MeansSafe (Alone Explain) input old new = Unit {0}
+MeansSafe (OnThreads (Certify workers)) input old new = WritesCertified input old new
+MeansSafe (OnThreads (Fit Sizes)) input old new = IsSafePlan input
+MeansSafe (OnThreads (Fit Bundle)) input old new = WritesFitted input old new
+MeansSafe (OnThreads (Run rounds)) input old new = IsSafeInput input
+MeansSafe (OnThreads (Refute states shown.Story)) input old new = IsSafePlan (whole_lines input)
+MeansSafe (OnThreads (Refute states shown.Bundle)) input old new = WritesWitness input old new
+MeansSafe (OnThreads (Ask given manner)) input old new = IsSafeAsked given input
 
--- what `ask` leaves behind is the certificate of the plan that is asked about
-abbrev pub IsLeftBy : Command → List ℕ → Option (List ℕ) → Type 0
-IsLeftBy (Ask given manner) input left = IfSome left (IsKept given input)
-IsLeftBy _ input left = Unit {0}
+-- an answer of `ask` leaves what it leaves
+abbrev pub IsLeftBy : Task → List ℕ → Answer → Option (List ℕ) → Type 0
+IsLeftBy (Certify workers) input answer left = Unit {0}
+IsLeftBy (Fit wanted) input answer left = Unit {0}
+IsLeftBy (Run rounds) input answer left = Unit {0}
+IsLeftBy (Refute states shown) input answer left = Unit {0}
+IsLeftBy (Ask given manner) input answer left = IsAskAnswer given manner input left answer
+
+-- an answer was written that leaves this, and the status is its
+pub record WritesLeaving (task : Task) (input : List ℕ) (status : Status) (left old new : Option (List ℕ)) : Type 0 where
+  pub answer : Answer
+  pub is_left : IsLeftBy task input answer left
+  pub written : Appends old new answer.text
+  pub status_is : status ≡ answer.status
+
+-- what is left behind what was written: of `ask` the certificate that the answer rests on, where it says that the plan is safe
+abbrev pub Leaves : Command → List ℕ → Status → Option (List ℕ) → Option (List ℕ) → Option (List ℕ) → Type 0
+Leaves (Alone review) input status left old new = Unit {0}
+Leaves (OnThreads task) input status left old new = WritesLeaving task input status left old new
+
+-- ---- the whole
+
+-- a source or a sink before and behind a call: the bytes that are to come of it or that it was given, where they are known, and how
+-- often it failed
+pub record Passage : Type 0 where
+  pub before : Option (List ℕ)
+  pub after : Option (List ℕ)
+  pub failed_before : ℕ
+  pub failed_after : ℕ
+
+-- that of a stream of which these are the bytes and the failures
+abbrev pub passage : {X : Type 0} → (X → Option (List ℕ)) → (X → ℕ) → X → X → Passage
+passage bytes failures old new = record { before = bytes old; after = bytes new; failed_before = failures old; failed_after = failures new }
+
+-- a call reads an input, and writes the answer of the command to it. Nothing was written where it ends with a fault, unless that is
+-- the sink's: a front of the answer was, then
+pub record Serves (command : Command) (source sink : Passage) (result : Result Status ServeFault) : Type 0 where
+  -- what was written, and the status, are an answer that the command may give to what was read
+  pub answered : IfOk result (λ status. IfSome source.before (λ input. WritesAnswer command input status sink.before sink.after))
+  pub front : IfErr result (λ fault. fault.number ≡ WRITE_FAILED → IfSome source.before (λ input. WritesFront command input sink.before sink.after))
+  pub nothing : IfErr result (λ fault. fault.number ≢ WRITE_FAILED → Keeps sink.before sink.after)
+  pub safe : IfOk result (λ status. status ≡ Done → IfSome source.before (λ input. MeansSafe command input sink.before sink.after))
+  -- no fault comes but those of the command, and 60 and 61 just where the source and the sink failed
+  pub known : IfErr result (λ fault. IsTrue (is_known_of command fault.number))
+  pub read_failed : source.failed_after ≡ source.failed_before + count_of READ_FAILED result
+  pub write_failed : sink.failed_after ≡ sink.failed_before + count_of WRITE_FAILED result
+  pub at_most : ConsumesAtMost source.before source.after (MAX_INPUT_BYTES + 1)

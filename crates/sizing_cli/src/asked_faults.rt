@@ -6,11 +6,11 @@ ghost use Rattle.sizing_cli.specs.Ask as spec;
 use crate::Status;
 use crate::answer::Answer;
 use crate::output::Output;
-use ask_answers::{fault_json, faults_json};
 use cert_text::CertFault;
 use command_line::Form;
 use faults::number::{CERT_TOO_LONG, NOT_JSON, VERSION, WEIGHT_TOO_LARGE};
 use job_bodies::PlanFault;
+use json_answers::{fault_json, faults_json};
 use plan_advice::{Faults, faults_of, push_faults};
 use std::alloc::{AllocError, Global};
 
@@ -109,6 +109,6 @@ fn words_for(number: u8) -> &'static str {
         WEIGHT_TOO_LARGE => "a number of the certificate is above 1000000000",
         CERT_TOO_LONG => "the certificate has more than 1048576 bytes",
         _ =>
-            "the certificate is none for this plan: its lists are to be as long as the plan's; where pools, classes, clients or bodies changed, write a new one by `sizing ask --certificate FILE PLAN`",
+            "the certificate is none for this plan: its keys are to be those of a certificate, its lists as long as the plan's, its numbers whole and not below 0; where pools, classes, clients or bodies changed, write a new one by `sizing ask --certificate FILE PLAN`",
     }
 }

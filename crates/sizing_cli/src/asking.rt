@@ -1,6 +1,6 @@
 //! The one question: whether the sizes that a plan declares are safe, from the bytes of a plan to the answer.
 
-ghost use Rattle.std.specs.Prelude.{◌≡◌, IfOk, IfErr, IfSome, IsTrue, None, option_map};
+ghost use Rattle.std.specs.Prelude.{◌≡◌, IfOk, IfErr, IsTrue, None, option_map};
 ghost use Rattle.plan_text.specs.PlanOf.{plan_of};
 ghost use Rattle.cert_text.specs.CertOf.{cert_of};
 ghost use Rattle.sizing_cli.specs.Ask as spec;
@@ -12,15 +12,13 @@ use crate::asked_faults::{cert_fault_answer, faults_answer};
 use crate::bundle::bundle_of;
 use crate::finding::finding_of;
 use crate::found_answer::answer_of;
-use crate::limits::MOST_INPUT_BYTES;
+use crate::limits::MAX_INPUT_BYTES;
 use crate::output::Output;
-use cert_text::read_cert;
+use crate::texts::{cert_in, plan_in};
 use certificates::Cert;
 use command_line::{Given, Manner};
-use faults::number::MEMORY;
-use job_bodies::{Plan, PlanFault};
-use plan_text::read_plan;
-use std::alloc::{AllocError, Global};
+use job_bodies::Plan;
+use std::alloc::Global;
 use std::sync::Wait;
 use std::thread::Threads;
 
@@ -57,11 +55,10 @@ pub fn ask<R: Threads + Wait + Sync>(
     file: &str,
     input: &[u8],
 ) -> Result<Replied, ServeFault>
-    ensures answer { IfOk result (λ replied. spec.IsAskAnswer given manner input.now replied.output) }
-    ensures kept { IfOk result (λ replied. IfSome replied.certificate (λ kept. spec.IsKept given input.now kept.items)) }
+    ensures answer { IfOk result (λ replied. spec.IsAskAnswer given manner input.now (spec.left_in replied) replied.output) }
     ensures fault { IfErr result (λ fault. IsTrue (is_of_search fault.number)) }
 {
-    if input.len() > MOST_INPUT_BYTES {
+    if input.len() > MAX_INPUT_BYTES {
         return Ok(Replied::without(Output::of(input_too_long(alloc)?)));
     }
     match given {
@@ -77,8 +74,7 @@ fn ask_bundle<R: Threads + Wait + Sync>(
     file: &str,
     input: &[u8],
 ) -> Result<Replied, ServeFault>
-    ensures answer { IfOk result (λ replied. spec.AnswersInput Given.WithCertificate manner input.now replied.output) }
-    ensures kept { IfOk result (λ replied. IfSome replied.certificate (λ kept. spec.IsCertificateAsked Given.WithCertificate input.now kept.items)) }
+    ensures answer { IfOk result (λ replied. spec.AnswersInput Given.WithCertificate manner input.now (spec.left_in replied) replied.output) }
     ensures fault { IfErr result (λ fault. IsTrue (is_of_search fault.number)) }
 {
     match bundle_of(input) {
@@ -95,13 +91,11 @@ fn ask_text<R: Threads + Wait + Sync>(
     text: &[u8],
     cert: Option<&[u8]>,
 ) -> Result<Replied, ServeFault>
-    ensures answer { IfOk result (λ replied. spec.AnswersReading manner (option_map (λ cert. cert.now) cert.entry) (plan_of text.now) replied.output) }
-    ensures kept { IfOk result (λ replied. IfSome replied.certificate (λ kept. spec.IsCertificateRead (plan_of text.now) kept.items)) }
+    ensures answer { IfOk result (λ replied. spec.AnswersReading manner (option_map (λ cert. cert.now) cert.entry) (plan_of text.now) (spec.left_in replied) replied.output) }
     ensures fault { IfErr result (λ fault. IsTrue (is_of_search fault.number)) }
 {
-    match read_plan(alloc, text) {
+    match plan_in(alloc, text)? {
         Ok(plan) => ask_plan(rt, alloc, manner, file, text, &plan, cert),
-        Err(fault) if fault == PlanFault::at_text(MEMORY) => Err(ServeFault::from(AllocError)),
         Err(fault) => Ok(Replied::without(faults_answer(alloc, manner.form, file, text, fault)?)),
     }
 }
@@ -116,8 +110,7 @@ fn ask_plan<R: Threads + Wait + Sync>(
     plan: &Plan,
     cert: Option<&[u8]>,
 ) -> Result<Replied, ServeFault>
-    ensures answer { IfOk result (λ replied. spec.AnswersGiven manner (option_map (λ cert. cert.now) cert.entry) plan.now replied.output) }
-    ensures kept { IfOk result (λ replied. IfSome replied.certificate (λ kept. spec.IsCertificateOf plan.now kept.items)) }
+    ensures answer { IfOk result (λ replied. spec.AnswersGiven manner (option_map (λ cert. cert.now) cert.entry) plan.now (spec.left_in replied) replied.output) }
     ensures fault { IfErr result (λ fault. IsTrue (is_of_search fault.number)) }
 {
     match cert {
@@ -135,13 +128,11 @@ fn ask_with<R: Threads + Wait + Sync>(
     plan: &Plan,
     cert: &[u8],
 ) -> Result<Replied, ServeFault>
-    ensures answer { IfOk result (λ replied. spec.AnswersCert manner plan.now (cert_of cert.now plan.now) replied.output) }
-    ensures kept { IfOk result (λ replied. IfSome replied.certificate (λ kept. spec.IsCertificateOf plan.now kept.items)) }
+    ensures answer { IfOk result (λ replied. spec.AnswersCert manner plan.now (cert_of cert.now plan.now) (spec.left_in replied) replied.output) }
     ensures fault { IfErr result (λ fault. IsTrue (is_of_search fault.number)) }
 {
-    match read_cert(alloc, cert, plan) {
+    match cert_in(alloc, cert, plan)? {
         Ok(cert) => ask_found(rt, alloc, manner, file, text, plan, Some(cert)),
-        Err(fault) if fault.number == MEMORY => Err(ServeFault::from(AllocError)),
         Err(fault) => Ok(Replied::without(cert_fault_answer(alloc, manner.form, file, fault)?)),
     }
 }
@@ -156,19 +147,10 @@ fn ask_found<R: Threads + Wait + Sync>(
     plan: &Plan,
     cert: Option<Cert>,
 ) -> Result<Replied, ServeFault>
-    ensures answer { IfOk result (λ replied. spec.AnswersPlan manner plan.now replied.output) }
-    ensures kept { IfOk result (λ replied. IfSome replied.certificate (λ kept. spec.IsCertificateOf plan.now kept.items)) }
+    ensures answer { IfOk result (λ replied. spec.AnswersPlan manner plan.now cert (spec.left_in replied) replied.output) }
     ensures fault { IfErr result (λ fault. IsTrue (is_of_search fault.number)) }
 {
-    let is_given = cert.is_some();
-    let (finding, holds) = finding_of(rt, alloc, plan, cert)?;
-    Ok(answer_of(
-        alloc,
-        manner,
-        file,
-        text,
-        plan,
-        &finding,
-        is_given && !holds,
-    )?)
+    let (finding, is_stale) = finding_of(rt, alloc, plan, cert)?;
+    let replied = answer_of(alloc, manner, file, text, plan, &finding, is_stale)?;
+    Ok(replied)
 }

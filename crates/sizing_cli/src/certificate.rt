@@ -39,12 +39,12 @@ pub(crate) fn certificate_of<R: Threads + Wait + Sync>(
 {
     match search(rt, alloc, plan, workers, &AtOnce)? {
         Some(cert) => Ok(Some(cert)),
-        None => Ok(unchanged(alloc, plan)?),
+        None => Ok(certificate_of_sizes(alloc, plan)?),
     }
 }
 
 /// What the search for sizes finds, where it changes none.
-fn unchanged(alloc: Global, plan: &Plan) -> Result<Option<Cert>, AllocError>
+fn certificate_of_sizes(alloc: Global, plan: &Plan) -> Result<Option<Cert>, AllocError>
     requires { accepted plan.now (steady_cert plan.now) ≡ false }
     ensures accepted { IfOk result (λ found. IfSome found (λ cert. IsTrue (accepted plan.now cert))) }
     ensures none { IfOk result (λ found. IfNone found (IsUncertified plan.now)) }

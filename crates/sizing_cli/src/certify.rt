@@ -7,13 +7,13 @@ ghost use Rattle.sizing_cli.specs.ServeFault.{is_of_search};
 use crate::answer::{Answer, input_too_long, plan_fault};
 use crate::certificate::certificate_of;
 use crate::certified_bundle::certified_bundle;
-use crate::limits::MOST_INPUT_BYTES;
+use crate::limits::MAX_INPUT_BYTES;
 use crate::output::Output;
+use crate::texts::plan_in;
 use crate::{ServeFault, Status};
-use cert_text::{MOST_TEXT_BYTES, write_cert};
-use faults::number::{MEMORY, MIXED};
-use job_bodies::{Plan, PlanFault};
-use plan_text::read_plan;
+use cert_text::{MAX_TEXT_BYTES, write_cert};
+use faults::number::MIXED;
+use job_bodies::Plan;
 use std::alloc::{AllocError, Global};
 use std::sync::Wait;
 use std::thread::Threads;
@@ -44,13 +44,12 @@ pub fn certify<R: Threads + Wait + Sync>(
     ensures answer { IfOk result (spec.IsCertifyAnswer input.items) }
     ensures fault { IfErr result (λ fault. IsTrue (is_of_search fault.number)) }
 {
-    if input.len() > MOST_INPUT_BYTES {
+    if input.len() > MAX_INPUT_BYTES {
         return Ok(Output::of(input_too_long(alloc)?));
     }
     let text = whole_lines(input)?;
-    match read_plan(alloc, &text) {
+    match plan_in(alloc, &text)? {
         Ok(plan) => certify_plan(rt, alloc, workers, &plan, text),
-        Err(fault) if fault == PlanFault::at_text(MEMORY) => Err(ServeFault::from(AllocError)),
         Err(fault) => Ok(Output::of(plan_fault(alloc, fault)?)),
     }
 }
@@ -84,7 +83,7 @@ fn certify_plan<R: Threads + Wait + Sync>(
     ensures fault { IfErr result (λ fault. IsTrue (is_of_search fault.number)) }
 {
     match found_text(rt, alloc, workers, plan)? {
-        Found::Text(cert) => bundled(rt, alloc, workers, text, &cert),
+        Found::Text(cert) => bundle(rt, alloc, workers, text, &cert),
         Found::Nothing => Ok(Output::of(none_found(alloc)?)),
         Found::TooLong => Ok(Output::of(text_too_long(alloc)?)),
     }
@@ -106,7 +105,7 @@ fn found_text<R: Threads + Wait + Sync>(
         return Ok(Found::Nothing);
     };
     let mut text = write_cert(alloc, &cert)?;
-    if text.len() >= MOST_TEXT_BYTES {
+    if text.len() >= MAX_TEXT_BYTES {
         return Ok(Found::TooLong);
     }
     text.extend_from_slice(b"\n")?;
@@ -114,7 +113,7 @@ fn found_text<R: Threads + Wait + Sync>(
 }
 
 /// The bundle of the two texts, where `check` says yes to it.
-fn bundled<R: Threads + Wait + Sync>(
+fn bundle<R: Threads + Wait + Sync>(
     rt: &R,
     alloc: Global,
     workers: usize,

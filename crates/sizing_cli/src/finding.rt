@@ -1,9 +1,11 @@
 //! What is found of a plan with its declared sizes.
 
-ghost use Rattle.std.specs.Prelude.{◌≡◌, IfOk, IfErr, IsTrue, false};
+ghost use Rattle.std.specs.Prelude.{◌≡◌, IfOk, IfErr, IsTrue, false, not};
 ghost use Rattle.headline.specs.Accepted.{accepted};
 ghost use Rattle.steady_certificates.specs.Steady.{steady_cert};
 ghost use Rattle.ask_answers.specs.Finding.{IsFinding, IsKnown};
+ghost use Rattle.ask_answers.specs.declared.finding.Finding.TheVariants.{Safe};
+ghost use Rattle.sizing_cli.specs.Ask as spec;
 ghost use Rattle.sizing_cli.specs.ServeFault.{is_of_search};
 
 use crate::ServeFault;
@@ -27,8 +29,8 @@ const WORKERS: usize = DEFAULT_WORKERS as usize;
 /// How many states a witness is looked for in.
 const STATES: usize = 100_000;
 
-/// What is found of a plan, and whether it is by the certificate that is given: that one is looked at first, then one is
-/// searched, then a witness, and then other sizes.
+/// What is found of a plan, and whether a certificate that is given is stale: that one is looked at first, then one is searched,
+/// then a witness, and then other sizes.
 ///
 /// # Errors
 ///
@@ -40,17 +42,36 @@ pub(crate) fn finding_of<R: Threads + Wait + Sync>(
     cert: Option<Cert>,
 ) -> Result<(Finding, bool), ServeFault>
     ensures finding { IfOk result (λ found. IsFinding plan.now found.0) }
+    ensures rests { IfOk result (λ found. spec.RestsOnGiven plan.now cert found.0) }
+    ensures stale { IfOk result (λ found. found.1 ≡ spec.is_stale plan.now cert) }
     ensures fault { IfErr result (λ fault. IsTrue (is_of_search fault.number)) }
 {
-    if let Some(cert) = cert {
-        if accepts(plan, &cert) {
-            return Ok((Finding::Safe(cert), true));
-        }
+    match cert {
+        Some(cert) => finding_with(rt, alloc, plan, cert),
+        None => Ok((search_finding(rt, alloc, plan)?, false)),
     }
-    Ok((searched(rt, alloc, plan)?, false))
 }
 
-fn searched<R: Threads + Wait + Sync>(
+/// The same where this certificate is given.
+fn finding_with<R: Threads + Wait + Sync>(
+    rt: &R,
+    alloc: Global,
+    plan: &Plan,
+    cert: Cert,
+) -> Result<(Finding, bool), ServeFault>
+    ensures finding { IfOk result (λ found. IsFinding plan.now found.0) }
+    ensures rests { IfOk result (λ found. IsTrue (accepted plan.now cert) → found.0 ≡ Safe cert) }
+    ensures stale { IfOk result (λ found. found.1 ≡ not (accepted plan.now cert)) }
+    ensures fault { IfErr result (λ fault. IsTrue (is_of_search fault.number)) }
+{
+    if accepts(plan, &cert) {
+        Ok((Finding::Safe(cert), false))
+    } else {
+        Ok((search_finding(rt, alloc, plan)?, true))
+    }
+}
+
+fn search_finding<R: Threads + Wait + Sync>(
     rt: &R,
     alloc: Global,
     plan: &Plan,

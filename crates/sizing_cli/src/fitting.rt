@@ -1,22 +1,26 @@
 //! The search for sizes, from the bytes of a plan to the lines of its sizes or to a bundle.
 
 ghost use Rattle.std.specs.Prelude.{◌≡◌, IfOk, IfErr, IsTrue};
+ghost use Rattle.headline.specs.Accepted.{accepted};
+ghost use Rattle.steady_certificates.specs.Steady.{steady_cert};
+ghost use Rattle.size_search.specs.Sized.{IsFound};
+ghost use Rattle.size_search.specs.Decided.{IsDecided};
 ghost use Rattle.sizing_cli.specs.Fit as spec;
 ghost use Rattle.sizing_cli.specs.ServeFault.{is_of_search};
 
 use crate::answer::{Answer, input_too_long, plan_fault};
 use crate::at_once::AtOnce;
 use crate::certified_bundle::certified_bundle;
-use crate::limits::MOST_INPUT_BYTES;
+use crate::limits::MAX_INPUT_BYTES;
 use crate::output::Output;
+use crate::texts::plan_in;
 use crate::{ServeFault, Status};
 use cert_search::search;
 use cert_text::write_cert;
 use certificates::Cert;
 use command_line::{DEFAULT_WORKERS, Wanted};
-use faults::number::{MEMORY, MIXED};
-use job_bodies::{Plan, PlanFault};
-use plan_text::read_plan;
+use faults::number::MIXED;
+use job_bodies::Plan;
 use plan_writer::write_plan;
 use size_lines::{push_no_sizes, push_sizes};
 use size_search::{NoSizes, SizesFound, search_sizes};
@@ -42,12 +46,11 @@ pub fn fit<R: Threads + Wait + Sync>(
     ensures answer { IfOk result (spec.IsFitAnswer wanted input.now) }
     ensures fault { IfErr result (λ fault. IsTrue (is_of_search fault.number)) }
 {
-    if input.len() > MOST_INPUT_BYTES {
+    if input.len() > MAX_INPUT_BYTES {
         return Ok(Output::of(input_too_long(alloc)?));
     }
-    match read_plan(alloc, input) {
+    match plan_in(alloc, input)? {
         Ok(plan) => fit_plan(rt, alloc, wanted, &plan),
-        Err(fault) if fault == PlanFault::at_text(MEMORY) => Err(ServeFault::from(AllocError)),
         Err(fault) => Ok(Output::of(plan_fault(alloc, fault)?)),
     }
 }
@@ -61,16 +64,30 @@ fn fit_plan<R: Threads + Wait + Sync>(
     ensures answer { IfOk result (spec.AnswersPlan wanted plan.now) }
     ensures fault { IfErr result (λ fault. IsTrue (is_of_search fault.number)) }
 {
-    let first = search(rt, alloc, plan, WORKERS, &AtOnce)?;
-    let found = search_sizes(alloc, plan, first)?;
+    let found = sizes_of(rt, alloc, plan)?;
     match wanted {
-        Wanted::Sizes => Ok(Output::of(told(alloc, plan, &found)?)),
+        Wanted::Sizes => Ok(Output::of(answer_of(alloc, plan, &found)?)),
         Wanted::Bundle => bundle(rt, alloc, plan, &found),
     }
 }
 
-/// What is told of what the search found.
-fn told(alloc: Global, plan: &Plan, found: &SizesFound) -> Result<Answer, AllocError>
+/// The sizes that are found; those of the plan, where a certificate is found for it as it is.
+fn sizes_of<R: Threads + Wait + Sync>(
+    rt: &R,
+    alloc: Global,
+    plan: &Plan,
+) -> Result<SizesFound, ServeFault>
+    ensures found { IfOk result (IsFound plan.now) }
+    ensures decided { IfOk result (IsDecided plan.now) }
+    ensures unchanged { IfOk result (λ found. IsTrue (accepted plan.now (steady_cert plan.now)) → spec.IsAsDeclared plan.now found) }
+    ensures fault { IfErr result (λ fault. IsTrue (is_of_search fault.number)) }
+{
+    let first = search(rt, alloc, plan, WORKERS, &AtOnce)?;
+    Ok(search_sizes(alloc, plan, first)?)
+}
+
+/// The answer to what the search found.
+fn answer_of(alloc: Global, plan: &Plan, found: &SizesFound) -> Result<Answer, AllocError>
     ensures { IfOk result (λ answer. answer ≡ spec.told plan.now found.now) }
 {
     match found {
@@ -130,11 +147,11 @@ fn bundle_of_sizes<R: Threads + Wait + Sync>(
     ensures fault { IfErr result (λ fault. IsTrue (is_of_search fault.number)) }
 {
     let fit_text = write_plan(alloc, fit)?;
-    if fit_text.len() > plan_text::MOST_TEXT_BYTES {
+    if fit_text.len() > plan_text::MAX_TEXT_BYTES {
         return Ok(Output::of(text_too_long(alloc)?));
     }
     let mut cert_text = write_cert(alloc, cert)?;
-    if cert_text.len() >= cert_text::MOST_TEXT_BYTES {
+    if cert_text.len() >= cert_text::MAX_TEXT_BYTES {
         return Ok(Output::of(text_too_long(alloc)?));
     }
     cert_text.extend_from_slice(b"\n")?;

@@ -1,6 +1,7 @@
 //! The answer to a plan by what was found of it.
 
-ghost use Rattle.std.specs.Prelude.{◌≡◌, ◌++◌, IfOk, IfSome, string_bytes};
+ghost use Rattle.std.specs.Prelude.{◌≡◌, ◌++◌, IfOk, IsTrue, option_map, string_bytes};
+ghost use Rattle.headline.specs.Accepted.{accepted};
 ghost use Rattle.plan_advice.specs.Oddities.{warned_of};
 ghost use Rattle.job_bodies.specs.Plan.{Plan as PlanValue};
 ghost use Rattle.ask_answers.specs.Finding.{IsFinding};
@@ -10,10 +11,12 @@ use crate::Status;
 use crate::answer::Answer;
 use crate::asking::Replied;
 use crate::output::Output;
-use ask_answers::{Finding, finding_json, needed_places, picture_of, told};
-use cert_text::{MOST_TEXT_BYTES, write_cert};
+use ask_answers::{Finding, needed_places, picture_of, told};
+use cert_text::{MAX_TEXT_BYTES, write_cert};
+use certificates::Cert;
 use command_line::{Form, Manner};
 use job_bodies::Plan;
+use json_answers::finding_json;
 use plan_advice::{Oddity, Warning, push_warnings, warnings_of};
 use plan_places::Place;
 use std::alloc::{AllocError, Global};
@@ -30,12 +33,12 @@ pub(crate) fn answer_of(
     is_stale: bool,
 ) -> Result<Replied, AllocError>
     requires { IsFinding plan.now finding.now }
-    ensures answer { IfOk result (λ replied. spec.AnswersPlan manner plan.now replied.output) }
-    ensures kept { IfOk result (λ replied. IfSome replied.certificate (λ kept. spec.IsCertificateOf plan.now kept.items)) }
+    ensures answer { IfOk result (λ replied. spec.AnswersFinding manner plan.now finding.now is_stale replied.output) }
+    ensures leaves { IfOk result (λ replied. spec.IsLeftOf plan.now finding.now (spec.left_in replied)) }
 {
     let warnings = warnings_for(alloc, text, plan, finding, is_stale)?;
-    let answer = answer_with(alloc, manner, file, plan, finding, &warnings)?;
-    let certificate = kept(alloc, finding)?;
+    let answer = answer_with(alloc, manner, file, plan, finding, is_stale, &warnings)?;
+    let certificate = certificate_text(alloc, finding)?;
     Ok(Replied {
         output: Output::of(answer),
         certificate,
@@ -50,7 +53,7 @@ fn warnings_for(
     finding: &Finding,
     is_stale: bool,
 ) -> Result<Vec<Warning>, AllocError>
-    ensures { IfOk result (λ warnings. spec.AreWarnings plan.now warnings.items) }
+    ensures { IfOk result (λ warnings. spec.AreWarnings plan.now finding.now is_stale warnings.items) }
 {
     let needed = needed_of(alloc, plan, finding)?;
     let warnings = warnings_of(alloc, text, plan, &needed)?;
@@ -59,11 +62,9 @@ fn warnings_for(
 }
 
 /// How many places each pool needs, as far as a certificate says it.
-fn needed_of(
-    alloc: Global,
-    plan: &Plan,
-    finding: &Finding,
-) -> Result<Vec<Option<u64>>, AllocError> {
+fn needed_of(alloc: Global, plan: &Plan, finding: &Finding) -> Result<Vec<Option<u64>>, AllocError>
+    ensures { IfOk result (λ needed. needed.items ≡ spec.needed_of plan.now finding.now) }
+{
     match finding {
         Finding::Safe(cert) => needed_places(alloc, plan, cert),
         Finding::NotSafe(_, _) | Finding::NotDecided(_) => Ok(Vec::new(alloc)),
@@ -91,11 +92,11 @@ fn answer_with(
     file: &str,
     plan: &Plan,
     finding: &Finding,
+    is_stale: bool,
     warnings: &[Warning],
 ) -> Result<Answer, AllocError>
-    requires finding { IsFinding plan.now finding.now }
-    requires warnings { spec.AreWarnings plan.now warnings.now }
-    ensures { IfOk result (spec.AnswersPlan manner plan.now) }
+    requires { spec.AreWarnings plan.now finding.now is_stale warnings.now }
+    ensures { IfOk result (spec.AnswersFinding manner plan.now finding.now is_stale) }
 {
     let text = text_of(alloc, manner.form, file, plan, finding, warnings)?;
     let status = status_of(manner.strict, warnings, finding);
@@ -151,15 +152,23 @@ fn status_of(strict: bool, warnings: &[Warning], finding: &Finding) -> Status
     }
 }
 
-/// The text of the certificate that the answer rests on, with a newline, where it is not too long to be read.
-fn kept(alloc: Global, finding: &Finding) -> Result<Option<Vec<u8>>, AllocError>
-    ensures { IfOk result (λ kept. IfSome kept (λ text. (plan : PlanValue) → IsFinding plan finding.now → spec.IsCertificateOf plan text.items)) }
+/// The text of the certificate that a finding rests on.
+fn certificate_text(alloc: Global, finding: &Finding) -> Result<Option<Vec<u8>>, AllocError>
+    ensures { IfOk result (λ left. (plan : PlanValue) → IsFinding plan finding.now → spec.IsLeftOf plan finding.now (option_map (λ text. text.items) left)) }
 {
-    let Finding::Safe(cert) = finding else {
-        return Ok(None);
-    };
+    match finding {
+        Finding::Safe(cert) => readable_text(alloc, cert),
+        Finding::NotSafe(_, _) => Ok(None),
+        Finding::NotDecided(_) => Ok(None),
+    }
+}
+
+/// The text of a certificate, with a newline, where it is not too long to be read.
+fn readable_text(alloc: Global, cert: &Cert) -> Result<Option<Vec<u8>>, AllocError>
+    ensures { IfOk result (λ left. (plan : PlanValue) → IsTrue (accepted plan cert.now) → spec.IsTextLeft plan cert.now (option_map (λ text. text.items) left)) }
+{
     let mut text = write_cert(alloc, cert)?;
-    if text.len() >= MOST_TEXT_BYTES {
+    if text.len() >= MAX_TEXT_BYTES {
         return Ok(None);
     }
     text.extend_from_slice(b"\n")?;

@@ -6,10 +6,9 @@ ghost use Rattle.sizing_cli.specs.Report as spec;
 
 use crate::Status;
 use crate::answer::{Answer, cert_fault};
+use crate::texts::cert_in;
 use cert_check::{push_verdict, verdict};
-use cert_text::read_cert;
 use certificates::Cert;
-use faults::number::MEMORY;
 use job_bodies::Plan;
 use refusal_notes::push_explanation;
 use std::alloc::{AllocError, Global};
@@ -18,9 +17,8 @@ use std::alloc::{AllocError, Global};
 pub fn check(alloc: Global, plan: &Plan, cert: &[u8]) -> Result<Answer, AllocError>
     ensures { IfOk result (λ answer. answer ≡ spec.check plan.now cert.now) }
 {
-    match read_cert(alloc, cert, plan) {
+    match cert_in(alloc, cert, plan)? {
         Ok(cert) => verdict_on(alloc, plan, &cert),
-        Err(fault) if fault.number == MEMORY => Err(AllocError),
         Err(fault) => cert_fault(alloc, fault),
     }
 }
@@ -42,9 +40,8 @@ fn verdict_on(alloc: Global, plan: &Plan, cert: &Cert) -> Result<Answer, AllocEr
 pub fn explain(alloc: Global, plan: &Plan, cert: &[u8]) -> Result<Answer, AllocError>
     ensures { IfOk result (λ answer. answer ≡ spec.explain plan.now cert.now) }
 {
-    match read_cert(alloc, cert, plan) {
+    match cert_in(alloc, cert, plan)? {
         Ok(cert) => explanation_of(alloc, plan, &cert),
-        Err(fault) if fault.number == MEMORY => Err(AllocError),
         Err(fault) => cert_fault(alloc, fault),
     }
 }

@@ -24,6 +24,7 @@ mod report;
 mod running;
 mod serving;
 mod status;
+mod texts;
 mod transcript;
 mod witness;
 
@@ -31,12 +32,12 @@ pub use alone::serve_alone;
 pub use asking::{Replied, ask};
 pub use byte_streams::{IoFault, MemorySink, MemorySource, Sink, Source, StdSink, StdSource};
 pub use certify::whole_lines;
-pub use command_line::{Command, Form, Given, Manner, Shown, Wanted, read_words};
+pub use command_line::{Command, Form, Given, Manner, Review, Shown, Task, Wanted, read_words};
 pub use laws::{
     a_yes_means_safe, inputs_split_at_the_last_separator, limits_and_fault_numbers_are_stated,
     no_bundle_without_a_separator,
 };
-pub use limits::{MOST_EVENT_BYTES, MOST_INPUT_BYTES};
+pub use limits::{MAX_EVENT_BYTES, MAX_INPUT_BYTES};
 pub use output::Output;
 pub use serving::{serve, serve_named};
 pub use status::{ServeFault, Status};

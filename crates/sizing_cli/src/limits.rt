@@ -1,6 +1,6 @@
 //! The limits of an input.
 
 /// The most bytes of a whole input. One byte more is read, to see that there are more.
-pub const MOST_INPUT_BYTES: usize = 2_097_155;
+pub const MAX_INPUT_BYTES: usize = 2_097_155;
 /// The most bytes of the event lines of a replay.
-pub const MOST_EVENT_BYTES: usize = 1_048_576;
+pub const MAX_EVENT_BYTES: usize = 1_048_576;

@@ -8,14 +8,13 @@ ghost use Rattle.sizing_cli.specs.ServeFault.{is_of_search};
 use crate::answer::{Answer, input_too_long, plan_fault};
 use crate::certificate::certificate_of;
 use crate::certify::whole_lines;
-use crate::limits::{MOST_EVENT_BYTES, MOST_INPUT_BYTES};
+use crate::limits::{MAX_EVENT_BYTES, MAX_INPUT_BYTES};
 use crate::output::Output;
+use crate::texts::plan_in;
 use crate::witness::{Sought, witness_of};
 use crate::{ServeFault, Status};
 use command_line::{DEFAULT_WORKERS, Shown};
-use faults::number::MEMORY;
-use job_bodies::{Plan, PlanFault};
-use plan_text::read_plan;
+use job_bodies::Plan;
 use plan_witnesses::Witness;
 use std::alloc::{AllocError, Global};
 use std::sync::Wait;
@@ -41,13 +40,12 @@ pub fn refute<R: Threads + Wait + Sync>(
     ensures answer { IfOk result (spec.IsRefuteAnswer states shown input.items) }
     ensures fault { IfErr result (λ fault. IsTrue (is_of_search fault.number)) }
 {
-    if input.len() > MOST_INPUT_BYTES {
+    if input.len() > MAX_INPUT_BYTES {
         return Ok(Output::of(input_too_long(alloc)?));
     }
     let text = whole_lines(input)?;
-    match read_plan(alloc, &text) {
+    match plan_in(alloc, &text)? {
         Ok(plan) => refute_plan(rt, alloc, states, shown, &plan, text),
-        Err(fault) if fault == PlanFault::at_text(MEMORY) => Err(ServeFault::from(AllocError)),
         Err(fault) => Ok(Output::of(plan_fault(alloc, fault)?)),
     }
 }
@@ -98,13 +96,13 @@ fn answer_of(
 {
     let Sought { witness, states } = sought;
     match witness {
-        Some(witness) => refuted(alloc, shown, plan, &witness, text),
+        Some(witness) => show(alloc, shown, plan, &witness, text),
         None => Ok(Output::of(not_decided(alloc, shown, states)?)),
     }
 }
 
-/// The witness, as it is wanted.
-fn refuted(
+/// Shows the witness as it is wanted.
+fn show(
     alloc: Global,
     shown: Shown,
     plan: &Plan,
@@ -140,7 +138,7 @@ fn bundle(
 {
     let mut events = String::new(alloc);
     push_event_lines(&mut events, plan, witness)?;
-    if events.len() > MOST_EVENT_BYTES {
+    if events.len() > MAX_EVENT_BYTES {
         return Ok(Output::of(events_too_long(alloc)?));
     }
     text.extend_from_slice(b"%%\n")?;

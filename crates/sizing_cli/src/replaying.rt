@@ -4,7 +4,7 @@ ghost use Rattle.std.specs.Prelude.{◌≡◌, IfOk};
 ghost use Rattle.sizing_cli.specs.Report as spec;
 
 use crate::answer::{Answer, input_too_long};
-use crate::limits::MOST_EVENT_BYTES;
+use crate::limits::MAX_EVENT_BYTES;
 use crate::transcript::replay_lines;
 use event_lines::EventLines;
 use job_bodies::Plan;
@@ -15,7 +15,7 @@ use std::alloc::{AllocError, Global};
 pub fn replay(alloc: Global, plan: &Plan, lines: &[u8]) -> Result<Answer, AllocError>
     ensures { IfOk result (λ answer. answer ≡ spec.replay plan.now lines.now) }
 {
-    if lines.len() > MOST_EVENT_BYTES {
+    if lines.len() > MAX_EVENT_BYTES {
         return input_too_long(alloc);
     }
     replay_lines(alloc, plan, EventLines::new(plan, lines))

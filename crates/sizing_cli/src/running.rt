@@ -1,18 +1,17 @@
 //! A run of a plan with its certificate, from the bytes of an input to the line of its numbers.
 
 ghost use Rattle.std.specs.Prelude.{◌≡◌, IfOk, IfErr, IsTrue, Ok};
-ghost use Rattle.command_line.specs.declared.command.Command.TheVariants.{Run};
 ghost use Rattle.sizing_cli.specs.Report as spec;
 ghost use Rattle.sizing_cli.specs.ServeFault.{is_of_run};
 
 use crate::answer::{Answer, cert_fault, too_large};
 use crate::at_once::AtOnce;
 use crate::input::read_input;
+use crate::texts::cert_in;
 use crate::{ServeFault, Status};
 use cert_check::Certified;
-use cert_text::read_cert;
 use certificates::Cert;
-use faults::number::{MEMORY, RUN_TOO_LARGE};
+use faults::number::RUN_TOO_LARGE;
 use job_bodies::Plan;
 use locked_runner::run;
 use readings::ReadError;
@@ -32,7 +31,7 @@ pub fn run_report<R: Threads + Wait + Sync>(
     rounds: u64,
     input: &[u8],
 ) -> Result<Answer, ServeFault>
-    ensures answer { IfOk result (λ answer. answer ≡ spec.report (Run rounds) input.now) }
+    ensures answer { IfOk result (λ answer. answer ≡ spec.run_report rounds input.now) }
     ensures fault { IfErr result (λ fault. IsTrue (is_of_run fault.number)) }
 {
     match read_input(alloc, input) {
@@ -49,12 +48,11 @@ fn run_plan<R: Threads + Wait + Sync>(
     plan: Plan,
     cert: &[u8],
 ) -> Result<Answer, ServeFault>
-    ensures answer { IfOk result (λ answer. answer ≡ spec.run plan rounds cert.now) }
+    ensures answer { IfOk result (λ answer. answer ≡ spec.run rounds plan cert.now) }
     ensures fault { IfErr result (λ fault. IsTrue (is_of_run fault.number)) }
 {
-    match read_cert(alloc, cert, &plan) {
+    match cert_in(alloc, cert, &plan)? {
         Ok(cert) => run_with(rt, alloc, rounds, plan, cert),
-        Err(fault) if fault.number == MEMORY => Err(ServeFault::from(AllocError)),
         Err(fault) => Ok(cert_fault(alloc, fault)?),
     }
 }

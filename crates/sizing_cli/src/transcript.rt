@@ -40,7 +40,7 @@ pub fn replay_lines(
             is_over = is_last(reply);
         }
     }
-    ended(answer, &world)
+    finish(answer, &world)
 }
 
 /// Lets the event of the line happen, or answers its question.
@@ -74,7 +74,7 @@ fn is_last(reply: Reply) -> bool
 }
 
 /// Ends the answer with the numbers of refusals and unfinished jobs.
-fn ended(mut answer: Answer, world: &World) -> Result<Answer, AllocError>
+fn finish(mut answer: Answer, world: &World) -> Result<Answer, AllocError>
     ensures { IfOk result (λ whole. IsEnded world.now.view answer whole) }
 {
     push_summary(&mut answer.text, world.refusals(), world.unfinished())?;

@@ -26,14 +26,14 @@ pub(crate) fn witness_of(alloc: Global, plan: &Plan, states: usize) -> Result<So
     let searched = search_witness(alloc, plan, states)?;
     let states = searched.states;
     let witness = match searched.found {
-        Some(found) => confirmed_of(alloc, plan, found)?,
+        Some(found) => confirm(alloc, plan, found)?,
         None => None,
     };
     Ok(Sought { witness, states })
 }
 
 /// The witness that was found, where it is one.
-fn confirmed_of(alloc: Global, plan: &Plan, found: Found) -> Result<Option<Witness>, AllocError>
+fn confirm(alloc: Global, plan: &Plan, found: Found) -> Result<Option<Witness>, AllocError>
     ensures { IfOk result (λ witness. IfSome witness (IsWitnessOf plan.now)) }
 {
     let standing = if found.members.is_empty() {

@@ -65,3 +65,8 @@ pub safely_known : (result : Result Status WordsFault) (known : Option (List ℕ
     → IfOk result (λ status. status ≡ Done → P text) → IfOk result (λ status. status ≡ Done → IfSome known P)
 safely_known (Ok status) known text P same holds = λ done. of_known known text P same (holds done)
 safely_known (Err fault) known text P same holds = tt
+
+pub failed_known : (result : Result Status WordsFault) (known : Option (List ℕ)) (text : List ℕ) (P : WordsFault → List ℕ → Type 0) → IfSome known (λ whole. text ≡ whole)
+    → IfErr result (λ fault. P fault text) → IfErr result (λ fault. IfSome known (P fault))
+failed_known (Ok status) known text P same holds = tt
+failed_known (Err fault) known text P same holds = of_known known text (P fault) same holds

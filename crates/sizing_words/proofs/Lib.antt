@@ -1,2 +1,3 @@
 mod JoinedTexts
 mod KnownTexts
+mod WrittenBefore

@@ -2,10 +2,10 @@
 use Rattle.std.specs.Prelude.{◌≡◌, ℕ, ◌+◌, false, ◌++◌, List, ◌∷◌, take, codes, Option, Some, None, if◌then◌else◌, option_and_then, option_map}
 use Rattle.std.specs.Str.{bytes_eq}
 use Rattle.clap.specs.Words.{Text}
-use Rattle.sizing_cli.specs.Bundle.{Bundle, bundle_of}
+use Rattle.sizing_cli.specs.Bundle.{bundle_of}
 use Rattle.sizing_cli.specs.Certify.{whole_lines}
 use Rattle.sizing_cli.specs.Laws.{has_separator}
-use Rattle.sizing_cli.specs.declared.limits.TheConstants.{MOST_INPUT_BYTES}
+use Rattle.sizing_cli.specs.declared.limits.TheConstants.{MAX_INPUT_BYTES}
 
 -- the bundle of a plan's text and a second text
 abbrev pub joined : List ℕ → List ℕ → List ℕ
@@ -18,7 +18,7 @@ JoinedTextsSplitAgain = (plan second : List ℕ) → has_separator second ≡ fa
 
 -- as much of a text as is read: of one that is too long, enough to see it
 abbrev pub front : List ℕ → List ℕ
-front = take (MOST_INPUT_BYTES + 1)
+front = take (MAX_INPUT_BYTES + 1)
 
 -- the name, where it is not that of standard input
 abbrev pub not_input : Text → Option Text

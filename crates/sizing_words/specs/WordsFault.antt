@@ -1,12 +1,13 @@
 -- Why the words of a command line got no answer.
 use Rattle.std.specs.Prelude.{◌≡◌, ◌≢◌, ◌⊎◌, ℕ, Bool, true, false, ◌==◌, ◌||◌, List, Option, Some, None, IfSome, IsTrue, is_some}
 use Rattle.clap.specs.Words.{HasKind, Text, kind_of}
-use Rattle.clap.specs.declared.error.Error.{Error}
 use Rattle.clap.specs.declared.error.kind.ErrorKind.TheVariants.{OutOfMemory}
 use Rattle.command_line.specs.Command.{certificate_of, command_of, faults_of, files_of}
 use Rattle.command_line.specs.declared.command.Command.{Command}
 use Rattle.faults.specs.declared.number.TheConstants.{MEMORY, READ_FAILED, WRITE_FAILED}
 use Rattle.sizing_cli.specs.ServeFault.{is_known_of}
+use Rattle.sizing_cli.specs.Served.{WritesAnswer, WritesFront}
+use Rattle.sizing_cli.specs.declared.status.Status.{Status}
 use Rattle.sizing_words.specs.Texts.{file_named}
 use Rattle.sizing_words.specs.declared.fault.WordsFault.{WordsFault}
 use Rattle.sizing_words.specs.declared.fault.WordsFault.TheVariants.{Words, NoCommand, InputTwice, Unread, Unwritten, Served}
@@ -83,3 +84,13 @@ IsFaultOf words (Words error) = HasKind (faults_of words) error
 IsFaultOf words NoCommand = command_of words ≡ None
 IsFaultOf words (Unwritten name) = certificate_of words ≡ Some name.now
 IsFaultOf words fault = IfSome (command_of words) (λ command. IsOfTexts command (files_of words) fault)
+
+-- what was written before the fault: a front of an answer where the sink failed, and a whole one where only the file of the
+-- certificate did
+abbrev pub IsWrittenBefore : WordsFault → Command → List ℕ → Option (List ℕ) → Option (List ℕ) → Type 0
+IsWrittenBefore (Words error) command input old new = Unit {0}
+IsWrittenBefore NoCommand command input old new = Unit {0}
+IsWrittenBefore InputTwice command input old new = Unit {0}
+IsWrittenBefore (Unread name) command input old new = Unit {0}
+IsWrittenBefore (Unwritten name) command input old new = (status : Status) × WritesAnswer command input status old new
+IsWrittenBefore (Served fault) command input old new = fault.number ≡ WRITE_FAILED → WritesFront command input old new

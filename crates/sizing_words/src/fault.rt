@@ -15,7 +15,8 @@ const USAGE: u8 = 2;
 /// The exit status where there is no answer.
 const NO_ANSWER: u8 = 3;
 
-/// Why the words of a command line got no answer. Nothing was written then, unless the sink failed.
+/// Why the words of a command line got no answer. Nothing was written then, but where the sink failed, or the file of the
+/// certificate.
 #[derive(Debug, Drop)]
 pub enum WordsFault<'a> {
     /// `clap` refuses them, or they ask for help. Its `Display` is `clap`'s own text for the user.

@@ -2,18 +2,19 @@
 
 ghost use Rattle.std.specs.Prelude.{◌≡◌, ◌≢◌, ℕ, IfOk, IfErr, IfSome, map, take, option_map, [], is_some, true, false, None};
 ghost use Rattle.std.specs.Io.KnownBytes.{Keeps};
-ghost use Rattle.command_line.specs.Command.{IsInRange, command_of, faults_of, files_asked, files_of};
-ghost use Rattle.sizing_cli.specs.Served.{MeansSafe, WritesAnswer};
+ghost use Rattle.command_line.specs.Command.{IsInRange, certificate_of, command_of, faults_of, files_asked, files_of};
+ghost use Rattle.sizing_cli.specs.Served.{Leaves, MeansSafe, WritesAnswer};
 ghost use Rattle.command_line.specs.declared.command.Command.{Command as CommandValue};
+ghost use Rattle.sizing_words.specs.Kept.{IsKept, LeavesKept};
 ghost use Rattle.sizing_words.specs.Texts as spec;
-ghost use Rattle.sizing_words.specs.WordsFault.{IsFaultOf, IsOfFile, IsOfReading, IsOfTexts, IsUnwritten, is_of_sink};
+ghost use Rattle.sizing_words.specs.WordsFault.{IsFaultOf, IsOfFile, IsOfReading, IsOfTexts, IsUnwritten, IsWrittenBefore, is_of_sink};
 
 use crate::fault::WordsFault;
 use crate::joining::joined;
 use crate::text_files::TextFiles;
 use byte_streams::{InputError, MemorySource, Sink, Source, read_up_to};
 use command_line::{Asked, Command};
-use sizing_cli::{MOST_INPUT_BYTES, ServeFault, Status, read_words, serve_named};
+use sizing_cli::{MAX_INPUT_BYTES, ServeFault, Status, read_words, serve_named};
 use std::alloc::Global;
 use std::sync::Wait;
 use std::thread::Threads;
@@ -46,8 +47,14 @@ pub fn serve_words<'a, R: Threads + Wait + Sync, F: TextFiles, S: Source, K: Sin
     ensures named { IfOk result (λ _. (is_some (command_of (map (λ word. word.now) words.now)) ≡ true) × (faults_of (map (λ word. word.now) words.now) ≡ [])) }
     ensures answered { IfOk result (λ status. IfSome (command_of (map (λ word. word.now) words.now)) (λ command. IfSome (spec.input_named (F.content files.now) (S.remaining input.old) (files_of (map (λ word. word.now) words.now))) (λ text. WritesAnswer command text status (K.written sink.old) (K.written sink.new)))) }
     ensures safe { IfOk result (λ status. status ≡ Status.Done → IfSome (command_of (map (λ word. word.now) words.now)) (λ command. IfSome (spec.input_named (F.content files.now) (S.remaining input.old) (files_of (map (λ word. word.now) words.now))) (λ text. MeansSafe command text (K.written sink.old) (K.written sink.new)))) }
+
+    // The file that the words name for a certificate was made of the text of the one that the answer rests on.
+    ensures kept { IfOk result (λ status. IfSome (command_of (map (λ word. word.now) words.now)) (λ command. IfSome (spec.input_named (F.content files.now) (S.remaining input.old) (files_of (map (λ word. word.now) words.now))) (λ text. LeavesKept (F.made files.now) (certificate_of (map (λ word. word.now) words.now)) command text status (K.written sink.old) (K.written sink.new)))) }
     ensures fault { IfErr result (IsFaultOf (map (λ word. word.now) words.now)) }
     ensures nothing { IfErr result (λ fault. is_of_sink fault ≡ false → Keeps (K.written sink.old) (K.written sink.new)) }
+
+    // Where the sink failed, it has a front of such an answer; where the file of the certificate did, it has the whole answer.
+    ensures before { IfErr result (λ fault. IfSome (command_of (map (λ word. word.now) words.now)) (λ command. IfSome (spec.input_named (F.content files.now) (S.remaining input.old) (files_of (map (λ word. word.now) words.now))) (λ text. IsWrittenBefore fault command text (K.written sink.old) (K.written sink.new)))) }
 {
     let Some(asked) = read_words(alloc, words)? else {
         return Err(WordsFault::NoCommand);
@@ -64,6 +71,7 @@ fn keep<'a, F: TextFiles>(
     name: Option<&'a str>,
     found: &Option<Vec<u8>>,
 ) -> Result<(), WordsFault<'a>>
+    ensures kept { IfOk result (λ _. IsKept (F.made files.now) (option_map (λ name. name.now) name.entry) (option_map (λ text. text.items) found.now)) }
     ensures fault { IfErr result (IsUnwritten (option_map (λ name. name.now) name.entry)) }
     ensures behind { IfErr result (λ fault. is_of_sink fault ≡ true) }
 {
@@ -92,8 +100,10 @@ fn serve_asked<'a, R: Threads + Wait + Sync, F: TextFiles, S: Source, K: Sink>(
     requires { IsInRange asked.command }
     ensures answered { IfOk result (λ status. IfSome (spec.input_named (F.content files.now) (S.remaining input.old) (files_asked asked.entry)) (λ text. WritesAnswer asked.entry.command text status (K.written sink.old) (K.written sink.new))) }
     ensures safe { IfOk result (λ status. status ≡ Status.Done → IfSome (spec.input_named (F.content files.now) (S.remaining input.old) (files_asked asked.entry)) (λ text. MeansSafe asked.entry.command text (K.written sink.old) (K.written sink.new))) }
+    ensures left { IfOk result (λ status. IfSome (spec.input_named (F.content files.now) (S.remaining input.old) (files_asked asked.entry)) (λ text. Leaves asked.entry.command text status (option_map (λ text. text.items) found.new) (K.written sink.old) (K.written sink.new))) }
     ensures fault { IfErr result (IsOfTexts asked.entry.command (files_asked asked.entry)) }
     ensures nothing { IfErr result (λ fault. is_of_sink fault ≡ false → Keeps (K.written sink.old) (K.written sink.new)) }
+    ensures before { IfErr result (λ fault. IfSome (spec.input_named (F.content files.now) (S.remaining input.old) (files_asked asked.entry)) (λ text. IsWrittenBefore fault asked.entry.command text (K.written sink.old) (K.written sink.new))) }
 {
     match asked.second {
         Some(second) => {
@@ -139,8 +149,10 @@ fn serve_text<'a, R: Threads + Wait + Sync, K: Sink>(
     requires { IsInRange command }
     ensures answered { IfOk result (λ status. WritesAnswer command text.now status (K.written sink.old) (K.written sink.new)) }
     ensures safe { IfOk result (λ status. status ≡ Status.Done → MeansSafe command text.now (K.written sink.old) (K.written sink.new)) }
+    ensures left { IfOk result (λ status. Leaves command text.now status (option_map (λ text. text.items) found.new) (K.written sink.old) (K.written sink.new)) }
     ensures known { IfErr result (IsOfTexts command (None, None)) }
     ensures nothing { IfErr result (λ fault. is_of_sink fault ≡ false → Keeps (K.written sink.old) (K.written sink.new)) }
+    ensures before { IfErr result (λ fault. IsWrittenBefore fault command text.now (K.written sink.old) (K.written sink.new)) }
 {
     let mut source = MemorySource::new(text);
     Ok(serve_named(rt, alloc, command, shown, found, &mut source, sink)?)
@@ -181,7 +193,7 @@ fn read_input<'a, S: Source>(alloc: Global, input: &mut S) -> Result<Vec<u8>, Wo
     ensures text { IfOk result (λ text. IfSome (S.remaining input.old) (λ known. text.items ≡ spec.front known)) }
     ensures fault { IfErr result IsOfReading }
 {
-    match read_up_to(alloc, input, MOST_INPUT_BYTES + 1) {
+    match read_up_to(alloc, input, MAX_INPUT_BYTES + 1) {
         Ok(text) => Ok(text),
         Err(error) => Err(WordsFault::Served(ServeFault::from(error))),
     }
@@ -196,7 +208,7 @@ fn read_file<'a, F: TextFiles>(
     ensures text { IfOk result (λ text. IfSome (F.content files.now name.now) (λ known. text.items ≡ spec.front known)) }
     ensures fault { IfErr result (IsOfFile name.now) }
 {
-    match files.read(alloc, name, MOST_INPUT_BYTES + 1) {
+    match files.read(alloc, name, MAX_INPUT_BYTES + 1) {
         Ok(text) => Ok(text),
         Err(InputError::Fault) => Err(WordsFault::Unread(name)),
         Err(error) => Err(WordsFault::Served(ServeFault::from(error))),

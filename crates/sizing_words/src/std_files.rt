@@ -23,6 +23,8 @@ impl<'a, R: Files> StdFiles<'a, R> {
 impl<R: Files> TextFiles for StdFiles<'_, R> {
     ghost content = { λ _ _. None };
 
+    ghost made = { λ _ _ _. Unit {0} };
+
     fn read(&self, alloc: Global, name: &str, limit: usize) -> Result<Vec<u8>, InputError> {
         match File::open(self.files, name) {
             Ok(file) => read_up_to(alloc, &mut StdSource::new(file), limit),

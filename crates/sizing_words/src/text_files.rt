@@ -10,6 +10,9 @@ pub trait TextFiles {
     // The bytes of the file of this name, where they are known.
     ghost content: { Self → List ℕ → Option (List ℕ) };
 
+    // A file of this name was made of these bytes.
+    ghost made: { Self → List ℕ → List ℕ → Type 0 };
+
     /// Reads the first bytes of a file, at most `limit`.
     ///
     /// # Errors
@@ -24,5 +27,6 @@ pub trait TextFiles {
     /// # Errors
     ///
     /// [`IoFault`] where that fails. The file may then have a front of them.
-    fn write(&self, name: &str, bytes: &[u8]) -> Result<(), IoFault>;
+    fn write(&self, name: &str, bytes: &[u8]) -> Result<(), IoFault>
+        ensures { IfOk result (λ _. made self.now name.now bytes.now) };
 }

@@ -6,7 +6,7 @@ use Rattle.std.proofs.lemmas.Option.{slice_get-get_or}
 use Rattle.job_bodies.specs.declared.action.Action.{Action}
 use Rattle.job_bodies.specs.declared.action.Action.TheVariants.{Work, Submit, Get}
 use Rattle.job_bodies.specs.Plan.{Plan, submits, class_of_submit, class_got, is_got}
-use Rattle.job_bodies.proofs.Bodies.{IsLawful}
+use Rattle.job_bodies.specs.Lawful.{IsLawful}
 use Rattle.weights.specs.Vector.{Vector, queued_weight, done_weight}
 use Rattle.steady_certificates.specs.Steady.{open_weight, most, weight_at, weights_from}
 use Rattle.steady_certificates.proofs.Sums.{le-greatest}

@@ -11,7 +11,7 @@ use Rattle.numbered_lists.proofs.Members.{In-map_from, list_all_from_In}
 use Rattle.job_bodies.specs.Plan.{Pool, Class, Client, Plan, no_class, no_client, class_at, client_at}
 use Rattle.job_bodies.specs.WellFormed.{IsWellFormed}
 use Rattle.job_bodies.proofs.Bodies.{IsOrdered, ordered}
-use Rattle.weights.specs.declared.limits.TheConstants.{MOST_WEIGHT}
+use Rattle.weights.specs.declared.limits.TheConstants.{MAX_WEIGHT}
 use Rattle.weights.specs.Vector.{Vector, class_weights, client_weights, has_shape, has_small_numbers, is_small, vector_fits}
 use Rattle.pool_ranks.specs.Ranks.{ranks_fit}
 use Rattle.certificates.specs.Cert.{PoolCert, pool_cert_fits, cert_fits}
@@ -89,7 +89,7 @@ level_is_small plan well none n at =
     let inside = slice_get_within (steady_levels plan) place.0 n place.1 in
     let low = shallow plan (ordered plan well) none place.0 (omega (arith, long, inside)) in
     let is : get_or (steady_levels plan) place.0 0 ≡ n = get_or_from_slice_get (steady_levels plan) place.0 n 0 place.1 in
-    le-leb n MOST_WEIGHT (omega (arith, low, is, well.few_classes))
+    le-leb n MAX_WEIGHT (omega (arith, low, is, well.few_classes))
 
 ranks_are_fit : (plan : Plan) → IsWellFormed plan → NoCircle plan → ranks_fit plan (steady_ranks plan) ≡ true
 ranks_are_fit plan well none =

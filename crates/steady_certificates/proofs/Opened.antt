@@ -8,7 +8,7 @@ use Rattle.numbered_lists.proofs.Members.{In-slice_get, In-from_list_any, list_a
 use Rattle.job_bodies.specs.declared.action.Action.{Action}
 use Rattle.job_bodies.specs.declared.action.Action.TheVariants.{Work, Submit, Get}
 use Rattle.job_bodies.specs.Plan.{Plan, submits, class_of_submit, class_got, gets, is_got}
-use Rattle.job_bodies.proofs.Bodies.{IsLawful}
+use Rattle.job_bodies.specs.Lawful.{IsLawful}
 use Rattle.weights.specs.Vector.{Vector, queued_weight}
 use Rattle.steady_certificates.specs.Steady.{sum_below, submitted_weight, awaited_weight, open_weight}
 use Rattle.steady_certificates.proofs.Sums.{sum_below-agree, sum_below_zero, sum_below-but_one}

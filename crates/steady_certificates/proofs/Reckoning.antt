@@ -4,10 +4,10 @@ use Rattle.std.proofs.lemmas.List.{reverse-append, length-drop}
 use Rattle.std.proofs.lemmas.Option.{slice_get-get_or}
 use Rattle.job_bodies.specs.declared.action.Action.{Action}
 use Rattle.job_bodies.specs.declared.action.Action.TheVariants.{Work, Submit, Get}
-use Rattle.job_bodies.specs.declared.limits.TheConstants.{MOST_ACTIONS}
+use Rattle.job_bodies.specs.declared.limits.TheConstants.{MAX_ACTIONS}
 use Rattle.job_bodies.specs.Plan.{Plan, class_at, class_got, is_got}
-use Rattle.job_bodies.proofs.Bodies.{IsLawful}
-use Rattle.weights.specs.declared.limits.TheConstants.{MOST_WEIGHT}
+use Rattle.job_bodies.specs.Lawful.{IsLawful}
+use Rattle.weights.specs.declared.limits.TheConstants.{MAX_WEIGHT}
 use Rattle.weights.specs.Vector.{Vector, queued_weight, done_weight}
 use Rattle.steady_certificates.specs.Small.{JobsAreSmall}
 use Rattle.steady_certificates.specs.Steady.{sum_below, greatest_upto, submitted_weight, awaited_weight, open_weight, weight_at, weights_from, level_above, levels_within}
@@ -51,7 +51,7 @@ greatest-bound f (suc n) b each =
     let step : greatest_upto f (suc n) ≡ max (greatest_upto f n) (f (suc n)) = refl in
     omega (arith, step, each (suc n) (omega arith), greatest-bound f n b (λ i within. each i (omega (arith, within))))
 
-submitted-bound : (v : Vector) (x : Option Action) → JobsAreSmall v → submitted_weight v x ≤ MOST_WEIGHT
+submitted-bound : (v : Vector) (x : Option Action) → JobsAreSmall v → submitted_weight v x ≤ MAX_WEIGHT
 submitted-bound v (Some (Submit k)) small = small.small k 0
 submitted-bound v (Some (Work u)) small = omega arith
 submitted-bound v (Some (Get t)) small = omega arith
@@ -61,13 +61,13 @@ cond-bound : (b : Bool) (n m : ℕ) → n ≤ m → cond b n 0 ≤ m
 cond-bound true n m within = within
 cond-bound false n m within = omega arith
 
-pub open-bound : (v : Vector) (body : List Action) (i : ℕ) → JobsAreSmall v → open_weight v body i ≤ i * MOST_WEIGHT
-open-bound v body i small = sum_below-bound (awaited_weight v body i) i MOST_WEIGHT (λ s. cond-bound (is_got (drop i body) s) (submitted_weight v (slice_get body s)) MOST_WEIGHT (submitted-bound v (slice_get body s) small))
+pub open-bound : (v : Vector) (body : List Action) (i : ℕ) → JobsAreSmall v → open_weight v body i ≤ i * MAX_WEIGHT
+open-bound v body i small = sum_below-bound (awaited_weight v body i) i MAX_WEIGHT (λ s. cond-bound (is_got (drop i body) s) (submitted_weight v (slice_get body s)) MAX_WEIGHT (submitted-bound v (slice_get body s) small))
 
-pub greatest-open-bound : (plan : Plan) (v : Vector) (body : List Action) (n : ℕ) → IsLawful plan body → JobsAreSmall v → n ≤ length body → greatest_upto (open_weight v body) n ≤ MOST_ACTIONS * MOST_WEIGHT
-greatest-open-bound plan v body n lawful small short = greatest-bound (open_weight v body) n (MOST_ACTIONS * MOST_WEIGHT) (λ i within. omega (arith, within, short, lawful.short, open-bound v body i small))
+pub greatest-open-bound : (plan : Plan) (v : Vector) (body : List Action) (n : ℕ) → IsLawful plan body → JobsAreSmall v → n ≤ length body → greatest_upto (open_weight v body) n ≤ MAX_ACTIONS * MAX_WEIGHT
+greatest-open-bound plan v body n lawful small short = greatest-bound (open_weight v body) n (MAX_ACTIONS * MAX_WEIGHT) (λ i within. omega (arith, within, short, lawful.short, open-bound v body i small))
 
-pub weight-bound : (plan : Plan) (v : Vector) (least : ℕ) (body : List Action) (last : ℕ) (rest : List Action) → JobsAreSmall v → least ≤ 1 → weight_at plan v least body last rest ≤ 1 + last + length rest * MOST_WEIGHT
+pub weight-bound : (plan : Plan) (v : Vector) (least : ℕ) (body : List Action) (last : ℕ) (rest : List Action) → JobsAreSmall v → least ≤ 1 → weight_at plan v least body last rest ≤ 1 + last + length rest * MAX_WEIGHT
 weight-bound plan v least body last [] small low = omega arith
 weight-bound plan v least body last (Work u ∷ rest) small low =
     let step : weight_at plan v least body last (Work u ∷ rest) ≡ weight_at plan v least body last rest = refl in
@@ -114,5 +114,5 @@ pub first-weight : (plan : Plan) (v : Vector) (least : ℕ) (body : List Action)
 first-weight plan v least body last [] = refl
 first-weight plan v least body last (x ∷ rest) = refl
 
-pub behind-short : (body : List Action) (plan : Plan) (n : ℕ) → IsLawful plan body → length (drop n body) ≤ MOST_ACTIONS
+pub behind-short : (body : List Action) (plan : Plan) (n : ℕ) → IsLawful plan body → length (drop n body) ≤ MAX_ACTIONS
 behind-short body plan n lawful = omega (arith, length-drop n body, lawful.short)

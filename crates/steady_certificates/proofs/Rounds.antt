@@ -7,7 +7,8 @@ use Rattle.numbered_lists.proofs.Members.{In-slice_get}
 use Rattle.job_bodies.specs.declared.action.Action.{Action}
 use Rattle.job_bodies.specs.declared.action.Action.TheVariants.{Work, Submit, Get}
 use Rattle.job_bodies.specs.Plan.{Class, Client, Plan, no_class, no_client, class_at, client_at, class_got, is_got}
-use Rattle.job_bodies.proofs.Bodies.{IsLawful, IsOrdered}
+use Rattle.job_bodies.specs.Lawful.{IsLawful}
+use Rattle.job_bodies.proofs.Bodies.{IsOrdered}
 use Rattle.weights.specs.Vector.{Vector, class_weights, queued_weight, job_weight, done_weight, client_weights, client_weight}
 use Rattle.steady_certificates.specs.Submitted.{NoCircle}
 use Rattle.steady_certificates.specs.Steady.{submitted_weight, awaited_weight, open_weight, most, weight_at, weights_from, job_end, class_row, client_end, client_row, jobs_within, jobs, steady_vector, steady_levels}

@@ -8,7 +8,7 @@ use Rattle.numbered_lists.proofs.Elements.{slice_get-set_same, slice_get-set_oth
 use Rattle.numbered_lists.proofs.Members.{In-get_or, list_all_at_In}
 use Rattle.job_bodies.specs.Plan.{Pool, Class, Client, Plan, no_class, no_client, class_at, client_at}
 use Rattle.job_bodies.proofs.Bodies.{IsOrdered}
-use Rattle.weights.specs.declared.limits.TheConstants.{MOST_WEIGHT}
+use Rattle.weights.specs.declared.limits.TheConstants.{MAX_WEIGHT}
 use Rattle.weights.specs.Vector.{Vector, class_weights, is_small, has_small_numbers, vector_fits}
 use Rattle.weights.proofs.Fitting.{small_in}
 use Rattle.certificates.specs.Cert.{PoolCert, Cert}
@@ -73,11 +73,11 @@ settled_put plan v n m ordered none settled of_level inside small = record {
   rows = λ k known which. of_each k known which (same_or_not k m);
 }
   where
-    at_each : (k i : ℕ) → (k ≡ m) ⊎ (k ≡ m → ⊥) → get_or (class_weights (with_row v m (class_row plan v (class_at plan m).body)) k) i 0 ≤ MOST_WEIGHT
+    at_each : (k i : ℕ) → (k ≡ m) ⊎ (k ≡ m → ⊥) → get_or (class_weights (with_row v m (class_row plan v (class_at plan m).body)) k) i 0 ≤ MAX_WEIGHT
     at_each k i (inl is) =
         let here = ap (λ (j : ℕ). class_weights (with_row v m (class_row plan v (class_at plan m).body)) j) is ∙ row_here v m (class_row plan v (class_at plan m).body) (omega (arith, inside, settled.as_many)) in
-        subst (λ (any : List ℕ). get_or any i 0 ≤ MOST_WEIGHT) (sym here) (small_in (class_row plan v (class_at plan m).body) i small)
-    at_each k i (inr other) = subst (λ (any : List ℕ). get_or any i 0 ≤ MOST_WEIGHT) (sym (row_elsewhere v m k (class_row plan v (class_at plan m).body) other)) (settled.jobs.small k i)
+        subst (λ (any : List ℕ). get_or any i 0 ≤ MAX_WEIGHT) (sym here) (small_in (class_row plan v (class_at plan m).body) i small)
+    at_each k i (inr other) = subst (λ (any : List ℕ). get_or any i 0 ≤ MAX_WEIGHT) (sym (row_elsewhere v m k (class_row plan v (class_at plan m).body) other)) (settled.jobs.small k i)
 
     of_each : (k : ℕ) → k < length plan.classes → (level_at plan k < n) ⊎ ((level_at plan k ≡ n) × (k < m + 1)) → (k ≡ m) ⊎ (k ≡ m → ⊥) → class_weights (with_row v m (class_row plan v (class_at plan m).body)) k ≡ class_weights (steady_vector plan) k
     of_each k known which (inl is) =
@@ -210,11 +210,11 @@ settled_none plan v workers clients are = record {
   no_workers = workers;
   no_clients = clients;
   as_many = ap length are ∙ length-replicate (length plan.classes) [];
-  jobs = record { small = λ k i. subst (λ (rows : List (List ℕ)). get_or (get_or rows k []) i 0 ≤ MOST_WEIGHT) (sym are) (nothing_in (length plan.classes) k i) };
+  jobs = record { small = λ k i. subst (λ (rows : List (List ℕ)). get_or (get_or rows k []) i 0 ≤ MAX_WEIGHT) (sym are) (nothing_in (length plan.classes) k i) };
   rows = λ k known which. absurd (⊎_elim (λ (low : level_at plan k < 0). omega (arith, low)) (λ (both : (level_at plan k ≡ 0) × (k < 0)). omega (arith, both.1)) which);
 }
   where
-    nothing_in : (n k i : ℕ) → get_or (get_or (replicate n []) k []) i 0 ≤ MOST_WEIGHT
+    nothing_in : (n k i : ℕ) → get_or (get_or (replicate n []) k []) i 0 ≤ MAX_WEIGHT
     nothing_in zero k i = omega arith
     nothing_in (suc n) zero i = omega arith
     nothing_in (suc n) (suc k) i = nothing_in n k i

@@ -1,7 +1,7 @@
 -- Vectors whose jobs weigh no more than the limit.
 use Rattle.std.specs.Prelude.{◌≤◌, ℕ, slice_index}
-use Rattle.weights.specs.declared.limits.TheConstants.{MOST_WEIGHT}
+use Rattle.weights.specs.declared.limits.TheConstants.{MAX_WEIGHT}
 use Rattle.weights.specs.Vector.{Vector, class_weights}
 
 pub record JobsAreSmall (v : Vector) : Type 0 where
-  pub small : (k i : ℕ) → slice_index (class_weights v k) i ≤ MOST_WEIGHT
+  pub small : (k i : ℕ) → slice_index (class_weights v k) i ≤ MAX_WEIGHT

@@ -1,9 +1,9 @@
 //! What an actor weighs over its body, given what the jobs weigh that it submits.
 
 ghost use Rattle.std.specs.Prelude.{◌≡◌, ◌≤◌, ◌<◌, ◌+◌, ◌*◌, IfOk, length, slice_index};
-ghost use Rattle.job_bodies.proofs.Bodies.{IsLawful};
-ghost use Rattle.job_bodies.specs.declared.limits.TheConstants.{MOST_ACTIONS};
-ghost use Rattle.weights.specs.declared.limits.TheConstants.{MOST_WEIGHT};
+ghost use Rattle.job_bodies.specs.Lawful.{IsLawful};
+ghost use Rattle.job_bodies.specs.declared.limits.TheConstants.{MAX_ACTIONS};
+ghost use Rattle.weights.specs.declared.limits.TheConstants.{MAX_WEIGHT};
 ghost use Rattle.weights.specs.Vector as vector_spec;
 ghost use Rattle.steady_certificates.specs.Small.{JobsAreSmall};
 ghost use Rattle.steady_certificates.specs.Steady as spec;
@@ -68,7 +68,7 @@ fn most(plan: &Plan, vector: &Vector, body: &[Action]) -> u64
     requires lawful { IsLawful plan.now body.now }
     requires small { JobsAreSmall vector.now }
     ensures value { result ≡ spec.most vector.now body.now }
-    ensures bound { result ≤ MOST_ACTIONS * MOST_WEIGHT }
+    ensures bound { result ≤ MAX_ACTIONS * MAX_WEIGHT }
 {
     let mut so_far = 0;
     let mut most = 0;
@@ -89,7 +89,7 @@ fn before(
     behind: u64,
 ) -> u64
     requires small { JobsAreSmall vector.now }
-    requires behind { behind ≤ 2 + (MOST_ACTIONS + MOST_ACTIONS) * MOST_WEIGHT }
+    requires behind { behind ≤ 2 + (MAX_ACTIONS + MAX_ACTIONS) * MAX_WEIGHT }
     ensures { result ≡ spec.weight_before plan.now vector.now least body.now action behind }
 {
     match action {
@@ -114,7 +114,7 @@ fn weights(
     requires lawful { IsLawful plan.now body.now }
     requires small { JobsAreSmall vector.now }
     requires least { least ≤ 1 }
-    requires last { last ≤ 1 + MOST_ACTIONS * MOST_WEIGHT }
+    requires last { last ≤ 1 + MAX_ACTIONS * MAX_WEIGHT }
     ensures { IfOk result (λ weights. weights.items ≡ spec.weights_from plan.now vector.now least body.now last body.now) }
 {
     let mut weights = Vec::with_capacity(alloc, body.len() + 1)?;

@@ -1,7 +1,7 @@
 //! How deep classes stand above those that they submit.
 
 ghost use Rattle.std.specs.Prelude.{◌≡◌, ◌≤◌, ℕ, IfOk, map, slice_index};
-ghost use Rattle.job_bodies.specs.declared.limits.TheConstants.{MOST_CLASSES};
+ghost use Rattle.job_bodies.specs.declared.limits.TheConstants.{MAX_CLASSES};
 ghost use Rattle.job_bodies.specs.Plan as plan_spec;
 ghost use Rattle.job_bodies.specs.WellFormed.{IsWellFormed};
 ghost use Rattle.steady_certificates.specs.Steady as spec;
@@ -22,7 +22,7 @@ pub(crate) fn number_at(numbers: &[u64], place: usize) -> u64
 
 /// A level above those of the classes that the body submits.
 fn level_above(levels: &[u64], body: &[Action]) -> u64
-    requires { (k : ℕ) → slice_index levels.now k ≤ MOST_CLASSES }
+    requires { (k : ℕ) → slice_index levels.now k ≤ MAX_CLASSES }
     ensures { result ≡ spec.level_above levels.now body.now }
 {
     let mut highest = 0;
@@ -36,7 +36,7 @@ fn level_above(levels: &[u64], body: &[Action]) -> u64
 
 /// The levels where submits are followed one deeper.
 fn next_levels(alloc: Global, plan: &Plan, levels: &[u64]) -> Result<Vec<u64>, AllocError>
-    requires { (k : ℕ) → slice_index levels.now k ≤ MOST_CLASSES }
+    requires { (k : ℕ) → slice_index levels.now k ≤ MAX_CLASSES }
     ensures { IfOk result (λ next. next.items ≡ map (λ (class : plan_spec.Class). spec.level_above levels.now class.body) plan.now.classes) }
 {
     let mut next = Vec::with_capacity(alloc, plan.classes().len())?;

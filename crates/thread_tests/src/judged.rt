@@ -60,9 +60,12 @@ fn met(
     })
 }
 
-const CLIENT: &[(u64, Event)] = &[(0, Event::Client(0)), (3, Event::Client(0))];
+// What a thread hands back: events at their numbers.
+type Handed = &'static [(u64, Event)];
 
-const CARRIER: &[(u64, Event)] = &[(1, Event::Job(0)), (2, Event::Job(0))];
+const CLIENT: Handed = &[(0, Event::Client(0)), (3, Event::Client(0))];
+
+const CARRIER: Handed = &[(1, Event::Job(0)), (2, Event::Job(0))];
 
 #[test]
 fn a_whole_run_is_reported(rt: HostRuntime) -> Result<(), Fail> {
@@ -80,79 +83,95 @@ fn a_whole_run_is_reported(rt: HostRuntime) -> Result<(), Fail> {
     Ok(())
 }
 
+const TAKEN: Handed = &[(1, Event::Take(0)), (2, Event::Job(0))];
+
+const PAST: Handed = &[(1, Event::Job(0)), (2, Event::Job(0)), (4, Event::Job(0))];
+
+const FALLING: Handed = &[(3, Event::Client(0)), (0, Event::Client(0))];
+
+const ANOTHERS: Handed = &[(0, Event::Client(0)), (1, Event::Job(0))];
+
+const ONE: Handed = &[(1, Event::Job(0))];
+
+const FIRST: Handed = &[(0, Event::Client(0))];
+
+const NONE: Handed = &[];
+
+const CUT: &[Event] = &[Event::Client(0), Event::Job(0), Event::Job(0)];
+
+// The job's third step is not possible.
+const AGAIN: &[Event] = &[
+    Event::Client(0),
+    Event::Job(0),
+    Event::Job(0),
+    Event::Job(0),
+    Event::Client(0),
+];
+
+// A name, what is handed back (history, receipts of the client and of the carrier, what a thread met), and the fault.
+type Case = (
+    &'static str,
+    &'static [Event],
+    Handed,
+    Handed,
+    Option<Cause>,
+    u8,
+    u64,
+);
+
+const NO_RUNS: &[Case] = &[
+    ("another event", WHOLE, CLIENT, TAKEN, None, 41, 4),
+    ("past the end", WHOLE, CLIENT, PAST, None, 41, 4),
+    ("falling numbers", WHOLE, FALLING, CARRIER, None, 41, 4),
+    ("another's event", WHOLE, ANOTHERS, CARRIER, None, 41, 4),
+    (
+        "another event of a history that is cut",
+        CUT,
+        FIRST,
+        TAKEN,
+        None,
+        41,
+        3,
+    ),
+    ("past what is possible", AGAIN, CLIENT, CARRIER, None, 41, 3),
+    ("a receipt too few", WHOLE, CLIENT, ONE, None, 42, 4),
+    ("a history that is cut", CUT, FIRST, CARRIER, None, 42, 3),
+    (
+        "an event that is not possible",
+        AGAIN,
+        FIRST,
+        CARRIER,
+        None,
+        42,
+        3,
+    ),
+    ("nothing", &[], NONE, NONE, None, 42, 0),
+    (
+        "a strange receipt and a gate",
+        WHOLE,
+        CLIENT,
+        TAKEN,
+        Some(Cause::Gate),
+        43,
+        4,
+    ),
+    (
+        "a whole run and no memory",
+        WHOLE,
+        CLIENT,
+        CARRIER,
+        Some(Cause::Memory),
+        20,
+        4,
+    ),
+];
+
 // 41 where a receipt is strange, whatever else is wrong; 42 where each fits and it is no run; before both what a thread met.
 #[test]
 fn what_is_no_run_has_its_fault(rt: HostRuntime) -> Result<(), Fail> {
     let alloc = rt.alloc();
     let certified = certified(&rt, alloc, ONE_CLIENT).expect(&rt, "a certificate is found");
-    let taken: &[(u64, Event)] = &[(1, Event::Take(0)), (2, Event::Job(0))];
-    let past: &[(u64, Event)] = &[(1, Event::Job(0)), (2, Event::Job(0)), (4, Event::Job(0))];
-    let falling: &[(u64, Event)] = &[(3, Event::Client(0)), (0, Event::Client(0))];
-    let anothers: &[(u64, Event)] = &[(0, Event::Client(0)), (1, Event::Job(0))];
-    let one: &[(u64, Event)] = &[(1, Event::Job(0))];
-    let first: &[(u64, Event)] = &[(0, Event::Client(0))];
-    let none: &[(u64, Event)] = &[];
-    let again: &[Event] = &[
-        Event::Client(0),
-        Event::Job(0),
-        Event::Job(0),
-        Event::Job(0),
-        Event::Client(0),
-    ];
-    for (name, history, client, carrier, fault, number, events) in [
-        ("another event", WHOLE, CLIENT, taken, None, 41, 4),
-        ("past the end", WHOLE, CLIENT, past, None, 41, 4),
-        ("falling numbers", WHOLE, falling, CARRIER, None, 41, 4),
-        ("another's event", WHOLE, anothers, CARRIER, None, 41, 4),
-        (
-            "another event of a history that is cut",
-            &WHOLE[..3],
-            first,
-            taken,
-            None,
-            41,
-            3,
-        ),
-        ("past what is possible", again, CLIENT, CARRIER, None, 41, 3),
-        ("a receipt too few", WHOLE, CLIENT, one, None, 42, 4),
-        (
-            "a history that is cut",
-            &WHOLE[..3],
-            first,
-            CARRIER,
-            None,
-            42,
-            3,
-        ),
-        (
-            "an event that is not possible",
-            again,
-            first,
-            CARRIER,
-            None,
-            42,
-            3,
-        ),
-        ("nothing", &WHOLE[..0], none, none, None, 42, 0),
-        (
-            "a strange receipt and a gate",
-            WHOLE,
-            CLIENT,
-            taken,
-            Some(Cause::Gate),
-            43,
-            4,
-        ),
-        (
-            "a whole run and no memory",
-            WHOLE,
-            CLIENT,
-            CARRIER,
-            Some(Cause::Memory),
-            20,
-            4,
-        ),
-    ] {
+    for (name, history, client, carrier, fault, number, events) in NO_RUNS.iter().copied() {
         let met = met(alloc, history, client, carrier, fault)?;
         let answered = judge(alloc, &certified, 1, NUMBERS, met).err();
         assert_eq!(rt; answered, Some(RunFault { number, events }), "{name}");

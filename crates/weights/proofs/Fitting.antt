@@ -9,10 +9,11 @@ use Rattle.job_bodies.specs.Plan.{Plan, no_class, no_client, class_at, client_at
 use Rattle.job_bodies.specs.WellFormed.{IsWellFormed}
 use Rattle.job_bodies.specs.declared.action.Action.{Action}
 use Rattle.job_bodies.specs.declared.action.Action.TheVariants.{Work, Submit, Get}
-use Rattle.job_bodies.specs.declared.limits.TheConstants.{MOST_UNITS}
+use Rattle.job_bodies.specs.declared.limits.TheConstants.{MAX_SIZE}
 use Rattle.job_bodies.specs.Plan.{Pool, no_pool, pool_at, Class, Client, submits, class_of_submit, class_got}
-use Rattle.job_bodies.proofs.Bodies.{IsLawful, list_all_enumerated, ordered}
-use Rattle.weights.specs.declared.limits.TheConstants.{MOST_WEIGHT}
+use Rattle.job_bodies.specs.Lawful.{IsLawful}
+use Rattle.job_bodies.proofs.Bodies.{list_all_enumerated, ordered}
+use Rattle.weights.specs.declared.limits.TheConstants.{MAX_WEIGHT}
 use Rattle.weights.specs.Body.{IsWeighed}
 use Rattle.weights.specs.Vector.{Vector, workers_weight, class_weights, client_weights, job_weight, queued_weight, done_weight, is_small, vector_fits}
 
@@ -22,18 +23,18 @@ pub record Fits (plan : Plan) (v : Vector) : Type 0 where
   pub clients : length v.clients ≡ length plan.clients
   pub class : (k : ℕ) → k < length plan.classes → length (class_weights v k) ≡ length (class_at plan k).body + 3
   pub client : (c : ℕ) → c < length plan.clients → length (client_weights v c) ≡ length (client_at plan c).body + 1
-  pub small_worker : (p : ℕ) → workers_weight v p ≤ MOST_WEIGHT
-  pub small_class : (k i : ℕ) → slice_index (class_weights v k) i ≤ MOST_WEIGHT
-  pub small_client : (c i : ℕ) → slice_index (client_weights v c) i ≤ MOST_WEIGHT
+  pub small_worker : (p : ℕ) → workers_weight v p ≤ MAX_WEIGHT
+  pub small_class : (k i : ℕ) → slice_index (class_weights v k) i ≤ MAX_WEIGHT
+  pub small_client : (c i : ℕ) → slice_index (client_weights v c) i ≤ MAX_WEIGHT
 
 -- a number of a list of small ones
-pub small_in : (xs : List ℕ) (i : ℕ) → list_all is_small xs ≡ true → slice_index xs i ≤ MOST_WEIGHT
+pub small_in : (xs : List ℕ) (i : ℕ) → list_all is_small xs ≡ true → slice_index xs i ≤ MAX_WEIGHT
 small_in [] i small = omega arith
-small_in (x ∷ xs) zero small = leb-true x MOST_WEIGHT (and_parts _ _ small).0
+small_in (x ∷ xs) zero small = leb-true x MAX_WEIGHT (and_parts _ _ small).0
 small_in (x ∷ xs) (suc i) small = small_in xs i (and_parts (is_small x) _ small).1
 
 -- a number of a list of lists of small ones
-small_at : (rows : List (List ℕ)) (k i : ℕ) → list_all (list_all is_small) rows ≡ true → slice_index (slice_index_or rows k []) i ≤ MOST_WEIGHT
+small_at : (rows : List (List ℕ)) (k i : ℕ) → list_all (list_all is_small) rows ≡ true → slice_index (slice_index_or rows k []) i ≤ MAX_WEIGHT
 small_at [] k i small = omega arith
 small_at (row ∷ rows) zero i small = small_in row i (and_parts (list_all is_small row) _ small).0
 small_at (row ∷ rows) (suc k) i small = small_at rows k i (and_parts (list_all is_small row) _ small).1
@@ -70,8 +71,8 @@ pub record ClassFits (plan : Plan) (v : Vector) (k : ℕ) (class : Class) : Type
   pub pool : class.pool < length v.workers
   pub long : length (class_weights v k) ≡ length class.body + 3
   pub weighed : IsWeighed plan class.body (drop 1 (class_weights v k))
-  pub small : (i : ℕ) → slice_index (class_weights v k) i ≤ MOST_WEIGHT
-  pub small_worker : workers_weight v class.pool ≤ MOST_WEIGHT
+  pub small : (i : ℕ) → slice_index (class_weights v k) i ≤ MAX_WEIGHT
+  pub small_worker : workers_weight v class.pool ≤ MAX_WEIGHT
   pub is_class : class_at plan k ≡ class
 
 -- the weights of a job's positions stand behind that of the queued job
@@ -98,7 +99,7 @@ class_fits plan v k class well all here =
       weighed = record {
         lawful = subst (λ (c : Class). IsLawful plan c.body) same ((ordered plan well).classes k);
         long = omega arith;
-        small = λ i. subst (λ (n : ℕ). n ≤ MOST_WEIGHT) (sym (at_position v k i)) (f.small_class k (i + 1));
+        small = λ i. subst (λ (n : ℕ). n ≤ MAX_WEIGHT) (sym (at_position v k i)) (f.small_class k (i + 1));
       };
       small = f.small_class k;
       small_worker = f.small_worker class.pool;
@@ -150,13 +151,13 @@ got_known plan body i t lawful here = of_submit (slice_get body t) refl (lawful.
     of_submit (Some (Get u)) e s = absurd cc
 
 -- a pool of a plan has no more threads than there may be
-pub max_at : (plan : Plan) (p : ℕ) (pool : Pool) → IsWellFormed plan → slice_get plan.pools p ≡ Some pool → pool.max ≤ MOST_UNITS
+pub max_at : (plan : Plan) (p : ℕ) (pool : Pool) → IsWellFormed plan → slice_get plan.pools p ≡ Some pool → pool.max ≤ MAX_SIZE
 max_at plan p pool well here =
     let same : pool_at plan p ≡ pool = get_or_from_slice_get plan.pools p pool no_pool here in
-    subst (λ (x : Pool). x.max ≤ MOST_UNITS) same ((ordered plan well).most_max p (slice_get_within plan.pools p pool here))
+    subst (λ (x : Pool). x.max ≤ MAX_SIZE) same ((ordered plan well).most_max p (slice_get_within plan.pools p pool here))
 
 -- a kind of a plan has no more clients than there may be
-pub count_at : (plan : Plan) (c : ℕ) (client : Client) → IsWellFormed plan → slice_get plan.clients c ≡ Some client → client.count ≤ MOST_UNITS
+pub count_at : (plan : Plan) (c : ℕ) (client : Client) → IsWellFormed plan → slice_get plan.clients c ≡ Some client → client.count ≤ MAX_SIZE
 count_at plan c client well here =
     let same : client_at plan c ≡ client = get_or_from_slice_get plan.clients c client no_client here in
-    subst (λ (x : Client). x.count ≤ MOST_UNITS) same ((ordered plan well).most_count c (slice_get_within plan.clients c client here))
+    subst (λ (x : Client). x.count ≤ MAX_SIZE) same ((ordered plan well).most_count c (slice_get_within plan.clients c client here))

@@ -2,8 +2,8 @@
 use Rattle.std.specs.Prelude.{◌≤◌, ◌<◌, ℕ, List, length, slice_index}
 use Rattle.job_bodies.specs.declared.action.Action.{Action}
 use Rattle.job_bodies.specs.Plan.{Plan}
-use Rattle.job_bodies.proofs.Bodies.{IsLawful}
-use Rattle.weights.specs.declared.limits.TheConstants.{MOST_WEIGHT}
+use Rattle.job_bodies.specs.Lawful.{IsLawful}
+use Rattle.weights.specs.declared.limits.TheConstants.{MAX_WEIGHT}
 use Rattle.weights.specs.declared.row.Place.{Place}
 use Rattle.weights.specs.declared.row.Place.TheVariants.{ClassAction, ClientAction}
 use Rattle.weights.specs.declared.body.Actor.{Actor}
@@ -18,4 +18,4 @@ place_at (Client c) i = ClientAction c i
 pub record IsWeighed (plan : Plan) (actions : List Action) (weights : List ℕ) : Type 0 where
   pub lawful : IsLawful plan actions
   pub long : length actions < length weights
-  pub small : (i : ℕ) → slice_index weights i ≤ MOST_WEIGHT
+  pub small : (i : ℕ) → slice_index weights i ≤ MAX_WEIGHT

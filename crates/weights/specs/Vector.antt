@@ -2,7 +2,7 @@
 use Rattle.std.specs.Prelude.{ℕ, ◌+◌, ◌*◌, ◌==◌, ◌&&◌, nat_le, Bool, List, [], length, sum_by, slice_index, slice_index_or}
 use Rattle.std.specs.List.{list_all, enumerate_from}
 use Rattle.job_bodies.specs.Plan.{Plan, class_at}
-use Rattle.weights.specs.declared.limits.TheConstants.{MOST_WEIGHT}
+use Rattle.weights.specs.declared.limits.TheConstants.{MAX_WEIGHT}
 
 pub record Vector : Type 0 where
   pub workers : List ℕ
@@ -43,7 +43,7 @@ has_shape plan v =
     && list_all (λ entry. length (client_weights v entry.0) == length entry.1.body + 1) (enumerate_from 0 plan.clients)
 
 abbrev pub is_small : ℕ → Bool
-is_small n = nat_le n MOST_WEIGHT
+is_small n = nat_le n MAX_WEIGHT
 
 abbrev pub has_small_numbers : Vector → Bool
 has_small_numbers v = list_all is_small v.workers && list_all (list_all is_small) v.classes && list_all (list_all is_small) v.clients

@@ -89,12 +89,7 @@ fn action_row(at_get: AtGet, plan: &Plan, vector: &Vector, body: &Body, position
             )
         }
     };
-    Row {
-        rule,
-        place,
-        left,
-        right,
-    }
+    Row::new(rule, place, left, right)
 }
 
 /// Looks at the row of each action of a body.

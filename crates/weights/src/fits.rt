@@ -4,14 +4,14 @@ ghost use Rattle.std.specs.Prelude.{◌≡◌, ◌+◌, ◌==◌, length, map};
 ghost use Rattle.std.specs.List.{list_all, enumerate_from};
 ghost use Rattle.weights.specs.Vector as spec;
 
-use crate::{MOST_WEIGHT, Vector};
+use crate::{MAX_WEIGHT, Vector};
 use job_bodies::Plan;
 
-/// Whether none of the numbers is above [`MOST_WEIGHT`].
+/// Whether none of the numbers is above [`MAX_WEIGHT`].
 pub fn are_small(numbers: &[u64]) -> bool
     ensures { result ≡ list_all spec.is_small numbers.now }
 {
-    numbers.iter().all(|number| *number <= MOST_WEIGHT)
+    numbers.iter().all(|number| *number <= MAX_WEIGHT)
 }
 
 /// Whether no number of the rows is above the limit.
@@ -29,7 +29,7 @@ fn are_small_rows(rows: &[Vec<u64>]) -> bool
 
 impl Vector {
     /// Whether there is a number for each pool, for each point of each class and for each position of each kind of
-    /// clients, and no number is above [`MOST_WEIGHT`].
+    /// clients, and no number is above [`MAX_WEIGHT`].
     pub fn fits(&self, plan: &Plan) -> bool
         ensures { result ≡ spec.vector_fits plan.now self.now }
     {
@@ -73,7 +73,7 @@ impl Vector {
         true
     }
 
-    /// Whether no number is above [`MOST_WEIGHT`].
+    /// Whether no number is above [`MAX_WEIGHT`].
     pub fn has_small_numbers(&self) -> bool
         ensures { result ≡ spec.has_small_numbers self.now }
     {

@@ -21,7 +21,7 @@ pub use at_get::AtGet;
 pub use body::class_got;
 pub use bound::Bound;
 pub use fits::are_small;
-pub use limits::MOST_WEIGHT;
+pub use limits::MAX_WEIGHT;
 pub use row::{Place, Row, RowFault, Rule, StandingFault};
 pub use vector::Vector;
 pub use visitor::{FirstFault, RowVisitor};

@@ -29,12 +29,12 @@ fn visit_worker_rows<V: RowVisitor>(plan: &Plan, vector: &Vector, visitor: &mut 
         Takes V.HasSeen visitor.old visitor.new all }
 {
     for pool in 0..plan.pools().len() {
-        visitor.visit(Row {
-            rule: Rule::L1,
-            place: Place::Worker(pool),
-            left: vector.workers_weight(pool),
-            right: 0,
-        });
+        visitor.visit(Row::new(
+            Rule::L1,
+            Place::Worker(pool),
+            vector.workers_weight(pool),
+            0,
+        ));
     }
 }
 
@@ -43,12 +43,7 @@ fn visit_made_rows<V: RowVisitor>(class: usize, weights: &[u64], visitor: &mut V
     ensures { Takes V.HasSeen visitor.old visitor.new (map (λ weight. row L2 (place.Class class) 1 weight) weights.now) }
 {
     for weight in weights {
-        visitor.visit(Row {
-            rule: Rule::L2,
-            place: Place::Class(class),
-            left: 1,
-            right: *weight,
-        });
+        visitor.visit(Row::new(Rule::L2, Place::Class(class), 1, *weight));
     }
 }
 
@@ -94,12 +89,12 @@ impl Vector {
         visit_worker_rows(plan, self, visitor);
         self.visit_rows(plan, AtGet::GivesNothing, visitor);
         visit_all_made_rows(plan, pool, self, visitor);
-        visitor.visit(Row {
-            rule: Rule::L3,
-            place: Place::Total,
-            left: self.total(plan),
-            right: lifetime_limit(&plan.pools()[pool]),
-        });
+        visitor.visit(Row::new(
+            Rule::L3,
+            Place::Total,
+            self.total(plan),
+            lifetime_limit(&plan.pools()[pool]),
+        ));
     }
 
     /// The first of the conditions of the pool's lifetime vector that fails. It takes no memory.

@@ -1,5 +1,8 @@
 //! What one condition of a certificate says, and of what.
 
+ghost use Rattle.std.specs.Prelude.{◌≡◌};
+ghost use Rattle.weights.specs.Row.{fails, row};
+
 /// One rule of a certificate.
 #[derive(Clone, Copy, Debug, PartialEq, Eq)]
 pub enum Rule {
@@ -61,6 +64,27 @@ pub struct Row {
     pub place: Place,
     pub left: u64,
     pub right: u64,
+}
+
+impl Row {
+    /// The row of this rule at this place: left is to be at most right.
+    pub fn new(rule: Rule, place: Place, left: u64, right: u64) -> Row
+        ensures { result ≡ row rule place left right }
+    {
+        Row {
+            rule,
+            place,
+            left,
+            right,
+        }
+    }
+
+    /// Whether left is above right.
+    pub fn fails(self) -> bool
+        ensures { result ≡ fails self }
+    {
+        self.left > self.right
+    }
 }
 
 /// A row whose left is above its right.

@@ -23,12 +23,12 @@ fn taking_row(plan: &Plan, vector: &Vector, number: usize, class: &Class) -> Row
 {
     let weights = vector.class_weights(number);
     let worker = vector.workers_weight(class.pool);
-    Row {
-        rule: Rule::V4,
-        place: Place::Class(number),
-        left: weights[1],
-        right: weights[0] + worker,
-    }
+    Row::new(
+        Rule::V4,
+        Place::Class(number),
+        weights[1],
+        weights[0] + worker,
+    )
 }
 
 /// V6 of a class: the job at its end pays for the done job and the idle worker.
@@ -42,12 +42,12 @@ fn ending_row(plan: &Plan, vector: &Vector, number: usize, class: &Class) -> Row
     let weights = vector.class_weights(number);
     let worker = vector.workers_weight(class.pool);
     let done = weights.len() - 1;
-    Row {
-        rule: Rule::V6,
-        place: Place::Class(number),
-        left: weights[done] + worker,
-        right: weights[done - 1],
-    }
+    Row::new(
+        Rule::V6,
+        Place::Class(number),
+        weights[done] + worker,
+        weights[done - 1],
+    )
 }
 
 /// Looks at the rows of a class: V4, its actions, V6.
@@ -83,12 +83,12 @@ fn loop_row(plan: &Plan, vector: &Vector, number: usize, client: &Client) -> Row
         result ≡ row V7 (place.Client number) (spec.client_weight vector.now number 0) (spec.client_weight vector.now number end) }
 {
     let weights = vector.client_weights(number);
-    Row {
-        rule: Rule::V7,
-        place: Place::Client(number),
-        left: weights[0],
-        right: weights[weights.len() - 1],
-    }
+    Row::new(
+        Rule::V7,
+        Place::Client(number),
+        weights[0],
+        weights[weights.len() - 1],
+    )
 }
 
 /// Looks at the rows of a kind of clients: its actions, and V7 if it repeats.

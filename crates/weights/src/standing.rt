@@ -30,12 +30,12 @@ fn visit_queued_row<V: RowVisitor>(
         Takes V.HasSeen visitor.old visitor.new (if class.now.pool == pool then one ∷ [] else []) }
 {
     if class.pool == pool {
-        visitor.visit(Row {
-            rule: Rule::S1,
-            place: Place::Class(number),
-            left: 1,
-            right: vector.class_weights(number)[0],
-        });
+        visitor.visit(Row::new(
+            Rule::S1,
+            Place::Class(number),
+            1,
+            vector.class_weights(number)[0],
+        ));
     }
 }
 
@@ -60,12 +60,7 @@ impl Vector {
         self.visit_rows(plan, AtGet::GivesBack, visitor);
         visit_queued_rows(plan, pool, self, visitor);
         let pool = &plan.pools()[pool];
-        visitor.visit(Row {
-            rule: Rule::S2,
-            place: Place::Total,
-            left: self.total(plan),
-            right: pool.queue,
-        });
+        visitor.visit(Row::new(Rule::S2, Place::Total, self.total(plan), pool.queue));
     }
 
     /// The first of the conditions V2 to V7 that fails. It takes no memory.

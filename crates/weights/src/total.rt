@@ -2,8 +2,8 @@
 
 ghost use Rattle.std.specs.Prelude.{◌≡◌, ◌≤◌, ◌*◌, sum_by, IsTrue};
 ghost use Rattle.std.specs.List.{enumerate_from};
-ghost use Rattle.job_bodies.specs.declared.limits.TheConstants.{MOST_UNITS, MOST_POOLS, MOST_CLIENTS};
-ghost use Rattle.weights.specs.declared.limits.TheConstants.{MOST_WEIGHT};
+ghost use Rattle.job_bodies.specs.declared.limits.TheConstants.{MAX_SIZE, MAX_POOLS, MAX_CLIENT_KINDS};
+ghost use Rattle.weights.specs.declared.limits.TheConstants.{MAX_WEIGHT};
 ghost use Rattle.weights.specs.Vector as spec;
 
 use crate::Vector;
@@ -13,7 +13,7 @@ use job_bodies::Plan;
 fn clients_total(plan: &Plan, vector: &Vector) -> u64
     requires { IsTrue (spec.vector_fits plan.now vector.now) }
     ensures value { result ≡ sum_by (λ entry. entry.1.count * spec.client_weight vector.now entry.0 0) (enumerate_from 0 plan.now.clients) }
-    ensures few { result ≤ MOST_CLIENTS * (MOST_UNITS * MOST_WEIGHT) }
+    ensures few { result ≤ MAX_CLIENT_KINDS * (MAX_SIZE * MAX_WEIGHT) }
 {
     let mut total = 0;
     for (number, client) in plan.clients().iter().enumerate() {
@@ -26,7 +26,7 @@ fn clients_total(plan: &Plan, vector: &Vector) -> u64
 fn workers_total(plan: &Plan, vector: &Vector) -> u64
     requires { IsTrue (spec.vector_fits plan.now vector.now) }
     ensures value { result ≡ sum_by (λ entry. spec.workers_weight vector.now entry.0 * entry.1.max) (enumerate_from 0 plan.now.pools) }
-    ensures few { result ≤ MOST_POOLS * (MOST_WEIGHT * MOST_UNITS) }
+    ensures few { result ≤ MAX_POOLS * (MAX_WEIGHT * MAX_SIZE) }
 {
     let mut total = 0;
     for (number, pool) in plan.pools().iter().enumerate() {

@@ -2,7 +2,7 @@
 
 ghost use Rattle.std.specs.Prelude.{◌≡◌, ◌∷◌, [], List, None};
 ghost use Rattle.weights.specs.declared.row.Row.{Row as Seen};
-ghost use Rattle.weights.specs.Row.{fails, first_failing};
+ghost use Rattle.weights.specs.Row.{first_failing};
 ghost use Rattle.weights.specs.Takes.{Takes};
 
 use crate::{Row, RowFault};
@@ -16,15 +16,6 @@ pub trait RowVisitor {
     /// Looks at the next row.
     fn visit(&mut self, row: Row)
         ensures { Takes HasSeen self.old self.new (row ∷ []) };
-}
-
-impl Row {
-    /// Whether left is above right.
-    pub fn fails(self) -> bool
-        ensures { result ≡ fails self }
-    {
-        self.left > self.right
-    }
 }
 
 /// Looks for the first row that fails. It takes no memory.

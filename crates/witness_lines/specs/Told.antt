@@ -1,6 +1,9 @@
 -- What is told of a witness.
-use Rattle.std.specs.Prelude.{◌≡◌, ℕ, List, [], ◌∷◌, ◌++◌, length, codes, decimal}
+use Rattle.std.specs.Prelude.{◌≡◌, ◌↔◌, ◌==◌, ℕ, if◌then◌else◌, List, [], ◌∷◌, ◌++◌, length, flat_map, codes, decimal, Contains}
+use Rattle.std.specs.List.Sorted.{IsStrictlyIncreasing}
 use Rattle.job_bodies.specs.Plan.{Plan, pool_at}
+use Rattle.written_machine.specs.declared.event.Event.{Event}
+use Rattle.written_machine.specs.declared.event.Event.TheVariants.{Client, Job, Take, Retire}
 use Rattle.plan_witnesses.specs.declared.ending.Ending.{Ending}
 use Rattle.plan_witnesses.specs.declared.ending.Ending.TheVariants.{Refused, StuckForEver, StuckNow}
 use Rattle.plan_witnesses.specs.declared.ending.Reason.TheVariants.{PoolsAreFull, PoolsStayAtCore}
@@ -16,9 +19,30 @@ ending_text plan (Refused p) = codes "refused by " ++ (pool_at plan p).name
 ending_text plan (StuckForEver members reason) = codes "stuck for ever: " ++ jobs_wait members.items
 ending_text plan (StuckNow members) = codes "stuck now: " ++ jobs_wait members.items
 
--- the words with which a witness is told begin with its ending and how many events lead to it
-abbrev pub head : Plan → Witness → List ℕ
-head plan witness = ending_text plan witness.ending ++ codes ", after " ++ decimal (length witness.events.items) ++ codes " events"
+-- the client whose step the event is, if it is one's
+abbrev pub mover_of : Event → List ℕ
+mover_of (Client client) = client ∷ []
+mover_of (Job job) = []
+mover_of (Take pool) = []
+mover_of (Retire pool) = []
+
+-- the clients that move in the events, each as often as it does
+abbrev pub movers : List Event → List ℕ
+movers = flat_map mover_of
+
+-- so many clients move in the events: these, each of which is there once
+pub record IsMoverCount (events : List Event) (count : ℕ) : Type 0 where
+  pub clients : List ℕ
+  pub each_once : IsStrictlyIncreasing clients
+  pub are_movers : (client : ℕ) → Contains clients client ↔ Contains (movers events) client
+  pub count_is : count ≡ length clients
+
+abbrev pub of_clients : ℕ → List ℕ
+of_clients count = if count == 1 then codes " of 1 client" else codes " of " ++ decimal count ++ codes " clients"
+
+-- the first line: how the witness ends, how many events lead to it, and how many clients move in them
+abbrev pub head : Plan → Witness → ℕ → List ℕ
+head plan witness clients = (ending_text plan witness.ending ++ codes ", after " ++ decimal (length witness.events.items) ++ codes " events") ++ (of_clients clients ++ 10 ∷ [])
 
 -- the last line: why jobs wait only for each other for ever, or what may end it
 abbrev pub why_text : Ending → List ℕ
@@ -27,7 +51,9 @@ why_text (StuckForEver members PoolsAreFull) = codes "for ever: each pool in who
 why_text (StuckForEver members PoolsStayAtCore) = codes "for ever: each pool in whose queue one waits has all its threads, or never has more than core" ++ 10 ∷ []
 why_text (StuckNow members) = codes "until a pool in whose queue one waits starts a thread above core" ++ 10 ∷ []
 
--- the head, a story of which nothing is said, and the last line
+-- the first line, a story of which nothing is said, and the last line
 pub record IsTold (plan : Plan) (witness : Witness) (text : List ℕ) : Type 0 where
+  pub clients : ℕ
+  pub clients_are : IsMoverCount witness.events.items clients
   pub story : List ℕ
-  pub is : text ≡ (head plan witness ++ story) ++ why_text witness.ending
+  pub is : text ≡ (head plan witness clients ++ story) ++ why_text witness.ending

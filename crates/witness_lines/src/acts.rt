@@ -2,9 +2,8 @@
 
 ghost use Rattle.interleaving.specs.OfPlan.{IsOf};
 
-use crate::names::{class_name, kind_of, pool_name};
 use interleaving::{Event, Outcome, Phase, World};
-use job_bodies::{Action, Plan};
+use job_bodies::{Action, Client, Plan};
 use std::alloc::{AllocError, Global};
 
 /// Makes the event, and tells what it was as `client web` and `submits page (queued)`. None where it is not possible.
@@ -44,14 +43,26 @@ fn actor(alloc: Global, world: &World, plan: &Plan, event: Event) -> Result<Stri
         }
         Event::Job(job) => {
             text.push_str("job ")?;
-            text.push_str(class_name(plan, class_of(world, job)))?;
+            text.push_str(plan.class_name(class_of(world, job)))?;
         }
         Event::Take(pool) | Event::Retire(pool) => {
             text.push_str("pool ")?;
-            text.push_str(pool_name(plan, pool))?;
+            text.push_str(plan.pool_name(pool))?;
         }
     }
     Ok(text)
+}
+
+/// The kind of the client of this number: the kinds in plan order, each as often as its count says.
+pub(crate) fn kind_of(plan: &Plan, client: usize) -> Option<&Client> {
+    let mut before = 0u64;
+    for kind in plan.clients() {
+        before = before.saturating_add(kind.count);
+        if (client as u64) < before {
+            return Some(kind);
+        }
+    }
+    None
 }
 
 /// The class of a live job; a number that no class has where it is none.
@@ -89,7 +100,7 @@ fn act(
         Some(Action::Work(_)) => text.push_str("works")?,
         Some(Action::Submit(class)) => {
             text.push_str("submits ")?;
-            text.push_str(class_name(plan, class))?;
+            text.push_str(plan.class_name(class))?;
             push_answer(&mut text, plan, outcome)?;
         }
         Some(Action::Get(_)) => text.push_str("gets its result")?,
@@ -109,7 +120,7 @@ fn push_answer(text: &mut String, plan: &Plan, outcome: Outcome) -> Result<(), A
         Outcome::Queued(_) => text.push_str(" (queued)"),
         Outcome::Refused(pool) => {
             text.push_str(" (refused by ")?;
-            text.push_str(pool_name(plan, pool))?;
+            text.push_str(plan.pool_name(pool))?;
             text.push_str(")")
         }
         _ => Ok(()),
@@ -126,7 +137,7 @@ fn taken(
     let mut text = String::new(alloc);
     text.push_str("a thread takes ")?;
     if let Outcome::Took(job) = outcome {
-        text.push_str(class_name(plan, class_of(world, job)))?;
+        text.push_str(plan.class_name(class_of(world, job)))?;
     }
     Ok(text)
 }

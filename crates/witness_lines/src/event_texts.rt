@@ -1,10 +1,10 @@
 //! The lines of events of a witness.
 
-ghost use Rattle.std.specs.Prelude.{◌≡◌, ◌++◌, ◌∷◌, [], OnOk, string_bytes, flat_map, decimal};
+ghost use Rattle.std.specs.Prelude.{◌≡◌, ◌++◌, ◌∷◌, [], flat_map, decimal};
+ghost use Rattle.decimals.specs.Pushed.{Pushes};
 ghost use Rattle.event_lines.specs.LineText.{event_text, lines_text};
 ghost use Rattle.witness_lines.specs.EventLines as spec;
 
-use crate::names::pool_name;
 use decimals::push_number;
 use interleaving::Event;
 use job_bodies::Plan;
@@ -18,7 +18,7 @@ use std::alloc::AllocError;
 ///
 /// [`AllocError`] where memory runs out.
 pub fn push_event_lines(text: &mut String, plan: &Plan, witness: &Witness) -> Result<(), AllocError>
-    ensures { OnOk result (string_bytes text.new ≡ string_bytes text.old ++ lines_text plan.now (spec.witness_lines witness.now)) }
+    ensures { Pushes result text.old text.new (lines_text plan.now (spec.witness_lines witness.now)) }
 {
     push_lines(text, plan, &witness.events, stuck_members(&witness.ending))
 }
@@ -40,7 +40,7 @@ fn push_lines(
     mut events: &[Event],
     members: &[usize],
 ) -> Result<(), AllocError>
-    ensures { OnOk result (string_bytes text.new ≡ string_bytes text.old ++ lines_text plan.now (spec.lines_of events.now members.now)) }
+    ensures { Pushes result text.old text.new (lines_text plan.now (spec.lines_of events.now members.now)) }
 {
     while let Some((event, rest)) = events.split_first() {
         push_event(text, plan, *event)?;
@@ -51,32 +51,32 @@ fn push_lines(
 
 /// The line of an event.
 fn push_event(text: &mut String, plan: &Plan, event: Event) -> Result<(), AllocError>
-    ensures { OnOk result (string_bytes text.new ≡ string_bytes text.old ++ (event_text plan.now event ++ 10 ∷ [])) }
+    ensures { Pushes result text.old text.new (event_text plan.now event ++ 10 ∷ []) }
 {
     push_event_text(text, plan, event)?;
     text.push('\n')
 }
 
 fn push_event_text(text: &mut String, plan: &Plan, event: Event) -> Result<(), AllocError>
-    ensures { OnOk result (string_bytes text.new ≡ string_bytes text.old ++ event_text plan.now event) }
+    ensures { Pushes result text.old text.new (event_text plan.now event) }
 {
     match event {
         Event::Client(client) => push_numbered(text, "client ", client as u64),
         Event::Job(job) => push_numbered(text, "job ", job as u64),
-        Event::Take(pool) => push_named(text, "take ", pool_name(plan, pool)),
-        Event::Retire(pool) => push_named(text, "retire ", pool_name(plan, pool)),
+        Event::Take(pool) => push_named(text, "take ", plan.pool_name(pool)),
+        Event::Retire(pool) => push_named(text, "retire ", plan.pool_name(pool)),
     }
 }
 
 fn push_numbered(text: &mut String, words: &str, number: u64) -> Result<(), AllocError>
-    ensures { OnOk result (string_bytes text.new ≡ string_bytes text.old ++ (words.now ++ decimal number)) }
+    ensures { Pushes result text.old text.new (words.now ++ decimal number) }
 {
     text.push_str(words)?;
     push_number(text, number)
 }
 
 fn push_named(text: &mut String, words: &str, name: &str) -> Result<(), AllocError>
-    ensures { OnOk result (string_bytes text.new ≡ string_bytes text.old ++ (words.now ++ name.now)) }
+    ensures { Pushes result text.old text.new (words.now ++ name.now) }
 {
     text.push_str(words)?;
     text.push_str(name)
@@ -84,7 +84,7 @@ fn push_named(text: &mut String, words: &str, name: &str) -> Result<(), AllocErr
 
 /// The question whether the jobs are stuck, if there are any.
 fn push_question(text: &mut String, _plan: &Plan, members: &[usize]) -> Result<(), AllocError>
-    ensures { OnOk result (string_bytes text.new ≡ string_bytes text.old ++ lines_text _plan.now (spec.question members.now)) }
+    ensures { Pushes result text.old text.new (lines_text _plan.now (spec.question members.now)) }
 {
     if members.is_empty() {
         return Ok(());
@@ -96,7 +96,7 @@ fn push_question(text: &mut String, _plan: &Plan, members: &[usize]) -> Result<(
 
 /// Each number, with a space before it.
 fn push_numbers(text: &mut String, mut numbers: &[usize]) -> Result<(), AllocError>
-    ensures { OnOk result (string_bytes text.new ≡ string_bytes text.old ++ flat_map (λ n. 32 ∷ decimal n) numbers.now) }
+    ensures { Pushes result text.old text.new (flat_map (λ n. 32 ∷ decimal n) numbers.now) }
 {
     while let Some((number, rest)) = numbers.split_first() {
         push_numbered(text, " ", *number as u64)?;

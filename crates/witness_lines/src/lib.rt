@@ -6,7 +6,7 @@
 
 mod acts;
 mod event_texts;
-mod names;
+mod movers;
 mod standing;
 mod stories;
 mod telling;

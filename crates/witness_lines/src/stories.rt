@@ -11,7 +11,7 @@ use job_bodies::Plan;
 use std::alloc::{AllocError, Global};
 
 /// How many lines tell what happens, at most: of more, the first and the last.
-const MOST_LINES: usize = 20;
+const MAX_LINES: usize = 20;
 
 /// How many of the first lines are told where there are more.
 const FIRST_LINES: usize = 9;
@@ -59,21 +59,8 @@ fn runs_of(
     turns.into_runs()
 }
 
-/// How many clients make an event.
-pub(crate) fn clients_of(alloc: Global, events: &[Event]) -> Result<usize, AllocError> {
-    let mut clients = Vec::new(alloc);
-    for event in events.iter().copied() {
-        if let Event::Client(client) = event {
-            clients.push(client)?;
-        }
-    }
-    clients.sort_unstable();
-    clients.dedup();
-    Ok(clients.len())
-}
-
 fn push_runs(text: &mut String, runs: &[Run]) -> Result<(), AllocError> {
-    if runs.len() <= MOST_LINES {
+    if runs.len() <= MAX_LINES {
         return push_each(text, runs);
     }
     let (first, rest) = runs.split_at(FIRST_LINES);

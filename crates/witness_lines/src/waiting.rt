@@ -1,12 +1,11 @@
 //! Who waits for whom.
 
-use crate::names::{class_name, pool_name};
 use interleaving::{JobView, Parent, Phase, World};
 use job_bodies::{Action, Plan};
 use std::alloc::AllocError;
 
 /// How many of the jobs that wait are told, at most.
-const MOST_LINES: usize = 20;
+const MAX_LINES: usize = 20;
 
 /// A line for each of the jobs, as `job 0 (report) waits for job 1 (section)` and `job 1 (section) waits in the queue of p`.
 pub(crate) fn push_waits(
@@ -15,13 +14,13 @@ pub(crate) fn push_waits(
     world: &World,
     members: &[usize],
 ) -> Result<(), AllocError> {
-    for member in members.iter().copied().take(MOST_LINES) {
+    for member in members.iter().copied().take(MAX_LINES) {
         if let Some(job) = world.job(member) {
             push_wait(text, plan, world, members, member, job)?;
         }
     }
-    if members.len() > MOST_LINES {
-        let more = members.len().saturating_sub(MOST_LINES);
+    if members.len() > MAX_LINES {
+        let more = members.len().saturating_sub(MAX_LINES);
         writeln!(text, "and {more} more jobs")?;
     }
     Ok(())
@@ -35,10 +34,10 @@ fn push_wait(
     number: usize,
     job: JobView,
 ) -> Result<(), AllocError> {
-    let class = class_name(plan, job.class);
+    let class = plan.class_name(job.class);
     match job.phase {
         Phase::Queued => {
-            let pool = pool_name(plan, plan.class_at(job.class).map_or(0, |class| class.pool));
+            let pool = plan.pool_name(plan.class_at(job.class).map_or(0, |class| class.pool));
             writeln!(
                 text,
                 "job {number} ({class}) waits in the queue of {pool}, whose threads all run jobs of these"
@@ -46,7 +45,7 @@ fn push_wait(
         }
         Phase::At(position) => match child_at(plan, world, members, number, job, position) {
             Some((child, child_class)) => {
-                let child_class = class_name(plan, child_class);
+                let child_class = plan.class_name(child_class);
                 writeln!(
                     text,
                     "job {number} ({class}) waits for job {child} ({child_class})"

@@ -11,7 +11,7 @@ use std::collections::{BinaryHeap, HashSet};
 use std::hash::{BuildHasherDefault, FoldHasher};
 
 /// For how many vectors that miss their bounds there is a measure of its own.
-const MOST_VECTORS: usize = 2;
+const MAX_VECTORS: usize = 2;
 
 /// A state that was come to.
 #[derive(Clone, Copy, Debug)]
@@ -82,7 +82,7 @@ impl<'a> BestFirst<'a> {
         scales: &'a [Scale],
         states: usize,
     ) -> Result<BestFirst<'a>, AllocError> {
-        let scales = scales.get(..MOST_VECTORS).unwrap_or(scales);
+        let scales = scales.get(..MAX_VECTORS).unwrap_or(scales);
         let mut opens = Vec::new(alloc);
         for _ in 0..scales.len().saturating_add(2) {
             opens.push(BinaryHeap::new(alloc))?;

@@ -11,7 +11,7 @@ use std::alloc::{AllocError, Global};
 use written_machine::Parent;
 
 /// How many of the actors that stand at one choice are tried.
-const MOST_ACTORS: usize = 8;
+const MAX_ACTORS: usize = 8;
 
 /// A choice, and how many of the actors that stand there came behind the one that makes it.
 #[derive(Clone, Copy, Debug, PartialEq, Eq)]
@@ -45,7 +45,7 @@ impl<'a> Walk<'a> {
                 Choice::Begin(kind) => usize::from(self.has_more(kind) && !self.has_old(kind)),
                 Choice::Take(class) => usize::from(self.would_take(class)),
                 Choice::First(_) => ready.len().min(1),
-                Choice::Later(_) | Choice::Inner(_) => ready.len().min(MOST_ACTORS),
+                Choice::Later(_) | Choice::Inner(_) => ready.len().min(MAX_ACTORS),
             };
             for behind in 0..ways {
                 branches.push(Branch { place, behind })?;

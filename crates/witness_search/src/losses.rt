@@ -5,13 +5,13 @@ use crate::kinds::Choice;
 use crate::machine::Machine;
 use crate::missed::Scale;
 use crate::pools::Offered;
-use job_bodies::{Action, MOST_ACTIONS};
+use job_bodies::{Action, MAX_ACTIONS};
 use written_machine::Parent;
 
 /// The most that a loss is told as.
-const MOST_LOST: u64 = 1_000_000;
+const MAX_LOST: u64 = 1_000_000;
 /// How many parents are followed that go on when a job is done.
-const MOST_PARENTS: usize = 16;
+const MAX_PARENTS: usize = 16;
 
 /// A state, and the vector whose weights are looked at.
 #[derive(Clone, Copy)]
@@ -36,7 +36,7 @@ impl Way<'_> {
     /// What the actor weighs once it has done the work from this position on, and whether it is then at its end.
     fn settled(&self, position: usize) -> (u64, bool) {
         let mut position = position;
-        for _ in 0..MOST_ACTIONS {
+        for _ in 0..MAX_ACTIONS {
             match self.body.get(position) {
                 None => return (self.end, true),
                 Some(Action::Work(_)) => position = position.saturating_add(1),
@@ -62,7 +62,7 @@ impl<'a> Losses<'a> {
                 None => None,
             },
         };
-        lost.unwrap_or(MOST_LOST).min(MOST_LOST)
+        lost.unwrap_or(MAX_LOST).min(MAX_LOST)
     }
 
     fn way_of_client(&self, kind: usize) -> Option<Way<'a>> {
@@ -165,7 +165,7 @@ impl<'a> Losses<'a> {
         let mut class = class;
         let mut before = self.queued(class).saturating_add(self.worker(class));
         let (mut after, mut ends) = self.way_of_class(class)?.settled(0);
-        for _ in 0..MOST_PARENTS {
+        for _ in 0..MAX_PARENTS {
             if !ends {
                 break;
             }

@@ -1,7 +1,7 @@
 //! A light machine of a plan: of clients only those that have moved, and nothing of the past but the jobs.
 
 use crate::pools::{Offered, PoolNow};
-use job_bodies::{Action, MOST_ACTIONS, Plan};
+use job_bodies::{Action, MAX_ACTIONS, Plan};
 use std::alloc::{AllocError, Global};
 use written_machine::Parent;
 
@@ -136,7 +136,7 @@ impl<'a> Machine<'a> {
     /// The latest job that the actor made at this submit.
     pub(crate) fn child(&self, actor: Parent, submit: usize) -> Option<usize> {
         let mut next = self.newest(actor);
-        for _ in 0..MOST_ACTIONS {
+        for _ in 0..MAX_ACTIONS {
             let number = next?;
             let job = self.jobs.get(number)?;
             if job.submit == submit {

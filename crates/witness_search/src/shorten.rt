@@ -8,13 +8,13 @@ use std::alloc::{AllocError, Global};
 use written_machine::Event;
 
 /// The most events that are replayed to make one script shorter, beside a few whole replays.
-const MOST_REPLAYED: u64 = 6_000_000;
+const MAX_REPLAYED: u64 = 6_000_000;
 /// How many whole replays there are at least.
 const WHOLE_REPLAYS: u64 = 24;
 /// How often all ways are tried.
-const MOST_ROUNDS: usize = 8;
+const MAX_ROUNDS: usize = 8;
 /// More than how often a length can be halved.
-const MOST_HALVES: usize = 40;
+const MAX_HALVES: usize = 40;
 
 /// A script that is made shorter, and how many events may still be replayed for it.
 #[derive(Drop)]
@@ -39,9 +39,9 @@ pub(crate) fn shortened(
         plan,
         bad,
         script,
-        left: MOST_REPLAYED.saturating_add(whole),
+        left: MAX_REPLAYED.saturating_add(whole),
     };
-    for _ in 0..MOST_ROUNDS {
+    for _ in 0..MAX_ROUNDS {
         let before = shorter.script.acts.len();
         shorter.without_kinds()?;
         shorter.without_clients()?;
@@ -64,7 +64,7 @@ impl Shorter<'_> {
     /// Leaves out many clients, and then fewer ones.
     fn without_clients(&mut self) -> Result<(), AllocError> {
         let mut size = self.script.kinds.len();
-        for _ in 0..MOST_HALVES {
+        for _ in 0..MAX_HALVES {
             let chunks = parts(self.script.kinds.len(), size);
             for chunk in (0..chunks).rev() {
                 let from = chunk.saturating_mul(size);
@@ -85,7 +85,7 @@ impl Shorter<'_> {
     /// Leaves out many events that follow each other, and then fewer ones.
     fn without_chunks(&mut self) -> Result<(), AllocError> {
         let mut size = self.script.acts.len() / 2;
-        for _ in 0..MOST_HALVES {
+        for _ in 0..MAX_HALVES {
             let chunks = parts(self.script.acts.len(), size);
             for chunk in (0..chunks).rev() {
                 let from = chunk.saturating_mul(size);

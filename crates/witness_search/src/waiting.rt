@@ -1,12 +1,12 @@
 //! Sets of jobs that wait only for each other.
 
 use crate::machine::{Job, Machine, Phase};
-use job_bodies::MOST_POOLS;
+use job_bodies::MAX_POOLS;
 use std::alloc::{AllocError, Global};
 use written_machine::Parent;
 
 /// The most jobs that are looked at to make one set smaller.
-const MOST_LOOKS: usize = 4_000_000;
+const MAX_LOOKS: usize = 4_000_000;
 
 /// Some jobs of a machine, by number.
 #[derive(Drop)]
@@ -40,7 +40,7 @@ impl Members {
         for_ever: bool,
     ) -> Result<Members, AllocError> {
         let mut best = self;
-        let tries = MOST_LOOKS.checked_div(machine.jobs.len()).unwrap_or(0);
+        let tries = MAX_LOOKS.checked_div(machine.jobs.len()).unwrap_or(0);
         let mut left = tries;
         for number in 0..machine.jobs.len() {
             if !best.has(number) {
@@ -97,7 +97,7 @@ impl Members {
         machine: &Machine,
         for_ever: bool,
     ) -> Result<(), AllocError> {
-        for _ in 0..MOST_POOLS + 2 {
+        for _ in 0..MAX_POOLS + 2 {
             let closed = self.closed_pools(alloc, machine, for_ever)?;
             if !self.shrink_once(machine, &closed) {
                 break;

@@ -6,7 +6,7 @@ use Rattle.numbered_lists.specs.Places.{places_where, last_of}
 use Rattle.job_bodies.specs.declared.action.Action.{Action}
 use Rattle.job_bodies.specs.declared.action.Action.TheVariants as action
 use Rattle.job_bodies.specs.Plan.{Plan, submits, class_of_submit, class_got}
-use Rattle.job_bodies.proofs.Bodies.{IsLawful}
+use Rattle.job_bodies.specs.Lawful.{IsLawful}
 use Rattle.written_machine.specs.declared.parent.Parent.{Parent}
 use Rattle.written_machine.specs.declared.parent.Parent.TheVariants as parent
 use Rattle.written_machine.specs.State.{Stage, State, Made, is_made_by}

@@ -6,7 +6,8 @@ use Rattle.numbered_lists.specs.Places.{cons_if}
 use Rattle.job_bodies.specs.declared.action.Action.{Action}
 use Rattle.job_bodies.specs.declared.action.Action.TheVariants as action
 use Rattle.job_bodies.specs.Plan.{Plan, pool_at}
-use Rattle.job_bodies.proofs.Bodies.{IsLawful, IsOrdered}
+use Rattle.job_bodies.specs.Lawful.{IsLawful}
+use Rattle.job_bodies.proofs.Bodies.{IsOrdered}
 use Rattle.written_machine.specs.declared.parent.Parent.{Parent}
 use Rattle.written_machine.specs.State.{Stage, State, PoolPart, pool_part, pool_of, threads}
 use Rattle.written_machine.specs.Step.{with_position, with_job, new_job, moved_jobs}

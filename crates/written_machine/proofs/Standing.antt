@@ -6,7 +6,8 @@ use Rattle.std.proofs.lemmas.List.{get_or-set_other, get_or_past}
 use Rattle.std.proofs.lemmas.Option.{none-some, same_Some}
 use Rattle.job_bodies.specs.declared.action.Action.{Action}
 use Rattle.job_bodies.specs.Plan.{Plan, class_at, client_at}
-use Rattle.job_bodies.proofs.Bodies.{IsLawful, IsOrdered}
+use Rattle.job_bodies.specs.Lawful.{IsLawful}
+use Rattle.job_bodies.proofs.Bodies.{IsOrdered}
 use Rattle.written_machine.specs.declared.client_state.ClientState.{ClientState}
 use Rattle.written_machine.specs.declared.parent.Parent.{Parent}
 use Rattle.written_machine.specs.declared.parent.Parent.TheVariants as parent

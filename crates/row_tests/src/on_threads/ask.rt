@@ -4,7 +4,7 @@ ghost use Rattle.command_line.specs.Command.{IsInRange};
 
 use crate::on_threads::ended::Ended;
 use crate::on_threads::fit::served;
-use sizing_cli::{Command, Form, Given, Manner};
+use sizing_cli::{Command, Form, Given, Manner, Task};
 use std::alloc::{AllocError, Global};
 use std::sync::Wait;
 use std::thread::Threads;
@@ -13,10 +13,10 @@ use std::thread::Threads;
 fn question(given: Given, strict: bool, form: Form) -> Command
     ensures { IsInRange result }
 {
-    Command::Ask {
+    Command::OnThreads(Task::Ask {
         given,
         manner: Manner { strict, form },
-    }
+    })
 }
 
 /// What `ask` answers to an input of this kind, where it is one.

@@ -2,7 +2,7 @@
 
 use crate::on_threads::ended::Ended;
 use crate::on_threads::failing::{push_failing_reads, push_failing_writes};
-use sizing_cli::{Command, MemorySink, MemorySource, Status};
+use sizing_cli::{Command, MemorySink, MemorySource, Status, Task};
 use std::alloc::{AllocError, Global};
 use std::sync::Wait;
 use std::thread::Threads;
@@ -10,13 +10,15 @@ use std::thread::Threads;
 // An input of at most so many bytes is short.
 const SHORT: usize = 250;
 
+const ONE_WORKER: Command = Command::OnThreads(Task::Certify { workers: 1 });
+
 /// What `certify` answers to a plan's text.
 pub fn certified<R: Threads + Wait + Sync>(
     rt: &R,
     alloc: Global,
     plan: &[u8],
 ) -> Result<String, AllocError> {
-    let ended = Ended::of_input(rt, alloc, Command::Certify { workers: 1 }, plan)?;
+    let ended = Ended::of_input(rt, alloc, ONE_WORKER, plan)?;
     let mut answer = ended.shown(alloc)?;
     push_otherwise(rt, alloc, plan, &ended, &mut answer)?;
     Ok(answer)
@@ -28,7 +30,7 @@ pub fn certified_and_checked<R: Threads + Wait + Sync>(
     alloc: Global,
     plan: &[u8],
 ) -> Result<String, AllocError> {
-    let ended = Ended::of_input(rt, alloc, Command::Certify { workers: 1 }, plan)?;
+    let ended = Ended::of_input(rt, alloc, ONE_WORKER, plan)?;
     let mut answer = if ended.outcome == Ok(Status::Done) {
         Ended::of_bundle(alloc, &ended.written)?.first_line(alloc)?
     } else {
@@ -60,14 +62,14 @@ fn push_otherwise<R: Threads + Wait + Sync>(
     ended: &Ended,
     answer: &mut String,
 ) -> Result<(), AllocError> {
-    let command = Command::Certify { workers: 64 };
+    let command = Command::OnThreads(Task::Certify { workers: 64 });
     if Ended::of_input(rt, alloc, command, plan)? != *ended {
         answer.push_str(", but not with 64 workers")?;
     }
     if plan.len() > SHORT {
         return Ok(());
     }
-    let command = Command::Certify { workers: 2 };
+    let command = Command::OnThreads(Task::Certify { workers: 2 });
     let mut source = MemorySource::new(plan).at_most(1);
     let sink = MemorySink::new(alloc).at_most(1);
     if Ended::of_source(rt, alloc, command, &mut source, sink)? != *ended {

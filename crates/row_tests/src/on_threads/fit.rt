@@ -4,7 +4,7 @@ ghost use Rattle.command_line.specs.Command.{IsInRange};
 
 use crate::on_threads::ended::Ended;
 use crate::on_threads::failing::{push_failing_reads, push_failing_writes};
-use sizing_cli::{Command, MemorySink, MemorySource, Status, Wanted};
+use sizing_cli::{Command, MemorySink, MemorySource, Status, Task, Wanted};
 use std::alloc::{AllocError, Global};
 use std::sync::Wait;
 use std::thread::Threads;
@@ -12,13 +12,13 @@ use std::thread::Threads;
 // An input of at most so many bytes is short.
 const SHORT: usize = 250;
 
-const SIZES: Command = Command::Fit {
+const SIZES: Command = Command::OnThreads(Task::Fit {
     wanted: Wanted::Sizes,
-};
+});
 
-const BUNDLE: Command = Command::Fit {
+const BUNDLE: Command = Command::OnThreads(Task::Fit {
     wanted: Wanted::Bundle,
-};
+});
 
 /// What `fit` answers to a plan's text.
 pub fn fitted<R: Threads + Wait + Sync>(

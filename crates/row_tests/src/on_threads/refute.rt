@@ -2,25 +2,25 @@
 
 use crate::on_threads::ended::Ended;
 use crate::on_threads::fit::served;
-use sizing_cli::{Command, Shown, Status};
+use sizing_cli::{Command, Review, Shown, Status, Task};
 use std::alloc::{AllocError, Global};
 use std::sync::Wait;
 use std::thread::Threads;
 
-const STORY: Command = Command::Refute {
+const STORY: Command = Command::OnThreads(Task::Refute {
     states: 100_000,
     shown: Shown::Story,
-};
+});
 
-const BRIEF: Command = Command::Refute {
+const BRIEF: Command = Command::OnThreads(Task::Refute {
     states: 1,
     shown: Shown::Story,
-};
+});
 
-const BUNDLE: Command = Command::Refute {
+const BUNDLE: Command = Command::OnThreads(Task::Refute {
     states: 100_000,
     shown: Shown::Bundle,
-};
+});
 
 /// What `refute` answers to a plan's text.
 pub fn refuted<R: Threads + Wait + Sync>(
@@ -68,5 +68,5 @@ pub fn refuted_and_replayed<R: Threads + Wait + Sync>(
     if ended.outcome != Ok(Status::Done) {
         return ended.shown(alloc);
     }
-    Ended::of_input(rt, alloc, Command::Replay, &ended.written)?.shown(alloc)
+    Ended::of_input(rt, alloc, Command::Alone(Review::Replay), &ended.written)?.shown(alloc)
 }

@@ -4,7 +4,7 @@ ghost use Rattle.std.specs.Prelude.{◌≤◌};
 
 use crate::on_threads::ended::Ended;
 use crate::on_threads::failing::{push_failing_reads, push_failing_writes};
-use sizing_cli::{Command, MemorySink, MemorySource};
+use sizing_cli::{Command, MemorySink, MemorySource, Task};
 use std::alloc::{AllocError, Global};
 use std::sync::Wait;
 use std::thread::Threads;
@@ -22,7 +22,7 @@ pub fn ran<R: Threads + Wait + Sync>(
     requires some { 1 ≤ rounds }
     requires most { rounds ≤ 1000000 }
 {
-    let command = Command::Run { rounds };
+    let command = Command::OnThreads(Task::Run { rounds });
     let ended = Ended::of_input(rt, alloc, command, bundle)?;
     let mut answer = ended.shown(alloc)?;
     if rounds > SHORT {

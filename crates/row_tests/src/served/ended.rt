@@ -1,9 +1,6 @@
 //! Serves inputs to memory.
 
-ghost use Rattle.std.specs.Prelude.{IsTrue};
-ghost use Rattle.sizing_cli.specs.Report.{is_alone};
-
-use sizing_cli::{Command, MemorySink, ServeFault, Source, Status, serve_alone};
+use sizing_cli::{MemorySink, Review, ServeFault, Source, Status, serve_alone};
 use std::alloc::{AllocError, Global};
 
 /// What was written, and how the call ended.
@@ -31,14 +28,12 @@ impl Ended {
 /// Serves what the source gives.
 pub fn serve<S: Source>(
     alloc: Global,
-    command: Command,
+    review: Review,
     source: &mut S,
     sink: MemorySink,
-) -> Result<Ended, AllocError>
-    requires { IsTrue (is_alone command) }
-{
+) -> Result<Ended, AllocError> {
     let mut sink = sink;
-    let outcome = serve_alone(alloc, command, source, &mut sink);
+    let outcome = serve_alone(alloc, review, source, &mut sink);
     let written = sink.written().to_vec(alloc)?;
     Ok(Ended { written, outcome })
 }

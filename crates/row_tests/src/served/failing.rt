@@ -1,10 +1,9 @@
 //! Sources and sinks that fail at one of their calls.
 
-ghost use Rattle.std.specs.Prelude.{◌<◌, IsTrue};
-ghost use Rattle.sizing_cli.specs.Report.{is_alone};
+ghost use Rattle.std.specs.Prelude.{◌<◌};
 
 use crate::served::ended::{Ended, serve};
-use sizing_cli::{Command, MemorySink, MemorySource, ServeFault, StdSink, serve_alone};
+use sizing_cli::{MemorySink, MemorySource, Review, ServeFault, StdSink, serve_alone};
 use std::alloc::{AllocError, Global};
 use std::io;
 use std::io::Write;
@@ -28,14 +27,12 @@ impl Case<'_> {
     pub fn push_otherwise(
         &self,
         alloc: Global,
-        command: Command,
+        review: Review,
         answer: &mut String,
-    ) -> Result<(), AllocError>
-        requires { IsTrue (is_alone command) }
-    {
-        self.push_failing_reads(alloc, command, answer, 150)?;
-        self.push_failing_writes(alloc, command, answer, 40)?;
-        self.push_stalling_writes(alloc, command, answer)
+    ) -> Result<(), AllocError> {
+        self.push_failing_reads(alloc, review, answer, 150)?;
+        self.push_failing_writes(alloc, review, answer, 40)?;
+        self.push_stalling_writes(alloc, review, answer)
     }
 
     // A source that fails gives 60, and nothing is written. One call more than those that give the bytes is made, which
@@ -43,19 +40,18 @@ impl Case<'_> {
     fn push_failing_reads(
         &self,
         alloc: Global,
-        command: Command,
+        review: Review,
         answer: &mut String,
         most: usize,
     ) -> Result<(), AllocError>
-        requires command { IsTrue (is_alone command) }
-        requires most { 0 < most }
+        requires { 0 < most }
     {
         let last = self.input.len().div_ceil(most) as u64;
         for calls in 0..=last.saturating_add(1) {
             let mut source = MemorySource::new(self.input)
                 .at_most(most)
                 .failing_after(calls);
-            let failed = serve(alloc, command, &mut source, MemorySink::new(alloc))?;
+            let failed = serve(alloc, review, &mut source, MemorySink::new(alloc))?;
             let is_right = if calls <= last {
                 failed.written.is_empty() && failed.outcome == Err(READ_FAILED)
             } else {
@@ -76,19 +72,18 @@ impl Case<'_> {
     fn push_failing_writes(
         &self,
         alloc: Global,
-        command: Command,
+        review: Review,
         answer: &mut String,
         most: usize,
     ) -> Result<(), AllocError>
-        requires command { IsTrue (is_alone command) }
-        requires most { 0 < most }
+        requires { 0 < most }
     {
         for calls in 0..=self.ended.written.len().div_ceil(most) {
             let sink = MemorySink::new(alloc)
                 .at_most(most)
                 .failing_after(calls as u64);
             let mut source = MemorySource::new(self.input);
-            let failed = serve(alloc, command, &mut source, sink)?;
+            let failed = serve(alloc, review, &mut source, sink)?;
             if !is_front_of(&failed, &self.ended, most.saturating_mul(calls)) {
                 write!(
                     answer,
@@ -103,18 +98,16 @@ impl Case<'_> {
     fn push_stalling_writes(
         &self,
         alloc: Global,
-        command: Command,
+        review: Review,
         answer: &mut String,
-    ) -> Result<(), AllocError>
-        requires { IsTrue (is_alone command) }
-    {
+    ) -> Result<(), AllocError> {
         for calls in 0..=self.ended.written.len().div_ceil(STALLING_PIECE) {
             let mut sink = StdSink::new(Stalling {
                 taken: Vec::new(alloc),
                 calls,
             });
             let mut source = MemorySource::new(self.input);
-            let outcome = serve_alone(alloc, command, &mut source, &mut sink);
+            let outcome = serve_alone(alloc, review, &mut source, &mut sink);
             let Stalling { taken, calls: _ } = sink.into_inner();
             let failed = Ended {
                 written: taken,

@@ -1,6 +1,6 @@
 //! The words of the command line.
 
-use command_line::{Asked, read_words};
+use command_line::{Asked, Command, read_words};
 use std::alloc::{AllocError, Global};
 
 /// What the words ask for, each with a newline behind it: a command and the files that are named, none, or how they are refused.
@@ -15,7 +15,10 @@ pub fn asked(alloc: Global, lines: &[u8]) -> Result<String, AllocError> {
 }
 
 fn told(alloc: Global, asked: &Asked<'_>) -> Result<String, AllocError> {
-    let mut text = format!(in alloc; "Some({:?})", asked.command)?;
+    let mut text = match asked.command {
+        Command::Alone(review) => format!(in alloc; "Some({review:?})")?,
+        Command::OnThreads(task) => format!(in alloc; "Some({task:?})")?,
+    };
     if let Some(first) = asked.first {
         write!(text, ", first {first}")?;
     }

@@ -9,7 +9,7 @@ use Rattle.serde_json.specs.Written.{has_float, compact_text}
 use Rattle.cert_text.specs.CertText.{cert_data, has_percent}
 use Rattle.cert_text.proofs.Plain.{cert_plain}
 use Rattle.cert_text.proofs.Percent.{cert_bare}
-use Rattle.cert_text.specs.declared.document.TheConstants.{MOST_TEXT_BYTES}
+use Rattle.cert_text.specs.declared.document.TheConstants.{MAX_TEXT_BYTES}
 use Rattle.cert_text.proofs.ReadsBack.{cert_back}
 use Rattle.cert_text.proofs.Newline.{read_before_newline, newline_is_utf8}
 use Rattle.cert_text.proofs.write.write_cert.Goals as goal
@@ -52,6 +52,6 @@ returns-clause-line_reads_back c =
     let line = text.items ++ 10 ∷ [] in
     let whole : is_utf8 line ≡ true = is_utf8-from_IsUtf8 line (IsUtf8-append text.items (10 ∷ []) utf8 (IsUtf8-from_is_utf8 (10 ∷ []) newline_is_utf8)) in
     let reads : read line ≡ Some (cert_data c.args.cert.now) = read_before_newline text.items compact ∙ rw seen at (given shallow) in
-    let short : length line ≤ MOST_TEXT_BYTES = omega (arith, within, length-append text.items (10 ∷ [])) in
+    let short : length line ≤ MAX_TEXT_BYTES = omega (arith, within, length-append text.items (10 ∷ [])) in
     cert_back line plan c.args.cert.now whole reads fits short)
     c.to_vec.ensures.utf8 c.to_vec.ensures.compact c.to_vec.ensures.reads_back

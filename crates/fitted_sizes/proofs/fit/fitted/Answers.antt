@@ -21,22 +21,22 @@ with_pools-requires c =
     let none : why_unfit plan c.args.cert.now ≡ None = sym c.in_ok-unfit.ensures ∙ c.in-None.is in
     subst (λ (pools : List Pool). IsWellFormed (given pools plan.classes plan.clients)) (sym c.in_ok-pools.ensures.pools) (well_formed_where_not_unfit plan c.args.cert.now c.in_ok-pools.ensures.well_formed none)
 
-pub returns-in_ok-with_pools-in-None-clause-fitted : goal.returns-in_ok-with_pools-in-None-clause-fitted
-returns-in_ok-with_pools-in-None-clause-fitted c =
+pub returns-in-None-clause-fitted : goal.returns-in-None-clause-fitted
+returns-in-None-clause-fitted c =
     let plan = c.args.plan in
     let none : why_unfit plan c.args.cert.now ≡ None = sym c.in_ok-unfit.ensures ∙ c.in-None.is in
-    let is : c.in_ok-with_pools-in-None.field-0 ≡ raised plan c.args.cert.now = c.in_ok-with_pools-in-None.ensures ∙ ap (λ (pools : List Pool). given pools plan.classes plan.clients) c.in_ok-pools.ensures.pools in
+    let is : c.with_pools.result ≡ raised plan c.args.cert.now = c.with_pools.ensures ∙ ap (λ (pools : List Pool). given pools plan.classes plan.clients) c.in_ok-pools.ensures.pools in
     fitted_where_not_unfit plan c.args.cert.now c.in_ok-pools.ensures.well_formed none ∙ ap (λ (fit : Plan). Some fit) (sym is)
 
-pub returns-in_ok-with_pools-in-None-clause-least : goal.returns-in_ok-with_pools-in-None-clause-least
-returns-in_ok-with_pools-in-None-clause-least c =
+pub returns-in-None-clause-least : goal.returns-in-None-clause-least
+returns-in-None-clause-least c =
     let plan = c.args.plan in
     let none : why_unfit plan c.args.cert.now ≡ None = sym c.in_ok-unfit.ensures ∙ c.in-None.is in
-    let is : c.in_ok-with_pools-in-None.field-0 ≡ raised plan c.args.cert.now = c.in_ok-with_pools-in-None.ensures ∙ ap (λ (pools : List Pool). given pools plan.classes plan.clients) c.in_ok-pools.ensures.pools in
+    let is : c.with_pools.result ≡ raised plan c.args.cert.now = c.with_pools.ensures ∙ ap (λ (pools : List Pool). given pools plan.classes plan.clients) c.in_ok-pools.ensures.pools in
     subst (IsLeastFit plan c.args.cert.now) (sym is) (least_where_not_unfit plan c.args.cert.now c.in_ok-pools.ensures.well_formed none)
 
-pub returns-in_ok-with_pools-in-None-clause-least_cores : goal.returns-in_ok-with_pools-in-None-clause-least_cores
-returns-in_ok-with_pools-in-None-clause-least_cores c =
+pub returns-in-None-clause-least_cores : goal.returns-in-None-clause-least_cores
+returns-in-None-clause-least_cores c =
     let plan = c.args.plan in
-    let is : c.in_ok-with_pools-in-None.field-0 ≡ raised plan c.args.cert.now = c.in_ok-with_pools-in-None.ensures ∙ ap (λ (pools : List Pool). given pools plan.classes plan.clients) c.in_ok-pools.ensures.pools in
+    let is : c.with_pools.result ≡ raised plan c.args.cert.now = c.with_pools.ensures ∙ ap (λ (pools : List Pool). given pools plan.classes plan.clients) c.in_ok-pools.ensures.pools in
     subst (HasLeastCores plan c.args.cert.now) (sym is) (raised_has_least_cores plan c.args.cert.now)

@@ -1,5 +1,5 @@
 use Rattle.std.proofs.Common.{List, sym, subst}
-use Rattle.job_bodies.specs.Plan.{Pool}
+use Rattle.job_bodies.specs.Plan.{Pool, Plan}
 use Rattle.job_bodies.specs.WellFormed.{IsWellFormed}
 use Rattle.job_bodies.specs.Build.{given}
 use Rattle.fitted_sizes.proofs.LeastSizes.{smallest_is_well_formed}
@@ -8,4 +8,5 @@ use Rattle.fitted_sizes.proofs.fit.smallest.Goals as goal
 pub with_pools-requires : goal.with_pools-requires
 with_pools-requires c =
     let plan = c.args.plan.now in
-    subst (λ (pools : List Pool). IsWellFormed (given pools plan.classes plan.clients)) (sym c.in_ok-pools.ensures.pools) (smallest_is_well_formed plan c.in_ok-pools.ensures.well_formed)
+    let well = subst (λ (pools : List Pool). IsWellFormed (given pools plan.classes plan.clients)) (sym c.in_ok-pools.ensures.pools) (smallest_is_well_formed plan c.in_ok-pools.ensures.well_formed) in
+    subst (λ (copy : Plan). IsWellFormed (given c.in_ok-pools.pools.items copy.classes copy.clients)) (sym c.in_ok-copied.ensures) well

@@ -1,5 +1,5 @@
 use Rattle.std.proofs.Common.{◌≡◌, length}
-use Rattle.plan_witnesses.specs.Confirmed.{rise_above}
+use Rattle.plan_witnesses.specs.Rising.{rise_above}
 use Rattle.plan_witnesses.proofs.rising.rise_above.Given as goal
 
 -- what is left tells whether all rise

@@ -3,9 +3,7 @@ use Rattle.sizing_cli.proofs.found_answer.warnings_for.Goals as goal
 
 pub returns : goal.returns
 returns c = record {
-  needed = c.deref.result.now;
   oddities = warned_of c.in_ok-warnings.warnings.items;
-  are_oddities = c.in_ok-warnings.ensures;
-  is_stale = c.args.is_stale;
+  are_oddities = rw (← c.in_ok-needed.ensures, ← c.deref.ensures.value) c.in_ok-warnings.ensures;
   warned = c.in_ok-all.ensures;
 }

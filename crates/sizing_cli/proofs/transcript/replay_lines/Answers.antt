@@ -15,6 +15,6 @@ loop-line-preserved-then-not-is_over c =
 
 pub returns : goal.returns
 returns c =
-    if_ok_map c.ended.result _ _
+    if_ok_map c.finish.result _ _
     (λ whole ended. so_far_ended c.args.plan.now c.args.lines c.loop-line.lines c.loop-line.world.view c.loop-line.answer whole c.loop-line.number c.loop-line.is_over c.in_default.ensures.0 c.loop-line.invariant ended)
-    c.ended.ensures
+    c.finish.ensures

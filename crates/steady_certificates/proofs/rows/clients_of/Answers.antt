@@ -1,6 +1,7 @@
 use Rattle.std.proofs.Common.{sym, subst}
 use Rattle.job_bodies.specs.Plan.{Client}
-use Rattle.job_bodies.proofs.Bodies.{IsLawful, ordered}
+use Rattle.job_bodies.specs.Lawful.{IsLawful}
+use Rattle.job_bodies.proofs.Bodies.{ordered}
 use Rattle.steady_certificates.proofs.Settling.{client_here}
 use Rattle.steady_certificates.proofs.rows.clients_of.Goals as goal
 

@@ -2,7 +2,8 @@ use Rattle.std.proofs.Common.{rules, ◌≡◌, ◌+◌, false, true, List, ap, 
 use Rattle.std.specs.List.{list_all}
 use Rattle.job_bodies.specs.declared.action.Action.{Action}
 use Rattle.job_bodies.specs.Plan.{Class, class_at}
-use Rattle.job_bodies.proofs.Bodies.{IsLawful, ordered}
+use Rattle.job_bodies.specs.Lawful.{IsLawful}
+use Rattle.job_bodies.proofs.Bodies.{ordered}
 use Rattle.weights.specs.Vector.{Vector, is_small}
 use Rattle.steady_certificates.specs.Settled.{IsSettled}
 use Rattle.steady_certificates.specs.Steady.{class_row}

@@ -1,16 +1,20 @@
-use Rattle.std.proofs.Common.{◌≡◌, [], ◌∷◌, ◌∙◌}
+use Rattle.std.proofs.Common.{◌≡◌, [], ◌∷◌, ◌∙◌, subst}
 use Rattle.std.proofs.lemmas.Option.{slice_get-get_or}
+use Rattle.weights.specs.declared.row.Row.{Row}
 use Rattle.weights.specs.declared.row.Rule.TheVariants.{L2}
 use Rattle.weights.specs.declared.row.Place.TheVariants.{Class}
 use Rattle.weights.specs.Row.{row}
+use Rattle.weights.specs.Takes.{Takes}
 use Rattle.weights.proofs.Walks.{walk_goes_on, walk_ends, takes_same, one_each_placeless}
 use Rattle.weights.proofs.lifetime.visit_made_rows.Goals as goal
 
 pub loop-weight-preserved : goal.loop-weight-preserved
 loop-weight-preserved g c =
+    let has_seen = g.V.RowVisitor.HasSeen in
     let i = c.loop-weight.weight-index in
     let rows_at = λ (_ : _) (weight : _). row L2 (Class c.args.class) 1 weight ∷ [] in
-    walk_goes_on g.V.RowVisitor.HasSeen _ _ _ rows_at c.args.weights.now i _ (slice_get-get_or c.args.weights.now i 0 c.loop-weight-test.true) c.visit.ensures c.loop-weight.invariant
+    let taken = subst (λ (x : Row). Takes has_seen c.loop-weight.visitor c.visit.new.self (x ∷ [])) c.new.ensures c.visit.ensures in
+    walk_goes_on has_seen _ _ _ rows_at c.args.weights.now i _ (slice_get-get_or c.args.weights.now i 0 c.loop-weight-test.true) taken c.loop-weight.invariant
 
 pub returns : goal.returns
 returns g c =

@@ -18,7 +18,7 @@ loop-pool-preserved g c =
     let i = c.loop-pool.pool in
     let inside : i < length pools = rw (← c.pools-pool-end.ensures.value) c.loop-pool-test.true in
     let rows_at = λ (p : ℕ) (_ : Pool). row L1 (Worker p) (workers_weight c.args.vector.now p) 0 ∷ [] in
-    let taken : Takes has_seen c.loop-pool.visitor c.visit.new.self (row L1 (Worker i) (workers_weight c.args.vector.now i) 0 ∷ []) = rw (← c.workers_weight.ensures) c.visit.ensures in
+    let taken : Takes has_seen c.loop-pool.visitor c.visit.new.self (row L1 (Worker i) (workers_weight c.args.vector.now i) 0 ∷ []) = rw (← c.workers_weight.ensures, ← c.new.ensures) c.visit.ensures in
     walk_goes_on has_seen _ _ _ rows_at pools i (get_or pools i no_pool) (slice_get-get_or pools i no_pool inside) taken c.loop-pool.invariant
 
 pub returns : goal.returns

@@ -8,8 +8,8 @@ bounds-weights-0 c =
     let f = client_fits c.args.plan.now c.args.vector.now c.args.number c.args.client.now c.requires.well_formed c.requires.fits c.requires.client in
     rw c.client_weights-weights.ensures (omega (arith, f.long))
 
-pub overflow_sub-result : goal.overflow_sub-result
-overflow_sub-result c =
+pub overflow_sub-weights : goal.overflow_sub-weights
+overflow_sub-weights c =
     let f = client_fits c.args.plan.now c.args.vector.now c.args.number c.args.client.now c.requires.well_formed c.requires.fits c.requires.client in
     rw c.client_weights-weights.ensures (omega (arith, f.long))
 
@@ -22,4 +22,4 @@ pub returns : goal.returns
 returns c =
     let f = client_fits c.args.plan.now c.args.vector.now c.args.number c.args.client.now c.requires.well_formed c.requires.fits c.requires.client in
     let last : length (client_weights c.args.vector.now c.args.number) - 1 ≡ length c.args.client.now.body = omega (arith, f.long) in
-    rw (c.client_weights-weights.ensures, last) refl
+    rw (c.new.ensures, c.client_weights-weights.ensures, last) refl

@@ -2,8 +2,8 @@ use Rattle.std.proofs.Common.{◌≡◌, ◌≤◌, ◌<◌, ◌+◌, ◌*◌, �
 use Rattle.std.specs.Prelude.{slice_index_or}
 use Rattle.std.proofs.lemmas.Nat.{mul-le}
 use Rattle.readings.proofs.Loops.{at_index}
-use Rattle.job_bodies.specs.declared.limits.TheConstants.{MOST_CLIENTS, MOST_UNITS}
-use Rattle.weights.specs.declared.limits.TheConstants.{MOST_WEIGHT}
+use Rattle.job_bodies.specs.declared.limits.TheConstants.{MAX_CLIENT_KINDS, MAX_SIZE}
+use Rattle.weights.specs.declared.limits.TheConstants.{MAX_WEIGHT}
 use Rattle.weights.specs.Vector.{client_weight}
 use Rattle.weights.proofs.Fitting.{fits, count_at}
 use Rattle.weights.proofs.Loops.{sum_more}
@@ -22,9 +22,9 @@ overflow_mul-total c =
     let well = c.clients-client-items.ensures.well_formed in
     let here : slice_get plan.clients c.loop-number.number ≡ Some c.client-item.result = rw (← c.clients-client-items.ensures.value) (at_index _ _ _ c.loop-number-test.true c.client-item.is) in
     let same : c.client.inside.count ≡ c.client-item.result.count = ap (λ (x : _). x.count) c.client.view_is in
-    let many : c.client.inside.count ≤ MOST_UNITS = rw same (count_at plan c.loop-number.number c.client-item.result well here) in
-    let weight : slice_index_or c.client_weights.result.now 0 0 ≤ MOST_WEIGHT = rw c.client_weights.ensures ((fits c.args.plan.now c.args.vector.now c.requires).small_client c.loop-number.number 0) in
-    let term : c.client.inside.count * slice_index_or c.client_weights.result.now 0 0 ≤ MOST_UNITS * MOST_WEIGHT = mul-le c.client.inside.count (slice_index_or c.client_weights.result.now 0 0) MOST_UNITS MOST_WEIGHT many weight in
+    let many : c.client.inside.count ≤ MAX_SIZE = rw same (count_at plan c.loop-number.number c.client-item.result well here) in
+    let weight : slice_index_or c.client_weights.result.now 0 0 ≤ MAX_WEIGHT = rw c.client_weights.ensures ((fits c.args.plan.now c.args.vector.now c.requires).small_client c.loop-number.number 0) in
+    let term : c.client.inside.count * slice_index_or c.client_weights.result.now 0 0 ≤ MAX_SIZE * MAX_WEIGHT = mul-le c.client.inside.count (slice_index_or c.client_weights.result.now 0 0) MAX_SIZE MAX_WEIGHT many weight in
     omega arith
 
 pub overflow_add-total : goal.overflow_add-total
@@ -33,9 +33,9 @@ overflow_add-total c =
     let well = c.clients-client-items.ensures.well_formed in
     let here : slice_get plan.clients c.loop-number.number ≡ Some c.client-item.result = rw (← c.clients-client-items.ensures.value) (at_index _ _ _ c.loop-number-test.true c.client-item.is) in
     let same : c.client.inside.count ≡ c.client-item.result.count = ap (λ (x : _). x.count) c.client.view_is in
-    let many : c.client.inside.count ≤ MOST_UNITS = rw same (count_at plan c.loop-number.number c.client-item.result well here) in
-    let weight : slice_index_or c.client_weights.result.now 0 0 ≤ MOST_WEIGHT = rw c.client_weights.ensures ((fits c.args.plan.now c.args.vector.now c.requires).small_client c.loop-number.number 0) in
-    let term : c.client.inside.count * slice_index_or c.client_weights.result.now 0 0 ≤ MOST_UNITS * MOST_WEIGHT = mul-le c.client.inside.count (slice_index_or c.client_weights.result.now 0 0) MOST_UNITS MOST_WEIGHT many weight in
+    let many : c.client.inside.count ≤ MAX_SIZE = rw same (count_at plan c.loop-number.number c.client-item.result well here) in
+    let weight : slice_index_or c.client_weights.result.now 0 0 ≤ MAX_WEIGHT = rw c.client_weights.ensures ((fits c.args.plan.now c.args.vector.now c.requires).small_client c.loop-number.number 0) in
+    let term : c.client.inside.count * slice_index_or c.client_weights.result.now 0 0 ≤ MAX_SIZE * MAX_WEIGHT = mul-le c.client.inside.count (slice_index_or c.client_weights.result.now 0 0) MAX_SIZE MAX_WEIGHT many weight in
     let early : c.loop-number.number < length plan.clients = rw (← c.clients-client-items.ensures.value) c.loop-number-test.true in
     omega (arith, well.few_clients, c.loop-number.invariant.bound)
 
@@ -45,9 +45,9 @@ loop-number-preserved c =
     let well = c.clients-client-items.ensures.well_formed in
     let here : slice_get plan.clients c.loop-number.number ≡ Some c.client-item.result = rw (← c.clients-client-items.ensures.value) (at_index _ _ _ c.loop-number-test.true c.client-item.is) in
     let same : c.client.inside.count ≡ c.client-item.result.count = ap (λ (x : _). x.count) c.client.view_is in
-    let many : c.client.inside.count ≤ MOST_UNITS = rw same (count_at plan c.loop-number.number c.client-item.result well here) in
-    let weight : slice_index_or c.client_weights.result.now 0 0 ≤ MOST_WEIGHT = rw c.client_weights.ensures ((fits c.args.plan.now c.args.vector.now c.requires).small_client c.loop-number.number 0) in
-    let term : c.client.inside.count * slice_index_or c.client_weights.result.now 0 0 ≤ MOST_UNITS * MOST_WEIGHT = mul-le c.client.inside.count (slice_index_or c.client_weights.result.now 0 0) MOST_UNITS MOST_WEIGHT many weight in
+    let many : c.client.inside.count ≤ MAX_SIZE = rw same (count_at plan c.loop-number.number c.client-item.result well here) in
+    let weight : slice_index_or c.client_weights.result.now 0 0 ≤ MAX_WEIGHT = rw c.client_weights.ensures ((fits c.args.plan.now c.args.vector.now c.requires).small_client c.loop-number.number 0) in
+    let term : c.client.inside.count * slice_index_or c.client_weights.result.now 0 0 ≤ MAX_SIZE * MAX_WEIGHT = mul-le c.client.inside.count (slice_index_or c.client_weights.result.now 0 0) MAX_SIZE MAX_WEIGHT many weight in
     let early : c.loop-number.number < length plan.clients = rw (← c.clients-client-items.ensures.value) c.loop-number-test.true in
     let x = c.client-item.result in
     let there : x ≡ get_or plan.clients c.loop-number.number x = rw (← c.clients-client-items.ensures.value) c.client-item.is in

@@ -1,8 +1,8 @@
 use Rattle.std.proofs.Common.{◌≡◌, ◌+◌, true, rules, Some, sym, ap, subst, ◌∙◌}
-use Rattle.interleaving.specs.WorldValue.{WorldValue}
+use Rattle.interleaving.specs.World.{WorldValue}
 use Rattle.live_views.specs.ViewStep.{live_job, live_child, is_done, moved_live_jobs}
-use Rattle.interleaving.specs.LiveJobs.{IsAlone}
-use Rattle.interleaving.proofs.Moved.{alone_moved, done_moved, alone_as_child}
+use Rattle.live_actors.specs.LiveJobs.{IsAlone}
+use Rattle.interleaving.proofs.JobsOnceMoved.{alone_moved, done_moved, alone_as_child}
 use Rattle.interleaving.proofs.world.World.get.Goals as goal
 
 pub forget-requires-clause-live : goal.forget-requires-clause-live

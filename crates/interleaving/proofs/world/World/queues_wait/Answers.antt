@@ -1,9 +1,9 @@
 use Rattle.std.proofs.Common.{◌≡◌, ◌<◌, false, length, refl, ap, ◌∙◌, arith, below_more}
 use Rattle.std.proofs.lemmas.Bool.{both_ways}
 use Rattle.live_views.specs.ViewStep.{pool_in}
-use Rattle.interleaving.specs.Shares.{share_of, leaves_none}
+use Rattle.interleaving.specs.Share.{share_of, leaves_none}
 use Rattle.interleaving.proofs.OfPlan.{as_many_pools}
-use Rattle.interleaving.proofs.AtWork.{waits_if_queued, not_all_wait}
+use Rattle.interleaving.proofs.MembersAtWork.{waits_if_queued, not_all_wait}
 use Rattle.interleaving.proofs.world.World.queues_wait.Goals as goal
 
 pub leaves_none-requires : goal.leaves_none-requires

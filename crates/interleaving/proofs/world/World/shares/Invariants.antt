@@ -1,5 +1,5 @@
 use Rattle.std.proofs.Common.{◌≡◌, ◌<◌, ◌≤◌, ℕ, length, take}
-use Rattle.interleaving.specs.Shares.{share_of, share_at}
+use Rattle.interleaving.specs.Share.{share_of, share_at}
 use Rattle.interleaving.proofs.world.World.shares.Given as goal
 
 -- what the members so far do in each pool; no more are at work than there are

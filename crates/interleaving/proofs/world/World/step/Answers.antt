@@ -1,4 +1,4 @@
-use Rattle.interleaving.proofs.Raised.{raised, still_of_plan}
+use Rattle.interleaving.proofs.ViewsToStates.{raised, still_of_plan}
 use Rattle.interleaving.proofs.world.World.step.Goals as goal
 
 pub returns-clause-answered : goal.returns-clause-answered

@@ -1,8 +1,9 @@
 use Rattle.std.proofs.Common.{◌≡◌, sym, Some, rules}
 use Rattle.job_bodies.specs.declared.action.Action.TheVariants.{Submit, Get}
 use Rattle.interleaving.proofs.OfPlan.{pool_of_submit, past_start, at_work}
-use Rattle.interleaving.proofs.Going.{alone_at_get, made_by_other}
-use Rattle.interleaving.proofs.Left.{done_are_latest, none_left}
+use Rattle.interleaving.proofs.JobsAtGets.{alone_at_get, none_left}
+use Rattle.interleaving.proofs.MakersOfJobs.{made_by_other}
+use Rattle.interleaving.proofs.DoneJobsAreLatest.{done_are_latest}
 use Rattle.interleaving.proofs.world.World.step_actor.Goals as goal
 
 pub end-requires-clause-at_work : goal.end-requires-clause-at_work

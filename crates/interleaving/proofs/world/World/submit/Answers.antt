@@ -1,10 +1,10 @@
 use Rattle.std.proofs.Common.{◌≡◌, ◌+◌, ◌≤◌, length, count_by, is_some, sym, ap, subst, ◌∙◌, arith}
-use Rattle.interleaving.specs.WorldValue.{WorldValue, live_jobs}
+use Rattle.interleaving.specs.World.{WorldValue, live_jobs}
 use Rattle.live_views.specs.ViewStep.{moved_live_jobs}
-use Rattle.interleaving.specs.LiveJobs.{NoOtherIsStale}
-use Rattle.interleaving.proofs.Moved.{was_made}
-use Rattle.interleaving.proofs.UsedAgain.{used_again}
-use Rattle.interleaving.proofs.Stale.{none_but_latest, stale_moved, length-moved}
+use Rattle.live_actors.specs.LiveJobs.{NoOtherIsStale}
+use Rattle.interleaving.proofs.JobsOnceMoved.{was_made, stale_moved, length-moved}
+use Rattle.interleaving.proofs.PlacesUsedAgain.{used_again}
+use Rattle.interleaving.proofs.StaleJobs.{none_but_latest}
 use Rattle.interleaving.proofs.world.World.submit.Goals as goal
 
 pub make-requires-clause-stale : goal.make-requires-clause-stale

@@ -3,9 +3,9 @@ use Rattle.std.proofs.lemmas.Grind.{common_steps}
 use Rattle.job_bodies.specs.WellFormed.{IsWellFormed}
 use Rattle.pool_machine.specs.PoolState.{taken}
 use Rattle.written_machine.specs.declared.parent.Parent.TheVariants.{Job}
-use Rattle.interleaving.specs.WorldValue.{WorldValue}
+use Rattle.interleaving.specs.World.{WorldValue}
 use Rattle.live_views.specs.ViewStep.{pool_in, may_ask_for}
-use Rattle.interleaving.proofs.Going.{waits_at_head}
+use Rattle.interleaving.proofs.JobsAtHeads.{waits_at_head}
 use Rattle.interleaving.proofs.world.World.take.Goals as goal
 
 pub go_to-requires : goal.go_to-requires

@@ -1,5 +1,5 @@
 use Rattle.std.proofs.Common.{rules}
-use Rattle.interleaving.proofs.Raised.{unfinished_seen}
+use Rattle.interleaving.proofs.ViewsToStates.{unfinished_seen}
 use Rattle.interleaving.proofs.world.World.unfinished.Goals as goal
 
 pub returns-clause-value : goal.returns-clause-value

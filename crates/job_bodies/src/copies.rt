@@ -1,0 +1,96 @@
+//! Copies of plans and of their entries.
+
+ghost use Rattle.std.specs.Prelude.{◌≡◌, IfOk};
+
+use crate::{Class, Client, Plan, Pool};
+use std::alloc::{AllocError, Global};
+
+impl Pool {
+    /// A copy of the pool.
+    ///
+    /// # Errors
+    ///
+    /// [`AllocError`] where memory runs out.
+    pub fn copied(&self, alloc: Global) -> Result<Pool, AllocError>
+        ensures { IfOk result (λ copy. copy ≡ self.now) }
+    {
+        Ok(Pool {
+            name: String::from_str(alloc, &self.name)?,
+            core: self.core,
+            max: self.max,
+            queue: self.queue,
+            prestart: self.prestart,
+        })
+    }
+}
+
+impl Class {
+    fn copied(&self, alloc: Global) -> Result<Class, AllocError>
+        ensures { IfOk result (λ copy. copy ≡ self.now) }
+    {
+        Ok(Class {
+            name: String::from_str(alloc, &self.name)?,
+            pool: self.pool,
+            body: Vec::from_slice(alloc, &self.body)?,
+        })
+    }
+}
+
+impl Client {
+    fn copied(&self, alloc: Global) -> Result<Client, AllocError>
+        ensures { IfOk result (λ copy. copy ≡ self.now) }
+    {
+        Ok(Client {
+            name: String::from_str(alloc, &self.name)?,
+            count: self.count,
+            repeat: self.repeat,
+            body: Vec::from_slice(alloc, &self.body)?,
+        })
+    }
+}
+
+impl Plan {
+    /// A copy of the plan.
+    ///
+    /// # Errors
+    ///
+    /// [`AllocError`] where memory runs out.
+    pub fn copied(&self, alloc: Global) -> Result<Plan, AllocError>
+        ensures { IfOk result (λ copy. copy ≡ self.now) }
+    {
+        let pools = copied_pools(alloc, self.pools())?;
+        let classes = copied_classes(alloc, self.classes())?;
+        let clients = copied_clients(alloc, self.clients())?;
+        Ok(Plan::of_well_formed(pools, classes, clients))
+    }
+}
+
+fn copied_pools(alloc: Global, pools: &[Pool]) -> Result<Vec<Pool>, AllocError>
+    ensures { IfOk result (λ copies. copies.items ≡ pools.now) }
+{
+    let mut copies = Vec::with_capacity(alloc, pools.len())?;
+    for pool in pools {
+        copies.push(pool.copied(alloc)?)?;
+    }
+    Ok(copies)
+}
+
+fn copied_classes(alloc: Global, classes: &[Class]) -> Result<Vec<Class>, AllocError>
+    ensures { IfOk result (λ copies. copies.items ≡ classes.now) }
+{
+    let mut copies = Vec::with_capacity(alloc, classes.len())?;
+    for class in classes {
+        copies.push(class.copied(alloc)?)?;
+    }
+    Ok(copies)
+}
+
+fn copied_clients(alloc: Global, clients: &[Client]) -> Result<Vec<Client>, AllocError>
+    ensures { IfOk result (λ copies. copies.items ≡ clients.now) }
+{
+    let mut copies = Vec::with_capacity(alloc, clients.len())?;
+    for client in clients {
+        copies.push(client.copied(alloc)?)?;
+    }
+    Ok(copies)
+}

@@ -1,0 +1,165 @@
+//! The answer as one object of JSON on a line, for a program.
+//!
+//! Each answer has the same members; `docs/GUIDE.md` says what they are.
+
+ghost use Rattle.std.specs.Prelude.{◌≡◌, IfOk, string_bytes};
+ghost use Rattle.serde_json.specs.View.{view as data_of};
+ghost use Rattle.json_answers.specs.Json as spec;
+
+use crate::faulty::{fault_alone, faults_value};
+use crate::pools::{bounded_pools, no_pools};
+use crate::sizes::sizes_value;
+use crate::warnings::warnings_value;
+use crate::witness::witness_value;
+use ask_answers::Finding;
+use job_bodies::Plan;
+use plan_advice::{Faults, Warning};
+use serde_json::{Value, json};
+use std::alloc::{AllocError, Global};
+
+/// What an answer says beside itself.
+#[derive(Drop)]
+struct Members {
+    faults: Value,
+    file: Value,
+    pools: Value,
+    sizes: Value,
+    warnings: Value,
+    witness: Value,
+}
+
+/// What was found of the plan in the file of this name, with these warnings.
+///
+/// # Errors
+///
+/// [`AllocError`] where memory runs out.
+pub fn finding_json(
+    alloc: Global,
+    file: &str,
+    plan: &Plan,
+    finding: &Finding,
+    warnings: &[Warning],
+) -> Result<String, AllocError>
+    ensures { IfOk result (λ text. spec.TellsFinding finding.now (string_bytes text)) }
+{
+    let rest = rest_of(alloc, file, plan, finding, warnings)?;
+    let value = answer_value(alloc, word_of(finding), rest)?;
+    line_of(alloc, &value)
+}
+
+/// The faults of the plan's text in the file of this name.
+///
+/// # Errors
+///
+/// [`AllocError`] where memory runs out.
+pub fn faults_json(alloc: Global, file: &str, faults: &Faults) -> Result<String, AllocError>
+    ensures { IfOk result (λ text. spec.TellsFault faults.now.first.fault.number (string_bytes text)) }
+{
+    let told = faults_value(alloc, faults)?;
+    let rest = only_faults(alloc, file, told)?;
+    let value = answer_value(alloc, "FAULTS", rest)?;
+    line_of(alloc, &value)
+}
+
+/// One fault that has no place in the plan's text, in these words.
+///
+/// # Errors
+///
+/// [`AllocError`] where memory runs out.
+pub fn fault_json(alloc: Global, file: &str, number: u8, words: &str) -> Result<String, AllocError>
+    ensures { IfOk result (λ text. spec.TellsFault number (string_bytes text)) }
+{
+    let told = fault_alone(alloc, number, words)?;
+    let rest = only_faults(alloc, file, told)?;
+    let value = answer_value(alloc, "FAULTS", rest)?;
+    line_of(alloc, &value)
+}
+
+/// The word for what was found.
+fn word_of(finding: &Finding) -> &'static str
+    ensures { result.now ≡ spec.word_of finding.now }
+{
+    match finding {
+        Finding::Safe(_) => "SAFE",
+        Finding::NotSafe(_, _) => "NOT SAFE",
+        Finding::NotDecided(_) => "NOT DECIDED",
+    }
+}
+
+/// The answer with this word.
+#[tactic(auto, unfolding(crate::specs::Json::answer_data))]
+fn answer_value(alloc: Global, word: &str, rest: Members) -> Result<Value, AllocError>
+    ensures { IfOk result (λ value. data_of value ≡ spec.answer_data word.now (spec.rest_of rest)) }
+{
+    let Members {
+        faults,
+        file,
+        pools,
+        sizes,
+        warnings,
+        witness,
+    } = rest;
+    json!(in alloc; {
+        "answer": word,
+        "faults": faults,
+        "file": file,
+        "pools": pools,
+        "sizes": sizes,
+        "warnings": warnings,
+        "witness": witness
+    })
+}
+
+/// The text of a value, with a newline.
+fn line_of(alloc: Global, value: &Value) -> Result<String, AllocError>
+    ensures { IfOk result (λ text. spec.IsLineOf (data_of value.now) (string_bytes text)) }
+{
+    let mut text = value.to_string(alloc)?;
+    text.push('\n')?;
+    Ok(text)
+}
+
+/// What is said of a plan beside what was found.
+fn rest_of(
+    alloc: Global,
+    file: &str,
+    plan: &Plan,
+    finding: &Finding,
+    warnings: &[Warning],
+) -> Result<Members, AllocError> {
+    let (pools, sizes, witness) = match finding {
+        Finding::Safe(cert) => (bounded_pools(alloc, plan, cert)?, Value::Null, Value::Null),
+        Finding::NotSafe(witness, sizes) => (
+            no_pools(alloc, plan)?,
+            sizes_value(alloc, plan, sizes)?,
+            witness_value(alloc, plan, witness)?,
+        ),
+        Finding::NotDecided(sizes) => (
+            no_pools(alloc, plan)?,
+            sizes_value(alloc, plan, sizes)?,
+            Value::Null,
+        ),
+    };
+    Ok(Members {
+        faults: Value::Array(Vec::new(alloc)),
+        file: Value::try_from_str(alloc, file)?,
+        pools,
+        sizes,
+        warnings: warnings_value(alloc, warnings)?,
+        witness,
+    })
+}
+
+/// Nothing but these faults.
+fn only_faults(alloc: Global, file: &str, faults: Value) -> Result<Members, AllocError>
+    ensures { IfOk result (λ rest. data_of rest.faults ≡ data_of faults) }
+{
+    Ok(Members {
+        faults,
+        file: Value::try_from_str(alloc, file)?,
+        pools: Value::Array(Vec::new(alloc)),
+        sizes: Value::Null,
+        warnings: Value::Array(Vec::new(alloc)),
+        witness: Value::Null,
+    })
+}

@@ -1,0 +1,51 @@
+//! Whole numbers in a text.
+
+ghost use Rattle.std.specs.Prelude.{◌≡◌, ◌==◌, ◌&&◌, not, length, option_map};
+ghost use Rattle.line_words.specs.Number as spec;
+
+/// The greatest number that a line may name.
+pub const MAX_NUMBER: usize = 1_000_000_000;
+
+/// The number that a text writes: decimal digits without a leading zero other than `0` itself, at most [`MAX_NUMBER`].
+pub fn number_of(text: &[u8]) -> Option<usize>
+    ensures { result ≡ spec.number_of text.now }
+{
+    let (number, behind) = leading_number(text)?;
+    if behind.is_empty() {
+        Some(number)
+    } else {
+        None
+    }
+}
+
+/// The number that the digits at the front of a text write, and what stands behind them.
+pub fn leading_number(text: &[u8]) -> Option<(usize, &[u8])>
+    ensures { option_map (λ found. (found.0, found.1.now)) result ≡ spec.leading_number text.now }
+{
+    let mut value = 0;
+    let mut count = 0;
+    while count < text.len() && text[count].is_ascii_digit() {
+        value = value * 10 + usize::from(text[count] - b'0');
+        if value > MAX_NUMBER {
+            return None;
+        }
+        count += 1;
+    }
+    let (digits, behind) = text.split_at(count);
+    if !begins_as_number(digits) {
+        return None;
+    }
+    Some((value, behind))
+}
+
+fn begins_as_number(digits: &[u8]) -> bool
+    ensures { result ≡ (not (length digits.now == 0) && not (spec.has_leading_zero digits.now)) }
+{
+    !digits.is_empty() && !has_leading_zero(digits)
+}
+
+fn has_leading_zero(text: &[u8]) -> bool
+    ensures { result ≡ spec.has_leading_zero text.now }
+{
+    text.len() > 1 && text[0] == b'0'
+}

@@ -1,0 +1,15 @@
+pub mod Results
+pub mod ItemsBelow
+pub mod PlaceRows
+pub mod PlacesByNumber
+pub mod MappedJobs
+pub mod MakersStay
+pub mod LatestFound
+pub mod FoundOnceMade
+pub mod FoundOnceFinished
+pub mod JobsInPlaces
+pub mod ReachesStay
+pub mod OrphansForgotten
+pub mod IndexOnceChanged
+pub mod IndexOnceFinished
+pub mod ClientsStanding

@@ -1,0 +1,18 @@
+use Rattle.std.proofs.Common.{◌≡◌, Some, None, sym, ap, set, ◌∙◌, arith}
+use Rattle.std.proofs.lemmas.Grind.{common_steps}
+use Rattle.std.specs.Option.{option_map}
+use Rattle.live_views.specs.ViewStep.{unless_stale}
+use Rattle.live_actors.specs.declared.places.Place.{Place}
+use Rattle.live_actors.specs.Place.{place_at}
+use Rattle.live_actors.specs.LiveJobs.{jobs_in}
+use Rattle.live_actors.proofs.JobsInPlaces.{jobs_at, jobs_set}
+use Rattle.live_actors.proofs.live_jobs.free_if_stale.Goals as goal
+
+pub returns-then-is_none-clause-jobs : goal.returns-then-is_none-clause-jobs
+returns-then-is_none-clause-jobs c =
+    let items = c.args.kept.now.items in
+    let n = c.args.number in
+    let f = unless_stale c.args.actor c.args.submit in
+    let there : place_at items n ≡ Some c.in-Some.place = sym c.get.ensures ∙ c.in-Some.is in
+    let none : f (Some c.in-Some.place.job) ≡ None = grind (arith, common_steps) in
+    ap jobs_in c.free.ensures.items ∙ jobs_set items n None ∙ ap (set (jobs_in items) n) (sym (ap f (jobs_at items n ∙ ap (option_map (λ (p : Place). p.job)) there) ∙ none))

@@ -1,0 +1,8 @@
+pub mod Place
+pub mod PlaceRow
+pub mod Places
+pub mod Calls
+pub mod Latest
+pub mod LiveJobs
+pub mod MovedClients
+pub mod Clients

@@ -1,0 +1,22 @@
+-- The clients that moved, as the rest of the world sees them.
+use Rattle.std.specs.Prelude.{ℕ, List, Option, Some, None, slice_get, nat_eq}
+use Rattle.std.specs.Map.{lookup}
+use Rattle.written_machine.specs.declared.client_state.ClientState.{ClientState}
+
+-- the clients that moved: those of the first numbers, and others by number; and for how many more there is room
+pub record Moved : Type 0 where
+  pub front : List ClientState
+  pub others : List (ℕ × ClientState)
+  pub room : ℕ
+
+abbrev pub first_of : Option ClientState → Option ClientState → Option ClientState
+first_of None other = other
+first_of (Some client) other = Some client
+
+-- the client of this number, if it moved
+abbrev pub moved_at : Moved → ℕ → Option ClientState
+moved_at moved q = first_of (slice_get moved.front q) (lookup (nat_eq q) moved.others)
+
+-- the client at this position
+abbrev pub at_position : ℕ → ClientState → ClientState
+at_position i client = record client { position = i }

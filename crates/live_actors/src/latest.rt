@@ -1,0 +1,84 @@
+//! The latest jobs that actors made.
+
+ghost use Rattle.std.specs.Prelude.{◌≡◌, ◌≤◌, ◌<◌, None, Some, OnOk, if◌then◌else◌, ℕ};
+ghost use Rattle.written_machine.specs.declared.parent.Parent.{Parent};
+ghost use Rattle.live_actors.specs.Latest.{found, is_call, latest_room};
+
+use crate::calls::Calls;
+use std::alloc::{AllocError, Global};
+use std::marker::Model;
+use written_machine::Parent;
+
+/// For an actor and the position of a submit in its body the number of the latest job that it made there.
+#[derive(Debug, Drop)]
+pub(crate) struct Latest {
+    of_clients: Calls,
+    of_jobs: Calls,
+}
+
+impl Model for Latest {
+    ghost use Rattle.live_actors.specs.Latest.{LatestList};
+
+    ghost Value = { LatestList };
+
+    ghost view = { λ l. record { of_clients = l.of_clients; of_jobs = l.of_jobs } };
+}
+
+impl Latest {
+    /// No jobs so far.
+    pub(crate) fn new(alloc: Global) -> Latest
+        ensures { (a : Parent) (t : ℕ) → found result a t ≡ None }
+    {
+        Latest {
+            of_clients: Calls::new(alloc),
+            of_jobs: Calls::new(alloc),
+        }
+    }
+
+    /// The latest job that the actor made by the submit at this position.
+    #[inline(always)]
+    pub(crate) fn get(&self, actor: Parent, submit: usize) -> Option<usize>
+        ensures { result ≡ found self.now actor submit }
+    {
+        match actor {
+            Parent::Client(client) => self.of_clients.get((client, submit)),
+            Parent::Job(job) => self.of_jobs.get((job, submit)),
+        }
+    }
+
+    /// Makes room for one job of the actor.
+    #[inline(always)]
+    pub(crate) fn reserve_for(&mut self, actor: Parent) -> Result<(), AllocError>
+        ensures found { (a : Parent) (t : ℕ) → found self.new a t ≡ found self.old a t }
+        ensures room { OnOk result (0 < latest_room self.new actor) }
+    {
+        match actor {
+            Parent::Client(_) => self.of_clients.reserve(),
+            Parent::Job(_) => self.of_jobs.reserve(),
+        }
+    }
+
+    /// The actor made the job of this number by the submit at this position. There is room for it.
+    #[inline(always)]
+    pub(crate) fn set(&mut self, actor: Parent, submit: usize, number: usize)
+        requires { 0 < latest_room self.old actor }
+        ensures { (a : Parent) (t : ℕ) → found self.new a t ≡ (if is_call actor submit a t then Some number else found self.old a t) }
+    {
+        match actor {
+            Parent::Client(client) => self.of_clients.set((client, submit), number),
+            Parent::Job(job) => self.of_jobs.set((job, submit), number),
+        }
+    }
+
+    /// The latest job that the actor made by the submit at this position is not asked for any more.
+    #[inline(always)]
+    pub(crate) fn forget(&mut self, actor: Parent, submit: usize)
+        ensures found { (a : Parent) (t : ℕ) → found self.new a t ≡ (if is_call actor submit a t then None else found self.old a t) }
+        ensures room { (a : Parent) → latest_room self.old a ≤ latest_room self.new a }
+    {
+        match actor {
+            Parent::Client(client) => self.of_clients.forget((client, submit)),
+            Parent::Job(job) => self.of_jobs.forget((job, submit)),
+        }
+    }
+}

@@ -1,0 +1,13 @@
+//! The actors of a running world: its live jobs, by number and by who made them, and where its clients stand.
+#![tactic(auto)]
+
+mod calls;
+mod clients;
+mod latest;
+mod live_jobs;
+mod moved_clients;
+mod place_row;
+mod places;
+
+pub use clients::Clients;
+pub use live_jobs::LiveJobs;

@@ -1,0 +1,289 @@
+//! The live jobs of a world: by number, and by who made them.
+
+ghost use Rattle.std.specs.Prelude.{◌≡◌, ◌≢◌, ℕ, ◌+◌, ◌<◌, ◌≤◌, ◌^◌, [], ◌∷◌, ◌++◌, length, map, count_by, is_some, slice_set, IsSome, IfSome, true, false, None, Some, OnOk};
+ghost use Rattle.written_machine.specs.declared.parent.Parent.TheVariants.{Job};
+ghost use Rattle.live_views.specs.declared.job_view.Phase.TheVariants.{At};
+ghost use Rattle.live_views.specs.ViewStep.{live_job, live_child, is_done, is_unfinished_job, may_ask_for, with_phase, in_phase, unless_stale, unless_orphan, finished_or_gone};
+ghost use Rattle.live_actors.specs.LiveJobs.{room_for, WasMade, DoneAreLatest, NoOtherIsStale, IsAlone, places_made, jobs_in, AreReached, ReachesStay, ReachesTo, OrphansAreFound, AreOrphaned, AreFound, IsGone, ForgetsOrphan, is_done_job};
+
+use crate::latest::Latest;
+use crate::places::{Place, Places};
+use live_views::{JobView, Phase};
+use std::alloc::{AllocError, Global};
+use std::marker::Model;
+use written_machine::Parent;
+
+/// The live jobs of a world, and for each actor that may ask for one of its own the latest that it made at a position.
+#[derive(Debug, Drop)]
+pub struct LiveJobs {
+    kept: Places,
+    latest: Latest,
+    // How many are queued or at a position.
+    unfinished: usize,
+}
+
+impl Model for LiveJobs {
+    ghost use Rattle.std.specs.Prelude.{min};
+    ghost use Rattle.live_actors.specs.LiveJobs.{JobList, jobs_in, AreIndexed};
+
+    ghost Value = { JobList };
+
+    ghost view = { λ l. record { jobs = jobs_in l.kept.items; places = l.kept.places; room = record { of_clients = min l.kept.room l.latest.of_clients.room; of_jobs = min l.kept.room l.latest.of_jobs.room } } };
+
+    ghost invariant = { λ l. AreIndexed l.kept.items l.latest l.unfinished };
+}
+
+impl LiveJobs {
+    /// No jobs so far.
+    pub fn new(alloc: Global) -> LiveJobs
+        ensures jobs { result.jobs ≡ [] }
+        ensures places { result.places ≡ 0 }
+    {
+        LiveJobs {
+            kept: Places::new(alloc),
+            latest: Latest::new(alloc),
+            unfinished: 0,
+        }
+    }
+
+    /// How many jobs were ever made.
+    pub fn len(&self) -> usize
+        ensures { result ≡ length self.now.jobs }
+    {
+        self.kept.made()
+    }
+
+    /// How many places there are for live jobs, free ones included.
+    pub fn places(&self) -> usize
+        ensures value { result ≡ self.now.places }
+        ensures enough { count_by is_some self.now.jobs ≤ result }
+    {
+        self.kept.count()
+    }
+
+    /// The live job of this number.
+    #[inline(always)]
+    pub fn get(&self, number: usize) -> Option<JobView>
+        ensures { result ≡ live_job self.now.jobs number }
+    {
+        Some(self.kept.get(number)?.job)
+    }
+
+    /// How many jobs are queued or at a position.
+    pub fn unfinished(&self) -> usize
+        ensures { result ≡ count_by is_unfinished_job self.now.jobs }
+    {
+        self.unfinished
+    }
+
+    /// The latest live job that the actor, which may ask for it, made by the submit at this position of its body.
+    pub fn latest(&self, actor: Parent, submit: usize) -> Option<usize>
+        requires { may_ask_for self.now.jobs actor ≡ true }
+        ensures { result ≡ live_child self.now.jobs actor submit }
+    {
+        self.latest.get(actor, submit)
+    }
+
+    /// The job of this number, which is not done, comes to this position of its body.
+    pub fn go_to(&mut self, number: usize, position: usize)
+        requires { may_ask_for self.old.jobs (Job number) ≡ true }
+        ensures jobs { self.new.jobs ≡ with_phase number (At position) self.old.jobs }
+        ensures places { self.new.places ≡ self.old.places }
+        ensures room { self.new.room ≡ self.old.room }
+    {
+        self.kept.set_phase(number, Phase::At(position));
+    }
+
+    /// The done job of this number is live no more: its maker gets it, and has no other from that position.
+    pub fn forget(&mut self, number: usize, job: JobView)
+        requires live { live_job self.old.jobs number ≡ Some job }
+        requires done { is_done job.phase ≡ true }
+        requires alone { IsAlone self.old.jobs job.parent job.slot }
+        ensures jobs { self.new.jobs ≡ slice_set self.old.jobs number None }
+        ensures places { self.new.places ≡ self.old.places }
+    {
+        self.latest.forget(job.parent, job.slot);
+        self.kept.free(number);
+    }
+
+    /// Makes room for one job of the actor.
+    ///
+    /// # Errors
+    ///
+    /// `AllocError` where there is no memory, or the count of jobs stands at its greatest value. The jobs are then unchanged.
+    pub fn reserve_for(&mut self, actor: Parent) -> Result<(), AllocError>
+        ensures jobs { self.new.jobs ≡ self.old.jobs }
+        ensures places { self.new.places ≡ self.old.places }
+        ensures enough { OnOk result (count_by is_some self.new.jobs ≤ self.new.places) }
+        ensures room { OnOk result (0 < room_for self.new.room actor) }
+    {
+        self.latest.reserve_for(actor)?;
+        self.kept.reserve()
+    }
+
+    /// The job's parent makes it. There is room for it. The parent's done job of the same submit, which can only be its
+    /// latest, is live no more.
+    pub fn make(&mut self, latest: Option<usize>, job: JobView)
+        requires room { 0 < room_for self.old.room job.parent }
+        requires parent { WasMade self.old.jobs job.parent }
+        requires stale { NoOtherIsStale self.old.jobs latest job.parent job.slot }
+        requires begins { is_done job.phase ≡ false }
+        requires fits { job.slot + 1 < 2 ^ 64 }
+        ensures jobs { self.new.jobs ≡ map (unless_stale job.parent job.slot) self.old.jobs ++ Some job ∷ [] }
+        ensures places { self.new.places ≡ places_made self.old (map (unless_stale job.parent job.slot) self.old.jobs) }
+    {
+        free_stale(&mut self.kept, latest, job.parent, job.slot);
+        let number = self.kept.made();
+        reach_to(&mut self.kept, job.parent, job.slot + 1);
+        self.kept.push(Place { job, reach: 0 });
+        self.latest.set(job.parent, job.slot, number);
+        self.unfinished += 1;
+    }
+
+    /// The job of this number finishes: it is live as long as its parent may ask for it, which asks for the latest alone.
+    /// Nobody asks for the done jobs that it made.
+    pub fn finish(&mut self, number: usize, job: JobView)
+        requires live { live_job self.old.jobs number ≡ Some job }
+        requires going { is_done job.phase ≡ false }
+        requires other { job.parent ≢ Job number }
+        requires done { DoneAreLatest self.old.jobs }
+        ensures jobs { self.new.jobs ≡ map (unless_orphan number) (slice_set self.old.jobs number (finished_or_gone self.old.jobs number job)) }
+        ensures places { self.new.places ≡ self.old.places }
+    {
+        let finished = self.finished_or_gone(number, job);
+        forget_orphans(&mut self.kept, &mut self.latest, number);
+        finish_in(&mut self.kept, number, finished);
+        forget_if_gone(&mut self.latest, finished, job.parent, job.slot, number);
+        self.unfinished -= 1;
+    }
+
+    fn finished_or_gone(&self, number: usize, job: JobView) -> Option<JobView>
+        ensures { result ≡ finished_or_gone self.now.jobs number job }
+    {
+        if self.may_ask(job.parent) && self.latest(job.parent, job.slot) == Some(number) {
+            Some(JobView {
+                phase: Phase::Done,
+                ..job
+            })
+        } else {
+            None
+        }
+    }
+
+    // Whether the actor may still ask for a job of its own.
+    fn may_ask(&self, actor: Parent) -> bool
+        ensures { result ≡ may_ask_for self.now.jobs actor }
+    {
+        match actor {
+            Parent::Client(_) => true,
+            Parent::Job(number) => self.get(number).is_some_and(|job| !job.is_done()),
+        }
+    }
+}
+
+// The actor's done job of this submit, which can only be its latest, is live no more.
+fn free_stale(kept: &mut Places, latest: Option<usize>, actor: Parent, submit: usize)
+    requires { NoOtherIsStale (jobs_in kept.old.items) latest actor submit }
+    ensures jobs { jobs_in kept.new.items ≡ map (unless_stale actor submit) (jobs_in kept.old.items) }
+    ensures reaches { ReachesStay kept.old.items kept.new.items }
+    ensures places { kept.new.places ≡ kept.old.places }
+    ensures room { kept.old.room ≤ kept.new.room }
+{
+    if let Some(number) = latest {
+        free_if_stale(kept, number, actor, submit);
+    }
+}
+
+// The job of this number is live no more, if it is a stale one of this submit.
+fn free_if_stale(kept: &mut Places, number: usize, actor: Parent, submit: usize)
+    ensures jobs { jobs_in kept.new.items ≡ slice_set (jobs_in kept.old.items) number (unless_stale actor submit (live_job (jobs_in kept.old.items) number)) }
+    ensures reaches { ReachesStay kept.old.items kept.new.items }
+    ensures places { kept.new.places ≡ kept.old.places }
+    ensures room { kept.old.room ≤ kept.new.room }
+{
+    if let Some(place) = kept.get(number)
+        && place.job.unless_stale(actor, submit).is_none()
+    {
+        kept.free(number);
+    }
+}
+
+// The actor, where it is a live job, made one by a submit below this position.
+fn reach_to(kept: &mut Places, actor: Parent, reach: usize)
+    ensures jobs { jobs_in kept.new.items ≡ jobs_in kept.old.items }
+    ensures reaches { ReachesStay kept.old.items kept.new.items }
+    ensures reached { ReachesTo kept.new.items actor reach }
+    ensures places { kept.new.places ≡ kept.old.places }
+    ensures room { kept.new.room ≡ kept.old.room }
+{
+    if let Parent::Job(number) = actor
+        && let Some(place) = kept.get(number)
+        && place.reach < reach
+    {
+        kept.set(number, Place { reach, ..place });
+    }
+}
+
+// The live job of this number is in another phase, or live no more.
+fn finish_in(kept: &mut Places, number: usize, finished: Option<JobView>)
+    requires live { IsSome (live_job (jobs_in kept.old.items) number) }
+    requires phased { IfSome finished (λ job. in_phase job.phase (live_job (jobs_in kept.old.items) number) ≡ Some job) }
+    ensures jobs { jobs_in kept.new.items ≡ slice_set (jobs_in kept.old.items) number finished }
+    ensures reaches { ReachesStay kept.old.items kept.new.items }
+    ensures places { kept.new.places ≡ kept.old.places }
+{
+    match finished {
+        Some(job) => kept.set_phase(number, job.phase),
+        None => kept.free(number),
+    }
+}
+
+// The job of this number, where nothing is left of it, is not found by this submit any more.
+fn forget_if_gone(
+    latest: &mut Latest,
+    finished: Option<JobView>,
+    actor: Parent,
+    submit: usize,
+    number: usize,
+)
+    ensures { IsGone finished latest.old latest.new actor submit number }
+{
+    if finished.is_none() && latest.get(actor, submit) == Some(number) {
+        latest.forget(actor, submit);
+    }
+}
+
+// The done jobs of this job are live no more. They are found, and come from below its reach.
+fn forget_orphans(kept: &mut Places, latest: &mut Latest, parent: usize)
+    requires live { IsSome (live_job (jobs_in kept.old.items) parent) }
+    requires reached { AreReached kept.old.items }
+    requires are_found { AreFound (jobs_in kept.old.items) latest.old }
+    requires orphans { OrphansAreFound (jobs_in kept.old.items) latest.old parent }
+    ensures jobs { jobs_in kept.new.items ≡ map (unless_orphan parent) (jobs_in kept.old.items) }
+    ensures orphaned { (n : ℕ) × AreOrphaned parent n (jobs_in kept.old.items) (jobs_in kept.new.items) latest.old latest.new }
+    ensures reaches { ReachesStay kept.old.items kept.new.items }
+    ensures places { kept.new.places ≡ kept.old.places }
+{
+    let reach = kept.get(parent).map_or(0, |place| place.reach);
+    for submit in 0..reach {
+        forget_orphan(kept, latest, parent, submit);
+    }
+}
+
+// The job that this job made by this submit is live no more, if it is done.
+fn forget_orphan(kept: &mut Places, latest: &mut Latest, parent: usize, submit: usize)
+    ensures { ForgetsOrphan parent submit kept.old kept.new latest.old latest.new }
+{
+    if let Some(number) = latest.get(Parent::Job(parent), submit)
+        && is_done(kept, number)
+    {
+        kept.free(number);
+        latest.forget(Parent::Job(parent), submit);
+    }
+}
+
+fn is_done(kept: &Places, number: usize) -> bool
+    ensures { result ≡ is_done_job (live_job (jobs_in kept.now.items) number) }
+{
+    kept.get(number).is_some_and(|place| place.job.is_done())
+}

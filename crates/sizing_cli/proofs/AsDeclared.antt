@@ -1,0 +1,19 @@
+-- Where no size of a plan has to change.
+use Rattle.std.proofs.Common.{◌≡◌, ◌∙◌, false, Option, Some, None, IfSome, IsTrue, sym}
+use Rattle.std.proofs.lemmas.Bool.{false≢true}
+use Rattle.std.specs.Prelude.{IfNone}
+use Rattle.job_bodies.specs.Plan.{Plan}
+use Rattle.certificates.specs.Cert.{Cert}
+use Rattle.headline.specs.Accepted.{accepted}
+use Rattle.steady_certificates.specs.Steady.{steady_cert}
+use Rattle.size_search.specs.declared.found.SizesFound.{SizesFound}
+use Rattle.size_search.specs.declared.found.SizesFound.TheVariants.{Found}
+use Rattle.sizing_cli.specs.Fit.{IsAsDeclared}
+
+-- a search finds a certificate that accepts the plan, or the steady one does not; sizes are looked for from that certificate
+pub as_declared : (plan : Plan) (first : Option Cert) (found : SizesFound)
+    → IfSome first (λ cert. IsTrue (accepted plan cert)) → IfNone first (accepted plan (steady_cert plan) ≡ false)
+    → IfSome first (λ cert. IsTrue (accepted plan cert) → found ≡ Found plan cert)
+    → IsTrue (accepted plan (steady_cert plan)) → IsAsDeclared plan found
+as_declared plan (Some cert) found accepts none same steady = record { cert = cert; is = same accepts }
+as_declared plan None found accepts none same steady = absurd (false≢true (sym none ∙ steady))

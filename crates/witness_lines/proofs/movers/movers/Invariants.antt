@@ -1,0 +1,10 @@
+-- The clients so far and those that are left are all that move.
+use Rattle.std.proofs.Common.{◌≡◌, ◌++◌, length}
+use Rattle.witness_lines.specs.Told.{movers}
+use Rattle.witness_lines.proofs.movers.movers.Given as goal
+
+abbrev pub invariant-loop-event : goal.invariant-loop-event
+invariant-loop-event l = l.clients.items ++ movers l.events ≡ movers l.fn.events
+
+abbrev pub decreases-loop-event : goal.decreases-loop-event
+decreases-loop-event l = length l.events
