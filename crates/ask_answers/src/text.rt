@@ -1,6 +1,7 @@
 //! The answer for a person.
 
-ghost use Rattle.std.specs.Prelude.{◌≡◌, ◌++◌, IfOk, OnOk, string_bytes};
+ghost use Rattle.std.specs.Prelude.{IfOk, string_bytes};
+ghost use Rattle.decimals.specs.Pushed.{Pushes};
 ghost use Rattle.ask_answers.specs.Told as spec;
 
 use crate::finding::Finding;
@@ -65,7 +66,7 @@ fn not_decided(alloc: Global, plan: &Plan, sizes: &SizesFound) -> Result<String,
 
 /// The sizes that were found, or why there are none.
 fn push_found(text: &mut String, plan: &Plan, sizes: &SizesFound) -> Result<(), AllocError>
-    ensures { OnOk result (string_bytes text.new ≡ string_bytes text.old ++ spec.sizes_part plan.now sizes.now) }
+    ensures { Pushes result text.old text.new (spec.sizes_part plan.now sizes.now) }
 {
     match sizes {
         SizesFound::Found { plan: fit, .. } => push_fit(text, plan, fit),
@@ -74,7 +75,7 @@ fn push_found(text: &mut String, plan: &Plan, sizes: &SizesFound) -> Result<(), 
 }
 
 fn push_fit(text: &mut String, plan: &Plan, fit: &Plan) -> Result<(), AllocError>
-    ensures { OnOk result (string_bytes text.new ≡ string_bytes text.old ++ spec.fit_part plan.now fit.now) }
+    ensures { Pushes result text.old text.new (spec.fit_part plan.now fit.now) }
 {
     text.push_str("with these sizes a certificate accepts the plan:\n")?;
     push_sizes(text, plan, fit)?;

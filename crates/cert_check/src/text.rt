@@ -1,8 +1,8 @@
 //! The lines that tell a verdict.
 
-ghost use Rattle.std.specs.Prelude.{◌≡◌, ◌++◌, OnOk, string_bytes};
 ghost use Rattle.job_bodies.specs.Plan.{pool_at};
 ghost use Rattle.cert_check.specs.Text as spec;
+ghost use Rattle.decimals.specs.Pushed.{Pushes};
 
 use crate::{PoolLine, Verdict};
 use job_bodies::Plan;
@@ -15,14 +15,14 @@ use std::alloc::AllocError;
 ///
 /// [`AllocError`] where memory runs out.
 pub fn push_verdict(text: &mut String, plan: &Plan, verdict: &Verdict) -> Result<(), AllocError>
-    ensures { OnOk result (string_bytes text.new ≡ string_bytes text.old ++ spec.verdict_text plan.now verdict.now) }
+    ensures { Pushes result text.old text.new (spec.verdict_text plan.now verdict.now) }
 {
     text.push_str(if verdict.yes { "yes\n" } else { "no\n" })?;
     push_pool_lines(text, plan, &verdict.pools)
 }
 
 fn push_pool_lines(text: &mut String, plan: &Plan, lines: &[PoolLine]) -> Result<(), AllocError>
-    ensures { OnOk result (string_bytes text.new ≡ string_bytes text.old ++ spec.pool_lines_text plan.now lines.now) }
+    ensures { Pushes result text.old text.new (spec.pool_lines_text plan.now lines.now) }
 {
     for (pool, line) in lines.iter().enumerate() {
         push_pool_line(text, plan, pool, line)?;
@@ -36,7 +36,7 @@ fn push_pool_line(
     pool: usize,
     line: &PoolLine,
 ) -> Result<(), AllocError>
-    ensures { OnOk result (string_bytes text.new ≡ string_bytes text.old ++ spec.pool_line_text (pool_at plan.now pool).name line.now) }
+    ensures { Pushes result text.old text.new (spec.pool_line_text (pool_at plan.now pool).name line.now) }
 {
     match plan.pool_at(pool) {
         Some(pool) => push_named_line(text, &pool.name, line),
@@ -45,7 +45,7 @@ fn push_pool_line(
 }
 
 fn push_named_line(text: &mut String, name: &str, line: &PoolLine) -> Result<(), AllocError>
-    ensures { OnOk result (string_bytes text.new ≡ string_bytes text.old ++ spec.pool_line_text name.now line.now) }
+    ensures { Pushes result text.old text.new (spec.pool_line_text name.now line.now) }
 {
     write!(text, "pool {name}")?;
     push_bound(text, line.lifetime)?;
@@ -53,7 +53,7 @@ fn push_named_line(text: &mut String, name: &str, line: &PoolLine) -> Result<(),
 }
 
 fn push_bound(text: &mut String, lifetime: bool) -> Result<(), AllocError>
-    ensures { OnOk result (string_bytes text.new ≡ string_bytes text.old ++ spec.bound_words lifetime) }
+    ensures { Pushes result text.old text.new (spec.bound_words lifetime) }
 {
     text.push_str(if lifetime {
         ": lifetime "
@@ -63,7 +63,7 @@ fn push_bound(text: &mut String, lifetime: bool) -> Result<(), AllocError>
 }
 
 fn push_sides(text: &mut String, line: &PoolLine) -> Result<(), AllocError>
-    ensures { OnOk result (string_bytes text.new ≡ string_bytes text.old ++ spec.sides line.now) }
+    ensures { Pushes result text.old text.new (spec.sides line.now) }
 {
     let (standing, queue) = (line.standing, line.queue);
     let (blocked, limit) = (line.blocked, line.limit);

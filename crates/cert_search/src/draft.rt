@@ -1,6 +1,6 @@
 //! A certificate of which more is known after each round.
 
-use crate::round::Found;
+use crate::round::PoolVectors;
 use certificates::{Cert, PoolCert};
 use job_bodies::Plan;
 use least_vectors::{Levels, reach};
@@ -59,11 +59,11 @@ impl Draft {
 
     /// Notes what was found in a round, and gives its rank to each pool whose blocked vector was found. False where no pool
     /// gets it, or the first round found no bound for a pool.
-    pub(crate) fn note(&mut self, found: Vec<Found>, rank: u64) -> bool {
+    pub(crate) fn note(&mut self, found: Vec<PoolVectors>, rank: u64) -> bool {
         let mut moved = false;
         let mut bounded = true;
         for found in found {
-            let Found {
+            let PoolVectors {
                 pool,
                 bound,
                 blocked,

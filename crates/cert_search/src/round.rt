@@ -29,7 +29,7 @@ pub(crate) struct Round<'a> {
 
 /// What was found for a pool in a round.
 #[derive(Debug, Drop)]
-pub(crate) struct Found {
+pub(crate) struct PoolVectors {
     pub(crate) pool: usize,
     /// The bound of its queue, which only the first round looks for.
     pub(crate) bound: Option<Bound>,
@@ -39,7 +39,7 @@ pub(crate) struct Found {
 impl Round<'_> {
     /// Looks at a pool. Where its jobs count the same gets as in the round before, in which no blocked vector of it was found,
     /// none is looked for again. [`SearchFault::Mixed`] is a pool that the plan does not have.
-    fn look_at(&self, alloc: Global, pool: usize) -> Result<Found, SearchFault>
+    fn look_at(&self, alloc: Global, pool: usize) -> Result<PoolVectors, SearchFault>
         ensures named { IfOk result (λ found. found.pool ≡ pool) }
         ensures exists { IfOk result (λ _. pool < length self.now.plan.now.pools) }
         ensures fault { IfErr result (λ fault. fault ≢ Memory → fault ≡ Mixed) }
@@ -58,7 +58,7 @@ impl Round<'_> {
         } else {
             blocked_vector(alloc, self.plan, self.levels, pool, self.rank, self.reach)?
         };
-        Ok(Found {
+        Ok(PoolVectors {
             pool,
             bound,
             blocked,
@@ -102,7 +102,7 @@ impl Round<'_> {
         board: &Locked<Board>,
         stop: &AtomicBool,
         gate: &G,
-    ) -> Result<Vec<Found>, SearchFault> {
+    ) -> Result<Vec<PoolVectors>, SearchFault> {
         let mut found = Vec::new(alloc);
         for _ in 0..MAX_POOLS {
             if stop.load(Ordering::SeqCst) {
@@ -133,7 +133,7 @@ impl Round<'_> {
         board: &Locked<Board>,
         stop: &AtomicBool,
         gate: &G,
-    ) -> Result<Vec<Found>, SearchFault> {
+    ) -> Result<Vec<PoolVectors>, SearchFault> {
         let found = self.look_at_free(rt, alloc, board, stop, gate);
         if found.is_err() {
             stop.store(true, Ordering::SeqCst);

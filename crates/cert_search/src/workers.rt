@@ -6,7 +6,7 @@ ghost use Rattle.cert_search.specs.Results.{are_complete};
 use crate::SearchFault;
 use crate::board::Board;
 use crate::results::complete;
-use crate::round::{Found, Round};
+use crate::round::{PoolVectors, Round};
 use cert_check::PoolGate;
 use held_machines::{Held, Locked};
 use std::alloc::Global;
@@ -28,7 +28,7 @@ pub(crate) fn look_at_all<R: Threads + Wait + Sync, G: PoolGate>(
     has_rank: &[bool],
     workers: usize,
     gate: &G,
-) -> Result<Vec<Found>, SearchFault>
+) -> Result<Vec<PoolVectors>, SearchFault>
     ensures { IfOk result (λ found. IsTrue (are_complete has_rank.now found.items)) }
 {
     let board = Board {
@@ -40,7 +40,7 @@ pub(crate) fn look_at_all<R: Threads + Wait + Sync, G: PoolGate>(
     let found = thread::scope(
         thread::scope_env(),
         rt,
-        move |scope| -> Result<Vec<Found>, SearchFault> {
+        move |scope| -> Result<Vec<PoolVectors>, SearchFault> {
             let mut threads = Vec::with_capacity(alloc, workers)?;
             let mut refused = false;
             for _ in 0..workers {
@@ -73,8 +73,8 @@ pub(crate) fn look_at_all<R: Threads + Wait + Sync, G: PoolGate>(
 fn join_all<R: Threads>(
     rt: &R,
     alloc: Global,
-    threads: Vec<JoinHandle<Result<Vec<Found>, SearchFault>>>,
-) -> Result<Vec<Found>, SearchFault> {
+    threads: Vec<JoinHandle<Result<Vec<PoolVectors>, SearchFault>>>,
+) -> Result<Vec<PoolVectors>, SearchFault> {
     let mut all = Ok(Vec::new(alloc));
     for thread in threads {
         all = both(all, thread.join(rt));
@@ -84,9 +84,9 @@ fn join_all<R: Threads>(
 
 /// What two workers found, or the fault that one of them met.
 fn both(
-    first: Result<Vec<Found>, SearchFault>,
-    second: Result<Vec<Found>, SearchFault>,
-) -> Result<Vec<Found>, SearchFault> {
+    first: Result<Vec<PoolVectors>, SearchFault>,
+    second: Result<Vec<PoolVectors>, SearchFault>,
+) -> Result<Vec<PoolVectors>, SearchFault> {
     let mut all = first?;
     let mut more = second?;
     all.append(&mut more)?;

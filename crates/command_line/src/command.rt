@@ -53,7 +53,7 @@ pub enum Task {
     /// Looks for sizes with which there is a certificate.
     Fit {
         /// What is written of the sizes.
-        wanted: Wanted,
+        wanted: SizesForm,
     },
     /// Runs a certified plan on threads, and counts its jobs and their units of work.
     Run {
@@ -92,7 +92,7 @@ pub struct Asked<'a> {
 
 /// What is written of sizes that were found.
 #[derive(Clone, Copy, Debug, PartialEq, Eq)]
-pub enum Wanted {
+pub enum SizesForm {
     /// A line for each pool, which tells what changes.
     Sizes,
     /// The plan with those sizes, and its certificate.
@@ -236,9 +236,9 @@ fn fit(options: &ArgMatches<'_>) -> Task
     ensures { result ≡ spec.fit_with (spec.is_set (codes "bundle") (rows_of (found_of options.now))) }
 {
     let wanted = if is_set(options, "bundle") {
-        Wanted::Bundle
+        SizesForm::Bundle
     } else {
-        Wanted::Sizes
+        SizesForm::Sizes
     };
     Task::Fit { wanted }
 }

@@ -15,5 +15,5 @@ mod search_help;
 
 pub use command::{
     Asked, Command, DEFAULT_WORKERS, Form, Given, MAX_ROUNDS, MAX_STATES, MAX_WORKERS, Manner,
-    Review, Shown, Task, Wanted, read_words,
+    Review, Shown, SizesForm, Task, read_words,
 };

@@ -48,7 +48,6 @@ impl World {
     /// # Errors
     ///
     /// `AllocError` where there is no memory for the pools and the kinds of clients.
-    #[tactic(auto, using(live_views::proofs::Reached::starts_seen))]
     pub fn start(alloc: Global, plan: &Plan) -> Result<World, AllocError>
         ensures value { IfOk result (λ world. world.view ≡ live_view plan.now (start plan.now)) }
         ensures of_plan { IfOk result (λ world. IsOf plan.now world.view) }

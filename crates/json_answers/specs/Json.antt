@@ -3,7 +3,7 @@ use Rattle.std.specs.Prelude.{◌≡◌, ℕ, List, [], ◌∷◌, ◌++◌, cod
 use Rattle.serde_json.specs.Data.{Data, number, unsigned, string, array, object, Items, item, member, no_members}
 use Rattle.serde_json.specs.Written.{IsInOrder}
 use Rattle.serde_json.specs.View.{view}
-use Rattle.json_answers.specs.declared.answers.Members.{Members}
+use Rattle.json_answers.specs.declared.answers.AnswerParts.{AnswerParts}
 use Rattle.ask_answers.specs.declared.finding.Finding.{Finding}
 use Rattle.ask_answers.specs.declared.finding.Finding.TheVariants.{Safe, NotSafe, NotDecided}
 
@@ -16,7 +16,7 @@ pub record Rest : Type 0 where
   pub warnings : Data
   pub witness : Data
 
-abbrev pub rest_of : Members → Rest
+abbrev pub rest_of : AnswerParts → Rest
 rest_of m = record { faults = view m.faults; file = view m.file; pools = view m.pools; sizes = view m.sizes; warnings = view m.warnings; witness = view m.witness }
 
 -- the object of an answer with this word, its keys ascending

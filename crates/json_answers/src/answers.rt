@@ -19,7 +19,7 @@ use std::alloc::{AllocError, Global};
 
 /// What an answer says beside itself.
 #[derive(Drop)]
-struct Members {
+struct AnswerParts {
     faults: Value,
     file: Value,
     pools: Value,
@@ -88,10 +88,10 @@ fn word_of(finding: &Finding) -> &'static str
 
 /// The answer with this word.
 #[tactic(auto, unfolding(crate::specs::Json::answer_data))]
-fn answer_value(alloc: Global, word: &str, rest: Members) -> Result<Value, AllocError>
+fn answer_value(alloc: Global, word: &str, rest: AnswerParts) -> Result<Value, AllocError>
     ensures { IfOk result (λ value. data_of value ≡ spec.answer_data word.now (spec.rest_of rest)) }
 {
-    let Members {
+    let AnswerParts {
         faults,
         file,
         pools,
@@ -126,7 +126,7 @@ fn rest_of(
     plan: &Plan,
     finding: &Finding,
     warnings: &[Warning],
-) -> Result<Members, AllocError> {
+) -> Result<AnswerParts, AllocError> {
     let (pools, sizes, witness) = match finding {
         Finding::Safe(cert) => (bounded_pools(alloc, plan, cert)?, Value::Null, Value::Null),
         Finding::NotSafe(witness, sizes) => (
@@ -140,7 +140,7 @@ fn rest_of(
             Value::Null,
         ),
     };
-    Ok(Members {
+    Ok(AnswerParts {
         faults: Value::Array(Vec::new(alloc)),
         file: Value::try_from_str(alloc, file)?,
         pools,
@@ -151,10 +151,10 @@ fn rest_of(
 }
 
 /// Nothing but these faults.
-fn only_faults(alloc: Global, file: &str, faults: Value) -> Result<Members, AllocError>
+fn only_faults(alloc: Global, file: &str, faults: Value) -> Result<AnswerParts, AllocError>
     ensures { IfOk result (λ rest. data_of rest.faults ≡ data_of faults) }
 {
-    Ok(Members {
+    Ok(AnswerParts {
         faults,
         file: Value::try_from_str(alloc, file)?,
         pools: Value::Array(Vec::new(alloc)),

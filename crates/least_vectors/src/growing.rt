@@ -7,7 +7,7 @@ use crate::Levels;
 use crate::lending::{Loans, lent};
 use crate::rows::vector_of;
 use crate::sketch::{Sketch, TOO_HEAVY};
-use crate::wanted::{Lenders, Wanted};
+use crate::target::{Lenders, Target};
 use job_bodies::Plan;
 use std::alloc::{AllocError, Global};
 use weights::Vector;
@@ -65,12 +65,12 @@ impl Growing<'_> {
         kind: Kind,
         enough: u64,
     ) -> Result<Option<Weighed>, AllocError> {
-        let wanted = self.wanted(pool, kind, enough);
+        let target = self.target(pool, kind, enough);
         let Loans {
             workers,
             lenders,
             sketch,
-        } = lent(alloc, self.plan, self.levels, &wanted)?;
+        } = lent(alloc, self.plan, self.levels, &target)?;
         if sketch.total == TOO_HEAVY {
             return Ok(None);
         }
@@ -95,33 +95,33 @@ impl Growing<'_> {
     ) -> Result<Option<Vector>, AllocError>
         ensures { IfOk result (λ found. IfSome found (λ vector. IsTrue (vector_fits self.now.plan.now vector))) }
     {
-        let wanted = self.wanted(pool, kind, 0);
-        let sketch = Sketch::of(alloc, self.plan, self.levels, &wanted, workers)?;
+        let target = self.target(pool, kind, 0);
+        let sketch = Sketch::of(alloc, self.plan, self.levels, &target, workers)?;
         let workers = Vec::from_slice(alloc, workers)?;
-        vector_of(alloc, self.plan, &wanted, workers, &sketch)
+        vector_of(alloc, self.plan, &target, workers, &sketch)
     }
 
     /// What is looked for, with a total of so much at most.
-    fn wanted<'b>(&'b self, pool: usize, kind: Kind<'b>, limit: u64) -> Wanted<'b> {
-        let wanted = match kind {
-            Kind::Standing => Wanted::standing(pool, limit),
-            Kind::Lifetime => Wanted::lifetime(pool, limit),
+    fn target<'b>(&'b self, pool: usize, kind: Kind<'b>, limit: u64) -> Target<'b> {
+        let target = match kind {
+            Kind::Standing => Target::standing(pool, limit),
+            Kind::Lifetime => Target::lifetime(pool, limit),
             Kind::Blocked {
                 reach,
                 rank,
                 lending,
-            } => Wanted {
+            } => Target {
                 lenders: if lending {
                     Lenders::Others
                 } else {
                     Lenders::Nobody
                 },
-                ..Wanted::blocked(pool, limit, reach, rank)
+                ..Target::blocked(pool, limit, reach, rank)
             },
         };
-        Wanted {
+        Target {
             maxes: Some(self.maxes),
-            ..wanted
+            ..target
         }
     }
 }

@@ -8,8 +8,8 @@ use crate::numbers::{number_at, put_at};
 use crate::relief::relieving_loan;
 use crate::rows::vector_of;
 use crate::sketch::Sketch;
+use crate::target::Target;
 use crate::tried::Tried;
-use crate::wanted::Wanted;
 use job_bodies::Plan;
 use std::alloc::{AllocError, Global};
 use weights::Vector;
@@ -34,7 +34,7 @@ pub(crate) struct Loans {
     pub(crate) sketch: Sketch,
 }
 
-/// The loans that bring the total of the vector that is wanted within its limit or, where none do, those behind which no
+/// The loans that bring the total of the target within its limit or, where none do, those behind which no
 /// further one makes it less.
 ///
 /// While the total is above its limit, one pool lends: its workers weigh as much as its jobs do at most, so that its
@@ -50,14 +50,14 @@ pub(crate) fn lent(
     alloc: Global,
     plan: &Plan,
     levels: &Levels,
-    wanted: &Wanted,
+    target: &Target,
 ) -> Result<Loans, AllocError> {
     let mut workers = vec![in alloc; 0; plan.pools().len()]?;
     let mut lenders = Vec::new(alloc);
-    let mut tried = Tried::new(alloc, plan, levels, wanted);
+    let mut tried = Tried::new(alloc, plan, levels, target);
     let mut place = tried.place_of(&workers)?;
     for _ in 0..MAX_LOANS {
-        if tried.sketch(place).total <= wanted.limit {
+        if tried.sketch(place).total <= target.limit {
             break;
         }
         let Some(loan) = next_loan(&mut tried, &mut workers, place)? else {
@@ -76,12 +76,12 @@ pub(crate) fn lent(
     })
 }
 
-/// The least vector that is wanted, or None where none is found whose total is within its limit.
+/// The least vector that the target is, or None where none is found whose total is within its limit.
 pub(crate) fn least_vector(
     alloc: Global,
     plan: &Plan,
     levels: &Levels,
-    wanted: &Wanted,
+    target: &Target,
 ) -> Result<Option<Vector>, AllocError>
     ensures { IfOk result (λ found. IfSome found (λ vector. IsTrue (vector_fits plan.now vector))) }
 {
@@ -89,11 +89,11 @@ pub(crate) fn least_vector(
         workers,
         sketch,
         ..
-    } = lent(alloc, plan, levels, wanted)?;
-    if sketch.total > wanted.limit {
+    } = lent(alloc, plan, levels, target)?;
+    if sketch.total > target.limit {
         return Ok(None);
     }
-    vector_of(alloc, plan, wanted, workers, &sketch)
+    vector_of(alloc, plan, target, workers, &sketch)
 }
 
 /// The loan that comes next behind this place, of the workers as they are. The workers stay so.
@@ -127,15 +127,15 @@ fn best_loan(
     ensures kept { vec_len tried.old.weighings ≤ vec_len tried.new.weighings }
 {
     let plan = tried.plan;
-    let wanted = tried.wanted;
+    let target = tried.target;
     let on_loan = tried.sketch(place).on_loan;
     let mut best = None;
     let mut least = tried.sketch(place).total;
     for (number, pool) in plan.pools().iter().enumerate() {
-        if !wanted.may_lend(number) {
+        if !target.may_lend(number) {
             continue;
         }
-        let max = wanted.max_of(number, pool);
+        let max = target.max_of(number, pool);
         let before = number_at(workers, number);
         let weight = peak(tried, workers, number, place)?;
         let others = on_loan.saturating_sub(before.saturating_mul(max));

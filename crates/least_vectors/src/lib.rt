@@ -14,9 +14,9 @@ mod relief;
 mod rows;
 mod sketch;
 mod submitted;
+mod target;
 mod tried;
 mod vectors;
-mod wanted;
 mod weight;
 
 pub use growing::{Growing, Kind, Weighed};

@@ -24,12 +24,12 @@ pub(crate) fn relieving_loan(
     ensures kept { vec_len tried.old.weighings ≤ vec_len tried.new.weighings }
 {
     let plan = tried.plan;
-    let wanted = tried.wanted;
+    let target = tried.target;
     let mut best = None;
     let mut fewest = tried.sketch(place).strays.saturating_sub(1);
     let mut least = u64::MAX;
     for pool in 0..plan.pools().len() {
-        if !wanted.may_lend(pool) {
+        if !target.may_lend(pool) {
             continue;
         }
         let before = number_at(workers, pool);
@@ -38,7 +38,7 @@ pub(crate) fn relieving_loan(
         if strays <= fewest {
             let weight = least_weight(tried, workers, pool, strays)?;
             put_at(workers, pool, weight);
-            let on_loan = wanted.workers_weigh(plan, workers);
+            let on_loan = target.workers_weigh(plan, workers);
             if strays < fewest || on_loan < least {
                 fewest = strays;
                 least = on_loan;

@@ -5,7 +5,7 @@ ghost use Rattle.weights.specs.Vector.{vector_fits};
 
 use crate::numbers::number_at;
 use crate::sketch::Sketch;
-use crate::wanted::Wanted;
+use crate::target::Target;
 use crate::weight::Weight;
 use job_bodies::{Class, Client, Plan};
 use std::alloc::{AllocError, Global};
@@ -15,7 +15,7 @@ use weights::Vector;
 pub(crate) fn vector_of(
     alloc: Global,
     plan: &Plan,
-    wanted: &Wanted,
+    target: &Target,
     workers: Vec<u64>,
     sketch: &Sketch,
 ) -> Result<Option<Vector>, AllocError>
@@ -24,12 +24,12 @@ pub(crate) fn vector_of(
     let mut classes = Vec::with_capacity(alloc, plan.classes().len())?;
     for (number, class) in plan.classes().iter().enumerate() {
         let worker = number_at(&workers, class.pool);
-        classes.push(class_row(alloc, wanted, sketch, number, class, worker)?)?;
+        classes.push(class_row(alloc, target, sketch, number, class, worker)?)?;
     }
     let mut clients = Vec::with_capacity(alloc, plan.clients().len())?;
     for (number, client) in plan.clients().iter().enumerate() {
         let start = number_at(&sketch.starts, number);
-        clients.push(client_row(alloc, wanted, sketch, client, start)?)?;
+        clients.push(client_row(alloc, target, sketch, client, start)?)?;
     }
     let vector = Vector {
         workers,
@@ -46,7 +46,7 @@ pub(crate) fn vector_of(
 /// What a job of the class weighs queued, at each position and done. It is found from its end on.
 fn class_row(
     alloc: Global,
-    wanted: &Wanted,
+    target: &Target,
     sketch: &Sketch,
     number: usize,
     class: &Class,
@@ -54,18 +54,18 @@ fn class_row(
 ) -> Result<Vec<u64>, AllocError> {
     let done = number_at(&sketch.done, number);
     let end = done.saturating_add(worker);
-    let mut weight = Weight::at_end(end).at_least(wanted.need_at_end(class));
+    let mut weight = Weight::at_end(end).at_least(target.need_at_end(class));
     let mut row = Vec::new(alloc);
     row.push(done)?;
     row.push(weight.number)?;
     for action in class.body.iter().rev() {
-        let need = wanted.need_at(class, *action);
+        let need = target.need_at(class, *action);
         weight = sketch
-            .before(wanted, &class.body, *action, weight)
+            .before(target, &class.body, *action, weight)
             .at_least(need);
         row.push(weight.number)?;
     }
-    let queued = weight.less(worker).at_least(wanted.need_queued(class));
+    let queued = weight.less(worker).at_least(target.need_queued(class));
     row.push(queued.number)?;
     row.reverse();
     Ok(row)
@@ -74,7 +74,7 @@ fn class_row(
 /// What a client of the kind weighs at each position, found from its end on.
 fn client_row(
     alloc: Global,
-    wanted: &Wanted,
+    target: &Target,
     sketch: &Sketch,
     client: &Client,
     start: u64,
@@ -83,7 +83,7 @@ fn client_row(
     let mut row = Vec::new(alloc);
     row.push(weight.number)?;
     for action in client.body.iter().rev() {
-        weight = sketch.before(wanted, &client.body, *action, weight);
+        weight = sketch.before(target, &client.body, *action, weight);
         row.push(weight.number)?;
     }
     row.reverse();

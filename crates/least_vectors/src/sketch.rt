@@ -2,7 +2,7 @@
 
 use crate::Levels;
 use crate::numbers::{number_at, put_at};
-use crate::wanted::Wanted;
+use crate::target::Target;
 use crate::weight::Weight;
 use job_bodies::{Action, Class, Client, Plan};
 use std::alloc::{AllocError, Global};
@@ -32,15 +32,15 @@ pub(crate) struct Sketch {
 }
 
 impl Sketch {
-    /// What is wanted, where the workers weigh so much, from the lowest level of the classes up.
+    /// The target, where the workers weigh so much, from the lowest level of the classes up.
     pub(crate) fn of(
         alloc: Global,
         plan: &Plan,
         levels: &Levels,
-        wanted: &Wanted,
+        target: &Target,
         workers: &[u64],
     ) -> Result<Sketch, AllocError> {
-        let on_loan = wanted.workers_weigh(plan, workers);
+        let on_loan = target.workers_weigh(plan, workers);
         let mut sketch = Sketch {
             queued: vec![in alloc; 0; plan.classes().len()]?,
             done: vec![in alloc; 0; plan.classes().len()]?,
@@ -52,11 +52,11 @@ impl Sketch {
         };
         for number in &levels.order {
             if let Some(class) = plan.class_at(*number) {
-                sketch.weigh_class(wanted, levels, workers, *number, class);
+                sketch.weigh_class(target, levels, workers, *number, class);
             }
         }
         for client in plan.clients() {
-            sketch.weigh_client(wanted, client)?;
+            sketch.weigh_client(target, client)?;
         }
         Ok(sketch)
     }
@@ -65,23 +65,23 @@ impl Sketch {
     /// back, but no more than it weighs queued.
     fn weigh_class(
         &mut self,
-        wanted: &Wanted,
+        target: &Target,
         levels: &Levels,
         workers: &[u64],
         number: usize,
         class: &Class,
     ) {
         let worker = number_at(workers, class.pool);
-        let mut weight = Weight::at_end(worker).at_least(wanted.need_at_end(class));
+        let mut weight = Weight::at_end(worker).at_least(target.need_at_end(class));
         let mut peak = weight.number;
         for action in class.body.iter().rev() {
-            let need = wanted.need_at(class, *action);
+            let need = target.need_at(class, *action);
             weight = self
-                .before(wanted, &class.body, *action, weight)
+                .before(target, &class.body, *action, weight)
                 .at_least(need);
             peak = peak.max(weight.number);
         }
-        let queued = weight.less(worker).at_least(wanted.need_queued(class));
+        let queued = weight.less(worker).at_least(target.need_queued(class));
         put_at(&mut self.queued, number, queued.number);
         put_at(&mut self.done, number, queued.number.min(queued.slack));
         let is_submitted = levels.is_submitted(number);
@@ -99,11 +99,11 @@ impl Sketch {
 
     /// Finds what a client of the kind weighs at its beginning. One that repeats weighs at its end what it weighs at its
     /// beginning, so there is no vector where that makes the beginning heavier.
-    fn weigh_client(&mut self, wanted: &Wanted, client: &Client) -> Result<(), AllocError> {
+    fn weigh_client(&mut self, target: &Target, client: &Client) -> Result<(), AllocError> {
         let mut weight = Weight::at_end(0);
         let mut peak = 0;
         for action in client.body.iter().rev() {
-            weight = self.before(wanted, &client.body, *action, weight);
+            weight = self.before(target, &client.body, *action, weight);
             peak = weight.number.max(peak);
         }
         self.add(weight.number, client.count);
@@ -117,7 +117,7 @@ impl Sketch {
     /// What an actor weighs before the action, if it weighs so much behind it.
     pub(crate) fn before(
         &self,
-        wanted: &Wanted,
+        target: &Target,
         actions: &[Action],
         action: Action,
         weight: Weight,
@@ -125,7 +125,7 @@ impl Sketch {
         match action {
             Action::Work(_) => weight,
             Action::Submit(class) => weight.plus(number_at(&self.queued, class)),
-            Action::Get(submit) if wanted.gives_back() => {
+            Action::Get(submit) if target.gives_back() => {
                 weight.less(number_at(&self.done, class_got(actions, submit)))
             }
             Action::Get(_) => weight,

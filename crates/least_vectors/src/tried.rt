@@ -4,7 +4,7 @@ ghost use Rattle.std.specs.Prelude.{◌<◌, ◌≤◌, IfOk, vec_len};
 
 use crate::Levels;
 use crate::sketch::Sketch;
-use crate::wanted::Wanted;
+use crate::target::Target;
 use job_bodies::Plan;
 use std::alloc::{AllocError, Global};
 
@@ -15,13 +15,13 @@ struct Weighing {
     sketch: Sketch,
 }
 
-/// The vector that is wanted, and all workers' weights that were tried for it.
+/// The target, and all workers' weights that were tried for it.
 #[derive(Drop)]
 pub(crate) struct Tried<'a> {
     alloc: Global,
     pub(crate) plan: &'a Plan,
     levels: &'a Levels,
-    pub(crate) wanted: &'a Wanted<'a>,
+    pub(crate) target: &'a Target<'a>,
     weighings: Vec<Weighing>,
 }
 
@@ -31,13 +31,13 @@ impl<'a> Tried<'a> {
         alloc: Global,
         plan: &'a Plan,
         levels: &'a Levels,
-        wanted: &'a Wanted<'a>,
+        target: &'a Target<'a>,
     ) -> Tried<'a> {
         Tried {
             alloc,
             plan,
             levels,
-            wanted,
+            target,
             weighings: Vec::new(alloc),
         }
     }
@@ -55,7 +55,7 @@ impl<'a> Tried<'a> {
             return Ok(place);
         }
         let place = self.weighings.len();
-        let sketch = Sketch::of(self.alloc, self.plan, self.levels, self.wanted, workers)?;
+        let sketch = Sketch::of(self.alloc, self.plan, self.levels, self.target, workers)?;
         let workers = Vec::from_slice(self.alloc, workers)?;
         self.weighings.push(Weighing { workers, sketch })?;
         Ok(place)
@@ -63,7 +63,7 @@ impl<'a> Tried<'a> {
 
     /// How many classes that nobody submits weigh too much, where the workers weigh so much. Nothing of it is kept.
     pub(crate) fn strays(&self, workers: &[u64]) -> Result<usize, AllocError> {
-        let sketch = Sketch::of(self.alloc, self.plan, self.levels, self.wanted, workers)?;
+        let sketch = Sketch::of(self.alloc, self.plan, self.levels, self.target, workers)?;
         Ok(sketch.strays)
     }
 

@@ -6,7 +6,7 @@ ghost use Rattle.weights.specs.Bound.{bound_vector};
 
 use crate::Levels;
 use crate::lending::least_vector;
-use crate::wanted::Wanted;
+use crate::target::Target;
 use job_bodies::Plan;
 use std::alloc::{AllocError, Global};
 use weights::{Bound, Vector};
@@ -26,12 +26,12 @@ pub fn pool_bound(
     ensures { IfOk result (λ found. IfSome found (λ bound. IsTrue (vector_fits plan.now (bound_vector bound)))) }
 {
     let sizes = &plan.pools()[pool];
-    let standing = Wanted::standing(pool, sizes.queue).without_vain_loans();
+    let standing = Target::standing(pool, sizes.queue).without_vain_loans();
     if let Some(vector) = least_vector(alloc, plan, levels, &standing)? {
         return Ok(Some(Bound::Standing(vector)));
     }
     let places = sizes.queue.saturating_add(sizes.max);
-    let lifetime = Wanted::lifetime(pool, places.saturating_sub(sizes.first_workers()));
+    let lifetime = Target::lifetime(pool, places.saturating_sub(sizes.first_workers()));
     match least_vector(alloc, plan, levels, &lifetime)? {
         Some(vector) => Ok(Some(Bound::Lifetime(vector))),
         None => Ok(None),
@@ -56,11 +56,11 @@ pub fn blocked_vector(
     ensures { IfOk result (λ found. IfSome found (λ vector. IsTrue (vector_fits plan.now vector))) }
 {
     let sizes = &plan.pools()[pool];
-    let wanted = Wanted::blocked(
+    let target = Target::blocked(
         pool,
         sizes.core.saturating_sub(1),
         reach,
         rank,
     ).without_vain_loans();
-    least_vector(alloc, plan, levels, &wanted)
+    least_vector(alloc, plan, levels, &target)
 }

@@ -8,7 +8,7 @@ use Rattle.written_machine.specs.State.{same_parent}
 use Rattle.live_views.specs.declared.job_view.Phase.TheVariants as phase
 use Rattle.live_views.specs.declared.job_view.JobView.{JobView}
 use Rattle.live_views.specs.ViewStep.{live_job, is_live_child, is_done, is_unfinished_job, may_ask_for, in_phase, unless_orphan, finished_or_gone}
-use Rattle.live_actors.specs.declared.places.Place.{Place}
+use Rattle.live_actors.specs.declared.places.KeptJob.{KeptJob}
 use Rattle.live_actors.specs.Latest.{LatestList}
 use Rattle.live_actors.specs.LiveJobs.{AreFound, AreIndexed, AreOrphaned, ReachesStay, IsGone, jobs_in}
 use Rattle.live_actors.proofs.MakersStay.{AreFading}
@@ -45,7 +45,7 @@ going_stays n job going = by_test (same_parent (parent.Job n) job.parent) (is_do
     by_test true false e = refl
     by_test false done e = refl
 
-pub indexed_finished : (items after : List (Option Place)) (latest later next : LatestList) (m i n : ℕ) (job : JobView) → AreIndexed items latest m → live_job (jobs_in items) n ≡ Some job → is_done job.phase ≡ false → job.parent ≢ parent.Job n
+pub indexed_finished : (items after : List (Option KeptJob)) (latest later next : LatestList) (m i n : ℕ) (job : JobView) → AreIndexed items latest m → live_job (jobs_in items) n ≡ Some job → is_done job.phase ≡ false → job.parent ≢ parent.Job n
     → jobs_in after ≡ set (map (unless_orphan n) (jobs_in items)) n (finished_or_gone (jobs_in items) n job) → ReachesStay items after → AreOrphaned n i (jobs_in items) (map (unless_orphan n) (jobs_in items)) latest later
     → IsGone (finished_or_gone (jobs_in items) n job) later next job.parent job.slot n → AreIndexed after next (m - 1)
 indexed_finished items after latest later next m i n job x live going other jobs_are stay orphaned gone =

@@ -11,7 +11,7 @@ use Rattle.written_machine.proofs.Children.{same_actor_true, same_actor_refl}
 use Rattle.live_views.specs.declared.job_view.Phase.{Phase}
 use Rattle.live_views.specs.declared.job_view.JobView.{JobView}
 use Rattle.live_views.specs.ViewStep.{live_job, is_live_child, live_child, is_unfinished_job, may_ask_for, in_phase, with_phase}
-use Rattle.live_actors.specs.declared.places.Place.{Place}
+use Rattle.live_actors.specs.declared.places.KeptJob.{KeptJob}
 use Rattle.live_actors.specs.Latest.{LatestList, found, is_call}
 use Rattle.live_actors.specs.LiveJobs.{IsAlone, IsLatest, AreFound, AreReached, ReachesStay, jobs_in}
 use Rattle.live_actors.proofs.MakersStay.{fades_child, AreFading, fading_set}
@@ -108,7 +108,7 @@ sound_fading jobs after latest a t k found fading e still =
       none_later = λ i later. fades_child a t (live_job jobs i) (live_job after i) (fading.each i) (was.none_later i later);
     }
 
-pub reached_fading : (items after : List (Option Place)) → AreReached items → ReachesStay items after → AreFading (jobs_in items) (jobs_in after) → AreReached after
+pub reached_fading : (items after : List (Option KeptJob)) → AreReached items → ReachesStay items after → AreFading (jobs_in items) (jobs_in after) → AreReached after
 reached_fading items after reached stay fading j t k child =
     let was = reached j t k (still_child (jobs_in items) (jobs_in after) fading (parent.Job j) t k child) in
     (omega (arith, was.0, stay.long), λ place e. let old = stay.each j place e in let low = was.1 old.0 old.1 in omega (arith, low, old.2))

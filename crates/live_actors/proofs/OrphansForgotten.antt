@@ -7,8 +7,8 @@ use Rattle.written_machine.specs.declared.parent.Parent.TheVariants as parent
 use Rattle.written_machine.specs.State.{same_parent}
 use Rattle.live_views.specs.declared.job_view.JobView.{JobView}
 use Rattle.live_views.specs.ViewStep.{live_job, is_live_child, is_done, unless_orphan}
-use Rattle.live_actors.specs.declared.places.Place.{Place}
-use Rattle.live_actors.specs.Place.{place_at}
+use Rattle.live_actors.specs.declared.places.KeptJob.{KeptJob}
+use Rattle.live_actors.specs.KeptJob.{place_at}
 use Rattle.live_actors.specs.Latest.{LatestList, found, is_call}
 use Rattle.live_actors.specs.LiveJobs.{AreFound, AreReached, ReachesStay, OrphansAreFound, AreOrphaned, is_done_job, jobs_in, ForgetsNumber, ForgetsFound, ForgetsOrphan}
 use Rattle.live_actors.proofs.LatestFound.{is_call_of, same_call, made_if_child, not_called}
@@ -156,7 +156,7 @@ not_done_stays : (j : ℕ) (v : JobView) (mine : Bool) → (mine ≡ true → is
 not_done_stays j v true going = ap (λ b. if b then None else Some v) (sym (going refl))
 not_done_stays j v false going = refl
 
-pub orphans_end : (j n : ℕ) (items : List (Option Place)) (now : List (Option JobView)) (latest later : LatestList) → AreReached items → ((place : Place) → place_at items j ≡ Some place → place.reach ≤ n) → ((t k : ℕ) → is_live_child (parent.Job j) t (live_job (jobs_in items) k) ≡ true → (place : Place) × (place_at items j ≡ Some place))
+pub orphans_end : (j n : ℕ) (items : List (Option KeptJob)) (now : List (Option JobView)) (latest later : LatestList) → AreReached items → ((place : KeptJob) → place_at items j ≡ Some place → place.reach ≤ n) → ((t k : ℕ) → is_live_child (parent.Job j) t (live_job (jobs_in items) k) ≡ true → (place : KeptJob) × (place_at items j ≡ Some place))
     → AreOrphaned j n (jobs_in items) now latest later → now ≡ map (unless_orphan j) (jobs_in items)
 orphans_end j n items now latest later reached below has_place o = all_mapped (unless_orphan j) (jobs_in items) now refl o.long each_mapped
   where

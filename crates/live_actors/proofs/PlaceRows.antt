@@ -1,12 +1,12 @@
 -- A row of places, of which the lower numbers stand in a map.
 use Rattle.std.proofs.Common.{◌≡◌, ℕ, zero, suc, ◌+◌, ◌-◌, ◌<◌, ◌≤◌, ◌==◌, cond, List, [], ◌∷◌, ◌++◌, length, drop, get_or, set, Option, None, refl, sym, ap, ◌∙◌, arith}
 use Rattle.std.proofs.lemmas.List.{append_assoc, length-append, get_or_append_left, get_or-append_right, set-append_left, set-append_right}
-use Rattle.live_actors.specs.declared.places.Place.{Place}
-use Rattle.live_actors.specs.Place.{place_at}
+use Rattle.live_actors.specs.declared.places.KeptJob.{KeptJob}
+use Rattle.live_actors.specs.KeptJob.{place_at}
 use Rattle.live_actors.specs.PlaceRow.{items_below, gaps}
 use Rattle.live_actors.proofs.ItemsBelow.{length-items, item_inside, items-updated, items-pushed_one}
 
-module _ (at : ℕ → Option Place) (base : ℕ) (recent : List (Option Place)) where
+module _ (at : ℕ → Option KeptJob) (base : ℕ) (recent : List (Option KeptJob)) where
   pub length-row : length (items_below at base ++ recent) ≡ base + length recent
   length-row = let both = length-append (items_below at base) recent in omega (arith, both, length-items at base)
 
@@ -16,19 +16,19 @@ module _ (at : ℕ → Option Place) (base : ℕ) (recent : List (Option Place))
   pub at_recent : (k : ℕ) → base ≤ k → place_at (items_below at base ++ recent) k ≡ place_at recent (k - base)
   at_recent k past = get_or-append_right (items_below at base) recent base k None (length-items at base) past
 
-  pub lower_set : (after : ℕ → Option Place) (k : ℕ) (w : Option Place) → k < base → ((q : ℕ) → after q ≡ cond (k == q) w (at q)) → items_below after base ++ recent ≡ set (items_below at base ++ recent) k w
+  pub lower_set : (after : ℕ → Option KeptJob) (k : ℕ) (w : Option KeptJob) → k < base → ((q : ℕ) → after q ≡ cond (k == q) w (at q)) → items_below after base ++ recent ≡ set (items_below at base ++ recent) k w
   lower_set after k w low e =
       ap (λ xs. xs ++ recent) (items-updated at after base k w e) ∙ sym (set-append_left (items_below at base) recent k w (omega (arith, low, length-items at base)))
 
-  pub recent_set : (k : ℕ) (w : Option Place) → base ≤ k → items_below at base ++ set recent (k - base) w ≡ set (items_below at base ++ recent) k w
+  pub recent_set : (k : ℕ) (w : Option KeptJob) → base ≤ k → items_below at base ++ set recent (k - base) w ≡ set (items_below at base ++ recent) k w
   recent_set k w past = sym (set-append_right (items_below at base) recent base k w (length-items at base) past)
 
   -- the first of the recent ones is one of the lower ones
-  pub first_lowered : (after : ℕ → Option Place) (w : Option Place) → ((q : ℕ) → after q ≡ cond (base == q) w (at q)) → items_below after (base + 1) ++ recent ≡ items_below at base ++ (w ∷ recent)
+  pub first_lowered : (after : ℕ → Option KeptJob) (w : Option KeptJob) → ((q : ℕ) → after q ≡ cond (base == q) w (at q)) → items_below after (base + 1) ++ recent ≡ items_below at base ++ (w ∷ recent)
   first_lowered after w e = ap (λ xs. xs ++ recent) (items-pushed_one at after base w e) ∙ append_assoc (items_below at base) (w ∷ []) recent
 
 -- numbers at which nothing is kept are among the lower ones
-pub gaps_lowered : (at : ℕ → Option Place) (base n : ℕ) (rest : List (Option Place)) → ((k : ℕ) → base ≤ k → at k ≡ None) → items_below at (base + n) ++ rest ≡ items_below at base ++ (gaps n ++ rest)
+pub gaps_lowered : (at : ℕ → Option KeptJob) (base n : ℕ) (rest : List (Option KeptJob)) → ((k : ℕ) → base ≤ k → at k ≡ None) → items_below at (base + n) ++ rest ≡ items_below at base ++ (gaps n ++ rest)
 gaps_lowered at base zero rest none = let e : base + 0 ≡ base = omega arith in ap (λ m. items_below at m ++ rest) e
 gaps_lowered at base (suc n) rest none =
     let e : base + suc n ≡ suc base + n = omega arith in
@@ -37,11 +37,11 @@ gaps_lowered at base (suc n) rest none =
     ∙ append_assoc (items_below at base) (at base ∷ []) (gaps n ++ rest)
     ∙ ap (λ x. items_below at base ++ (x ∷ (gaps n ++ rest))) (none base (omega arith))
 
-pub one_more_gap : (n : ℕ) (rest : List (Option Place)) → gaps n ++ (None ∷ rest) ≡ gaps (n + 1) ++ rest
+pub one_more_gap : (n : ℕ) (rest : List (Option KeptJob)) → gaps n ++ (None ∷ rest) ≡ gaps (n + 1) ++ rest
 one_more_gap zero rest = refl
-one_more_gap (suc n) rest = let e : suc (n + 1) ≡ suc n + 1 = omega arith in ap (λ (xs : List (Option Place)). None ∷ xs) (one_more_gap n rest) ∙ ap (λ m. gaps m ++ rest) e
+one_more_gap (suc n) rest = let e : suc (n + 1) ≡ suc n + 1 = omega arith in ap (λ (xs : List (Option KeptJob)). None ∷ xs) (one_more_gap n rest) ∙ ap (λ m. gaps m ++ rest) e
 
 -- a list and what is left of it behind its first
-pub first_and_rest : (old rest : List (Option Place)) (x : Option Place) → x ≡ get_or old 0 x → 0 < length old → rest ≡ drop 1 old → old ≡ x ∷ rest
+pub first_and_rest : (old rest : List (Option KeptJob)) (x : Option KeptJob) → x ≡ get_or old 0 x → 0 < length old → rest ≡ drop 1 old → old ≡ x ∷ rest
 first_and_rest [] rest x first long e = absurd (omega arith)
-first_and_rest (y ∷ ys) rest x first long e = ap (λ z. z ∷ ys) (sym first) ∙ ap (λ (zs : List (Option Place)). x ∷ zs) (sym e)
+first_and_rest (y ∷ ys) rest x first long e = ap (λ z. z ∷ ys) (sym first) ∙ ap (λ (zs : List (Option KeptJob)). x ∷ zs) (sym e)

@@ -3,18 +3,18 @@ use Rattle.std.proofs.Common.{◌≡◌, ◌≢◌, ℕ, ◌≤◌, List, length
 use Rattle.std.proofs.lemmas.Bool.{cases_lt, cases_eq}
 use Rattle.std.proofs.lemmas.List.{get_or_past, get_or-set_same, get_or-set_other}
 use Rattle.live_views.specs.ViewStep.{live_job}
-use Rattle.live_actors.specs.declared.places.Place.{Place}
-use Rattle.live_actors.specs.Place.{place_at, place_in_phase}
+use Rattle.live_actors.specs.declared.places.KeptJob.{KeptJob}
+use Rattle.live_actors.specs.KeptJob.{place_at, place_in_phase}
 use Rattle.live_actors.specs.Latest.{found}
 use Rattle.live_actors.specs.LiveJobs.{ReachesStay, jobs_in}
 use Rattle.std.proofs.lemmas.Option.{same_Some}
 use Rattle.live_views.specs.declared.job_view.Phase.{Phase}
 use Rattle.live_actors.proofs.JobsInPlaces.{has_place}
 
-pub stays : (items : List (Option Place)) → ReachesStay items items
+pub stays : (items : List (Option KeptJob)) → ReachesStay items items
 stays items = record { long = refl; each = λ k place e. (place, e, omega arith) }
 
-pub stays_then : (items middle after : List (Option Place)) → ReachesStay items middle → ReachesStay middle after → ReachesStay items after
+pub stays_then : (items middle after : List (Option KeptJob)) → ReachesStay items middle → ReachesStay middle after → ReachesStay items after
 stays_then items middle after one two = record {
   long = two.long ∙ one.long;
   each = λ k place e.
@@ -24,7 +24,7 @@ stays_then items middle after one two = record {
 }
 
 -- where one place is freed
-pub stays_freed : (items : List (Option Place)) (n : ℕ) → ReachesStay items (set items n None)
+pub stays_freed : (items : List (Option KeptJob)) (n : ℕ) → ReachesStay items (set items n None)
 stays_freed items n = record {
   long = length-set items n None;
   each = λ k place e. ⊎_elim
@@ -33,14 +33,14 @@ stays_freed items n = record {
       (cases_eq k n);
 }
   where
-    none_there : (k : ℕ) (place : Place) → place_at (set items n None) k ≡ Some place → k ≡ n → ⊥
-    none_there k place e here = let none : ◌≡◌ {A = Option Place} None (Some place) = sym (cleared items n) ∙ ap (place_at (set items n None)) (sym here) ∙ e in absurd cc
+    none_there : (k : ℕ) (place : KeptJob) → place_at (set items n None) k ≡ Some place → k ≡ n → ⊥
+    none_there k place e here = let none : ◌≡◌ {A = Option KeptJob} None (Some place) = sym (cleared items n) ∙ ap (place_at (set items n None)) (sym here) ∙ e in absurd cc
       where
-        cleared : (xs : List (Option Place)) (i : ℕ) → place_at (set xs i None) i ≡ None
+        cleared : (xs : List (Option KeptJob)) (i : ℕ) → place_at (set xs i None) i ≡ None
         cleared xs i = ⊎_elim (λ inside. get_or-set_same xs i None None inside) (λ past. get_or_past (set xs i None) i None (omega (arith, length-set xs i None))) (cases_lt i (length xs))
 
 -- one place changes, and reaches as far or further
-pub stays_set : (items : List (Option Place)) (n : ℕ) (was place : Place) → place_at items n ≡ Some was → was.reach ≤ place.reach → ReachesStay items (set items n (Some place))
+pub stays_set : (items : List (Option KeptJob)) (n : ℕ) (was place : KeptJob) → place_at items n ≡ Some was → was.reach ≤ place.reach → ReachesStay items (set items n (Some place))
 stays_set items n was place there further = record {
   long = length-set items n (Some place);
   each = λ k found e. ⊎_elim
@@ -51,13 +51,13 @@ stays_set items n was place there further = record {
       (cases_eq k n);
 }
   where
-    at_least : (found : Place) → place_at (set items n (Some place)) n ≡ Some found → was.reach ≤ found.reach
+    at_least : (found : KeptJob) → place_at (set items n (Some place)) n ≡ Some found → was.reach ≤ found.reach
     at_least found e = ⊎_elim
-        (λ inside. let same : place ≡ found = same_Some place found (sym (get_or-set_same items n (Some place) None inside) ∙ e) in let reaches : place.reach ≡ found.reach = ap (λ (p : Place). p.reach) same in omega (arith, further, reaches))
-        (λ past. let none : ◌≡◌ {A = Option Place} None (Some found) = sym (get_or_past (set items n (Some place)) n None (omega (arith, length-set items n (Some place)))) ∙ e in absurd cc)
+        (λ inside. let same : place ≡ found = same_Some place found (sym (get_or-set_same items n (Some place) None inside) ∙ e) in let reaches : place.reach ≡ found.reach = ap (λ (p : KeptJob). p.reach) same in omega (arith, further, reaches))
+        (λ past. let none : ◌≡◌ {A = Option KeptJob} None (Some found) = sym (get_or_past (set items n (Some place)) n None (omega (arith, length-set items n (Some place)))) ∙ e in absurd cc)
         (cases_lt n (length items))
 
-pub stays_phased : (items : List (Option Place)) (n : ℕ) (to : Phase) → IsSome (live_job (jobs_in items) n) → ReachesStay items (set items n (place_in_phase to (place_at items n)))
+pub stays_phased : (items : List (Option KeptJob)) (n : ℕ) (to : Phase) → IsSome (live_job (jobs_in items) n) → ReachesStay items (set items n (place_in_phase to (place_at items n)))
 stays_phased items n to live =
     let there = has_place items n live in
     subst (λ o. ReachesStay items (set items n o)) (sym (ap (place_in_phase to) there.1)) (stays_set items n there.0 (record there.0 { job = record there.0.job { phase = to } }) there.1 (omega arith))

@@ -1,4 +1,4 @@
-pub mod Place
+pub mod KeptJob
 pub mod PlaceRow
 pub mod Places
 pub mod Calls

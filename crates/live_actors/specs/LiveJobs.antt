@@ -5,9 +5,9 @@ use Rattle.written_machine.specs.declared.parent.Parent.{Parent}
 use Rattle.written_machine.specs.declared.parent.Parent.TheVariants as parent
 use Rattle.live_views.specs.declared.job_view.JobView.{JobView}
 use Rattle.live_views.specs.ViewStep.{live_job, is_live_child, live_child, is_done, is_unfinished_job, may_ask_for, unless_stale, unless_orphan}
-use Rattle.live_actors.specs.declared.places.Place.{Place}
+use Rattle.live_actors.specs.declared.places.KeptJob.{KeptJob}
 use Rattle.live_actors.specs.Places.{PlaceList}
-use Rattle.live_actors.specs.Place.{place_at}
+use Rattle.live_actors.specs.KeptJob.{place_at}
 use Rattle.live_actors.specs.Latest.{LatestList, found, is_call}
 
 -- for how many further jobs there is room, where clients make them and where jobs do
@@ -53,7 +53,7 @@ IsAlone jobs a t = (i k : ℕ) → is_live_child a t (live_job jobs i) ≡ true 
 -- ---- the places
 
 -- the jobs that stand in the places
-abbrev pub jobs_in : List (Option Place) → List (Option JobView)
+abbrev pub jobs_in : List (Option KeptJob) → List (Option JobView)
 jobs_in items = map (option_map (λ place. place.job)) items
 
 -- job k is the latest live one that the actor made at position t
@@ -67,23 +67,23 @@ pub record AreFound (jobs : List (Option JobView)) (latest : LatestList) : Type 
   pub complete : (a : Parent) (t k : ℕ) → may_ask_for jobs a ≡ true → IsLatest jobs a t k → found latest a t ≡ Some k
 
 -- the live jobs that a job made come from below its reach
-abbrev pub AreReached : List (Option Place) → Type 0
-AreReached items = (j t k : ℕ) → is_live_child (parent.Job j) t (live_job (jobs_in items) k) ≡ true → (j < length items) × ((place : Place) → place_at items j ≡ Some place → t < place.reach)
+abbrev pub AreReached : List (Option KeptJob) → Type 0
+AreReached items = (j t k : ℕ) → is_live_child (parent.Job j) t (live_job (jobs_in items) k) ≡ true → (j < length items) × ((place : KeptJob) → place_at items j ≡ Some place → t < place.reach)
 
-pub record AreIndexed (items : List (Option Place)) (latest : LatestList) (unfinished : ℕ) : Type 0 where
+pub record AreIndexed (items : List (Option KeptJob)) (latest : LatestList) (unfinished : ℕ) : Type 0 where
   pub are_found : AreFound (jobs_in items) latest
   pub reached : AreReached items
   pub counted : unfinished ≡ count_by is_unfinished_job (jobs_in items)
 
 -- no place came up, and each reach is as it was or further
-pub record ReachesStay (items after : List (Option Place)) : Type 0 where
+pub record ReachesStay (items after : List (Option KeptJob)) : Type 0 where
   pub long : length after ≡ length items
-  pub each : (k : ℕ) (place : Place) → place_at after k ≡ Some place → (was : Place) × (place_at items k ≡ Some was) × (was.reach ≤ place.reach)
+  pub each : (k : ℕ) (place : KeptJob) → place_at after k ≡ Some place → (was : KeptJob) × (place_at items k ≡ Some was) × (was.reach ≤ place.reach)
 
 -- the job that the actor is, if it is one, reaches so far
-abbrev pub ReachesTo : List (Option Place) → Parent → ℕ → Type 0
+abbrev pub ReachesTo : List (Option KeptJob) → Parent → ℕ → Type 0
 ReachesTo items (parent.Client c) n = Unit {0}
-ReachesTo items (parent.Job j) n = (place : Place) → place_at items j ≡ Some place → n ≤ place.reach
+ReachesTo items (parent.Job j) n = (place : KeptJob) → place_at items j ≡ Some place → n ≤ place.reach
 
 -- ---- the children of a job that finishes
 

@@ -1,12 +1,12 @@
 -- The places of a world's live jobs, as the rest of the world sees them, and how they are counted.
 use Rattle.std.specs.Prelude.{◌≡◌, ℕ, ◌+◌, ◌≤◌, List, Option, count_by, is_some, ◌==◌, if◌then◌else◌}
-use Rattle.live_actors.specs.declared.places.Place.{Place}
+use Rattle.live_actors.specs.declared.places.KeptJob.{KeptJob}
 use Rattle.live_actors.specs.PlaceRow.{Row, longest}
 
 -- at each number that was given to a job what is kept of it, or None where it is not live any more; how many places there
 -- are, free ones included; and for how many further jobs there is room
 pub record PlaceList : Type 0 where
-  pub items : List (Option Place)
+  pub items : List (Option KeptJob)
   pub places : ℕ
   pub room : ℕ
 

@@ -7,7 +7,7 @@ ghost use Rattle.live_views.specs.ViewStep.{live_job, live_child, is_done, is_un
 ghost use Rattle.live_actors.specs.LiveJobs.{room_for, WasMade, DoneAreLatest, NoOtherIsStale, IsAlone, places_made, jobs_in, AreReached, ReachesStay, ReachesTo, OrphansAreFound, AreOrphaned, AreFound, IsGone, ForgetsOrphan, is_done_job};
 
 use crate::latest::Latest;
-use crate::places::{Place, Places};
+use crate::places::{KeptJob, Places};
 use live_views::{JobView, Phase};
 use std::alloc::{AllocError, Global};
 use std::marker::Model;
@@ -135,7 +135,7 @@ impl LiveJobs {
         free_stale(&mut self.kept, latest, job.parent, job.slot);
         let number = self.kept.made();
         reach_to(&mut self.kept, job.parent, job.slot + 1);
-        self.kept.push(Place { job, reach: 0 });
+        self.kept.push(KeptJob { job, reach: 0 });
         self.latest.set(job.parent, job.slot, number);
         self.unfinished += 1;
     }
@@ -220,7 +220,7 @@ fn reach_to(kept: &mut Places, actor: Parent, reach: usize)
         && let Some(place) = kept.get(number)
         && place.reach < reach
     {
-        kept.set(number, Place { reach, ..place });
+        kept.set(number, KeptJob { reach, ..place });
     }
 }
 

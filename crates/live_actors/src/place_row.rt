@@ -3,10 +3,10 @@
 ghost use Rattle.std.specs.Prelude.{◌≡◌, ◌+◌, ◌<◌, ◌^◌, [], ◌∷◌, ◌++◌, length, is_some, IsSome, slice_set, ◌≤◌, ◌⊎◌, nat_eq, None, Some, OnOk};
 ghost use Rattle.std.specs.HashMap.{get, spare, Updates};
 ghost use Rattle.std.specs.VecDeque.{deque_len, deque_capacity};
-ghost use Rattle.live_actors.specs.Place.{place_at, place_in_phase};
+ghost use Rattle.live_actors.specs.KeptJob.{place_at, place_in_phase};
 ghost use Rattle.live_actors.specs.PlaceRow.{HasNoGapAtFront, gaps, longest};
 
-use crate::places::Place;
+use crate::places::KeptJob;
 use live_views::Phase;
 use std::alloc::{AllocError, Global};
 use std::collections::{HashMap, VecDeque};
@@ -24,9 +24,9 @@ const SPARE_NUMBERS: usize = 16;
 pub(crate) struct PlaceRow {
     // The first number of the ring.
     base: usize,
-    recent: VecDeque<Option<Place>>,
+    recent: VecDeque<Option<KeptJob>>,
     // The live jobs of lower numbers.
-    older: HashMap<usize, Place>,
+    older: HashMap<usize, KeptJob>,
 }
 
 impl Model for PlaceRow {
@@ -63,7 +63,7 @@ impl PlaceRow {
 
     /// What is kept of the job of this number.
     #[inline(always)]
-    pub(crate) fn get(&self, number: usize) -> Option<Place>
+    pub(crate) fn get(&self, number: usize) -> Option<KeptJob>
         ensures { result ≡ place_at self.now.items number }
     {
         if number < self.base {
@@ -73,7 +73,7 @@ impl PlaceRow {
     }
 
     /// What is kept of the job of this number is this, from now on.
-    pub(crate) fn set(&mut self, number: usize, place: Place)
+    pub(crate) fn set(&mut self, number: usize, place: KeptJob)
         requires { IsSome (place_at self.old.items number) }
         ensures items { self.new.items ≡ slice_set self.old.items number (Some place) }
         ensures span { self.new.span ≡ self.old.span }
@@ -150,7 +150,7 @@ impl PlaceRow {
     }
 
     /// Another job is made. There is room for it.
-    pub(crate) fn push(&mut self, place: Place)
+    pub(crate) fn push(&mut self, place: KeptJob)
         requires { 0 < self.old.room }
         ensures items { self.new.items ≡ self.old.items ++ Some place ∷ [] }
         ensures span { self.new.span ≡ self.old.span + 1 }
@@ -161,7 +161,7 @@ impl PlaceRow {
 }
 
 // The gaps at the front go. How many they were.
-fn skip_gaps(recent: &mut VecDeque<Option<Place>>) -> usize
+fn skip_gaps(recent: &mut VecDeque<Option<KeptJob>>) -> usize
     ensures items { recent.old.items ≡ gaps result ++ recent.new.items }
     ensures front { HasNoGapAtFront recent.new.items }
     ensures len { deque_len recent.new + result ≡ deque_len recent.old }
@@ -176,7 +176,7 @@ fn skip_gaps(recent: &mut VecDeque<Option<Place>>) -> usize
 }
 
 // Nothing stands at an index from now on. Whether something did.
-fn clear(recent: &mut VecDeque<Option<Place>>, index: usize) -> bool
+fn clear(recent: &mut VecDeque<Option<KeptJob>>, index: usize) -> bool
     ensures value { result ≡ is_some (place_at recent.old.items index) }
     ensures items { recent.new.items ≡ slice_set recent.old.items index None }
     ensures len { deque_len recent.new ≡ deque_len recent.old }
@@ -189,7 +189,7 @@ fn clear(recent: &mut VecDeque<Option<Place>>, index: usize) -> bool
 }
 
 // What stands at an index is in another phase.
-fn set_phase_at(recent: &mut VecDeque<Option<Place>>, index: usize, phase: Phase)
+fn set_phase_at(recent: &mut VecDeque<Option<KeptJob>>, index: usize, phase: Phase)
     ensures items { recent.new.items ≡ slice_set recent.old.items index (place_in_phase phase (place_at recent.old.items index)) }
     ensures len { deque_len recent.new ≡ deque_len recent.old }
     ensures capacity { deque_capacity recent.new ≡ deque_capacity recent.old }
@@ -200,7 +200,7 @@ fn set_phase_at(recent: &mut VecDeque<Option<Place>>, index: usize, phase: Phase
 }
 
 // What stands in this place is in another phase.
-fn set_phase_in(place: &mut Option<Place>, phase: Phase)
+fn set_phase_in(place: &mut Option<KeptJob>, phase: Phase)
     ensures { place.new ≡ place_in_phase phase place.old }
 {
     if let Some(place) = place {
@@ -210,14 +210,14 @@ fn set_phase_in(place: &mut Option<Place>, phase: Phase)
 
 // What is kept under a number. Few look-ups come here, and they stay out of their callers.
 #[inline(never)]
-fn get_older(older: &HashMap<usize, Place>, number: usize) -> Option<Place>
+fn get_older(older: &HashMap<usize, KeptJob>, number: usize) -> Option<KeptJob>
     ensures { result ≡ get nat_eq older.now number }
 {
     older.get(&number).copied()
 }
 
 // Another value stands at a number where one stood.
-fn put(older: &mut HashMap<usize, Place>, number: usize, place: Place)
+fn put(older: &mut HashMap<usize, KeptJob>, number: usize, place: KeptJob)
     requires { IsSome (get nat_eq older.old number) }
     ensures { Updates nat_eq older.old older.new number (Some place) }
 {
@@ -227,7 +227,7 @@ fn put(older: &mut HashMap<usize, Place>, number: usize, place: Place)
 }
 
 // What stands at a number is in another phase.
-fn put_phase(older: &mut HashMap<usize, Place>, number: usize, phase: Phase)
+fn put_phase(older: &mut HashMap<usize, KeptJob>, number: usize, phase: Phase)
     requires { IsSome (get nat_eq older.old number) }
     ensures { Updates nat_eq older.old older.new number (place_in_phase phase (get nat_eq older.old number)) }
 {

@@ -9,7 +9,7 @@ use std::marker::Model;
 
 /// What is kept of a live job.
 #[derive(Clone, Copy, Debug)]
-pub(crate) struct Place {
+pub(crate) struct KeptJob {
     pub(crate) job: JobView,
     // The live jobs that it made come from submits at positions below this one.
     pub(crate) reach: usize,
@@ -41,7 +41,7 @@ impl Model for Places {
 }
 
 impl Places {
-    ghost use Rattle.live_actors.specs.Place.{place_at, place_in_phase};
+    ghost use Rattle.live_actors.specs.KeptJob.{place_at, place_in_phase};
     ghost use Rattle.live_actors.specs.Places.{places_after};
 
     /// No jobs so far.
@@ -73,14 +73,14 @@ impl Places {
 
     /// What is kept of the live job of this number.
     #[inline(always)]
-    pub(crate) fn get(&self, number: usize) -> Option<Place>
+    pub(crate) fn get(&self, number: usize) -> Option<KeptJob>
         ensures { result ≡ place_at self.now.items number }
     {
         self.kept.get(number)
     }
 
     /// What is kept of the live job of this number is this, from now on.
-    pub(crate) fn set(&mut self, number: usize, place: Place)
+    pub(crate) fn set(&mut self, number: usize, place: KeptJob)
         requires { IsSome (place_at self.old.items number) }
         ensures items { self.new.items ≡ slice_set self.old.items number (Some place) }
         ensures places { self.new.places ≡ self.old.places }
@@ -121,7 +121,7 @@ impl Places {
     }
 
     /// Another job is made. There is room for it, and it takes a free place where there is one.
-    pub(crate) fn push(&mut self, place: Place)
+    pub(crate) fn push(&mut self, place: KeptJob)
         requires { 0 < self.old.room }
         ensures items { self.new.items ≡ self.old.items ++ Some place ∷ [] }
         ensures places { self.new.places ≡ places_after self.old }

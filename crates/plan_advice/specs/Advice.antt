@@ -1,13 +1,13 @@
 -- The lines that tell what is wrong with the text of a plan.
 use Rattle.std.specs.Prelude.{ℕ, List, [], ◌∷◌, ◌++◌, codes, decimal, string_bytes}
 use Rattle.std.specs.List.{flat_map}
-use Rattle.plan_places.specs.declared.place.Place.{Place}
+use Rattle.plan_places.specs.declared.place.TextPlace.{TextPlace}
 use Rattle.plan_advice.specs.declared.advice.Advice.{Advice}
 use Rattle.plan_advice.specs.declared.advice.Faults.{Faults}
 use Rattle.plan_advice.specs.declared.warnings.Warning.{Warning}
 
 -- a place in the file of this name
-abbrev pub place_head : List ℕ → Place → List ℕ
+abbrev pub place_head : List ℕ → TextPlace → List ℕ
 place_head file place = file ++ (codes ":" ++ (decimal place.line ++ (codes ":" ++ (decimal place.column ++ codes ": "))))
 
 -- the number of a fault, at the end of its line
@@ -15,7 +15,7 @@ abbrev pub number_end : ℕ → List ℕ
 number_end number = codes " (fault " ++ (decimal number ++ (codes ")" ++ 10 ∷ []))
 
 -- what is wrong there, and the number of the fault
-abbrev pub fault_line : List ℕ → Place → List ℕ → ℕ → List ℕ
+abbrev pub fault_line : List ℕ → TextPlace → List ℕ → ℕ → List ℕ
 fault_line file place what number = place_head file place ++ (what ++ number_end number)
 
 abbrev pub advice_line : List ℕ → Advice → List ℕ
@@ -30,7 +30,7 @@ abbrev pub faults_text : List ℕ → Faults → List ℕ
 faults_text file faults = advice_line file faults.first ++ advice_lines file faults.others.items
 
 -- what is seldom meant there
-abbrev pub seldom_line : List ℕ → Place → List ℕ → List ℕ
+abbrev pub seldom_line : List ℕ → TextPlace → List ℕ → List ℕ
 seldom_line file place what = place_head file place ++ (codes "warning: " ++ (what ++ 10 ∷ []))
 
 abbrev pub warning_line : List ℕ → Warning → List ℕ

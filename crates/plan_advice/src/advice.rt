@@ -1,10 +1,10 @@
 //! What is wrong, and its lines.
 
-ghost use Rattle.std.specs.Prelude.{◌≡◌, ◌++◌, OnOk, string_bytes};
 ghost use Rattle.plan_advice.specs.Advice as spec;
+ghost use Rattle.decimals.specs.Pushed.{Pushes};
 
 use job_bodies::PlanFault;
-use plan_places::Place;
+use plan_places::TextPlace;
 use std::alloc::AllocError;
 
 /// One thing that is wrong, and where.
@@ -13,7 +13,7 @@ pub struct Advice {
     /// The fault, as the other commands tell it.
     pub fault: PlanFault,
     /// Where in the text it stands.
-    pub place: Place,
+    pub place: TextPlace,
     /// What is wrong, and what would be right.
     pub what: String,
 }
@@ -34,14 +34,14 @@ pub struct Faults {
 ///
 /// [`AllocError`] where memory runs out.
 pub fn push_faults(text: &mut String, file: &str, faults: &Faults) -> Result<(), AllocError>
-    ensures { OnOk result (string_bytes text.new ≡ string_bytes text.old ++ spec.faults_text file.now faults.now) }
+    ensures { Pushes result text.old text.new (spec.faults_text file.now faults.now) }
 {
     push_advice(text, file, &faults.first)?;
     push_each(text, file, &faults.others)
 }
 
 fn push_each(text: &mut String, file: &str, mut advice: &[Advice]) -> Result<(), AllocError>
-    ensures { OnOk result (string_bytes text.new ≡ string_bytes text.old ++ spec.advice_lines file.now advice.now) }
+    ensures { Pushes result text.old text.new (spec.advice_lines file.now advice.now) }
 {
     while let Some((one, rest)) = advice.split_first() {
         push_advice(text, file, one)?;
@@ -51,7 +51,7 @@ fn push_each(text: &mut String, file: &str, mut advice: &[Advice]) -> Result<(),
 }
 
 fn push_advice(text: &mut String, file: &str, advice: &Advice) -> Result<(), AllocError>
-    ensures { OnOk result (string_bytes text.new ≡ string_bytes text.old ++ spec.advice_line file.now advice.now) }
+    ensures { Pushes result text.old text.new (spec.advice_line file.now advice.now) }
 {
     push_line(text, file, advice.place, &advice.what, advice.fault.number)
 }
@@ -59,11 +59,11 @@ fn push_advice(text: &mut String, file: &str, advice: &Advice) -> Result<(), All
 fn push_line(
     text: &mut String,
     file: &str,
-    place: Place,
+    place: TextPlace,
     what: &str,
     number: u8,
 ) -> Result<(), AllocError>
-    ensures { OnOk result (string_bytes text.new ≡ string_bytes text.old ++ spec.fault_line file.now place what.now number) }
+    ensures { Pushes result text.old text.new (spec.fault_line file.now place what.now number) }
 {
     push_place(text, file, place)?;
     text.push_str(what)?;
@@ -71,8 +71,8 @@ fn push_line(
 }
 
 /// Puts a place behind the text.
-pub(crate) fn push_place(text: &mut String, file: &str, place: Place) -> Result<(), AllocError>
-    ensures { OnOk result (string_bytes text.new ≡ string_bytes text.old ++ spec.place_head file.now place) }
+pub(crate) fn push_place(text: &mut String, file: &str, place: TextPlace) -> Result<(), AllocError>
+    ensures { Pushes result text.old text.new (spec.place_head file.now place) }
 {
     let line = place.line;
     let column = place.column;
@@ -80,7 +80,7 @@ pub(crate) fn push_place(text: &mut String, file: &str, place: Place) -> Result<
 }
 
 fn push_number(text: &mut String, number: u8) -> Result<(), AllocError>
-    ensures { OnOk result (string_bytes text.new ≡ string_bytes text.old ++ spec.number_end number) }
+    ensures { Pushes result text.old text.new (spec.number_end number) }
 {
     writeln!(text, " (fault {number})")
 }

@@ -1,6 +1,6 @@
 //! Bodies: each action is one, names a class that there is, and gets what was submitted.
 
-use crate::entry::Entry;
+use crate::entry::PlacedEntry;
 use crate::near::{listed, meant};
 use crate::notes::Notes;
 use crate::orders::{Order, order_of, slip_of};
@@ -20,7 +20,7 @@ struct Slot<'a> {
 /// An action that is looked at.
 #[derive(Clone, Copy)]
 struct Spot<'a> {
-    entry: &'a Entry<'a>,
+    entry: &'a PlacedEntry<'a>,
     action: usize,
     text: &'a str,
 }
@@ -35,7 +35,7 @@ impl Spot<'_> {
 /// Tells what is wrong with the actions of an entry's body.
 pub(crate) fn body(
     notes: &mut Notes,
-    entry: &Entry<'_>,
+    entry: &PlacedEntry<'_>,
     classes: &[&str],
 ) -> Result<(), AllocError> {
     let Some(value) = entry.value("body") else {

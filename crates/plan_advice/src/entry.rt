@@ -2,12 +2,12 @@
 
 use crate::notes::Notes;
 use job_bodies::{Part, PlanFault};
-use plan_places::{Place, Places};
+use plan_places::{Places, TextPlace};
 use std::alloc::{AllocError, Global};
 use toml::{Table, Value};
 
 /// Where a text begins.
-pub(crate) const BEGINNING: Place = Place { line: 1, column: 1 };
+pub(crate) const BEGINNING: TextPlace = TextPlace { line: 1, column: 1 };
 
 /// The name of the list of such parts in a plan's text, and of one of them in messages.
 pub(crate) fn list_of(part: Part) -> &'static str {
@@ -21,14 +21,14 @@ pub(crate) fn list_of(part: Part) -> &'static str {
 
 /// An entry of a list, and where it stands.
 #[derive(Clone, Copy)]
-pub(crate) struct Entry<'a> {
+pub(crate) struct PlacedEntry<'a> {
     pub(crate) part: Part,
     pub(crate) index: usize,
     pub(crate) table: &'a Table,
     pub(crate) places: &'a Places<'a>,
 }
 
-impl<'a> Entry<'a> {
+impl<'a> PlacedEntry<'a> {
     pub(crate) fn value(&self, key: &str) -> Option<&'a Value> {
         self.table.get(key)
     }
@@ -58,28 +58,28 @@ impl<'a> Entry<'a> {
         }
     }
 
-    pub(crate) fn place(&self) -> Place {
+    pub(crate) fn place(&self) -> TextPlace {
         match self.places.entry(list_of(self.part), self.index) {
             Some(place) => place,
             None => self.places.top(list_of(self.part)).unwrap_or(BEGINNING),
         }
     }
 
-    pub(crate) fn key_place(&self, key: &str) -> Place {
+    pub(crate) fn key_place(&self, key: &str) -> TextPlace {
         match self.places.key(list_of(self.part), self.index, key) {
             Some(place) => place,
             None => self.place(),
         }
     }
 
-    pub(crate) fn value_place(&self, key: &str) -> Place {
+    pub(crate) fn value_place(&self, key: &str) -> TextPlace {
         match self.places.value(list_of(self.part), self.index, key) {
             Some(place) => place,
             None => self.place(),
         }
     }
 
-    pub(crate) fn action_place(&self, action: usize) -> Place {
+    pub(crate) fn action_place(&self, action: usize) -> TextPlace {
         let list = list_of(self.part);
         match self.places.element(list, self.index, "body", action) {
             Some(place) => place,
@@ -92,7 +92,7 @@ impl<'a> Entry<'a> {
         &self,
         notes: &mut Notes,
         number: u8,
-        place: Place,
+        place: TextPlace,
         words: &str,
     ) -> Result<(), AllocError> {
         let who = self.who(notes.alloc)?;

@@ -1,6 +1,6 @@
 //! Names of entries: which are lawful, and new in their list.
 
-use crate::entry::{Entry, list_of};
+use crate::entry::{PlacedEntry, list_of};
 use crate::notes::Notes;
 use faults::number::{BAD_NAME, DOUBLE_NAME};
 use job_bodies::is_lawful_name;
@@ -9,8 +9,8 @@ use std::alloc::{AllocError, Global};
 /// Tells a name that is not lawful, or that an earlier entry of the list has.
 pub(crate) fn name(
     notes: &mut Notes,
-    entry: &Entry<'_>,
-    before: &[Entry<'_>],
+    entry: &PlacedEntry<'_>,
+    before: &[PlacedEntry<'_>],
 ) -> Result<(), AllocError> {
     let Some(name) = entry.text("name") else {
         return Ok(());

@@ -2,7 +2,7 @@
 
 use crate::advice::Advice;
 use job_bodies::PlanFault;
-use plan_places::Place;
+use plan_places::TextPlace;
 use std::alloc::{AllocError, Global};
 
 /// How many faults are told at most beside the first.
@@ -27,7 +27,7 @@ impl Notes {
     pub(crate) fn push(
         &mut self,
         fault: PlanFault,
-        place: Place,
+        place: TextPlace,
         what: String,
     ) -> Result<(), AllocError> {
         if self.found.len() < MAX_FOUND {

@@ -1,6 +1,6 @@
 //! Sizes and counts: which are in their ranges.
 
-use crate::entry::Entry;
+use crate::entry::PlacedEntry;
 use crate::notes::Notes;
 use faults::number::BAD_NUMBER;
 use job_bodies::MAX_SIZE;
@@ -14,7 +14,11 @@ fn is_lawful(number: i64) -> bool {
 }
 
 /// Tells the numbers at these keys that are out of their range. Answers whether there are some.
-fn out_of_range(notes: &mut Notes, entry: &Entry<'_>, keys: &[&str]) -> Result<bool, AllocError> {
+fn out_of_range(
+    notes: &mut Notes,
+    entry: &PlacedEntry<'_>,
+    keys: &[&str],
+) -> Result<bool, AllocError> {
     let mut any = false;
     for key in keys.iter().copied() {
         if let Some(number) = entry.number(key)
@@ -31,7 +35,7 @@ fn out_of_range(notes: &mut Notes, entry: &Entry<'_>, keys: &[&str]) -> Result<b
 }
 
 /// Tells the sizes of a pool that are not lawful.
-pub(crate) fn sizes(notes: &mut Notes, pool: &Entry<'_>) -> Result<(), AllocError> {
+pub(crate) fn sizes(notes: &mut Notes, pool: &PlacedEntry<'_>) -> Result<(), AllocError> {
     if out_of_range(notes, pool, &["core", "max", "queue"])? {
         return Ok(());
     }
@@ -48,7 +52,7 @@ pub(crate) fn sizes(notes: &mut Notes, pool: &Entry<'_>) -> Result<(), AllocErro
 }
 
 /// Tells the count of a kind of clients that is not lawful.
-pub(crate) fn count(notes: &mut Notes, client: &Entry<'_>) -> Result<(), AllocError> {
+pub(crate) fn count(notes: &mut Notes, client: &PlacedEntry<'_>) -> Result<(), AllocError> {
     out_of_range(notes, client, &["count"])?;
     Ok(())
 }

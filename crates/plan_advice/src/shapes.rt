@@ -1,6 +1,6 @@
 //! The keys of an entry: which are there, and of which types.
 
-use crate::entry::{Entry, list_of};
+use crate::entry::{PlacedEntry, list_of};
 use crate::near::meant;
 use crate::notes::Notes;
 use faults::number::{MISSING_KEY, TOO_MANY, UNKNOWN_KEY, WRONG_TYPE};
@@ -10,7 +10,7 @@ use toml::Value;
 
 /// What the value at a key is to be.
 #[derive(Clone, Copy, PartialEq, Eq)]
-enum Wanted {
+enum ValueKind {
     Text,
     Number,
     Flag,
@@ -21,7 +21,7 @@ enum Wanted {
 #[derive(Clone, Copy)]
 struct Known {
     key: &'static str,
-    wanted: Wanted,
+    wanted: ValueKind,
     /// What it says, where it is to be there.
     says: &'static str,
 }
@@ -44,37 +44,37 @@ pub(crate) fn keys_of(part: Part) -> &'static [&'static str] {
 
 fn key_named(key: &str) -> Option<Known> {
     let (key, wanted, says) = match key {
-        "name" => ("name", Wanted::Text, "write name = \"..\""),
+        "name" => ("name", ValueKind::Text, "write name = \"..\""),
         "pool" => (
             "pool",
-            Wanted::Text,
+            ValueKind::Text,
             "write pool = \"..\", the pool that runs these jobs",
         ),
         "core" => (
             "core",
-            Wanted::Number,
+            ValueKind::Number,
             "write core = N, the core pool size in threads",
         ),
         "max" => (
             "max",
-            Wanted::Number,
+            ValueKind::Number,
             "write max = N, the maximum pool size in threads",
         ),
         "queue" => (
             "queue",
-            Wanted::Number,
+            ValueKind::Number,
             "write queue = N, how many jobs its queue holds",
         ),
         "count" => (
             "count",
-            Wanted::Number,
+            ValueKind::Number,
             "write count = N, how many clients of the kind there are",
         ),
-        "prestart" => ("prestart", Wanted::Flag, ""),
-        "repeat" => ("repeat", Wanted::Flag, ""),
+        "prestart" => ("prestart", ValueKind::Flag, ""),
+        "repeat" => ("repeat", ValueKind::Flag, ""),
         "body" => (
             "body",
-            Wanted::Body,
+            ValueKind::Body,
             "write body = [\"..\"], what it does, or body = []",
         ),
         _ => return None,
@@ -100,7 +100,7 @@ fn here_called(key: &str) -> Option<&'static str> {
 }
 
 /// Tells the keys that no such entry has.
-pub(crate) fn unknown_keys(notes: &mut Notes, entry: &Entry<'_>) -> Result<(), AllocError> {
+pub(crate) fn unknown_keys(notes: &mut Notes, entry: &PlacedEntry<'_>) -> Result<(), AllocError> {
     for key in entry.table.keys() {
         let key = key.as_str();
         if !has_key(entry.part, key) {
@@ -115,7 +115,7 @@ pub(crate) fn has_key(part: Part, key: &str) -> bool {
     keys_of(part).iter().any(|known| *known == key)
 }
 
-fn unknown_key(notes: &mut Notes, entry: &Entry<'_>, key: &str) -> Result<(), AllocError> {
+fn unknown_key(notes: &mut Notes, entry: &PlacedEntry<'_>, key: &str) -> Result<(), AllocError> {
     let alloc = notes.alloc;
     let list = list_of(entry.part);
     let keys = keys_of(entry.part);
@@ -132,7 +132,7 @@ fn unknown_key(notes: &mut Notes, entry: &Entry<'_>, key: &str) -> Result<(), Al
 }
 
 /// Tells the keys that the entry lacks, and the values of another type than is wanted.
-pub(crate) fn values(notes: &mut Notes, entry: &Entry<'_>) -> Result<(), AllocError> {
+pub(crate) fn values(notes: &mut Notes, entry: &PlacedEntry<'_>) -> Result<(), AllocError> {
     for key in keys_of(entry.part).iter().copied() {
         if let Some(known) = key_named(key) {
             value(notes, entry, known)?;
@@ -141,7 +141,7 @@ pub(crate) fn values(notes: &mut Notes, entry: &Entry<'_>) -> Result<(), AllocEr
     Ok(())
 }
 
-fn value(notes: &mut Notes, entry: &Entry<'_>, known: Known) -> Result<(), AllocError> {
+fn value(notes: &mut Notes, entry: &PlacedEntry<'_>, known: Known) -> Result<(), AllocError> {
     let key = known.key;
     let Some(value) = entry.value(key) else {
         if known.says.is_empty() {
@@ -151,7 +151,7 @@ fn value(notes: &mut Notes, entry: &Entry<'_>, known: Known) -> Result<(), Alloc
         let words = format!(in notes.alloc; "it has no {key}: {says}")?;
         return entry.tell(notes, MISSING_KEY, entry.place(), &words);
     };
-    if known.wanted == Wanted::Body {
+    if known.wanted == ValueKind::Body {
         return body(notes, entry, value);
     }
     if is_of(known.wanted, value) {
@@ -163,26 +163,26 @@ fn value(notes: &mut Notes, entry: &Entry<'_>, known: Known) -> Result<(), Alloc
     entry.tell(notes, WRONG_TYPE, entry.value_place(key), &words)
 }
 
-fn is_of(wanted: Wanted, value: &Value) -> bool {
+fn is_of(wanted: ValueKind, value: &Value) -> bool {
     match wanted {
-        Wanted::Text => value.is_str(),
-        Wanted::Number => value.is_integer(),
-        Wanted::Flag => value.is_bool(),
-        Wanted::Body => value.is_array(),
+        ValueKind::Text => value.is_str(),
+        ValueKind::Number => value.is_integer(),
+        ValueKind::Flag => value.is_bool(),
+        ValueKind::Body => value.is_array(),
     }
 }
 
-fn rule_of(wanted: Wanted) -> &'static str {
+fn rule_of(wanted: ValueKind) -> &'static str {
     match wanted {
-        Wanted::Text => "a text in quotes",
-        Wanted::Number => "a whole number, without quotes",
-        Wanted::Flag => "true or false, without quotes",
-        Wanted::Body => "a list of texts",
+        ValueKind::Text => "a text in quotes",
+        ValueKind::Number => "a whole number, without quotes",
+        ValueKind::Flag => "true or false, without quotes",
+        ValueKind::Body => "a list of texts",
     }
 }
 
 /// Tells a body that is no list, or a long one, or has elements that are no texts.
-fn body(notes: &mut Notes, entry: &Entry<'_>, value: &Value) -> Result<(), AllocError> {
+fn body(notes: &mut Notes, entry: &PlacedEntry<'_>, value: &Value) -> Result<(), AllocError> {
     let place = entry.value_place("body");
     let Some(actions) = value.as_array() else {
         let words =

@@ -3,7 +3,7 @@
 use crate::advice::Advice;
 use faults::number::NOT_TOML;
 use job_bodies::PlanFault;
-use plan_places::{Place, place_at};
+use plan_places::{TextPlace, place_at};
 use std::alloc::{AllocError, Global};
 
 /// What is wrong with bytes that are not UTF-8.
@@ -41,7 +41,7 @@ pub(crate) fn not_toml(
     })
 }
 
-fn line_of(text: &str, place: Place) -> &str {
+fn line_of(text: &str, place: TextPlace) -> &str {
     let mut number = 1usize;
     for line in text.lines() {
         if number == place.line {

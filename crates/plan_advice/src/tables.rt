@@ -1,6 +1,6 @@
 //! The lists of a plan's text.
 
-use crate::entry::{BEGINNING, Entry, list_of};
+use crate::entry::{BEGINNING, PlacedEntry, list_of};
 use crate::near::{listed, meant};
 use crate::notes::Notes;
 use crate::shapes::{has_key, keys_of};
@@ -67,8 +67,8 @@ fn entries<'a>(
     document: &'a Table,
     part: Part,
     places: &'a Places<'a>,
-) -> Result<Vec<Entry<'a>>, AllocError> {
-    let mut found: Vec<Entry<'a>> = Vec::new(notes.alloc);
+) -> Result<Vec<PlacedEntry<'a>>, AllocError> {
+    let mut found: Vec<PlacedEntry<'a>> = Vec::new(notes.alloc);
     let list = list_of(part);
     let Some(value) = document.get(list) else {
         return Ok(found);
@@ -98,9 +98,9 @@ fn entry_of<'a>(
     index: usize,
     value: &'a Value,
     places: &'a Places<'a>,
-) -> Result<Option<Entry<'a>>, AllocError> {
+) -> Result<Option<PlacedEntry<'a>>, AllocError> {
     match value.as_table() {
-        Some(table) => Ok(Some(Entry {
+        Some(table) => Ok(Some(PlacedEntry {
             part,
             index,
             table,
@@ -119,7 +119,7 @@ fn entry_of<'a>(
     }
 }
 
-fn names_of<'a>(alloc: Global, entries: &[Entry<'a>]) -> Result<Vec<&'a str>, AllocError> {
+fn names_of<'a>(alloc: Global, entries: &[PlacedEntry<'a>]) -> Result<Vec<&'a str>, AllocError> {
     let mut names = Vec::new(alloc);
     for entry in entries {
         if let Some(name) = entry.text("name") {
@@ -130,7 +130,7 @@ fn names_of<'a>(alloc: Global, entries: &[Entry<'a>]) -> Result<Vec<&'a str>, Al
 }
 
 /// Tells a pool that there is not.
-fn pool_of(notes: &mut Notes, class: &Entry<'_>, pools: &[&str]) -> Result<(), AllocError> {
+fn pool_of(notes: &mut Notes, class: &PlacedEntry<'_>, pools: &[&str]) -> Result<(), AllocError> {
     let Some(pool) = class.text("pool") else {
         return Ok(());
     };

@@ -3,10 +3,10 @@
 use crate::entry::{BEGINNING, list_of};
 use crate::oddity::Oddity;
 use job_bodies::Part;
-use plan_places::{Place, Places};
+use plan_places::{Places, TextPlace};
 
 /// Where the oddity stands.
-pub(crate) fn place_of(places: &Places<'_>, oddity: Oddity) -> Place {
+pub(crate) fn place_of(places: &Places<'_>, oddity: Oddity) -> TextPlace {
     match oddity {
         Oddity::NothingToAsk
         | Oddity::NoClients
@@ -24,18 +24,18 @@ pub(crate) fn place_of(places: &Places<'_>, oddity: Oddity) -> Place {
     }
 }
 
-fn entry_place(places: &Places<'_>, part: Part, index: usize) -> Place {
+fn entry_place(places: &Places<'_>, part: Part, index: usize) -> TextPlace {
     places.entry(list_of(part), index).unwrap_or(BEGINNING)
 }
 
-fn value_place(places: &Places<'_>, part: Part, index: usize, key: &str) -> Place {
+fn value_place(places: &Places<'_>, part: Part, index: usize, key: &str) -> TextPlace {
     match places.value(list_of(part), index, key) {
         Some(place) => place,
         None => entry_place(places, part, index),
     }
 }
 
-fn action_place(places: &Places<'_>, part: Part, index: usize, action: usize) -> Place {
+fn action_place(places: &Places<'_>, part: Part, index: usize, action: usize) -> TextPlace {
     match places.element(list_of(part), index, "body", action) {
         Some(place) => place,
         None => entry_place(places, part, index),

@@ -8,7 +8,7 @@ use crate::oddity::Oddity;
 use crate::warning_places::place_of;
 use crate::warning_words::words_of;
 use job_bodies::Plan;
-use plan_places::{Place, Places};
+use plan_places::{Places, TextPlace};
 use std::alloc::{AllocError, Global};
 
 /// One thing that is seldom meant, and where.
@@ -17,7 +17,7 @@ pub struct Warning {
     /// What it is.
     pub oddity: Oddity,
     /// Where in the text it stands.
-    pub place: Place,
+    pub place: TextPlace,
     /// What it is, and what it means for the answer, in words.
     pub what: String,
 }

@@ -11,5 +11,5 @@ mod places;
 mod token;
 mod tokens;
 
-pub use place::{Place, place_at};
+pub use place::{TextPlace, place_at};
 pub use places::Places;

@@ -4,7 +4,7 @@ use std::fmt;
 
 /// A place in a text.
 #[derive(Clone, Copy, Debug, PartialEq, Eq)]
-pub struct Place {
+pub struct TextPlace {
     /// The line, counted from 1.
     pub line: usize,
     /// The column in characters, counted from 1.
@@ -12,7 +12,7 @@ pub struct Place {
 }
 
 /// Writes the line and the column, as `17:21`.
-impl fmt::Display for Place {
+impl fmt::Display for TextPlace {
     ghost use Rattle.std.specs.Prelude.{Some, ◌++◌, ◌∷◌, decimal};
 
     ghost output = { λ place. Some (decimal place.line ++ 58 ∷ decimal place.column) };
@@ -25,7 +25,7 @@ impl fmt::Display for Place {
 }
 
 /// The place of the byte at this offset of a text, or of the text's end.
-pub fn place_at(text: &[u8], offset: usize) -> Place {
+pub fn place_at(text: &[u8], offset: usize) -> TextPlace {
     let mut line = 1usize;
     let mut column = 1usize;
     for byte in text.iter().take(offset) {
@@ -36,5 +36,5 @@ pub fn place_at(text: &[u8], offset: usize) -> Place {
             column = column.saturating_add(1);
         }
     }
-    Place { line, column }
+    TextPlace { line, column }
 }

@@ -1,7 +1,7 @@
 //! Where the parts of a plan's text stand.
 
 use crate::outline::{Key, Table, outline_of};
-use crate::place::{Place, place_at};
+use crate::place::{TextPlace, place_at};
 use crate::tokens::tokens_of;
 use std::alloc::{AllocError, Global};
 
@@ -25,32 +25,38 @@ impl<'a> Places<'a> {
     }
 
     /// The head of the table of this number, from 0, in the list of this name: the `[[pool]]` of a pool.
-    pub fn entry(&self, list: &str, index: usize) -> Option<Place> {
+    pub fn entry(&self, list: &str, index: usize) -> Option<TextPlace> {
         let table = self.table(list, index)?;
         Some(place_at(self.text, table.head))
     }
 
     /// A key of such a table.
-    pub fn key(&self, list: &str, index: usize, key: &str) -> Option<Place> {
+    pub fn key(&self, list: &str, index: usize, key: &str) -> Option<TextPlace> {
         let key = self.key_of(self.table(list, index)?, key)?;
         Some(place_at(self.text, key.start))
     }
 
     /// The value at a key of such a table.
-    pub fn value(&self, list: &str, index: usize, key: &str) -> Option<Place> {
+    pub fn value(&self, list: &str, index: usize, key: &str) -> Option<TextPlace> {
         let key = self.key_of(self.table(list, index)?, key)?;
         Some(place_at(self.text, key.value))
     }
 
     /// The element of this number, from 0, of a list at a key of such a table: an action of a body.
-    pub fn element(&self, list: &str, index: usize, key: &str, element: usize) -> Option<Place> {
+    pub fn element(
+        &self,
+        list: &str,
+        index: usize,
+        key: &str,
+        element: usize,
+    ) -> Option<TextPlace> {
         let key = self.key_of(self.table(list, index)?, key)?;
         let start = key.elements.get(element)?;
         Some(place_at(self.text, *start))
     }
 
     /// The first table of this name, or the first key of this name before any table.
-    pub fn top(&self, name: &str) -> Option<Place> {
+    pub fn top(&self, name: &str) -> Option<TextPlace> {
         for table in &self.tables {
             if self.is_named(table.name, name) {
                 return Some(place_at(self.text, table.head));

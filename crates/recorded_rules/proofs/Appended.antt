@@ -2,7 +2,7 @@
 use Rattle.std.proofs.Common.{◌≡◌, ℕ, ◌+◌, ◌&&◌, ◌||◌, not, Bool, true, if◌then◌else◌, List, [], ◌∷◌, ◌++◌, Some, refl, arith}
 use Rattle.std.specs.List.{list_any, filter}
 use Rattle.std.proofs.lemmas.List.Sums.{sum_by_push}
-use Rattle.recording_lines.specs.declared.recording_line.Actor.{Actor}
+use Rattle.recording_lines.specs.declared.recording_line.RecordedActor.{RecordedActor}
 use Rattle.recording_lines.specs.RecordingLine.{RecordedLine}
 use Rattle.recorded_rules.specs.LineParts.{is_end, is_submit, is_begin, declares, begins_round, ends_round, starts_job, finishes_job, cancels_job, is_of, submits_job, refuses_job}
 use Rattle.recorded_rules.specs.Before.{has_begun, is_closed, has_pool, submits, begins, is_begun, is_ended, has_started, is_done, is_cancelled, last_of, just_submitted}
@@ -65,7 +65,7 @@ filter_more p (first ∷ before) line = grind (arith, filter_more p before line)
 last_passing : (p : RecordedLine → Bool) (before : List RecordedLine) (line : RecordedLine) → last_of (filter p (before ++ line ∷ [])) ≡ (if p line then Some line else last_of (filter p before))
 last_passing p before line = grind (arith, filter_more p before line, last_more (filter p before) line)
 
-pub submitted_more : (before : List RecordedLine) (line : RecordedLine) (actor : Actor) (j : ℕ) →
+pub submitted_more : (before : List RecordedLine) (line : RecordedLine) (actor : RecordedActor) (j : ℕ) →
     just_submitted (before ++ line ∷ []) actor j ≡ (if is_of actor line && not (refuses_job j line) then submits_job j line else just_submitted before actor j)
 unfolding just_submitted
 submitted_more before line actor j = grind (arith, last_passing (λ l. is_of actor l && not (refuses_job j l)) before line)

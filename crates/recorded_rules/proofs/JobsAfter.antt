@@ -1,8 +1,8 @@
 -- What is kept of the jobs stands for the lines with one more behind them.
 use Rattle.std.proofs.Common.{◌≡◌, ℕ, ◌+◌, ◌≤◌, ◌&&◌, ◌||◌, ◌==◌, nat_lt, Bool, true, false, if◌then◌else◌, List, [], ◌∷◌, ◌++◌, is_none, Option, Some, None, refl, arith}
 use Rattle.std.specs.Option.{option_map}
-use Rattle.recording_lines.specs.declared.recording_line.Actor.{Actor}
-use Rattle.recording_lines.specs.declared.recording_line.Actor.TheVariants.{Job}
+use Rattle.recording_lines.specs.declared.recording_line.RecordedActor.{RecordedActor}
+use Rattle.recording_lines.specs.declared.recording_line.RecordedActor.TheVariants.{Job}
 use Rattle.recording_lines.specs.RecordingLine.{RecordedLine, Head, Pool, RoundBegins, RoundEnds, Submits, Refused, JobStarts, JobEnds, JobThrew, Got, TimedOut, Interrupted, Cancels, InvokesAny, Removed, ShutDown, Unseen, End}
 use Rattle.recorded_rules.specs.declared.jobs.JobState.{JobState}
 use Rattle.recorded_rules.specs.LineParts.{is_same_actor}
@@ -15,7 +15,7 @@ use Rattle.recorded_rules.proofs.Appended.{started_more, done_more, cancelled_mo
 use Rattle.recorded_rules.proofs.Keeping.{Keeps}
 
 -- ---- a job is submitted
-pub next_number : (old : LinesSoFar) (before : List RecordedLine) (actor : Actor) (job : ℕ) (class pool : List ℕ) → StandsFor old before → Keeps before (Submits actor job class pool) → job ≡ old.jobs.submitted
+pub next_number : (old : LinesSoFar) (before : List RecordedLine) (actor : RecordedActor) (job : ℕ) (class pool : List ℕ) → StandsFor old before → Keeps before (Submits actor job class pool) → job ≡ old.jobs.submitted
 next_number old before actor job class pool s k = grind (arith, k.numbers, s.submitted)
 
 offered_started : (same : Bool) (offered : Option ℕ) (there : Option JobState) → started_there (if same then option_map (with_offered offered) there else there) ≡ started_there there

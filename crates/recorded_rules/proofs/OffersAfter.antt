@@ -1,8 +1,8 @@
 -- What is kept of the job that an actor just submitted stands for the lines with one more behind them.
 use Rattle.std.proofs.Common.{◌≡◌, ℕ, ◌&&◌, ◌==◌, not, Bool, true, false, if◌then◌else◌, List, [], ◌∷◌, ◌++◌, is_some, Option, Some, None, refl, ap, sym, ◌∙◌, arith}
 use Rattle.std.specs.Option.{option_map}
-use Rattle.recording_lines.specs.declared.recording_line.Actor.{Actor}
-use Rattle.recording_lines.specs.declared.recording_line.Actor.TheVariants.{Job, Round}
+use Rattle.recording_lines.specs.declared.recording_line.RecordedActor.{RecordedActor}
+use Rattle.recording_lines.specs.declared.recording_line.RecordedActor.TheVariants.{Job, Round}
 use Rattle.recording_lines.specs.RecordingLine.{RecordedLine, Head, Pool, RoundBegins, RoundEnds, Submits, Refused, JobStarts, JobEnds, JobThrew, Got, TimedOut, Interrupted, Cancels, InvokesAny, Removed, ShutDown, Unseen, End}
 use Rattle.recorded_rules.specs.declared.jobs.JobState.{JobState}
 use Rattle.recorded_rules.specs.declared.lines_so_far.LinesSoFar.{LinesSoFar}
@@ -17,11 +17,11 @@ use Rattle.recorded_rules.proofs.Keeping.{Keeps}
 use Rattle.recorded_rules.proofs.JobsAfter.{next_number}
 
 -- ---- an actor whose line it is has a place
-abbrev has_place : LinesSoFar → Actor → Bool
+abbrev has_place : LinesSoFar → RecordedActor → Bool
 has_place lines (Job j) = is_some (job_at lines.jobs j)
 has_place lines (Round r) = is_some (round_at lines.rounds r)
 
-place_of : (old : LinesSoFar) (before : List RecordedLine) (who : Option Actor) (actor : Actor) → StandsFor old before → is_known_actor before who ≡ true → is_going before who ≡ true → is_running before who ≡ true
+place_of : (old : LinesSoFar) (before : List RecordedLine) (who : Option RecordedActor) (actor : RecordedActor) → StandsFor old before → is_known_actor before who ≡ true → is_going before who ≡ true → is_running before who ≡ true
     → is_actor actor who ≡ true → has_place old actor ≡ true
 place_of old before None actor s known going running same = grind (arith, same)
 place_of old before (Some (Job n)) (Job m) s known going running same = grind (arith, known, running, same, s.started n, s.done n)
@@ -38,7 +38,7 @@ last_one : (a b : Bool) → (a && b) ≡ true → b ≡ true
 last_one true b h = h
 last_one false b h = grind (arith, h)
 
-placed : (old : LinesSoFar) (before : List RecordedLine) (line : RecordedLine) → StandsFor old before → Keeps before line → (actor : Actor) → is_of actor line ≡ true → has_place old actor ≡ true
+placed : (old : LinesSoFar) (before : List RecordedLine) (line : RecordedLine) → StandsFor old before → Keeps before line → (actor : RecordedActor) → is_of actor line ≡ true → has_place old actor ≡ true
 placed old before line s k actor same = place_of old before (actor_of line) actor s (second _ _ _ k.numbers) k.rounds (last_one _ _ k.jobs) same
 
 -- ---- an actor does a thing
@@ -74,7 +74,7 @@ new_place : (old : LinesSoFar) (before : List RecordedLine) (i job : ℕ) → St
 new_place old before i job s place = grind (arith, place)
 
 -- ---- the job that an actor just submitted is refused
-same_actor : (a b : Actor) → is_same_actor a b ≡ true → a ≡ b
+same_actor : (a b : RecordedActor) → is_same_actor a b ≡ true → a ≡ b
 same_actor (Job n) (Job m) same = grind (arith, same)
 same_actor (Job n) (Round m) same = grind (arith, same)
 same_actor (Round n) (Job m) same = grind (arith, same)
@@ -93,14 +93,14 @@ of_one true true at said_so stands one = stands
 of_one true false at said_so stands one = one refl
 of_one false is_it at said_so stands one = stands
 
-refused_after : (old new : LinesSoFar) (before : List RecordedLine) (by : Actor) (job : ℕ) → StandsFor old before → Keeps before (Refused by job) → (actor : Actor) (j : ℕ)
+refused_after : (old new : LinesSoFar) (before : List RecordedLine) (by : RecordedActor) (job : ℕ) → StandsFor old before → Keeps before (Refused by job) → (actor : RecordedActor) (j : ℕ)
     → is_at j (offered_of old actor) ≡ (if is_same_actor by actor && not (job == j) then false else said.just_submitted before actor j)
 refused_after old new before by job s k actor j =
     of_one (is_same_actor by actor) (job == j) (is_at j (offered_of old actor)) (said.just_submitted before actor j) (s.offered actor j) (λ same.
     let here : is_at job (offered_of old by) ≡ true = s.offered by job ∙ first_one _ _ k.refusals in
     ap (λ a. is_at j (offered_of old a)) (sym (same_actor by actor same)) ∙ at_one j job (offered_of old by) here)
 
-pub offered_after : (old new : LinesSoFar) (before : List RecordedLine) (line : RecordedLine) → StandsFor old before → Keeps before line → Follows old line new → (actor : Actor) (j : ℕ) → is_at j (offered_of new actor) ≡ said.just_submitted (before ++ line ∷ []) actor j
+pub offered_after : (old new : LinesSoFar) (before : List RecordedLine) (line : RecordedLine) → StandsFor old before → Keeps before line → Follows old line new → (actor : RecordedActor) (j : ℕ) → is_at j (offered_of new actor) ≡ said.just_submitted (before ++ line ∷ []) actor j
 offered_after old new before Head s k f (Job i) j = ap (λ x. is_at j (offered_by x)) (f.jobs i) ∙ s.offered (Job i) j ∙ sym (submitted_more before Head (Job i) j)
 offered_after old new before Head s k f (Round r) j = ap (λ x. is_at j (offered_there x)) (f.rounds r) ∙ s.offered (Round r) j ∙ sym (submitted_more before Head (Round r) j)
 offered_after old new before (Pool name sizes) s k f (Job i) j = ap (λ x. is_at j (offered_by x)) (f.jobs i) ∙ s.offered (Job i) j ∙ sym (submitted_more before (Pool name sizes) (Job i) j)

@@ -1,7 +1,7 @@
 -- What is kept stands for the lines with one more behind them, or with none.
 use Rattle.std.proofs.Common.{◌≡◌, ℕ, ◌+◌, ◌||◌, false, refl, if◌then◌else◌, List, [], ◌∷◌, ◌++◌, is_some, None, sym, ap, ◌∙◌, arith}
-use Rattle.recording_lines.specs.declared.recording_line.Actor.{Actor}
-use Rattle.recording_lines.specs.declared.recording_line.Actor.TheVariants.{Job, Round}
+use Rattle.recording_lines.specs.declared.recording_line.RecordedActor.{RecordedActor}
+use Rattle.recording_lines.specs.declared.recording_line.RecordedActor.TheVariants.{Job, Round}
 use Rattle.recording_lines.specs.RecordingLine.{RecordedLine}
 use Rattle.recorded_rules.specs.declared.lines_so_far.LinesSoFar.{LinesSoFar}
 use Rattle.recorded_rules.specs.LineParts.{is_end, is_submit, is_begin, declares}
@@ -18,7 +18,7 @@ use Rattle.recorded_rules.proofs.JobsAfter.{started_after, done_after, settled_a
 use Rattle.recorded_rules.proofs.RoundsAfter.{not_begun_after, not_ended_after, going_after}
 use Rattle.recorded_rules.proofs.OffersAfter.{offered_after}
 
-nothing_offered : (lines : LinesSoFar) → ((r : ℕ) → round_at lines.rounds r ≡ None) → ((j : ℕ) → job_at lines.jobs j ≡ None) → (actor : Actor) (j : ℕ) → is_at j (offered_of lines actor) ≡ false
+nothing_offered : (lines : LinesSoFar) → ((r : ℕ) → round_at lines.rounds r ≡ None) → ((j : ℕ) → job_at lines.jobs j ≡ None) → (actor : RecordedActor) (j : ℕ) → is_at j (offered_of lines actor) ≡ false
 nothing_offered lines rounds jobs (Job i) j = ap (λ there. is_at j (offered_by there)) (jobs i)
 nothing_offered lines rounds jobs (Round r) j = ap (λ there. is_at j (offered_there there)) (rounds r)
 
@@ -60,7 +60,7 @@ stands_after old new before line s unbroken f =
       unsubmitted = unsubmitted_after old new before line s k f;
     }
 
-offered_same : (old new : LinesSoFar) (before : List RecordedLine) → StandsFor old before → IsSame old new → (actor : Actor) (j : ℕ) → is_at j (offered_of new actor) ≡ said.just_submitted before actor j
+offered_same : (old new : LinesSoFar) (before : List RecordedLine) → StandsFor old before → IsSame old new → (actor : RecordedActor) (j : ℕ) → is_at j (offered_of new actor) ≡ said.just_submitted before actor j
 offered_same old new before s same (Job i) j = ap (λ there. is_at j (offered_by there)) (same.jobs i) ∙ s.offered (Job i) j
 offered_same old new before s same (Round r) j = ap (λ there. is_at j (offered_there there)) (same.rounds r) ∙ s.offered (Round r) j
 

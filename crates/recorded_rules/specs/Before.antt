@@ -1,7 +1,7 @@
 -- What the lines that stand before another one say.
 use Rattle.std.specs.Prelude.{ℕ, ◌&&◌, not, Bool, true, false, List, [], ◌∷◌, Option, Some, None, count_by, filter}
 use Rattle.std.specs.List.{list_any}
-use Rattle.recording_lines.specs.declared.recording_line.Actor.{Actor}
+use Rattle.recording_lines.specs.declared.recording_line.RecordedActor.{RecordedActor}
 use Rattle.recording_lines.specs.RecordingLine.{RecordedLine}
 use Rattle.recorded_rules.specs.LineParts.{is_end, is_submit, is_begin, declares, begins_round, ends_round, starts_job, finishes_job, cancels_job, is_of, submits_job, refuses_job}
 
@@ -52,5 +52,5 @@ is_submit_of job None = false
 is_submit_of job (Some line) = submits_job job line
 
 -- of the actor's lines, without those that say that this job was refused, the last one submits the job
-unfoldable pub just_submitted : List RecordedLine → Actor → ℕ → Bool
+unfoldable pub just_submitted : List RecordedLine → RecordedActor → ℕ → Bool
 just_submitted before actor job = is_submit_of job (last_of (filter (λ line. is_of actor line && not (refuses_job job line)) before))

@@ -1,8 +1,8 @@
 -- What a line changes in what is kept.
 use Rattle.std.specs.Prelude.{◌≡◌, ℕ, ◌+◌, ◌||◌, true, if◌then◌else◌, List, Option, Some, None}
 use Rattle.std.specs.Option.{option_map}
-use Rattle.recording_lines.specs.declared.recording_line.Actor.{Actor}
-use Rattle.recording_lines.specs.declared.recording_line.Actor.TheVariants.{Job, Round}
+use Rattle.recording_lines.specs.declared.recording_line.RecordedActor.{RecordedActor}
+use Rattle.recording_lines.specs.declared.recording_line.RecordedActor.TheVariants.{Job, Round}
 use Rattle.recording_lines.specs.RecordingLine.{RecordedLine, Submits, Got, TimedOut, Interrupted, Cancels, InvokesAny}
 use Rattle.recorded_rules.specs.declared.jobs.JobState.{JobState}
 use Rattle.recorded_rules.specs.declared.lines_so_far.LinesSoFar.{LinesSoFar}
@@ -37,13 +37,13 @@ pub record IsAdmitted (old : LinesSoFar) (line : RecordedLine) (new : LinesSoFar
   pub jobs : (j : ℕ) → job_at new.jobs j ≡ job_admitted line j (job_at old.jobs j)
 
 -- the actor just submitted this job, or did another thing
-abbrev pub round_offered : Actor → Option ℕ → ℕ → Option (Option ℕ) → Option (Option ℕ)
+abbrev pub round_offered : RecordedActor → Option ℕ → ℕ → Option (Option ℕ) → Option (Option ℕ)
 round_offered actor offered r there = if is_same_actor actor (Round r) then option_map (λ _. offered) there else there
 
-abbrev pub job_offered : Actor → Option ℕ → ℕ → Option JobState → Option JobState
+abbrev pub job_offered : RecordedActor → Option ℕ → ℕ → Option JobState → Option JobState
 job_offered actor offered j there = if is_same_actor actor (Job j) then option_map (with_offered offered) there else there
 
-pub record IsOffered (old : LinesSoFar) (actor : Actor) (offered : Option ℕ) (new : LinesSoFar) : Type 0 where
+pub record IsOffered (old : LinesSoFar) (actor : RecordedActor) (offered : Option ℕ) (new : LinesSoFar) : Type 0 where
   pub begun : new.begun ≡ old.begun
   pub closed : new.closed ≡ old.closed
   pub pools : new.pools ≡ old.pools

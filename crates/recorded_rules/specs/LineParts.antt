@@ -1,12 +1,12 @@
 -- What a line of a recording names, and what it says of whom.
 use Rattle.std.specs.Prelude.{ℕ, ◌==◌, Bool, true, false, List, Option, Some, None}
 use Rattle.std.specs.Str.{bytes_eq}
-use Rattle.recording_lines.specs.declared.recording_line.Actor.{Actor}
-use Rattle.recording_lines.specs.declared.recording_line.Actor.TheVariants.{Job, Round}
+use Rattle.recording_lines.specs.declared.recording_line.RecordedActor.{RecordedActor}
+use Rattle.recording_lines.specs.declared.recording_line.RecordedActor.TheVariants.{Job, Round}
 use Rattle.recording_lines.specs.RecordingLine.{RecordedLine, Head, Pool, RoundBegins, RoundEnds, Submits, Refused, JobStarts, JobEnds, JobThrew, Got, TimedOut, Interrupted, Cancels, InvokesAny, Removed, ShutDown, Unseen, End}
 
 -- whose line it is, as one who submits and gets: not the begin of a round nor the start of a job, which stand before all of these
-abbrev pub actor_of : RecordedLine → Option Actor
+abbrev pub actor_of : RecordedLine → Option RecordedActor
 actor_of (RoundEnds round) = Some (Round round)
 actor_of (Submits actor job class pool) = Some actor
 actor_of (Refused actor job) = Some actor
@@ -83,16 +83,16 @@ cancels_job j (Cancels actor job) = job == j
 cancels_job j line = false
 
 -- ---- what it says of an actor
-abbrev pub is_same_actor : Actor → Actor → Bool
+abbrev pub is_same_actor : RecordedActor → RecordedActor → Bool
 is_same_actor (Job n) (Job m) = n == m
 is_same_actor (Round n) (Round m) = n == m
 is_same_actor a b = false
 
-abbrev pub is_actor : Actor → Option Actor → Bool
+abbrev pub is_actor : RecordedActor → Option RecordedActor → Bool
 is_actor actor None = false
 is_actor actor (Some other) = is_same_actor other actor
 
-abbrev pub is_of : Actor → RecordedLine → Bool
+abbrev pub is_of : RecordedActor → RecordedLine → Bool
 is_of actor line = is_actor actor (actor_of line)
 
 abbrev pub submits_job : ℕ → RecordedLine → Bool

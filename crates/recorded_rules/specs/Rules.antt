@@ -1,7 +1,7 @@
 -- The rules O1 to O7 that the lines of a recording keep, each by the lines that stand before one.
 use Rattle.std.specs.Prelude.{ℕ, ◌==◌, ◌&&◌, ◌||◌, not, nat_lt, Bool, true, if◌then◌else◌, List, Option, Some, None}
-use Rattle.recording_lines.specs.declared.recording_line.Actor.{Actor}
-use Rattle.recording_lines.specs.declared.recording_line.Actor.TheVariants.{Job, Round}
+use Rattle.recording_lines.specs.declared.recording_line.RecordedActor.{RecordedActor}
+use Rattle.recording_lines.specs.declared.recording_line.RecordedActor.TheVariants.{Job, Round}
 use Rattle.recording_lines.specs.RecordingLine.{RecordedLine, RoundBegins, Submits, Refused, JobStarts, Got}
 use Rattle.recorded_rules.specs.declared.rule.Rule.{Rule}
 use Rattle.recorded_rules.specs.declared.rule.Rule.TheVariants.{Frame, Pools, Numbers, Rounds, Jobs, Refusals, Gets}
@@ -27,7 +27,7 @@ has_next_number before (Submits actor job class pool) = job == submits before
 has_next_number before (RoundBegins round kind) = round == begins before
 has_next_number before line = true
 
-abbrev pub is_known_actor : List RecordedLine → Option Actor → Bool
+abbrev pub is_known_actor : List RecordedLine → Option RecordedActor → Bool
 is_known_actor before (Some (Job job)) = nat_lt job (submits before)
 is_known_actor before (Some (Round round)) = true
 is_known_actor before None = true
@@ -40,7 +40,7 @@ abbrev pub keeps_numbers : List RecordedLine → RecordedLine → Bool
 keeps_numbers before line = has_next_number before line && is_known_actor before (actor_of line) && is_known_job before (job_of line)
 
 -- O4: a round whose line it is, other than its begin, has begun and has not ended
-abbrev pub is_going : List RecordedLine → Option Actor → Bool
+abbrev pub is_going : List RecordedLine → Option RecordedActor → Bool
 is_going before (Some (Round round)) = is_begun before round && not (is_ended before round)
 is_going before (Some (Job job)) = true
 is_going before None = true
@@ -53,7 +53,7 @@ abbrev pub starts_once : List RecordedLine → RecordedLine → Bool
 starts_once before (JobStarts job) = not (has_started before job)
 starts_once before line = true
 
-abbrev pub is_running : List RecordedLine → Option Actor → Bool
+abbrev pub is_running : List RecordedLine → Option RecordedActor → Bool
 is_running before (Some (Job job)) = has_started before job && not (is_done before job)
 is_running before (Some (Round round)) = true
 is_running before None = true

@@ -1,7 +1,7 @@
 -- What is kept of the lines so far, and how it stands for them.
 use Rattle.std.specs.Prelude.{◌≡◌, ◌≤◌, ℕ, ◌==◌, ◌&&◌, ◌||◌, not, Bool, false, List, [], ◌∷◌, ◌++◌, is_some, Option, Some, None, Result, Ok, Err}
-use Rattle.recording_lines.specs.declared.recording_line.Actor.{Actor}
-use Rattle.recording_lines.specs.declared.recording_line.Actor.TheVariants.{Job, Round}
+use Rattle.recording_lines.specs.declared.recording_line.RecordedActor.{RecordedActor}
+use Rattle.recording_lines.specs.declared.recording_line.RecordedActor.TheVariants.{Job, Round}
 use Rattle.recording_lines.specs.RecordingLine.{RecordedLine}
 use Rattle.recorded_rules.specs.declared.rule.Rule.{Rule}
 use Rattle.recorded_rules.specs.declared.lines_so_far.LinesSoFar.{LinesSoFar}
@@ -11,7 +11,7 @@ use Rattle.recorded_rules.specs.Pools.{has_name}
 use Rattle.recorded_rules.specs.Kept.{round_at, offered_there, job_at, offered_by, has_started, is_done, is_settled}
 
 -- the job that the actor just submitted
-abbrev pub offered_of : LinesSoFar → Actor → Option ℕ
+abbrev pub offered_of : LinesSoFar → RecordedActor → Option ℕ
 offered_of lines (Job j) = offered_by (job_at lines.jobs j)
 offered_of lines (Round r) = offered_there (round_at lines.rounds r)
 
@@ -32,7 +32,7 @@ pub record StandsFor (lines : LinesSoFar) (before : List RecordedLine) : Type 0 
   pub started : (job : ℕ) → has_started lines.jobs job ≡ said.has_started before job
   pub done : (job : ℕ) → is_done lines.jobs job ≡ said.is_done before job
   pub settled : (job : ℕ) → is_settled lines.jobs job ≡ (said.is_done before job || said.is_cancelled before job)
-  pub offered : (actor : Actor) (job : ℕ) → is_at job (offered_of lines actor) ≡ said.just_submitted before actor job
+  pub offered : (actor : RecordedActor) (job : ℕ) → is_at job (offered_of lines actor) ≡ said.just_submitted before actor job
   pub unsubmitted : (job : ℕ) → lines.jobs.submitted ≤ job → job_at lines.jobs job ≡ None
 
 -- the lines so far, and behind them the line where it breaks no rule

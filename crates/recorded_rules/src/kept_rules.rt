@@ -9,7 +9,7 @@ ghost use Rattle.recorded_rules.specs.StandsFor.{StandsFor};
 use crate::line_parts::{actor_of, is_head, job_of, pool_of};
 use crate::lines_so_far::LinesSoFar;
 use crate::rule::Rule;
-use recording_lines::{Actor, Line};
+use recording_lines::{Line, RecordedActor};
 
 /// The first rule that the line breaks.
 pub(crate) fn broken_of(lines: &LinesSoFar, line: &Line<'_>) -> Option<Rule>
@@ -67,12 +67,12 @@ fn has_next_number(lines: &LinesSoFar, line: &Line<'_>) -> bool
     }
 }
 
-fn is_known_actor(lines: &LinesSoFar, actor: Option<Actor>) -> bool
+fn is_known_actor(lines: &LinesSoFar, actor: Option<RecordedActor>) -> bool
     ensures { (before : List RecordedLine) → StandsFor lines.now before → result ≡ spec.is_known_actor before actor }
 {
     match actor {
-        Some(Actor::Job(job)) => job < lines.jobs.submitted,
-        Some(Actor::Round(_)) | None => true,
+        Some(RecordedActor::Job(job)) => job < lines.jobs.submitted,
+        Some(RecordedActor::Round(_)) | None => true,
     }
 }
 
@@ -89,8 +89,8 @@ fn keeps_rounds(lines: &LinesSoFar, line: &Line<'_>) -> bool
     ensures { (before : List RecordedLine) → StandsFor lines.now before → result ≡ spec.keeps_rounds before (line_seen line.now) }
 {
     match actor_of(line) {
-        Some(Actor::Round(round)) => lines.rounds.is_open(round),
-        Some(Actor::Job(_)) | None => true,
+        Some(RecordedActor::Round(round)) => lines.rounds.is_open(round),
+        Some(RecordedActor::Job(_)) | None => true,
     }
 }
 
@@ -109,12 +109,12 @@ fn starts_once(lines: &LinesSoFar, line: &Line<'_>) -> bool
     }
 }
 
-fn is_running(lines: &LinesSoFar, actor: Option<Actor>) -> bool
+fn is_running(lines: &LinesSoFar, actor: Option<RecordedActor>) -> bool
     ensures { (before : List RecordedLine) → StandsFor lines.now before → result ≡ spec.is_running before actor }
 {
     match actor {
-        Some(Actor::Job(job)) => lines.jobs.has_started(job) && !lines.jobs.is_done(job),
-        Some(Actor::Round(_)) | None => true,
+        Some(RecordedActor::Job(job)) => lines.jobs.has_started(job) && !lines.jobs.is_done(job),
+        Some(RecordedActor::Round(_)) | None => true,
     }
 }
 
@@ -129,12 +129,12 @@ fn keeps_refusals(lines: &LinesSoFar, line: &Line<'_>) -> bool
     }
 }
 
-fn just_submitted(lines: &LinesSoFar, actor: Actor, job: usize) -> bool
+fn just_submitted(lines: &LinesSoFar, actor: RecordedActor, job: usize) -> bool
     ensures { (before : List RecordedLine) → StandsFor lines.now before → result ≡ said.just_submitted before actor job }
 {
     match actor {
-        Actor::Job(submitter) => lines.jobs.offered(submitter) == Some(job),
-        Actor::Round(submitter) => lines.rounds.offered(submitter) == Some(job),
+        RecordedActor::Job(submitter) => lines.jobs.offered(submitter) == Some(job),
+        RecordedActor::Round(submitter) => lines.rounds.offered(submitter) == Some(job),
     }
 }
 

@@ -5,15 +5,15 @@ ghost use Rattle.std.specs.Option.{option_map};
 ghost use Rattle.recording_lines.specs.RecordingLine.{line_seen};
 ghost use Rattle.recorded_rules.specs.LineParts as spec;
 
-use recording_lines::{Actor, Line};
+use recording_lines::{Line, RecordedActor};
 
 /// Whose line it is, as one who submits and gets.
-pub(crate) fn actor_of(line: &Line<'_>) -> Option<Actor>
+pub(crate) fn actor_of(line: &Line<'_>) -> Option<RecordedActor>
     ensures { result ≡ spec.actor_of (line_seen line.now) }
 {
     match *line {
-        Line::RoundEnds { round } => Some(Actor::Round(round)),
-        Line::JobEnds { job } | Line::JobThrew { job } => Some(Actor::Job(job)),
+        Line::RoundEnds { round } => Some(RecordedActor::Round(round)),
+        Line::JobEnds { job } | Line::JobThrew { job } => Some(RecordedActor::Job(job)),
         Line::Submits { actor, .. }
         | Line::Refused { actor, .. }
         | Line::Got { actor, .. }

@@ -6,7 +6,7 @@ ghost use Rattle.recorded_rules.specs.Changes.{Follows, IsSame, IsAdmitted, IsAc
 
 use crate::line_parts::is_end;
 use crate::lines_so_far::LinesSoFar;
-use recording_lines::{Actor, Line};
+use recording_lines::{Line, RecordedActor};
 use std::alloc::AllocError;
 
 /// The line stands behind the lines so far, whose rules it keeps.
@@ -54,12 +54,12 @@ fn note_act(lines: &mut LinesSoFar, line: &Line<'_>)
     }
 }
 
-fn set_offered(lines: &mut LinesSoFar, actor: Actor, offered: Option<usize>)
+fn set_offered(lines: &mut LinesSoFar, actor: RecordedActor, offered: Option<usize>)
     ensures { IsOffered lines.old actor offered lines.new }
 {
     match actor {
-        Actor::Job(job) => lines.jobs.set_offered(job, offered),
-        Actor::Round(round) => lines.rounds.set_offered(round, offered),
+        RecordedActor::Job(job) => lines.jobs.set_offered(job, offered),
+        RecordedActor::Round(round) => lines.rounds.set_offered(round, offered),
     }
 }
 

@@ -7,8 +7,8 @@ use Rattle.line_words.specs.Pieces.{split_space}
 use Rattle.line_words.specs.Number.{number_of, is_lawful_number}
 use Rattle.line_words.proofs.FirstSpace.{split_parts}
 use Rattle.line_words.proofs.WrittenNumbers.{number_read}
-use Rattle.recording_lines.specs.declared.recording_line.Actor.{Actor}
-use Rattle.recording_lines.specs.declared.recording_line.Actor.TheVariants.{Job, Round}
+use Rattle.recording_lines.specs.declared.recording_line.RecordedActor.{RecordedActor}
+use Rattle.recording_lines.specs.declared.recording_line.RecordedActor.TheVariants.{Job, Round}
 use Rattle.recording_lines.specs.Words.{◌>>=◌, name_of}
 use Rattle.recording_lines.specs.RecordingLine.{RecordedLine, RoundBegins, RoundEnds, Refused, JobStarts, JobEnds, JobThrew, Got, TimedOut, Interrupted, Cancels, InvokesAny, deed_of, submit_of, act_of, job_line_of, round_line_of}
 use Rattle.recording_lines.specs.LineText.{actor_words, line_text, is_lawful_actor, is_lawful_line}
@@ -20,17 +20,17 @@ IsLine text line = (is_lawful_line line ≡ true) × (text ≡ line_text line)
 
 -- ---- behind an actor
 -- a text behind the two words of an actor
-abbrev pub behind_actor : Actor → List ℕ → List ℕ
+abbrev pub behind_actor : RecordedActor → List ℕ → List ℕ
 behind_actor (Job n) text = codes "job" ++ 32 ∷ (decimal n ++ 32 ∷ text)
 behind_actor (Round n) text = codes "round" ++ 32 ∷ (decimal n ++ 32 ∷ text)
 
 -- its words, behind the two of the actor
-pub behind_is : (actor : Actor) (word : List ℕ) (words : List (List ℕ)) → behind_actor actor (join_with_byte 32 (word ∷ words)) ≡ join_with_byte 32 (actor_words actor (word ∷ words))
+pub behind_is : (actor : RecordedActor) (word : List ℕ) (words : List (List ℕ)) → behind_actor actor (join_with_byte 32 (word ∷ words)) ≡ join_with_byte 32 (actor_words actor (word ∷ words))
 behind_is (Job n) word words = refl
 behind_is (Round n) word words = refl
 
 -- ---- what is read
-deed_read : (actor : Actor) (word : List ℕ) (job : ℕ) (line : RecordedLine) → is_lawful_actor actor ≡ true → is_lawful_number job ≡ true → deed_of actor word job ≡ Some line
+deed_read : (actor : RecordedActor) (word : List ℕ) (job : ℕ) (line : RecordedLine) → is_lawful_actor actor ≡ true → is_lawful_number job ≡ true → deed_of actor word job ≡ Some line
     → IsLine (behind_actor actor (word ++ 32 ∷ decimal job)) line
 unfolding deed_of
 deed_read actor word job line whose lawful read =
@@ -47,7 +47,7 @@ deed_read actor word job line whose lawful read =
         subst (λ (l : RecordedLine). IsLine (behind_actor actor (word ++ 32 ∷ decimal job)) l) (same_Some one line same)
         (good, ap (λ (w : List ℕ). behind_actor actor (w ++ 32 ∷ decimal job)) is ∙ text)
 
-submit_read : (actor : Actor) (text : List ℕ) (line : RecordedLine) → is_lawful_actor actor ≡ true → submit_of actor text ≡ Some line → IsLine (behind_actor actor (codes "submit" ++ 32 ∷ text)) line
+submit_read : (actor : RecordedActor) (text : List ℕ) (line : RecordedLine) → is_lawful_actor actor ≡ true → submit_of actor text ≡ Some line → IsLine (behind_actor actor (codes "submit" ++ 32 ∷ text)) line
 unfolding submit_of
 submit_read actor text line whose read =
     let job = bind_some _ _ line read in
@@ -63,7 +63,7 @@ submit_read actor text line whose read =
       ap (λ (t : List ℕ). behind_actor actor (codes "submit" ++ 32 ∷ t)) whole ∙ behind_is actor (codes "submit") (decimal job.0.0 ∷ class.0.0 ∷ pool.0 ∷ []),
     )
 
-act_read : (actor : Actor) (word rest : List ℕ) (line : RecordedLine) → is_lawful_actor actor ≡ true → act_of actor word rest ≡ Some line → IsLine (behind_actor actor (word ++ 32 ∷ rest)) line
+act_read : (actor : RecordedActor) (word rest : List ℕ) (line : RecordedLine) → is_lawful_actor actor ≡ true → act_of actor word rest ≡ Some line → IsLine (behind_actor actor (word ++ 32 ∷ rest)) line
 unfolding act_of
 act_read actor word rest line whose read =
     by_word word (codes "submit") _ _ line read
@@ -85,12 +85,12 @@ act_read actor word rest line whose read =
         (and_from _ _ whose name.0, ap (λ (r : List ℕ). behind_actor actor (codes "any" ++ 32 ∷ r)) name.1 ∙ behind_is actor (codes "any") (pool.0 ∷ []))
 
 -- words behind an actor that say one thing alone
-alone : (actor : Actor) (text key : List ℕ) (one line : RecordedLine) → is_lawful_line one ≡ true → behind_actor actor key ≡ line_text one → text ≡ key → Some one ≡ Some line → IsLine (behind_actor actor text) line
+alone : (actor : RecordedActor) (text key : List ℕ) (one line : RecordedLine) → is_lawful_line one ≡ true → behind_actor actor key ≡ line_text one → text ≡ key → Some one ≡ Some line → IsLine (behind_actor actor text) line
 alone actor text key one line good written is same =
     subst (λ (l : RecordedLine). IsLine (behind_actor actor text) l) (same_Some one line same) (good, ap (behind_actor actor) is ∙ written)
 
 -- a word and more
-more : (actor : Actor) (text : List ℕ) (words : List ℕ × List ℕ) (line : RecordedLine) → split_space text ≡ Some words → IsLine (behind_actor actor (words.0 ++ 32 ∷ words.1)) line → IsLine (behind_actor actor text) line
+more : (actor : RecordedActor) (text : List ℕ) (words : List ℕ × List ℕ) (line : RecordedLine) → split_space text ≡ Some words → IsLine (behind_actor actor (words.0 ++ 32 ∷ words.1)) line → IsLine (behind_actor actor text) line
 more actor text words line split found = (found.0, ap (behind_actor actor) (split_parts text words split) ∙ found.1)
 
 pub job_line_read : (job : ℕ) (text : List ℕ) (line : RecordedLine) → is_lawful_number job ≡ true → job_line_of job text ≡ Some line → IsLine (behind_actor (Job job) text) line

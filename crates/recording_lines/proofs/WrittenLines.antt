@@ -9,8 +9,8 @@ use Rattle.line_words.specs.Number.{number_of, is_lawful_number}
 use Rattle.line_words.proofs.FirstSpace.{splits, split_parts}
 use Rattle.line_words.proofs.Splits.{has_no}
 use Rattle.line_words.proofs.WrittenNumbers.{number_read, number_written}
-use Rattle.recording_lines.specs.declared.recording_line.Actor.{Actor}
-use Rattle.recording_lines.specs.declared.recording_line.Actor.TheVariants.{Job, Round}
+use Rattle.recording_lines.specs.declared.recording_line.RecordedActor.{RecordedActor}
+use Rattle.recording_lines.specs.declared.recording_line.RecordedActor.TheVariants.{Job, Round}
 use Rattle.recording_lines.specs.Words.{◌>>=◌, name_of, number_then, name_then}
 use Rattle.recording_lines.specs.PoolSizes.{pool_sizes_of}
 use Rattle.recording_lines.specs.RecordingLine.{RecordedLine, Head, Pool, RoundBegins, RoundEnds, Submits, Refused, JobStarts, JobEnds, JobThrew, Got, TimedOut, Interrupted, Cancels, InvokesAny, Removed, ShutDown, Unseen, End, deed_of, submit_of, act_of, job_line_of, round_line_of, other_line_of, line_of_words, line_of}
@@ -127,7 +127,7 @@ IsAct word rest =
     (has_no 32 word ≡ true) × (bytes_eq (word ++ 32 ∷ rest) (codes "start") ≡ false) × (bytes_eq (word ++ 32 ∷ rest) (codes "end") ≡ false) × (bytes_eq (word ++ 32 ∷ rest) (codes "threw") ≡ false)
     × (bytes_eq word (codes "begin") ≡ false)
 
-acts : (actor : Actor) (word rest : List ℕ) → is_lawful_actor actor ≡ true → IsAct word rest → line_of (behind_actor actor (word ++ 32 ∷ rest)) ≡ act_of actor word rest
+acts : (actor : RecordedActor) (word rest : List ℕ) → is_lawful_actor actor ≡ true → IsAct word rest → line_of (behind_actor actor (word ++ 32 ∷ rest)) ≡ act_of actor word rest
 unfolding job_line_of round_line_of
 acts (Job n) word rest lawful is =
     job_first n (word ++ 32 ∷ rest) lawful ∙ rw (is.1, is.2, is.3) (ap (λ o. o >>= λ words. act_of (Job n) words.0 words.1) (splits word rest is.0))
@@ -135,12 +135,12 @@ acts (Round n) word rest lawful is =
     round_first n (word ++ 32 ∷ rest) lawful ∙ rw (is.2, splits word rest is.0, is.4) refl
 
 -- a line of an actor is read behind the actor
-by_actor : (actor : Actor) (line said : RecordedLine) (word : List ℕ) (words : List (List ℕ)) → line_text line ≡ join_with_byte 32 (actor_words actor (word ∷ words))
+by_actor : (actor : RecordedActor) (line said : RecordedLine) (word : List ℕ) (words : List (List ℕ)) → line_text line ≡ join_with_byte 32 (actor_words actor (word ∷ words))
     → line_of (behind_actor actor (join_with_byte 32 (word ∷ words))) ≡ Some said → line_of (line_text line) ≡ Some said
 by_actor actor line said word words is read = ap line_of (is ∙ sym (behind_is actor word words)) ∙ read
 
 -- what an actor did with a job
-deed_written : (actor : Actor) (word : List ℕ) (job : ℕ) → is_lawful_actor actor && is_lawful_number job ≡ true → IsAct word (decimal job) → bytes_eq word (codes "submit") ≡ false → bytes_eq word (codes "any") ≡ false
+deed_written : (actor : RecordedActor) (word : List ℕ) (job : ℕ) → is_lawful_actor actor && is_lawful_number job ≡ true → IsAct word (decimal job) → bytes_eq word (codes "submit") ≡ false → bytes_eq word (codes "any") ≡ false
     → line_of (behind_actor actor (word ++ 32 ∷ decimal job)) ≡ deed_of actor word job
 unfolding act_of
 deed_written actor word job lawful is no_submit no_any =

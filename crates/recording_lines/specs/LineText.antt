@@ -3,8 +3,8 @@ use Rattle.std.specs.Prelude.{ℕ, Bool, true, false, ◌&&◌, List, [], ◌∷
 use Rattle.std.specs.List.{join_with_byte}
 use Rattle.job_bodies.specs.WellFormed.{is_lawful_name}
 use Rattle.line_words.specs.Number.{is_lawful_number}
-use Rattle.recording_lines.specs.declared.recording_line.Actor.{Actor}
-use Rattle.recording_lines.specs.declared.recording_line.Actor.TheVariants.{Job, Round}
+use Rattle.recording_lines.specs.declared.recording_line.RecordedActor.{RecordedActor}
+use Rattle.recording_lines.specs.declared.recording_line.RecordedActor.TheVariants.{Job, Round}
 use Rattle.recording_lines.specs.declared.pool_sizes.PoolSizes.{PoolSizes}
 use Rattle.recording_lines.specs.declared.pool_sizes.QueueKind.{QueueKind}
 use Rattle.recording_lines.specs.declared.pool_sizes.QueueKind.TheVariants as queue
@@ -37,7 +37,7 @@ sizes_words sizes =
     ∷ codes "prestarted" ∷ decimal sizes.prestarted ∷ codes "handler" ∷ handler_word sizes.handler ∷ []
 
 -- the two words of an actor, and what it did
-abbrev pub actor_words : Actor → List (List ℕ) → List (List ℕ)
+abbrev pub actor_words : RecordedActor → List (List ℕ) → List (List ℕ)
 actor_words (Job n) words = codes "job" ∷ decimal n ∷ words
 actor_words (Round n) words = codes "round" ∷ decimal n ∷ words
 
@@ -66,7 +66,7 @@ abbrev pub line_text : RecordedLine → List ℕ
 line_text line = join_with_byte 32 (line_words line)
 
 -- ---- lawful lines
-abbrev pub is_lawful_actor : Actor → Bool
+abbrev pub is_lawful_actor : RecordedActor → Bool
 is_lawful_actor (Job n) = is_lawful_number n
 is_lawful_actor (Round n) = is_lawful_number n
 

@@ -3,8 +3,8 @@ use Rattle.std.specs.Prelude.{ℕ, if◌then◌else◌, List, map, codes, Option
 use Rattle.std.specs.Str.{bytes_eq}
 use Rattle.line_words.specs.Pieces.{split_space}
 use Rattle.line_words.specs.Number.{number_of}
-use Rattle.recording_lines.specs.declared.recording_line.Actor.{Actor}
-use Rattle.recording_lines.specs.declared.recording_line.Actor.TheVariants as actor
+use Rattle.recording_lines.specs.declared.recording_line.RecordedActor.{RecordedActor}
+use Rattle.recording_lines.specs.declared.recording_line.RecordedActor.TheVariants as actor
 use Rattle.recording_lines.specs.declared.recording_line.Line.{Line}
 use Rattle.recording_lines.specs.declared.recording_line.Line.TheVariants as code
 use Rattle.recording_lines.specs.declared.lines.BadLine.{BadLine}
@@ -19,16 +19,16 @@ pub data RecordedLine : Type 0 where
   Pool : List ℕ → PoolSizes → RecordedLine
   RoundBegins : ℕ → List ℕ → RecordedLine
   RoundEnds : ℕ → RecordedLine
-  Submits : Actor → ℕ → List ℕ → List ℕ → RecordedLine
-  Refused : Actor → ℕ → RecordedLine
+  Submits : RecordedActor → ℕ → List ℕ → List ℕ → RecordedLine
+  Refused : RecordedActor → ℕ → RecordedLine
   JobStarts : ℕ → RecordedLine
   JobEnds : ℕ → RecordedLine
   JobThrew : ℕ → RecordedLine
-  Got : Actor → ℕ → RecordedLine
-  TimedOut : Actor → ℕ → RecordedLine
-  Interrupted : Actor → ℕ → RecordedLine
-  Cancels : Actor → ℕ → RecordedLine
-  InvokesAny : Actor → List ℕ → RecordedLine
+  Got : RecordedActor → ℕ → RecordedLine
+  TimedOut : RecordedActor → ℕ → RecordedLine
+  Interrupted : RecordedActor → ℕ → RecordedLine
+  Cancels : RecordedActor → ℕ → RecordedLine
+  InvokesAny : RecordedActor → List ℕ → RecordedLine
   Removed : ℕ → RecordedLine
   ShutDown : List ℕ → RecordedLine
   Unseen : List ℕ → ℕ → RecordedLine
@@ -57,7 +57,7 @@ line_seen code.End = End
 
 -- ---- lines of actors
 -- what the actor did with the job that the word behind this one names
-unfoldable pub deed_of : Actor → List ℕ → ℕ → Option RecordedLine
+unfoldable pub deed_of : RecordedActor → List ℕ → ℕ → Option RecordedLine
 deed_of actor word job =
     if bytes_eq word (codes "got") then Some (Got actor job)
     else (if bytes_eq word (codes "refused") then Some (Refused actor job)
@@ -67,11 +67,11 @@ deed_of actor word job =
     else None))))
 
 -- `J CLASS POOL`, behind `submit`
-unfoldable pub submit_of : Actor → List ℕ → Option RecordedLine
+unfoldable pub submit_of : RecordedActor → List ℕ → Option RecordedLine
 submit_of actor text = number_then text >>= λ job. name_then job.1 >>= λ class. name_of class.1 >>= λ pool. Some (Submits actor job.0 class.0 pool)
 
 -- what an actor did, by the first word behind its number and the words behind that
-unfoldable pub act_of : Actor → List ℕ → List ℕ → Option RecordedLine
+unfoldable pub act_of : RecordedActor → List ℕ → List ℕ → Option RecordedLine
 act_of actor word rest =
     if bytes_eq word (codes "submit") then submit_of actor rest
     else (if bytes_eq word (codes "any") then (name_of rest >>= λ pool. Some (InvokesAny actor pool))

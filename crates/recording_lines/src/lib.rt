@@ -13,4 +13,4 @@ mod words;
 pub use laws::recording_lines_are_canonical;
 pub use lines::{BadLine, RecordingLines};
 pub use pool_sizes::{HandlerKind, PoolSizes, QueueKind};
-pub use recording_line::{Actor, Line};
+pub use recording_line::{Line, RecordedActor};

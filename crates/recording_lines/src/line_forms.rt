@@ -5,7 +5,7 @@ ghost use Rattle.recording_lines.specs.RecordingLine.{line_seen};
 ghost use Rattle.recording_lines.specs.RecordingLine as spec;
 
 use crate::pool_sizes::pool_sizes_of;
-use crate::recording_line::{Actor, Line};
+use crate::recording_line::{Line, RecordedActor};
 use crate::words::{is_word, name_of, name_then, number_then};
 use line_words::{number_of, split_space};
 
@@ -46,7 +46,7 @@ fn job_line_of(job: usize, text: &[u8]) -> Option<Line<'_>>
         return Some(Line::JobThrew { job });
     }
     let (word, rest) = split_space(text)?;
-    act_of(Actor::Job(job), word, rest)
+    act_of(RecordedActor::Job(job), word, rest)
 }
 
 /// The line of the words behind `round N`.
@@ -62,12 +62,12 @@ fn round_line_of(round: usize, text: &[u8]) -> Option<Line<'_>>
         let kind = name_of(rest)?;
         return Some(Line::RoundBegins { round, kind });
     }
-    act_of(Actor::Round(round), word, rest)
+    act_of(RecordedActor::Round(round), word, rest)
 }
 
 /// What an actor did, by the first word behind its number and the words behind that.
 #[tactic(auto, unfolding(crate::specs::RecordingLine::act_of))]
-fn act_of<'a>(actor: Actor, word: &[u8], rest: &'a [u8]) -> Option<Line<'a>>
+fn act_of<'a>(actor: RecordedActor, word: &[u8], rest: &'a [u8]) -> Option<Line<'a>>
     ensures { option_map line_seen result ≡ spec.act_of actor word.now rest.now }
 {
     if is_word(word, "submit") {
@@ -83,7 +83,7 @@ fn act_of<'a>(actor: Actor, word: &[u8], rest: &'a [u8]) -> Option<Line<'a>>
 
 /// `J CLASS POOL`, behind `submit`.
 #[tactic(auto, unfolding(crate::specs::RecordingLine::submit_of))]
-fn submit_of(actor: Actor, text: &[u8]) -> Option<Line<'_>>
+fn submit_of(actor: RecordedActor, text: &[u8]) -> Option<Line<'_>>
     ensures { option_map line_seen result ≡ spec.submit_of actor text.now }
 {
     let (job, rest) = number_then(text)?;
@@ -99,7 +99,7 @@ fn submit_of(actor: Actor, text: &[u8]) -> Option<Line<'_>>
 
 /// What the actor did with the job that the word behind this one names.
 #[tactic(auto, unfolding(crate::specs::RecordingLine::deed_of))]
-fn deed_of<'a>(actor: Actor, word: &[u8], job: usize) -> Option<Line<'a>>
+fn deed_of<'a>(actor: RecordedActor, word: &[u8], job: usize) -> Option<Line<'a>>
     ensures { option_map line_seen result ≡ spec.deed_of actor word.now job }
 {
     if is_word(word, "got") {

@@ -4,7 +4,7 @@ use crate::pool_sizes::PoolSizes;
 
 /// Who submits and gets: a job while it runs, or a round of a thread that is outside.
 #[derive(Clone, Copy, Debug, PartialEq, Eq)]
-pub enum Actor {
+pub enum RecordedActor {
     Job(usize),
     Round(usize),
 }
@@ -30,14 +30,14 @@ pub enum Line<'a> {
     },
     /// The actor submits this job, of this class, to this pool.
     Submits {
-        actor: Actor,
+        actor: RecordedActor,
         job: usize,
         class: &'a str,
         pool: &'a str,
     },
     /// The pool had no room for the job.
     Refused {
-        actor: Actor,
+        actor: RecordedActor,
         job: usize,
     },
     /// A thread began to run the job.
@@ -54,27 +54,27 @@ pub enum Line<'a> {
     },
     /// A get of the job came back.
     Got {
-        actor: Actor,
+        actor: RecordedActor,
         job: usize,
     },
     /// A get of the job ended because its time was over.
     TimedOut {
-        actor: Actor,
+        actor: RecordedActor,
         job: usize,
     },
     /// A get of the job ended because its thread was interrupted.
     Interrupted {
-        actor: Actor,
+        actor: RecordedActor,
         job: usize,
     },
     /// The actor cancels the job.
     Cancels {
-        actor: Actor,
+        actor: RecordedActor,
         job: usize,
     },
     /// The actor calls `invokeAny`.
     InvokesAny {
-        actor: Actor,
+        actor: RecordedActor,
         pool: &'a str,
     },
     /// `shutdownNow` took the job out of its queue.

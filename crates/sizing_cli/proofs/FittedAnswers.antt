@@ -17,7 +17,7 @@ use Rattle.size_search.specs.declared.found.SizesFound.TheVariants.{Found, NotFo
 use Rattle.size_search.specs.Sized.{IsSized, IsFound}
 use Rattle.size_lines.specs.Sizes.{changes}
 use Rattle.size_lines.proofs.Unchanged.{unchanged}
-use Rattle.command_line.specs.declared.command.Wanted.TheVariants.{Sizes, Bundle}
+use Rattle.command_line.specs.declared.command.SizesForm.TheVariants.{Sizes, Bundle}
 use Rattle.sizing_cli.specs.declared.limits.TheConstants.{MAX_INPUT_BYTES}
 use Rattle.sizing_cli.specs.declared.status.Status.TheVariants.{Done, Refused, BadText}
 use Rattle.sizing_cli.specs.Answer.{Answer, yes_or_no, input_too_long}

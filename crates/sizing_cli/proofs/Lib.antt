@@ -12,3 +12,4 @@ pub mod ServedAnswers
 mod Runs
 mod AskedAnswers
 pub mod OtherSizes
+pub mod LinesInOrder

@@ -17,8 +17,8 @@ use Rattle.size_search.specs.Sized.{IsSized, IsFound}
 use Rattle.size_search.specs.Decided.{IsDecided}
 use Rattle.size_lines.specs.Sizes.{changes, sizes_text}
 use Rattle.size_lines.specs.Cause.{no_sizes_text}
-use Rattle.command_line.specs.declared.command.Wanted.{Wanted}
-use Rattle.command_line.specs.declared.command.Wanted.TheVariants.{Sizes, Bundle}
+use Rattle.command_line.specs.declared.command.SizesForm.{SizesForm}
+use Rattle.command_line.specs.declared.command.SizesForm.TheVariants.{Sizes, Bundle}
 use Rattle.sizing_cli.specs.declared.limits.TheConstants.{MAX_INPUT_BYTES}
 use Rattle.sizing_cli.specs.declared.status.Status.TheVariants.{Done, Refused}
 use Rattle.sizing_cli.specs.Answer.{Answer, fault, input_too_long, yes_or_no}
@@ -61,7 +61,7 @@ abbrev pub BundlesSizes : Plan → Cert → Answer → Type 0
 BundlesSizes fit cert answer = ((answer ≡ text_too_long) × (HasLongPlanText fit ⊎ HasLongText cert)) ⊎ IsBundled fit cert answer
 
 -- to what the search found
-abbrev pub AnswersFound : Wanted → Plan → SizesFound → Answer → Type 0
+abbrev pub AnswersFound : SizesForm → Plan → SizesFound → Answer → Type 0
 AnswersFound Sizes plan found answer = answer ≡ told plan found
 AnswersFound Bundle plan (Found fit cert) answer = BundlesSizes fit cert answer
 AnswersFound Bundle plan (NotFound cause) answer = answer ≡ no_sizes_answer plan cause
@@ -73,19 +73,19 @@ pub record IsAsDeclared (plan : Plan) (found : SizesFound) : Type 0 where
 
 -- to a plan: something was found that is so of the plan and that decides whether there are sizes, and it is answered; where the
 -- steady certificate accepts the plan, no size is another one
-pub record AnswersPlan (wanted : Wanted) (plan : Plan) (answer : Answer) : Type 0 where
+pub record AnswersPlan (wanted : SizesForm) (plan : Plan) (answer : Answer) : Type 0 where
   pub found : SizesFound
   pub is_found : IsFound plan found
   pub is_decided : IsDecided plan found
   pub unchanged : IsTrue (accepted plan (steady_cert plan)) → IsAsDeclared plan found
   pub answers : AnswersFound wanted plan found answer
 
-abbrev pub AnswersReading : Wanted → Result Plan PlanFault → Answer → Type 0
+abbrev pub AnswersReading : SizesForm → Result Plan PlanFault → Answer → Type 0
 AnswersReading wanted (Err f) answer = answer ≡ fault (fault_line f)
 AnswersReading wanted (Ok plan) answer = AnswersPlan wanted plan answer
 
 -- to an input
-abbrev pub IsFitAnswer : Wanted → List ℕ → Answer → Type 0
+abbrev pub IsFitAnswer : SizesForm → List ℕ → Answer → Type 0
 IsFitAnswer wanted input answer = MatchBool (nat_lt MAX_INPUT_BYTES (length input)) (answer ≡ input_too_long) (AnswersReading wanted (plan_of input) answer)
 
 -- what status 0 means of a bundle: it is that of such sizes and of the certificate for which they are the least

@@ -1,6 +1,7 @@
 //! Faults of the texts that are asked about.
 
-ghost use Rattle.std.specs.Prelude.{◌≡◌, ◌++◌, IfOk, OnOk, string_bytes};
+ghost use Rattle.std.specs.Prelude.{◌≡◌, IfOk, string_bytes};
+ghost use Rattle.decimals.specs.Pushed.{Pushes};
 ghost use Rattle.sizing_cli.specs.Ask as spec;
 
 use crate::Status;
@@ -94,7 +95,7 @@ fn cert_words(alloc: Global, words: &str, fault: CertFault) -> Result<String, Al
 }
 
 fn push_number(text: &mut String, number: u8) -> Result<(), AllocError>
-    ensures { OnOk result (string_bytes text.new ≡ string_bytes text.old ++ spec.fault_number number) }
+    ensures { Pushes result text.old text.new (spec.fault_number number) }
 {
     writeln!(text, " (fault {number})")
 }

@@ -19,7 +19,7 @@ use std::sync::Wait;
 use std::thread::Threads;
 
 /// What a search comes to.
-enum Found {
+enum Certified {
     /// The text of a certificate, with its newline.
     Text(Vec<u8>),
     Nothing,
@@ -83,9 +83,9 @@ fn certify_plan<R: Threads + Wait + Sync>(
     ensures fault { IfErr result (λ fault. IsTrue (is_of_search fault.number)) }
 {
     match found_text(rt, alloc, workers, plan)? {
-        Found::Text(cert) => bundle(rt, alloc, workers, text, &cert),
-        Found::Nothing => Ok(Output::of(none_found(alloc)?)),
-        Found::TooLong => Ok(Output::of(text_too_long(alloc)?)),
+        Certified::Text(cert) => bundle(rt, alloc, workers, text, &cert),
+        Certified::Nothing => Ok(Output::of(none_found(alloc)?)),
+        Certified::TooLong => Ok(Output::of(text_too_long(alloc)?)),
     }
 }
 
@@ -94,22 +94,22 @@ fn found_text<R: Threads + Wait + Sync>(
     alloc: Global,
     workers: usize,
     plan: &Plan,
-) -> Result<Found, ServeFault>
+) -> Result<Certified, ServeFault>
     requires some { 1 ≤ workers }
     requires most { workers ≤ 64 }
-    ensures too_long { IfOk result (λ found. found ≡ Found.TooLong → spec.IsTooLong plan.now) }
-    ensures nothing { IfOk result (λ found. found ≡ Found.Nothing → spec.IsUncertified plan.now) }
+    ensures too_long { IfOk result (λ found. found ≡ Certified.TooLong → spec.IsTooLong plan.now) }
+    ensures nothing { IfOk result (λ found. found ≡ Certified.Nothing → spec.IsUncertified plan.now) }
     ensures fault { IfErr result (λ fault. IsTrue (is_of_search fault.number)) }
 {
     let Some(cert) = certificate_of(rt, alloc, workers, plan)? else {
-        return Ok(Found::Nothing);
+        return Ok(Certified::Nothing);
     };
     let mut text = write_cert(alloc, &cert)?;
     if text.len() >= MAX_TEXT_BYTES {
-        return Ok(Found::TooLong);
+        return Ok(Certified::TooLong);
     }
     text.extend_from_slice(b"\n")?;
-    Ok(Found::Text(text))
+    Ok(Certified::Text(text))
 }
 
 /// The bundle of the two texts, where `check` says yes to it.

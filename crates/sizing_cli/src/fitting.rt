@@ -18,7 +18,7 @@ use crate::{ServeFault, Status};
 use cert_search::search;
 use cert_text::write_cert;
 use certificates::Cert;
-use command_line::{DEFAULT_WORKERS, Wanted};
+use command_line::{DEFAULT_WORKERS, SizesForm};
 use faults::number::MIXED;
 use job_bodies::Plan;
 use plan_writer::write_plan;
@@ -40,7 +40,7 @@ const WORKERS: usize = DEFAULT_WORKERS as usize;
 pub fn fit<R: Threads + Wait + Sync>(
     rt: &R,
     alloc: Global,
-    wanted: Wanted,
+    wanted: SizesForm,
     input: &[u8],
 ) -> Result<Output, ServeFault>
     ensures answer { IfOk result (spec.IsFitAnswer wanted input.now) }
@@ -58,7 +58,7 @@ pub fn fit<R: Threads + Wait + Sync>(
 fn fit_plan<R: Threads + Wait + Sync>(
     rt: &R,
     alloc: Global,
-    wanted: Wanted,
+    wanted: SizesForm,
     plan: &Plan,
 ) -> Result<Output, ServeFault>
     ensures answer { IfOk result (spec.AnswersPlan wanted plan.now) }
@@ -66,8 +66,8 @@ fn fit_plan<R: Threads + Wait + Sync>(
 {
     let found = sizes_of(rt, alloc, plan)?;
     match wanted {
-        Wanted::Sizes => Ok(Output::of(answer_of(alloc, plan, &found)?)),
-        Wanted::Bundle => bundle(rt, alloc, plan, &found),
+        SizesForm::Sizes => Ok(Output::of(answer_of(alloc, plan, &found)?)),
+        SizesForm::Bundle => bundle(rt, alloc, plan, &found),
     }
 }
 
@@ -127,7 +127,7 @@ fn bundle<R: Threads + Wait + Sync>(
     plan: &Plan,
     found: &SizesFound,
 ) -> Result<Output, ServeFault>
-    ensures answer { IfOk result (spec.AnswersFound Wanted.Bundle plan.now found.now) }
+    ensures answer { IfOk result (spec.AnswersFound SizesForm.Bundle plan.now found.now) }
     ensures fault { IfErr result (λ fault. IsTrue (is_of_search fault.number)) }
 {
     match found {

@@ -18,7 +18,7 @@ use command_line::{Form, Manner};
 use job_bodies::Plan;
 use json_answers::finding_json;
 use plan_advice::{Oddity, Warning, push_warnings, warnings_of};
-use plan_places::Place;
+use plan_places::TextPlace;
 use std::alloc::{AllocError, Global};
 
 /// The answer to a plan of which this was found, the text of which is given, as in a file of this name. A certificate that was
@@ -183,7 +183,7 @@ fn stale(alloc: Global) -> Result<Warning, AllocError>
         "the certificate that was given does not show that these sizes are safe: write a new one by --certificate";
     Ok(Warning {
         oddity: Oddity::StaleCertificate,
-        place: Place { line: 1, column: 1 },
+        place: TextPlace { line: 1, column: 1 },
         what: String::from_str(alloc, what)?,
     })
 }

@@ -11,7 +11,7 @@ use job_bodies::Plan;
 use std::alloc::{AllocError, Global};
 
 /// Replays event lines on a plan, in one pass. It answers what came of them only if none of them is bad.
-#[tactic(auto, using(event_lines::proofs::LineByLine::all_read))]
+#[tactic(auto, using(crate::proofs::LinesInOrder::lines_in_order))]
 pub fn replay(alloc: Global, plan: &Plan, lines: &[u8]) -> Result<Answer, AllocError>
     ensures { IfOk result (λ answer. answer ≡ spec.replay plan.now lines.now) }
 {

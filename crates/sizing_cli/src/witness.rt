@@ -8,7 +8,7 @@ use least_vectors::{Levels, pool_bound};
 use plan_witnesses::{Witness, confirmed};
 use std::alloc::{AllocError, Global};
 use weights::{Bound, Vector};
-use witness_search::{Found, search_witness};
+use witness_search::{SupposedWitness, search_witness};
 
 /// What a search for a witness came to.
 #[derive(Drop)]
@@ -33,7 +33,11 @@ pub(crate) fn witness_of(alloc: Global, plan: &Plan, states: usize) -> Result<So
 }
 
 /// The witness that was found, where it is one.
-fn confirm(alloc: Global, plan: &Plan, found: Found) -> Result<Option<Witness>, AllocError>
+fn confirm(
+    alloc: Global,
+    plan: &Plan,
+    found: SupposedWitness,
+) -> Result<Option<Witness>, AllocError>
     ensures { IfOk result (λ witness. IfSome witness (IsWitnessOf plan.now)) }
 {
     let standing = if found.members.is_empty() {

@@ -14,11 +14,11 @@ pub enum Change {
 
 /// A counter that starts at 0, and goes neither below it nor above its greatest value.
 #[derive(Clone, Copy, Debug, Drop)]
-pub struct Counter {
+pub struct Tally {
     pub most: u64,
 }
 
-impl Machine for Counter {
+impl Machine for Tally {
     ghost use Rattle.thread_tests.specs.Counting.{next_count};
 
     type State = u64;

@@ -1,12 +1,12 @@
 //! Each call of a held machine.
 
-use crate::counter::{Change, Counter};
+use crate::counter::{Change, Tally};
 use held_machines::{Held, Receipt};
 use std::test::Fail;
 
 #[test]
 fn a_held_counter_keeps_the_history_of_its_count(rt: HostRuntime) -> Result<(), Fail> {
-    let mut held = Held::new(rt.alloc(), Counter { most: 2 })?;
+    let mut held = Held::new(rt.alloc(), Tally { most: 2 })?;
     assert_eq!(rt; *held.state(), 0);
     assert_eq!(rt; held.history(), [].as_slice());
 

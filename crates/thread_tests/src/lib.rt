@@ -5,7 +5,7 @@
 
 mod counter;
 
-pub use counter::{Change, Counter};
+pub use counter::{Change, Tally};
 
 #[cfg(test)]
 mod actors;

@@ -1,6 +1,6 @@
 //! Threads that share a counter under one lock.
 
-use crate::counter::{Change, Counter};
+use crate::counter::{Change, Tally};
 use held_machines::{Held, Locked};
 use std::alloc::AllocError;
 use std::sync::Wait;
@@ -10,7 +10,7 @@ use std::thread;
 // Makes the change this many times, waiting wherever it is not possible yet.
 fn change<R: Wait>(
     rt: &R,
-    counter: &Locked<Counter>,
+    counter: &Locked<Tally>,
     change: Change,
     times: u64,
 ) -> Result<(), AllocError> {
@@ -30,7 +30,7 @@ fn change<R: Wait>(
 
 #[test]
 fn a_thread_that_waits_is_woken_by_what_the_other_one_did(rt: HostRuntime) -> Result<(), Fail> {
-    let counter = Locked::new(Held::new(rt.alloc(), Counter { most: 1 })?);
+    let counter = Locked::new(Held::new(rt.alloc(), Tally { most: 1 })?);
     let (downs, ups) = thread::join(
         &rt,
         || change(&rt, &counter, Change::Down, 1000),

@@ -6,11 +6,11 @@ use Rattle.job_bodies.specs.Lawful.{IsLawful}
 use Rattle.weights.specs.declared.limits.TheConstants.{MAX_WEIGHT}
 use Rattle.weights.specs.declared.row.Place.{Place}
 use Rattle.weights.specs.declared.row.Place.TheVariants.{ClassAction, ClientAction}
-use Rattle.weights.specs.declared.body.Actor.{Actor}
-use Rattle.weights.specs.declared.body.Actor.TheVariants.{Class, Client}
+use Rattle.weights.specs.declared.body.BodyOwner.{BodyOwner}
+use Rattle.weights.specs.declared.body.BodyOwner.TheVariants.{Class, Client}
 
 -- the actor's action at position i
-abbrev pub place_at : Actor → ℕ → Place
+abbrev pub place_at : BodyOwner → ℕ → Place
 place_at (Class k) i = ClassAction k i
 place_at (Client c) i = ClientAction c i
 

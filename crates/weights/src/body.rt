@@ -14,21 +14,21 @@ use job_bodies::{Action, Plan};
 
 /// Whose body it is.
 #[derive(Clone, Copy)]
-pub(crate) enum Actor {
+pub(crate) enum BodyOwner {
     /// A job of the class of this number.
     Class(usize),
     /// A client of the kind of this number.
     Client(usize),
 }
 
-impl Actor {
+impl BodyOwner {
     /// The actor's action at this position.
     fn place_at(self, position: usize) -> Place
         ensures { result ≡ place_at self position }
     {
         match self {
-            Actor::Class(class) => Place::ClassAction(class, position),
-            Actor::Client(client) => Place::ClientAction(client, position),
+            BodyOwner::Class(class) => Place::ClassAction(class, position),
+            BodyOwner::Client(client) => Place::ClientAction(client, position),
         }
     }
 }
@@ -36,7 +36,7 @@ impl Actor {
 /// A body, and what its actor weighs at each of its positions.
 #[derive(Clone, Copy)]
 pub(crate) struct Body<'a> {
-    pub(crate) actor: Actor,
+    pub(crate) actor: BodyOwner,
     pub(crate) actions: &'a [Action],
     pub(crate) weights: &'a [u64],
 }

@@ -10,7 +10,7 @@ ghost use Rattle.weights.specs.Vector as spec;
 ghost use Rattle.weights.specs.Rows.{class_rows, client_rows, rows};
 ghost use Rattle.weights.specs.Takes.{Takes};
 
-use crate::body::{Actor, Body, visit_body_rows};
+use crate::body::{Body, BodyOwner, visit_body_rows};
 use crate::{AtGet, Place, Row, RowVisitor, Rule, Vector};
 use job_bodies::{Class, Client, Plan};
 
@@ -65,7 +65,7 @@ fn visit_class_rows<V: RowVisitor>(
     ensures { Takes V.HasSeen visitor.old visitor.new (class_rows at_get plan.now vector.now number class.now) }
 {
     let body = Body {
-        actor: Actor::Class(number),
+        actor: BodyOwner::Class(number),
         actions: &class.body,
         weights: &vector.class_weights(number)[1..],
     };
@@ -106,7 +106,7 @@ fn visit_client_rows<V: RowVisitor>(
     ensures { Takes V.HasSeen visitor.old visitor.new (client_rows at_get plan.now vector.now number client.now) }
 {
     let body = Body {
-        actor: Actor::Client(number),
+        actor: BodyOwner::Client(number),
         actions: &client.body,
         weights: vector.client_weights(number),
     };

@@ -21,4 +21,4 @@ mod shorten;
 mod waiting;
 mod walks;
 
-pub use search::{Found, Searched, search_witness};
+pub use search::{Searched, SupposedWitness, search_witness};

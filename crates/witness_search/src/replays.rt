@@ -2,7 +2,7 @@
 
 use crate::machine::{Came, Machine};
 use crate::scripts::Script;
-use crate::waiting::Members;
+use crate::waiting::JobSet;
 use crate::walks::Bad;
 use job_bodies::Plan;
 use std::alloc::{AllocError, Global};
@@ -54,7 +54,7 @@ impl<'a> Replay<'a> {
             return Ok(false);
         }
         let for_ever = wanted == Bad::StuckForEver;
-        let members = Members::greatest(alloc, &self.machine, for_ever)?;
+        let members = JobSet::greatest(alloc, &self.machine, for_ever)?;
         Ok(!members.is_empty())
     }
 

@@ -9,7 +9,7 @@ use crate::orders::{Chance, FIXED_ORDERS, fixed_order, shuffle};
 use crate::replays::Replay;
 use crate::scripts::Script;
 use crate::shorten::shortened;
-use crate::waiting::Members;
+use crate::waiting::JobSet;
 use crate::walks::{Bad, Rules, walk_by};
 use job_bodies::Plan;
 use std::alloc::{AllocError, Global};
@@ -22,7 +22,7 @@ const CHANCE_WALKS: usize = 1500;
 
 /// Events that are thought to be a witness.
 #[derive(Debug, Drop)]
-pub struct Found {
+pub struct SupposedWitness {
     /// The events, from the plan's start.
     pub events: Vec<Event>,
     /// The jobs that wait only for each other behind them, by number; nobody where the last event is a submit that is
@@ -34,7 +34,7 @@ pub struct Found {
 #[derive(Debug, Drop)]
 pub struct Searched {
     /// A witness, as is thought, where one was found.
-    pub found: Option<Found>,
+    pub found: Option<SupposedWitness>,
     /// How many states the search came to: the start of each walk and of each search, and each state behind a choice. A state
     /// counts as often as the search came to it.
     pub states: usize,
@@ -83,7 +83,7 @@ struct Search<'a> {
 
 impl Search<'_> {
     /// What the walks find, and then the search that goes on from the most promising states.
-    fn found(&mut self) -> Result<Option<Found>, AllocError> {
+    fn found(&mut self) -> Result<Option<SupposedWitness>, AllocError> {
         if let Some(found) = self.in_fixed_orders()? {
             return Ok(Some(found));
         }
@@ -112,7 +112,7 @@ impl Search<'_> {
     }
 
     /// What the walks in fixed orders find. The first of them may go through all that are left.
-    fn in_fixed_orders(&mut self) -> Result<Option<Found>, AllocError> {
+    fn in_fixed_orders(&mut self) -> Result<Option<SupposedWitness>, AllocError> {
         let first = self.fixed_rules(0)?;
         if let Some(found) = self.look(first, None)? {
             return Ok(Some(found));
@@ -129,7 +129,7 @@ impl Search<'_> {
     }
 
     /// What the walks find that lose little of a vector that misses its bound.
-    fn guided(&mut self, scales: &[Scale]) -> Result<Option<Found>, AllocError> {
+    fn guided(&mut self, scales: &[Scale]) -> Result<Option<SupposedWitness>, AllocError> {
         self.set_half_aside();
         for scale in scales {
             for number in 0..GUIDED_WALKS {
@@ -144,7 +144,7 @@ impl Search<'_> {
     }
 
     /// What the walks in orders by chance find.
-    fn by_chance(&mut self) -> Result<Option<Found>, AllocError> {
+    fn by_chance(&mut self) -> Result<Option<SupposedWitness>, AllocError> {
         self.set_half_aside();
         for number in 0..CHANCE_WALKS {
             let rules = self.chance_rules(number)?;
@@ -157,7 +157,7 @@ impl Search<'_> {
     }
 
     /// What the search finds that goes on from the most promising of the states that it has come to.
-    fn best_first(&mut self, scales: &[Scale]) -> Result<Option<Found>, AllocError> {
+    fn best_first(&mut self, scales: &[Scale]) -> Result<Option<SupposedWitness>, AllocError> {
         if self.left == 0 {
             return Ok(None);
         }
@@ -178,7 +178,11 @@ impl Search<'_> {
     }
 
     /// Makes a walk, and answers what it finds that stays.
-    fn look(&mut self, rules: Rules, scale: Option<&Scale>) -> Result<Option<Found>, AllocError> {
+    fn look(
+        &mut self,
+        rules: Rules,
+        scale: Option<&Scale>,
+    ) -> Result<Option<SupposedWitness>, AllocError> {
         let mut rules = rules;
         rules.most_states = rules.most_states.min(self.left);
         if rules.most_states == 0 {
@@ -206,7 +210,7 @@ impl Search<'_> {
     }
 
     /// What is answered where nothing was found that stays.
-    fn given_up(&mut self) -> Result<Option<Found>, AllocError> {
+    fn given_up(&mut self) -> Result<Option<SupposedWitness>, AllocError> {
         match self.stuck_now.take() {
             Some(script) => {
                 let found = answer_of(self.alloc, self.plan, script, Bad::StuckNow)?;
@@ -259,7 +263,12 @@ fn longest_walk(plan: &Plan) -> usize {
 }
 
 /// What is answered of this script.
-fn answer_of(alloc: Global, plan: &Plan, script: Script, bad: Bad) -> Result<Found, AllocError> {
+fn answer_of(
+    alloc: Global,
+    plan: &Plan,
+    script: Script,
+    bad: Bad,
+) -> Result<SupposedWitness, AllocError> {
     let script = shortened(alloc, plan, script, bad)?;
     let kept = vec![in alloc; true; script.acts.len()]?;
     let replay = Replay::of(alloc, plan, &script, &kept)?;
@@ -267,11 +276,11 @@ fn answer_of(alloc: Global, plan: &Plan, script: Script, bad: Bad) -> Result<Fou
         Vec::new(alloc)
     } else {
         let for_ever = bad == Bad::StuckForEver;
-        Members::greatest(alloc, &replay.machine, for_ever)?
+        JobSet::greatest(alloc, &replay.machine, for_ever)?
             .made_least(alloc, &replay.machine, for_ever)?
             .numbers(alloc)?
     };
-    Ok(Found {
+    Ok(SupposedWitness {
         events: replay.script.events(alloc, plan)?,
         members,
     })

@@ -10,24 +10,24 @@ const MAX_LOOKS: usize = 4_000_000;
 
 /// Some jobs of a machine, by number.
 #[derive(Drop)]
-pub(crate) struct Members {
+pub(crate) struct JobSet {
     is_member: Vec<bool>,
 }
 
-impl Members {
+impl JobSet {
     /// The greatest set of jobs that wait only for each other, which may be empty; of those that do so for ever, where
     /// `for_ever` is said.
     pub(crate) fn greatest(
         alloc: Global,
         machine: &Machine,
         for_ever: bool,
-    ) -> Result<Members, AllocError> {
+    ) -> Result<JobSet, AllocError> {
         let is_member = machine
             .jobs
             .iter()
             .map(|job| job.phase != Phase::Done)
             .collect(alloc)?;
-        let mut members = Members { is_member };
+        let mut members = JobSet { is_member };
         members.shrink(alloc, machine, for_ever)?;
         Ok(members)
     }
@@ -38,7 +38,7 @@ impl Members {
         alloc: Global,
         machine: &Machine,
         for_ever: bool,
-    ) -> Result<Members, AllocError> {
+    ) -> Result<JobSet, AllocError> {
         let mut best = self;
         let tries = MAX_LOOKS.checked_div(machine.jobs.len()).unwrap_or(0);
         let mut left = tries;
@@ -50,7 +50,7 @@ impl Members {
                 break;
             }
             left = left.saturating_sub(1);
-            let mut smaller = Members {
+            let mut smaller = JobSet {
                 is_member: Vec::from_slice(alloc, &best.is_member)?,
             };
             smaller.leave_out(number);

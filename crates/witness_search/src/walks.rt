@@ -7,7 +7,7 @@ use crate::machine::{Came, Machine};
 use crate::missed::Scale;
 use crate::orders::{Chance, shuffle};
 use crate::scripts::Script;
-use crate::waiting::Members;
+use crate::waiting::JobSet;
 use job_bodies::{Action, Plan};
 use std::alloc::{AllocError, Global};
 use written_machine::Parent;
@@ -145,11 +145,11 @@ impl<'a> Walk<'a> {
 
     /// Whether jobs wait for each other, and how long; only for ever, where `now` is not said.
     pub(crate) fn stuck(&self, alloc: Global, now: bool) -> Result<Option<Bad>, AllocError> {
-        let members = Members::greatest(alloc, &self.machine, false)?;
+        let members = JobSet::greatest(alloc, &self.machine, false)?;
         if members.is_empty() {
             return Ok(None);
         }
-        let members = Members::greatest(alloc, &self.machine, true)?;
+        let members = JobSet::greatest(alloc, &self.machine, true)?;
         if !members.is_empty() {
             return Ok(Some(Bad::StuckForEver));
         }

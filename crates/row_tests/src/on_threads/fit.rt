@@ -4,7 +4,7 @@ ghost use Rattle.command_line.specs.Command.{IsInRange};
 
 use crate::on_threads::ended::Ended;
 use crate::on_threads::failing::{push_failing_reads, push_failing_writes};
-use sizing_cli::{Command, MemorySink, MemorySource, Status, Task, Wanted};
+use sizing_cli::{Command, MemorySink, MemorySource, SizesForm, Status, Task};
 use std::alloc::{AllocError, Global};
 use std::sync::Wait;
 use std::thread::Threads;
@@ -13,11 +13,11 @@ use std::thread::Threads;
 const SHORT: usize = 250;
 
 const SIZES: Command = Command::OnThreads(Task::Fit {
-    wanted: Wanted::Sizes,
+    wanted: SizesForm::Sizes,
 });
 
 const BUNDLE: Command = Command::OnThreads(Task::Fit {
-    wanted: Wanted::Bundle,
+    wanted: SizesForm::Bundle,
 });
 
 /// What `fit` answers to a plan's text.

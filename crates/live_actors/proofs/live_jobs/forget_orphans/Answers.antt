@@ -1,7 +1,7 @@
 use Rattle.std.proofs.Common.{◌≡◌, Some, refl, ◌∙◌, arith}
 use Rattle.std.proofs.lemmas.Grind.{common_steps}
-use Rattle.live_actors.specs.declared.places.Place.{Place}
-use Rattle.live_actors.specs.Place.{place_at}
+use Rattle.live_actors.specs.declared.places.KeptJob.{KeptJob}
+use Rattle.live_actors.specs.KeptJob.{place_at}
 use Rattle.live_actors.specs.LiveJobs.{jobs_in}
 use Rattle.live_actors.proofs.ReachesStay.{stays, stays_then}
 use Rattle.live_actors.proofs.OrphansForgotten.{orphans_none, orphans_end, orphans_step}
@@ -33,4 +33,4 @@ returns-clause-jobs c =
     let items = c.args.kept.now.items in
     let j = c.args.parent in
     let there = has_place items j c.requires.live in
-    orphans_end j c.loop-submit.submit items _ c.args.latest.now _ c.requires.reached (λ (place : Place) (e : place_at items j ≡ Some place). grind (arith, common_steps, e)) (λ t k child. there) c.loop-submit.invariant.orphaned
+    orphans_end j c.loop-submit.submit items _ c.args.latest.now _ c.requires.reached (λ (place : KeptJob) (e : place_at items j ≡ Some place). grind (arith, common_steps, e)) (λ t k child. there) c.loop-submit.invariant.orphaned

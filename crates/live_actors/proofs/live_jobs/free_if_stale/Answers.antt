@@ -2,8 +2,8 @@ use Rattle.std.proofs.Common.{◌≡◌, Some, None, sym, ap, set, ◌∙◌, ar
 use Rattle.std.proofs.lemmas.Grind.{common_steps}
 use Rattle.std.specs.Option.{option_map}
 use Rattle.live_views.specs.ViewStep.{unless_stale}
-use Rattle.live_actors.specs.declared.places.Place.{Place}
-use Rattle.live_actors.specs.Place.{place_at}
+use Rattle.live_actors.specs.declared.places.KeptJob.{KeptJob}
+use Rattle.live_actors.specs.KeptJob.{place_at}
 use Rattle.live_actors.specs.LiveJobs.{jobs_in}
 use Rattle.live_actors.proofs.JobsInPlaces.{jobs_at, jobs_set}
 use Rattle.live_actors.proofs.live_jobs.free_if_stale.Goals as goal
@@ -15,4 +15,4 @@ returns-then-is_none-clause-jobs c =
     let f = unless_stale c.args.actor c.args.submit in
     let there : place_at items n ≡ Some c.in-Some.place = sym c.get.ensures ∙ c.in-Some.is in
     let none : f (Some c.in-Some.place.job) ≡ None = grind (arith, common_steps) in
-    ap jobs_in c.free.ensures.items ∙ jobs_set items n None ∙ ap (set (jobs_in items) n) (sym (ap f (jobs_at items n ∙ ap (option_map (λ (p : Place). p.job)) there) ∙ none))
+    ap jobs_in c.free.ensures.items ∙ jobs_set items n None ∙ ap (set (jobs_in items) n) (sym (ap f (jobs_at items n ∙ ap (option_map (λ (p : KeptJob). p.job)) there) ∙ none))

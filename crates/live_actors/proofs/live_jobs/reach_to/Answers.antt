@@ -1,8 +1,8 @@
 use Rattle.std.proofs.Common.{◌≡◌, Some, sym, ap, set, ◌∙◌}
 use Rattle.std.specs.Option.{option_map}
 use Rattle.std.proofs.lemmas.List.{set-get_or}
-use Rattle.live_actors.specs.declared.places.Place.{Place}
-use Rattle.live_actors.specs.Place.{place_at}
+use Rattle.live_actors.specs.declared.places.KeptJob.{KeptJob}
+use Rattle.live_actors.specs.KeptJob.{place_at}
 use Rattle.live_actors.specs.LiveJobs.{jobs_in}
 use Rattle.live_actors.proofs.JobsInPlaces.{jobs_at, jobs_set}
 use Rattle.live_actors.proofs.live_jobs.reach_to.Goals as goal
@@ -12,4 +12,4 @@ returns-then-place-reach-clause-jobs c =
     let items = c.args.kept.now.items in
     let n = c.in-Job.number in
     let there : place_at items n ≡ Some c.in-Some.place = sym c.get.ensures ∙ c.in-Some.is in
-    ap jobs_in c.set.ensures.items ∙ jobs_set items n _ ∙ ap (set (jobs_in items) n) (sym (jobs_at items n ∙ ap (option_map (λ (p : Place). p.job)) there)) ∙ set-get_or (jobs_in items) n _
+    ap jobs_in c.set.ensures.items ∙ jobs_set items n _ ∙ ap (set (jobs_in items) n) (sym (jobs_at items n ∙ ap (option_map (λ (p : KeptJob). p.job)) there)) ∙ set-get_or (jobs_in items) n _

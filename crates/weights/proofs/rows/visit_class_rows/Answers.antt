@@ -3,7 +3,7 @@ use Rattle.std.specs.Prelude.{slice_index}
 use Rattle.std.proofs.lemmas.List.{take_all, length-drop}
 use Rattle.weights.specs.declared.row.Row.{Row}
 use Rattle.job_bodies.specs.declared.action.Action.{Action}
-use Rattle.weights.specs.declared.body.Actor.TheVariants.{Class}
+use Rattle.weights.specs.declared.body.BodyOwner.TheVariants.{Class}
 use Rattle.weights.specs.Vector.{class_weights, job_weight}
 use Rattle.weights.specs.Body.{place_at}
 use Rattle.weights.specs.Rows.{body_rows}

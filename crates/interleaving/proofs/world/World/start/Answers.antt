@@ -6,3 +6,6 @@ use Rattle.interleaving.proofs.world.World.start.Goals as goal
 
 pub returns-clause-of_plan : goal.returns-clause-of_plan
 returns-clause-of_plan c = start_of_plan c.args.plan.now _ (grind (arith, common_steps, starts_seen))
+
+pub returns-clause-value : goal.returns-clause-value
+returns-clause-value c = grind (arith, common_steps, starts_seen)

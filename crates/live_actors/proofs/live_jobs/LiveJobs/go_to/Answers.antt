@@ -2,7 +2,7 @@ use Rattle.std.proofs.Common.{◌≡◌, true, IsSome, set, refl, sym, ap, subst
 use Rattle.written_machine.specs.declared.parent.Parent.TheVariants.{Job}
 use Rattle.live_views.specs.declared.job_view.Phase.TheVariants.{At}
 use Rattle.live_views.specs.ViewStep.{may_ask_for, with_phase}
-use Rattle.live_actors.specs.Place.{place_in_phase}
+use Rattle.live_actors.specs.KeptJob.{place_in_phase}
 use Rattle.live_actors.specs.LiveJobs.{JobList, AreIndexed, jobs_in}
 use Rattle.live_actors.proofs.IndexOnceChanged.{indexed_phased}
 use Rattle.live_actors.proofs.JobsInPlaces.{jobs_phased, has_place, live_if_asks}

@@ -3,7 +3,7 @@ use Rattle.std.proofs.lemmas.List.Sums.{count_by-le-length}
 use Rattle.live_views.specs.ViewStep.{is_unfinished_job, unless_stale}
 use Rattle.std.specs.Option.{option_map}
 use Rattle.std.proofs.lemmas.List.{map-append}
-use Rattle.live_actors.specs.declared.places.Place.{Place}
+use Rattle.live_actors.specs.declared.places.KeptJob.{KeptJob}
 use Rattle.live_actors.specs.Latest.{found, is_call}
 use Rattle.live_actors.specs.LiveJobs.{JobList, WasMade, NoOtherIsStale, AreIndexed, jobs_in}
 use Rattle.live_actors.proofs.ReachesStay.{stays_then}
@@ -30,7 +30,7 @@ invariant_of-self c =
     let job = c.args.job in
     let middle = c.free_stale.new.kept.items in
     let after = c.reach_to.new.kept.items in
-    let place : Place = record { job = job; reach = 0 } in
+    let place : KeptJob = record { job = job; reach = 0 } in
     let parent_made = subst (λ (x : JobList). WasMade x.jobs job.parent) (sym c.self.view_is) c.requires.parent in
     let number : c.made-number.result ≡ length after = c.made-number.ensures ∙ sym c.reach_to.ensures.reaches.long in
     subst (λ is. AreIndexed is c.set.new.self (l.unfinished + 1)) (sym c.push.ensures.items)
@@ -42,7 +42,7 @@ pub returns-clause-jobs : goal.returns-clause-jobs
 returns-clause-jobs c =
     let job = c.args.job in
     let after = c.reach_to.new.kept.items in
-    ap jobs_in c.push.ensures.items ∙ map-append (option_map (λ (p : Place). p.job)) after (Some (record { job = job; reach = 0 }) ∷ [])
+    ap jobs_in c.push.ensures.items ∙ map-append (option_map (λ (p : KeptJob). p.job)) after (Some (record { job = job; reach = 0 }) ∷ [])
     ∙ ap (λ js. js ++ Some job ∷ []) (c.reach_to.ensures.jobs ∙ c.free_stale.ensures.jobs ∙ ap (λ (x : JobList). map (unless_stale job.parent job.slot) x.jobs) c.self.view_is)
 
 pub returns-clause-places : goal.returns-clause-places

@@ -1,6 +1,6 @@
 use Rattle.std.proofs.Common.{◌≡◌, ◌++◌, None, is_some, set, rules, nat_eq, sym, ap, ◌∙◌}
 use Rattle.std.specs.HashMap.{get}
-use Rattle.live_actors.specs.Place.{place_at}
+use Rattle.live_actors.specs.KeptJob.{place_at}
 use Rattle.live_actors.specs.PlaceRow.{items_below, Row}
 use Rattle.live_actors.proofs.PlacesByNumber.{none_from}
 use Rattle.live_actors.proofs.PlaceRows.{at_lower, at_recent, lower_set, recent_set, gaps_lowered}

@@ -2,7 +2,7 @@ use Rattle.std.proofs.Common.{◌≡◌, ◌-◌, ◌≤◌, None, length, rules
 use Rattle.std.specs.HashMap.{get}
 use Rattle.std.proofs.lemmas.Bool.{cases_lt}
 use Rattle.std.proofs.lemmas.List.{get_or_past, get_or_read_under}
-use Rattle.live_actors.specs.Place.{place_at}
+use Rattle.live_actors.specs.KeptJob.{place_at}
 use Rattle.live_actors.specs.PlaceRow.{Row}
 use Rattle.live_actors.proofs.PlaceRows.{at_lower, at_recent}
 use Rattle.live_actors.proofs.place_row.PlaceRow.get.Goals as goal

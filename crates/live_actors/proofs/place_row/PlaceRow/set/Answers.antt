@@ -1,6 +1,6 @@
 use Rattle.std.proofs.Common.{◌≡◌, ◌-◌, true, Some, is_some, IsSome, set, nat_eq, sym, ap, subst, ◌∙◌, arith}
 use Rattle.std.specs.HashMap.{get}
-use Rattle.live_actors.specs.Place.{place_at}
+use Rattle.live_actors.specs.KeptJob.{place_at}
 use Rattle.live_actors.specs.PlaceRow.{Row}
 use Rattle.live_actors.proofs.PlacesByNumber.{some_is, is_inside}
 use Rattle.live_actors.proofs.PlaceRows.{at_lower, at_recent, lower_set, recent_set}

@@ -1,6 +1,6 @@
 use Rattle.std.proofs.Common.{IsSome, set, ◌-◌, ◌++◌, nat_eq, sym, ap, subst, ◌∙◌}
 use Rattle.std.specs.HashMap.{get}
-use Rattle.live_actors.specs.Place.{place_at, place_in_phase}
+use Rattle.live_actors.specs.KeptJob.{place_at, place_in_phase}
 use Rattle.live_actors.specs.PlaceRow.{items_below, Row, row_items}
 use Rattle.live_actors.proofs.PlaceRows.{at_lower, at_recent, lower_set, recent_set}
 use Rattle.live_actors.proofs.place_row.PlaceRow.set_phase.Goals as goal

@@ -33,7 +33,7 @@ pub(crate) enum Lenders {
 
 /// A vector of a pool that is looked for.
 #[derive(Clone, Copy)]
-pub(crate) struct Wanted<'a> {
+pub(crate) struct Target<'a> {
     /// The pool's number.
     pub(crate) pool: usize,
     /// Where its jobs weigh at least 1.
@@ -46,10 +46,10 @@ pub(crate) struct Wanted<'a> {
     pub(crate) maxes: Option<&'a [u64]>,
 }
 
-impl<'a> Wanted<'a> {
+impl<'a> Target<'a> {
     /// The pool's standing vector, whose total may be so much.
-    pub(crate) fn standing(number: usize, limit: u64) -> Wanted<'static> {
-        Wanted {
+    pub(crate) fn standing(number: usize, limit: u64) -> Target<'static> {
+        Target {
             pool: number,
             heavy: Heavy::WhileQueued,
             limit,
@@ -59,8 +59,8 @@ impl<'a> Wanted<'a> {
     }
 
     /// The pool's lifetime vector, whose total may be so much.
-    pub(crate) fn lifetime(number: usize, limit: u64) -> Wanted<'static> {
-        Wanted {
+    pub(crate) fn lifetime(number: usize, limit: u64) -> Target<'static> {
+        Target {
             pool: number,
             heavy: Heavy::Everywhere,
             limit,
@@ -71,8 +71,8 @@ impl<'a> Wanted<'a> {
 
     /// The pool's blocked vector, where the pool has this rank and the classes reach as high as told, and its total may be so
     /// much.
-    pub(crate) fn blocked(number: usize, limit: u64, reach: &'a [u64], rank: u64) -> Wanted<'a> {
-        Wanted {
+    pub(crate) fn blocked(number: usize, limit: u64, reach: &'a [u64], rank: u64) -> Target<'a> {
+        Target {
             pool: number,
             heavy: Heavy::AtGets { reach, rank },
             limit,
@@ -83,11 +83,11 @@ impl<'a> Wanted<'a> {
 
     /// The same without loans where no total with loans is within the limit: workers that weigh something weigh more than
     /// nothing.
-    pub(crate) fn without_vain_loans(self) -> Wanted<'a> {
+    pub(crate) fn without_vain_loans(self) -> Target<'a> {
         if self.limit > 0 {
             return self;
         }
-        Wanted {
+        Target {
             lenders: Lenders::Nobody,
             ..self
         }
