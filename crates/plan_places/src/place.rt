@@ -1,5 +1,9 @@
 //! Lines and columns.
 
+ghost use Rattle.std.specs.Prelude.{◌≡◌, ◌≤◌, length, count_by, take};
+ghost use Rattle.std.specs.List.{IsAfterLastMatch};
+ghost use Rattle.plan_places.specs.TextPlace.{IsBehind, is_newline, begins_character};
+
 use std::fmt;
 
 /// A place in a text.
@@ -24,17 +28,38 @@ impl fmt::Display for TextPlace {
     }
 }
 
-/// The place of the byte at this offset of a text, or of the text's end.
-pub fn place_at(text: &[u8], offset: usize) -> TextPlace {
-    let mut line = 1usize;
-    let mut column = 1usize;
-    for byte in text.iter().take(offset) {
-        if *byte == b'\n' {
-            line = line.saturating_add(1);
-            column = 1;
-        } else if *byte & 0xC0 != 0x80 {
-            column = column.saturating_add(1);
-        }
+/// The place of the byte at this offset of a text in UTF-8, or of the text's end where the text is not so long.
+pub fn place_at(text: &[u8], offset: usize) -> TextPlace
+    ensures { IsBehind (take offset text.now) result }
+{
+    let before = &text[..offset.min(text.len())];
+    TextPlace {
+        line: 1 + newlines(before),
+        column: 1 + characters(&before[last_line_start(before)..]),
     }
-    TextPlace { line, column }
+}
+
+fn newlines(text: &[u8]) -> usize
+    ensures count { result ≡ count_by is_newline text.now }
+    ensures within { result ≤ length text.now }
+{
+    text.iter().filter(|byte| **byte == b'\n').count()
+}
+
+fn characters(text: &[u8]) -> usize
+    ensures count { result ≡ count_by begins_character text.now }
+    ensures within { result ≤ length text.now }
+{
+    text.iter().filter(|byte| **byte / 64 != 2).count()
+}
+
+/// Where the last line of a text begins: behind its last newline, or at its beginning.
+fn last_line_start(text: &[u8]) -> usize
+    ensures within { result ≤ length text.now }
+    ensures behind_newline { IsAfterLastMatch is_newline text.now result }
+{
+    match text.iter().rposition(|byte| *byte == b'\n') {
+        Some(newline) => newline + 1,
+        None => 0,
+    }
 }
