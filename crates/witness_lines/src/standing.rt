@@ -19,7 +19,6 @@ pub(crate) fn push_pools(text: &mut String, plan: &Plan, world: &World) -> Resul
     Ok(())
 }
 
-#[tactic(auto, using(crate::proofs::PoolsOfPlans::pools_of_plan))]
 fn state_of<'w>(plan: &Plan, world: &'w World, pool: usize) -> Option<&'w PoolState>
     requires { IsOf plan.now world.now.view }
 {

@@ -12,7 +12,6 @@ const CLIENTS_SHOWN: usize = 4;
 
 /// Each thing that a look-up of the world says: the counts, the pools, the clients, and the jobs with the two numbers behind
 /// the last, which no job has.
-#[tactic(auto, using(crate::proofs::PoolsOfPlans::pools_of_plan))]
 pub fn facts(alloc: Global, plan: &Plan, world: &World) -> Result<Vec<String>, AllocError>
     requires { IsOf plan.now world.now.view }
 {
