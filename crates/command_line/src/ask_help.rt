@@ -14,7 +14,7 @@ pub(crate) const ASK_NOTES: &str = "\
 PLAN is a plan in TOML, and CERTIFICATE one that was kept: where it shows that the sizes are safe,
 nothing is searched. Else a certificate is looked for, and events that show the sizes to be wrong.
 
-Where the text is bad, the answer has a line for each fault that can be seen, as
+Where the text is bad, the answer has a line for each fault that can be seen, 100 or so at most, as
   shop.toml:17:40: class page, action 2 \"get row\": nothing was submitted as row; did you mean rows?
 with the number of the fault at its end. Else it has a line for each thing that is seldom meant,
 with `warning:` in it, and then

@@ -202,7 +202,7 @@ then a line for each pool, and who waits for whom, and why for ever or until whe
   job 0 (outer) waits for job 1 (inner)
 No certificate accepts a plan with such events. Where none are found, the answer is
   not decided: S states were searched
-which says nothing of the plan. S is at most the N of --states.
+which says nothing of the plan. S is at most the N of --states, and `1 state was searched` where it is 1.
 
 With --bundle the plan is written, and behind it a line `%%` and the events, for `sizing replay`.
 
