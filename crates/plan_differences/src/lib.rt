@@ -12,5 +12,5 @@ mod sizes;
 
 pub use difference::Difference;
 pub use excess::Excess;
-pub use round_count::{MAX_ROUNDS, RoundCount};
+pub use round_count::{MAX_RECORDED_ROUNDS, RoundCount};
 pub use sizes::differences;

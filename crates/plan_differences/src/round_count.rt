@@ -8,7 +8,7 @@ use job_bodies::Client;
 use std::marker::Model;
 
 /// The most rounds of a recording: their numbers are from 0 to 1,000,000,000.
-pub const MAX_ROUNDS: u64 = 1_000_000_001;
+pub const MAX_RECORDED_ROUNDS: u64 = 1_000_000_001;
 
 /// The rounds of one kind of clients, counted while they begin and end, and what the plan says of the kind.
 ///
@@ -23,14 +23,14 @@ pub struct RoundCount {
 
 impl Model for RoundCount {
     ghost use Rattle.std.specs.Prelude.{◌≤◌};
-    ghost use Rattle.plan_differences.specs.declared.round_count.TheConstants.{MAX_ROUNDS};
+    ghost use Rattle.plan_differences.specs.declared.round_count.TheConstants.{MAX_RECORDED_ROUNDS};
     ghost use Rattle.plan_differences.specs.Rounds.{Rounds};
 
     ghost Value = { Rounds };
 
     ghost view = { λ r. record { count = r.count; repeat = r.repeat; begun = r.begun; ended = r.ended } };
 
-    ghost invariant = { λ r. (r.ended ≤ r.begun) × (r.begun ≤ MAX_ROUNDS) };
+    ghost invariant = { λ r. (r.ended ≤ r.begun) × (r.begun ≤ MAX_RECORDED_ROUNDS) };
 }
 
 impl RoundCount {
@@ -50,10 +50,10 @@ impl RoundCount {
     /// at once, whatever the kind; or else, of a kind that does not repeat, more than `count` in all. None where there
     /// are not.
     ///
-    /// Fewer than [`MAX_ROUNDS`] began before, as of any recording whose rounds are numbered in order.
+    /// Fewer than [`MAX_RECORDED_ROUNDS`] began before, as of any recording whose rounds are numbered in order.
     /// [`can_begin`](RoundCount::can_begin) tests it.
     pub fn begin(&mut self) -> Option<Excess>
-        requires { self.old.begun < MAX_ROUNDS }
+        requires { self.old.begun < MAX_RECORDED_ROUNDS }
         ensures counted { self.new ≡ record self.old { begun = self.old.begun + 1 } }
         ensures exact { result ≡ spec.excess_of self.new }
         ensures none { IsNone result ↔ spec.IsWithinPlan self.new }
@@ -71,11 +71,11 @@ impl RoundCount {
         self.ended += 1;
     }
 
-    /// Whether one more round may begin: fewer than [`MAX_ROUNDS`] began so far.
+    /// Whether one more round may begin: fewer than [`MAX_RECORDED_ROUNDS`] began so far.
     pub fn can_begin(&self) -> bool
-        ensures { IsTrue result ↔ (self.now.begun < MAX_ROUNDS) }
+        ensures { IsTrue result ↔ (self.now.begun < MAX_RECORDED_ROUNDS) }
     {
-        self.begun < MAX_ROUNDS
+        self.begun < MAX_RECORDED_ROUNDS
     }
 
     /// Whether a round may end: one is between its begin and its end.

@@ -1,5 +1,5 @@
 -- What `certify` may answer to an input: a relation, since nothing is said of which certificate is found.
-use Rattle.std.specs.Prelude.{◌≡◌, ◌⊎◌, ◌<◌, ℕ, false, nat_eq, nat_lt, ◌==◌, ◌||◌, List, [], ◌∷◌, ◌++◌, length, codes, if◌then◌else◌, Some, Result, Ok, Err, IsTrue, MatchBool}
+use Rattle.std.specs.Prelude.{◌≡◌, ◌⊎◌, ◌<◌, ℕ, false, nat_eq, nat_lt, ◌==◌, ◌||◌, List, [], ◌∷◌, ◌++◌, length, codes, if◌then◌else◌, Some, Result, Ok, Err, IsTrue, MatchBool, ⊤}
 use Rattle.std.specs.List.{ends_with}
 use Rattle.job_bodies.specs.Plan.{Plan}
 use Rattle.job_bodies.specs.FaultText.{fault_line}
@@ -14,6 +14,8 @@ use Rattle.ask_answers.specs.Finding.{IsOpen}
 use Rattle.cert_check.specs.Verdict.{Verdict}
 use Rattle.cert_check.specs.Check.{checked, IsSafeToRun}
 use Rattle.sizing_cli.specs.declared.limits.TheConstants.{MAX_INPUT_BYTES}
+use Rattle.sizing_cli.specs.declared.certify.Certified.{Certified}
+use Rattle.sizing_cli.specs.declared.certify.Certified.TheVariants.{Text, Nothing, TooLong}
 use Rattle.sizing_cli.specs.declared.status.Status.TheVariants.{Done, Refused}
 use Rattle.sizing_cli.specs.Answer.{Answer, fault, input_too_long}
 use Rattle.sizing_cli.specs.Bundle.{bundle_of}
@@ -41,10 +43,15 @@ pub record IsBundleWith (plan cert text : List ℕ) : Type 0 where
   pub splits : bundle_of text ≡ Some (record { plan = plan; second = cert })
   pub says_yes : IsYes plan cert
 
--- the text is such a bundle of the plan's text and of a certificate's
+-- the text of a certificate, as it is written, with a newline behind it
+pub record IsCertLine (text : List ℕ) : Type 0 where
+  pub cert : Cert
+  pub is_text : text ≡ cert_text cert ++ 10 ∷ []
+
+-- the text is such a bundle of the plan's text and of the line of a certificate
 pub record IsCertifiedBundle (plan text : List ℕ) : Type 0 where
-  pub cert : List ℕ
-  pub bundle : IsBundleWith plan cert text
+  pub cert : Cert
+  pub bundle : IsBundleWith plan (cert_text cert ++ 10 ∷ []) text
 
 pub record IsCertified (plan : List ℕ) (answer : Answer) : Type 0 where
   pub bundle : IsCertifiedBundle plan answer.text
@@ -59,6 +66,12 @@ pub record IsTooLong (plan : Plan) : Type 0 where
   pub cert : Cert
   pub accepts : IsTrue (accepted plan cert)
   pub long : HasLongText cert
+
+-- what a search comes to is the line of a certificate, where it is a text
+abbrev pub IsLineIfText : Certified → Type 0
+IsLineIfText (Text line) = IsCertLine line.items
+IsLineIfText Nothing = ⊤
+IsLineIfText TooLong = ⊤
 
 -- sizes were looked for, and the declared ones are not what was found; nor does the steady certificate accept them
 pub record IsUncertified (plan : Plan) : Type 0 where

@@ -97,6 +97,7 @@ fn found_text<R: Threads + Wait + Sync>(
 ) -> Result<Certified, ServeFault>
     requires some { 1 ≤ workers }
     requires most { workers ≤ 64 }
+    ensures line { IfOk result spec.IsLineIfText }
     ensures too_long { IfOk result (λ found. found ≡ Certified.TooLong → spec.IsTooLong plan.now) }
     ensures nothing { IfOk result (λ found. found ≡ Certified.Nothing → spec.IsUncertified plan.now) }
     ensures fault { IfErr result (λ fault. IsTrue (is_of_search fault.number)) }
@@ -122,6 +123,7 @@ fn bundle<R: Threads + Wait + Sync>(
 ) -> Result<Output, ServeFault>
     requires some { 1 ≤ workers }
     requires most { workers ≤ 64 }
+    requires line { spec.IsCertLine cert.now }
     ensures answer { IfOk result (spec.IsCertified plan.items) }
     ensures fault { IfErr result (λ fault. IsTrue (is_of_search fault.number)) }
 {

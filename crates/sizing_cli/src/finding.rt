@@ -11,20 +11,17 @@ ghost use Rattle.sizing_cli.specs.ServeFault.{is_of_search};
 use crate::ServeFault;
 use crate::at_once::AtOnce;
 use crate::certificate::{Declared, as_declared};
+use crate::limits::WORKERS;
 use crate::witness::witness_of;
 use ask_answers::Finding;
 use cert_check::accepts;
 use cert_search::search;
 use certificates::Cert;
-use command_line::DEFAULT_WORKERS;
 use job_bodies::Plan;
 use size_search::{SizesFound, search_sizes};
 use std::alloc::{AllocError, Global};
 use std::sync::Wait;
 use std::thread::Threads;
-
-/// In how many threads a certificate is looked for.
-const WORKERS: usize = DEFAULT_WORKERS as usize;
 
 /// How many states a witness is looked for in.
 const STATES: usize = 100_000;

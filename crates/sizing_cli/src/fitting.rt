@@ -11,14 +11,14 @@ ghost use Rattle.sizing_cli.specs.ServeFault.{is_of_search};
 use crate::answer::{Answer, input_too_long, plan_fault};
 use crate::at_once::AtOnce;
 use crate::certified_bundle::certified_bundle;
-use crate::limits::MAX_INPUT_BYTES;
+use crate::limits::{MAX_INPUT_BYTES, WORKERS};
 use crate::output::Output;
 use crate::texts::plan_in;
 use crate::{ServeFault, Status};
 use cert_search::search;
 use cert_text::write_cert;
 use certificates::Cert;
-use command_line::{DEFAULT_WORKERS, SizesForm};
+use command_line::SizesForm;
 use faults::number::MIXED;
 use job_bodies::Plan;
 use plan_writer::write_plan;
@@ -27,9 +27,6 @@ use size_search::{NoSizes, SizesFound, search_sizes};
 use std::alloc::{AllocError, Global};
 use std::sync::Wait;
 use std::thread::Threads;
-
-/// In how many threads to search and to check.
-const WORKERS: usize = DEFAULT_WORKERS as usize;
 
 /// The answer to an input, which is a plan's text: the sizes with which there is a certificate, or the bundle of that plan
 /// and of the certificate, or why there are none.
@@ -65,9 +62,27 @@ fn fit_plan<R: Threads + Wait + Sync>(
     ensures fault { IfErr result (λ fault. IsTrue (is_of_search fault.number)) }
 {
     let found = sizes_of(rt, alloc, plan)?;
+    answer_of_sizes(rt, alloc, wanted, plan, &found)
+}
+
+/// The answer to what a search for sizes found of the plan: the lines of the sizes or the bundle, or why there are none.
+///
+/// # Errors
+///
+/// Fault 20 where memory ran out or a thread could not be started, and 42 and 43 of the check of the bundle.
+pub fn answer_of_sizes<R: Threads + Wait + Sync>(
+    rt: &R,
+    alloc: Global,
+    wanted: SizesForm,
+    plan: &Plan,
+    found: &SizesFound,
+) -> Result<Output, ServeFault>
+    ensures answer { IfOk result (spec.AnswersFound wanted plan.now found.now) }
+    ensures fault { IfErr result (λ fault. IsTrue (is_of_search fault.number)) }
+{
     match wanted {
-        SizesForm::Sizes => Ok(Output::of(answer_of(alloc, plan, &found)?)),
-        SizesForm::Bundle => bundle(rt, alloc, plan, &found),
+        SizesForm::Sizes => Ok(Output::of(lines_of(alloc, plan, found)?)),
+        SizesForm::Bundle => bundle(rt, alloc, plan, found),
     }
 }
 
@@ -86,8 +101,8 @@ fn sizes_of<R: Threads + Wait + Sync>(
     Ok(search_sizes(alloc, plan, first)?)
 }
 
-/// The answer to what the search found.
-fn answer_of(alloc: Global, plan: &Plan, found: &SizesFound) -> Result<Answer, AllocError>
+/// The lines of what the search found.
+fn lines_of(alloc: Global, plan: &Plan, found: &SizesFound) -> Result<Answer, AllocError>
     ensures { IfOk result (λ answer. answer ≡ spec.told plan.now found.now) }
 {
     match found {

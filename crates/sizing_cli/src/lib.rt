@@ -33,6 +33,7 @@ pub use asking::{Replied, ask};
 pub use byte_streams::{IoFault, MemorySink, MemorySource, Sink, Source, StdSink, StdSource};
 pub use certify::whole_lines;
 pub use command_line::{Command, Form, Given, Manner, Review, Shown, SizesForm, Task, read_words};
+pub use fitting::answer_of_sizes;
 pub use laws::{
     a_yes_means_safe, inputs_split_at_the_last_separator, limits_and_fault_numbers_are_stated,
     no_bundle_without_a_separator,

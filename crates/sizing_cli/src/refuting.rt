@@ -8,21 +8,18 @@ ghost use Rattle.sizing_cli.specs.ServeFault.{is_of_search};
 use crate::answer::{Answer, input_too_long, plan_fault};
 use crate::certificate::certificate_of;
 use crate::certify::whole_lines;
-use crate::limits::{MAX_EVENT_BYTES, MAX_INPUT_BYTES};
+use crate::limits::{MAX_EVENT_BYTES, MAX_INPUT_BYTES, WORKERS};
 use crate::output::Output;
 use crate::texts::plan_in;
 use crate::witness::{Sought, witness_of};
 use crate::{ServeFault, Status};
-use command_line::{DEFAULT_WORKERS, Shown};
+use command_line::Shown;
 use job_bodies::Plan;
 use plan_witnesses::Witness;
 use std::alloc::{AllocError, Global};
 use std::sync::Wait;
 use std::thread::Threads;
 use witness_lines::{push_event_lines, told};
-
-/// In how many threads a certificate is looked for.
-const WORKERS: usize = DEFAULT_WORKERS as usize;
 
 /// The answer to an input, which is a plan's text: that it is safe, where a certificate was found; else a witness, as a story
 /// or as a bundle with its events; else that it is not decided, and how many states were searched. So many may be, at most.

@@ -23,7 +23,7 @@ use std::sync::Wait;
 use std::thread::Threads;
 
 /// What messages name a plan that no file has.
-const STANDARD_INPUT: &str = "<stdin>";
+const STANDARD_INPUT_NAME: &str = "<stdin>";
 
 /// Reads an input, and writes the command's answer to it. The whole answer is made before its first byte is written. The
 /// numbers of the command lie in their ranges.
@@ -52,7 +52,7 @@ pub fn serve<R: Threads + Wait + Sync, S: Source, K: Sink>(
         rt,
         alloc,
         command,
-        STANDARD_INPUT,
+        STANDARD_INPUT_NAME,
         &mut certificate,
         source,
         sink,

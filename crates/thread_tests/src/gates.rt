@@ -159,20 +159,22 @@ pub(crate) enum Who {
     Jobs,
 }
 
-// A gate that holds the first work of these actors until another of them has begun, for at most 10,000 turns of a
-// millisecond each.
+// A gate that holds the first pieces of work of these actors until so many of them have begun, for at most 10,000 turns of
+// a millisecond each.
 #[derive(Drop)]
 pub(crate) struct Meeting<'a, C: Clock + Sync> {
     clock: &'a C,
     who: Who,
+    enough: u64,
     begun: AtomicU64,
 }
 
 impl<'a, C: Clock + Sync> Meeting<'a, C> {
-    pub(crate) fn new(clock: &'a C, who: Who) -> Meeting<'a, C> {
+    pub(crate) fn new(clock: &'a C, who: Who, enough: u64) -> Meeting<'a, C> {
         Meeting {
             clock,
             who,
+            enough,
             begun: AtomicU64::new(0),
         }
     }
@@ -184,11 +186,11 @@ impl<C: Clock + Sync> Gate for Meeting<'_, C> {
             Actor::Client(_) => Who::Clients,
             Actor::Job(_) => Who::Jobs,
         };
-        if who != self.who || self.begun.fetch_add(1, Ordering::SeqCst) > 0 {
+        if who != self.who || self.begun.fetch_add(1, Ordering::SeqCst) >= self.enough {
             return Ok(());
         }
         for _ in 0..10_000 {
-            if self.begun.load(Ordering::SeqCst) > 1 {
+            if self.begun.load(Ordering::SeqCst) >= self.enough {
                 return Ok(());
             }
             thread::sleep(self.clock, Duration::from_millis(1));
