@@ -1,5 +1,5 @@
 -- Texts as they are written of certificates. A part of one is read at the front of a text, and leaves the rest.
-use Rattle.std.specs.Prelude.{◌≡◌, ℕ, ◌≤◌, true, List, ◌++◌, length, codes, decimal, IsTrue}
+use Rattle.std.specs.Prelude.{◌≡◌, ℕ, ◌≤◌, true, List, ◌++◌, length, slice_get, Some, codes, decimal, IsTrue}
 use Rattle.std.specs.List.{list_all}
 use Rattle.json.specs.Word.{is_space}
 use Rattle.serde_json.specs.Data.{Data}
@@ -14,6 +14,10 @@ use Rattle.cert_text.specs.CertText.{vector_data, version_number, cert_text}
 -- the text of a value stands at the front of a text, and this rest behind it
 abbrev pub BeginsWith : List ℕ → Data → List ℕ → Type 0
 BeginsWith text value rest = text ≡ compact_text value ++ rest
+
+-- so many rows, each of as many numbers as there are points at its place
+abbrev pub AreRows : ℕ → (ℕ → ℕ) → List (List ℕ) → Type 0
+AreRows count points rows = (length rows ≡ count) × ((place : ℕ) (row : List ℕ) → slice_get rows place ≡ Some row → length row ≡ points place)
 
 -- a pool's bound and its key, as they stand behind its blocked vector
 abbrev pub bound_text : Bound → List ℕ

@@ -2,9 +2,13 @@
 //!
 //! Nearly every text is one. Of any other nothing is said here: it is read as JSON.
 
-ghost use Rattle.std.specs.Prelude.{◌≡◌, ◌++◌, IfOk, map};
+ghost use Rattle.std.specs.Prelude.{◌≡◌, ◌++◌, IfOk, IsTrue, length, map};
 ghost use Rattle.std.specs.List.{list_all};
 ghost use Rattle.json.specs.Word.{is_space};
+ghost use Rattle.weights.specs.Vector.{vector_fits};
+ghost use Rattle.weights.specs.Bound.{bound_vector};
+ghost use Rattle.pool_ranks.specs.Ranks.{ranks_fit};
+ghost use Rattle.certificates.specs.Cert.{pool_cert_fits, cert_fits};
 ghost use Rattle.cert_text.specs.CertText as spec;
 ghost use Rattle.cert_text.specs.Canonical.{BeginsWith, bound_text, version_text, IsCanonical};
 
@@ -26,7 +30,8 @@ fn leading_bound<'a>(
     plan: &Plan,
     text: &'a [u8],
 ) -> Result<(Bound, &'a [u8]), CanonicalError>
-    ensures { IfOk result (λ read. text.now ≡ bound_text read.0 ++ read.1.now) }
+    ensures text { IfOk result (λ read. text.now ≡ bound_text read.0 ++ read.1.now) }
+    ensures fits { IfOk result (λ read. IsTrue (vector_fits plan.now (bound_vector read.0))) }
 {
     if let Ok(rest) = behind(text, b",\"standing\":") {
         let (vector, rest) = leading_vector(alloc, plan, rest)?;
@@ -42,7 +47,8 @@ fn leading_pool<'a>(
     plan: &Plan,
     text: &'a [u8],
 ) -> Result<(PoolCert, &'a [u8]), CanonicalError>
-    ensures { IfOk result (λ read. BeginsWith text.now (spec.pool_data read.0) read.1.now) }
+    ensures text { IfOk result (λ read. BeginsWith text.now (spec.pool_data read.0) read.1.now) }
+    ensures fits { IfOk result (λ read. IsTrue (pool_cert_fits plan.now read.0)) }
 {
     let rest = behind(text, b"{\"blocked\":")?;
     let (blocked, rest) = leading_vector(alloc, plan, rest)?;
@@ -56,7 +62,9 @@ fn leading_pools<'a>(
     plan: &Plan,
     text: &'a [u8],
 ) -> Result<(Vec<PoolCert>, &'a [u8]), CanonicalError>
-    ensures { IfOk result (λ read. BeginsWith text.now (spec.list_data (map spec.pool_data read.0.items)) read.1.now) }
+    ensures text { IfOk result (λ read. BeginsWith text.now (spec.list_data (map spec.pool_data read.0.items)) read.1.now) }
+    ensures count { IfOk result (λ read. length read.0.items ≡ length plan.now.pools) }
+    ensures fit { IfOk result (λ read. IsTrue (list_all (pool_cert_fits plan.now) read.0.items)) }
 {
     let count = plan.pools().len();
     let mut pools = list_for(alloc, count, text)?;
@@ -75,7 +83,8 @@ fn leading_ranks<'a>(
     plan: &Plan,
     text: &'a [u8],
 ) -> Result<(Ranks, &'a [u8]), CanonicalError>
-    ensures { IfOk result (λ read. BeginsWith text.now (spec.ranks_data read.0) read.1.now) }
+    ensures text { IfOk result (λ read. BeginsWith text.now (spec.ranks_data read.0) read.1.now) }
+    ensures fit { IfOk result (λ read. IsTrue (ranks_fit plan.now read.0)) }
 {
     let rest = behind(text, b"{\"levels\":")?;
     let (levels, rest) = leading_numbers(alloc, plan.classes().len(), rest)?;
@@ -109,7 +118,8 @@ fn leading_cert<'a>(
     plan: &Plan,
     text: &'a [u8],
 ) -> Result<(Cert, &'a [u8]), CanonicalError>
-    ensures { IfOk result (λ read. BeginsWith text.now (spec.cert_data read.0) read.1.now) }
+    ensures text { IfOk result (λ read. BeginsWith text.now (spec.cert_data read.0) read.1.now) }
+    ensures fits { IfOk result (λ read. IsTrue (cert_fits plan.now read.0)) }
 {
     let rest = behind(text, b"{\"pools\":")?;
     let (pools, rest) = leading_pools(alloc, plan, rest)?;
@@ -140,7 +150,7 @@ pub fn canonical_cert(alloc: Global, text: &[u8], plan: &Plan) -> Result<Cert, C
         return Err(not_canonical());
     }
     let (cert, rest) = leading_cert(alloc, plan, text)?;
-    if !is_blank(rest) || !cert.fits(plan) {
+    if !is_blank(rest) {
         return Err(not_canonical());
     }
     Ok(cert)

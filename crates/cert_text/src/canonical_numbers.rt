@@ -1,6 +1,7 @@
 //! Numbers at the front of a text, as they are written of a certificate.
 
-ghost use Rattle.std.specs.Prelude.{◌≡◌, ◌<◌, ◌+◌, ◌∷◌, ◌++◌, [], nat_lt, decimal, IfOk, IfSome, IsTrue, vec_len, vec_capacity};
+ghost use Rattle.std.specs.Prelude.{◌≡◌, ◌<◌, ◌+◌, ◌∷◌, ◌++◌, [], length, nat_lt, decimal, IfOk, IfSome, IsTrue, vec_len, vec_capacity};
+ghost use Rattle.std.specs.List.{list_all};
 ghost use Rattle.serde_json.specs.Written.{comma_if};
 ghost use Rattle.weights.specs.Vector.{is_small};
 ghost use Rattle.cert_text.specs.CertText.{numbers_data};
@@ -17,6 +18,7 @@ pub struct NotCanonical;
 /// Why a part of a text gave nothing: memory ran out, or the text is not as it is written.
 pub type CanonicalError = ReadError<NotCanonical>;
 
+/// The error of any text that is not as it is written.
 pub fn not_canonical() -> CanonicalError {
     ReadError::Fault(NotCanonical)
 }
@@ -107,7 +109,9 @@ pub fn leading_numbers(
     count: usize,
     text: &[u8],
 ) -> Result<(Vec<u64>, &[u8]), CanonicalError>
-    ensures { IfOk result (λ read. BeginsWith text.now (numbers_data read.0.items) read.1.now) }
+    ensures text { IfOk result (λ read. BeginsWith text.now (numbers_data read.0.items) read.1.now) }
+    ensures count { IfOk result (λ read. length read.0.items ≡ count) }
+    ensures small { IfOk result (λ read. IsTrue (list_all is_small read.0.items)) }
 {
     let mut numbers = list_for(alloc, count, text)?;
     let mut rest = behind_byte(text, b'[')?;

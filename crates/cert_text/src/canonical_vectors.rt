@@ -1,8 +1,11 @@
 //! Vectors at the front of a text, as they are written of a certificate.
 
-ghost use Rattle.std.specs.Prelude.{◌≡◌, IfOk, map};
+ghost use Rattle.std.specs.Prelude.{◌≡◌, IfOk, IsTrue, length, map};
+ghost use Rattle.std.specs.List.{list_all};
+ghost use Rattle.weights.specs.Vector.{is_small, vector_fits};
+ghost use Rattle.cert_text.specs.Vectors.{class_points, client_points};
 ghost use Rattle.cert_text.specs.CertText as spec;
-ghost use Rattle.cert_text.specs.Canonical.{BeginsWith};
+ghost use Rattle.cert_text.specs.Canonical.{BeginsWith, AreRows};
 
 use crate::canonical_numbers::{
     CanonicalError, behind, behind_byte, behind_comma, leading_numbers, list_for,
@@ -18,7 +21,9 @@ fn leading_class_rows<'a>(
     plan: &Plan,
     text: &'a [u8],
 ) -> Result<(Vec<Vec<u64>>, &'a [u8]), CanonicalError>
-    ensures { IfOk result (λ read. BeginsWith text.now (spec.rows_data (map (λ row. row.items) read.0.items)) read.1.now) }
+    ensures text { IfOk result (λ read. BeginsWith text.now (spec.rows_data (map (λ row. row.items) read.0.items)) read.1.now) }
+    ensures rows { IfOk result (λ read. AreRows (length plan.now.classes) (class_points plan.now) (map (λ row. row.items) read.0.items)) }
+    ensures small { IfOk result (λ read. IsTrue (list_all (list_all is_small) (map (λ row. row.items) read.0.items))) }
 {
     let count = plan.classes().len();
     let mut rows = list_for(alloc, count, text)?;
@@ -38,7 +43,9 @@ fn leading_client_rows<'a>(
     plan: &Plan,
     text: &'a [u8],
 ) -> Result<(Vec<Vec<u64>>, &'a [u8]), CanonicalError>
-    ensures { IfOk result (λ read. BeginsWith text.now (spec.rows_data (map (λ row. row.items) read.0.items)) read.1.now) }
+    ensures text { IfOk result (λ read. BeginsWith text.now (spec.rows_data (map (λ row. row.items) read.0.items)) read.1.now) }
+    ensures rows { IfOk result (λ read. AreRows (length plan.now.clients) (client_points plan.now) (map (λ row. row.items) read.0.items)) }
+    ensures small { IfOk result (λ read. IsTrue (list_all (list_all is_small) (map (λ row. row.items) read.0.items))) }
 {
     let count = plan.clients().len();
     let mut rows = list_for(alloc, count, text)?;
@@ -58,7 +65,8 @@ pub fn leading_vector<'a>(
     plan: &Plan,
     text: &'a [u8],
 ) -> Result<(Vector, &'a [u8]), CanonicalError>
-    ensures { IfOk result (λ read. BeginsWith text.now (spec.vector_data read.0) read.1.now) }
+    ensures text { IfOk result (λ read. BeginsWith text.now (spec.vector_data read.0) read.1.now) }
+    ensures fits { IfOk result (λ read. IsTrue (vector_fits plan.now read.0)) }
 {
     let rest = behind(text, b"{\"classes\":")?;
     let (classes, rest) = leading_class_rows(alloc, plan, rest)?;

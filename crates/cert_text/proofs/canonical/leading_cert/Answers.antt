@@ -1,4 +1,5 @@
 use Rattle.std.proofs.Common.{◌≡◌, ℕ, List, [], ◌∷◌, ◌++◌, codes, decimal, refl, ap, ◌∙◌, append_assoc}
+use Rattle.std.proofs.lemmas.Bool.{and_from, eq-eqb}
 use Rattle.serde_json.proofs.OnLiterals.{serde_json_on_literals}
 use Rattle.certificates.specs.Cert.{Cert}
 use Rattle.cert_text.specs.CertText.{list_data, number_data, pool_data, ranks_data, version_number, cert_data}
@@ -18,6 +19,9 @@ cert_read cert text at_pools behind_pools at_ranks behind_ranks rest a b c d e =
     triple_read (codes "pools") (codes "ranks") (codes "version") (list_data (map pool_data cert.pools)) (ranks_data cert.ranks) (number_data (version_number cert))
     text at_pools behind_pools at_ranks behind_ranks (version ++ 125 ∷ rest) (125 ∷ rest) rest a b c d last refl refl
 
-pub returns : goal.returns
+pub returns-clause-text : goal.returns-clause-text
 unfolding serde_json_on_literals
-returns c = cert_read _ _ _ _ _ _ _ c.in_ok-rest.ensures c.in_ok-pools.ensures c.in_ok-rest-2.ensures c.in_ok-ranks.ensures c.in_ok-rest-3.ensures
+returns-clause-text c = cert_read _ _ _ _ _ _ _ c.in_ok-rest.ensures c.in_ok-pools.ensures.text c.in_ok-rest-2.ensures c.in_ok-ranks.ensures.text c.in_ok-rest-3.ensures
+
+pub returns-clause-fits : goal.returns-clause-fits
+returns-clause-fits c = and_from _ _ (and_from _ _ (eq-eqb _ _ c.in_ok-pools.ensures.count) c.in_ok-ranks.ensures.fit) c.in_ok-pools.ensures.fit

@@ -1,4 +1,5 @@
 use Rattle.std.proofs.Common.{◌≡◌, ℕ, List, ◌∷◌, ◌++◌, codes}
+use Rattle.std.proofs.lemmas.Bool.{and_from}
 use Rattle.serde_json.proofs.OnLiterals.{serde_json_on_literals}
 use Rattle.weights.specs.declared.bound.Bound.{Bound}
 use Rattle.weights.specs.declared.bound.Bound.TheVariants.{Standing, Lifetime}
@@ -15,6 +16,9 @@ unfolding bounded_data serde_json_on_literals
 pool_read blocked (Standing v) text at_blocked at_bound behind rest a b c d = pair_read (codes "blocked") (codes "standing") (vector_data blocked) (vector_data v) text at_blocked at_bound behind rest a b c d
 pool_read blocked (Lifetime v) text at_blocked at_bound behind rest a b c d = pair_read (codes "blocked") (codes "lifetime") (vector_data blocked) (vector_data v) text at_blocked at_bound behind rest a b c d
 
-pub returns : goal.returns
+pub returns-clause-text : goal.returns-clause-text
 unfolding serde_json_on_literals
-returns c = pool_read _ _ _ _ _ _ _ c.in_ok-rest.ensures c.in_ok-blocked.ensures c.in_ok-bound.ensures c.in_ok-rest-2.ensures
+returns-clause-text c = pool_read _ _ _ _ _ _ _ c.in_ok-rest.ensures c.in_ok-blocked.ensures.text c.in_ok-bound.ensures.text c.in_ok-rest-2.ensures
+
+pub returns-clause-fits : goal.returns-clause-fits
+returns-clause-fits c = and_from _ _ c.in_ok-bound.ensures.fits c.in_ok-blocked.ensures.fits
