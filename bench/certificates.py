@@ -29,11 +29,11 @@ class Certificate:
     levels: list
 
     def text(self):
-        """The certificate as JSON, as short as that can be."""
+        """The certificate as JSON, as `sizing` writes it: no space, and the keys of each object ascending."""
         pools = [{"standing": vars(standing), "blocked": vars(blocked)}
                  for standing, blocked in zip(self.standing, self.blocked)]
         ranks = {"pools": self.pools, "reach": self.reach, "levels": self.levels}
-        return json.dumps({"version": 1, "pools": pools, "ranks": ranks}, separators=(",", ":"))
+        return json.dumps({"version": 1, "pools": pools, "ranks": ranks}, separators=(",", ":"), sort_keys=True)
 
 
 @dataclass

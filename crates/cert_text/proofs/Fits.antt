@@ -22,6 +22,7 @@ use Rattle.cert_text.specs.Values.{fault, wrong_shape, number_of, as_list, eleme
 use Rattle.faults.specs.declared.number.TheConstants.{WEIGHT_TOO_LARGE}
 use Rattle.cert_text.specs.Version.{version_of}
 use Rattle.cert_text.specs.Vectors.{numbers_of, class_points, client_points, class_rows, client_rows, vector_of}
+use Rattle.cert_text.specs.Canonical.{AreRows}
 use Rattle.cert_text.specs.Shape.{standing_of, lifetime_of, lifetime_or_standing, bound_of, pool_of, pools_of, ranks_of, shape_of}
 use Rattle.cert_text.specs.Sizes.{pool_has_small_numbers, ranks_have_small_numbers, cert_has_small_numbers}
 use Rattle.cert_text.proofs.Lists.{list_all_place}
@@ -39,10 +40,6 @@ unfolding numbers_of
 numbers_counted count value numbers e =
     let found = bind_ok (elements_of count value) _ _ e in
     read_length (λ _. number_of) 0 found.0 numbers found.2 ∙ elements_counted count value found.0 found.1
-
--- a row for each element of a list of the plan, each of as many numbers as its element has points
-abbrev AreRows : ℕ → (ℕ → ℕ) → List (List ℕ) → Type 0
-AreRows count points rows = (length rows ≡ count) × EachPlace rows (λ k row. length row ≡ points k)
 
 class_rows_read : (plan : Plan) (value : Data) (rows : List (List ℕ)) → class_rows plan value ≡ Ok rows → AreRows (length plan.classes) (class_points plan) rows
 unfolding class_rows
@@ -76,6 +73,16 @@ rows_shaped {X = X} points none xs rows are =
         let place : 0 + k ≡ k = omega arith in
         rw place (eq-eqb _ _ (long ∙ ap points (get_or_from_slice_get xs k x none here)))
 
+-- numbers for each pool, and rows for each class and for each kind of clients
+pub rows_shape : (plan : Plan) (v : Vector) → length v.workers ≡ length plan.pools → AreRows (length plan.classes) (class_points plan) v.classes → AreRows (length plan.clients) (client_points plan) v.clients → has_shape plan v ≡ true
+rows_shape plan v workers classes clients =
+    and_from _ _ (and_from _ _ (and_from _ _ (and_from _ _
+    (eq-eqb _ _ workers)
+    (eq-eqb _ _ classes.0))
+    (eq-eqb _ _ clients.0))
+    (rows_shaped (λ (class : Class). length class.body + 3) no_class plan.classes v.classes classes))
+    (rows_shaped (λ (client : Client). length client.body + 1) no_client plan.clients v.clients clients)
+
 vector_read : (plan : Plan) (value : Data) (v : Vector) → vector_of plan value ≡ Ok v → has_shape plan v ≡ true
 unfolding vector_of
 vector_read plan value v e =
@@ -86,16 +93,8 @@ vector_read plan value v e =
     let classes = bind_ok (class_rows plan at_classes.0) _ _ at_classes.2 in
     let at_clients = bind_ok (value_at (codes "clients") value) _ _ classes.2 in
     let clients = bind_ok (client_rows plan at_clients.0) _ _ at_clients.2 in
-    let class_are = class_rows_read plan at_classes.0 classes.0 classes.1 in
-    let client_are = client_rows_read plan at_clients.0 clients.0 clients.1 in
     let made : Vector = record { workers = workers.0; classes = classes.0; clients = clients.0 } in
-    let shaped : has_shape plan made ≡ true =
-    and_from _ _ (and_from _ _ (and_from _ _ (and_from _ _
-    (eq-eqb _ _ (numbers_counted _ _ workers.0 workers.1))
-    (eq-eqb _ _ class_are.0))
-    (eq-eqb _ _ client_are.0))
-    (rows_shaped (λ (class : Class). length class.body + 3) no_class plan.classes classes.0 class_are))
-    (rows_shaped (λ (client : Client). length client.body + 1) no_client plan.clients clients.0 client_are) in
+    let shaped : has_shape plan made ≡ true = rows_shape plan made (numbers_counted _ _ workers.0 workers.1) (class_rows_read plan at_classes.0 classes.0 classes.1) (client_rows_read plan at_clients.0 clients.0 clients.1) in
     subst (λ (w : Vector). has_shape plan w ≡ true) (given_same {F = CertFault} made v clients.2) shaped
 
 standing_read : (plan : Plan) (pool : Data) (bound : Bound) → standing_of plan pool ≡ Ok bound → has_shape plan (bound_vector bound) ≡ true

@@ -4,5 +4,8 @@ pub mod OnLiterals
 pub mod Plain
 pub mod Percent
 pub mod ReadsBack
-pub mod Newline
+pub mod Blank
+pub mod Readable
+pub mod CanonicalTexts
+pub mod Fronts
 mod Samples

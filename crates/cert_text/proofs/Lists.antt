@@ -1,7 +1,7 @@
 -- The elements and the members of a value, counted in its data as in memory.
 use Rattle.std.proofs.Common.{◌≡◌, ℕ, zero, suc, ◌+◌, ◌≤◌, Bool, true, List, [], ◌∷◌, ◌++◌, length, map, take, slice_get, Some, refl, sym, ap, subst, ◌∙◌, arith, zero-add}
 use Rattle.std.specs.List.{list_all, enumerate_from}
-use Rattle.std.proofs.lemmas.Bool.{and_parts}
+use Rattle.std.proofs.lemmas.Bool.{and_parts, and_from}
 use Rattle.std.proofs.lemmas.List.{map_push, length-map}
 use Rattle.job_bodies.proofs.Passing.{EachPlace}
 use Rattle.readings.proofs.Loops.{images_more}
@@ -25,6 +25,20 @@ list_all_place test (y ∷ xs) h zero x here =
     let same : y ≡ x = cc in
     ap test (sym same) ∙ (and_parts (test y) _ h).0
 list_all_place test (y ∷ xs) h (suc i) x here = list_all_place test xs (and_parts (test y) _ h).1 i x here
+
+-- one more element passes
+pub list_all_push : {X : Type 0} (test : X → Bool) (xs : List X) (x : X) → list_all test xs ≡ true → test x ≡ true → list_all test (xs ++ x ∷ []) ≡ true
+list_all_push test [] x all here = and_from (test x) true here refl
+list_all_push test (y ∷ xs) x all here =
+    let parts = and_parts (test y) _ all in
+    and_from (test y) _ parts.0 (list_all_push test xs x parts.1 here)
+
+-- what holds at each place, and of one more element at its place
+pub each_place_push : {X : Type 0} (P : ℕ → X → Type 0) (xs : List X) (x : X) → EachPlace xs P → P (length xs) x → EachPlace (xs ++ x ∷ []) P
+each_place_push P [] x each here zero z at = let same : x ≡ z = cc in subst (P 0) same here
+each_place_push P [] x each here (suc i) z at = absurd cc
+each_place_push P (y ∷ xs) x each here zero z at = each 0 z at
+each_place_push P (y ∷ xs) x each here (suc i) z at = each_place_push (λ k w. P (suc k) w) xs x (λ k w there. each (suc k) w there) here i z at
 
 list_all_enumerated_place_from : {X : Type 0} (test : ℕ × X → Bool) (n : ℕ) (xs : List X) → list_all test (enumerate_from n xs) ≡ true → EachPlace xs (λ i x. test (n + i, x) ≡ true)
 list_all_enumerated_place_from test n [] h i x here = cc

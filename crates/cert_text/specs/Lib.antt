@@ -5,3 +5,4 @@ pub mod Shape
 pub mod Sizes
 pub mod CertOf
 pub mod CertText
+pub mod Canonical

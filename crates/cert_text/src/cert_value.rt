@@ -92,7 +92,7 @@ fn has_lifetime(pools: &[PoolCert]) -> bool
 }
 
 /// The version that a certificate needs.
-fn version_number(cert: &Cert) -> u64
+pub fn version_number(cert: &Cert) -> u64
     ensures { result ≡ spec.version_number cert.now }
 {
     if has_lifetime(&cert.pools) { 2 } else { 1 }

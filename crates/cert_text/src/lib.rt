@@ -4,6 +4,9 @@
 //! fault. [`write_cert`] gives the text that reads back to the certificate.
 #![tactic(auto)]
 
+mod canonical;
+mod canonical_numbers;
+mod canonical_vectors;
 mod cert_value;
 mod document;
 mod fault;

@@ -6,6 +6,7 @@ ghost use Rattle.certificates.specs.Cert.{cert_fits};
 ghost use Rattle.serde_json.specs.View.{view};
 ghost use Rattle.cert_text.specs.CertOf as spec;
 
+use crate::canonical::canonical_cert;
 use crate::document::document_of;
 use crate::fault::{CertError, CertFault, fault};
 use crate::shape::shape_of;
@@ -44,8 +45,20 @@ pub fn read_cert(alloc: Global, bytes: &[u8], plan: &Plan) -> Result<Cert, CertF
     }
 }
 
-#[tactic(auto, unfolding(crate::specs::CertOf::cert_of))]
+/// A text as [`write_cert`](crate::write_cert) writes it needs no tree of JSON; any other is read through one.
+#[tactic(auto, using(crate::proofs::CanonicalTexts::canonical_back))]
 fn cert_of(alloc: Global, bytes: &[u8], plan: &Plan) -> Result<Cert, CertError>
+    ensures { Gives (λ cert. cert) result (spec.cert_of bytes.now plan.now) }
+{
+    match canonical_cert(alloc, bytes, plan) {
+        Ok(cert) => Ok(cert),
+        Err(ReadError::Memory) => Err(ReadError::Memory),
+        Err(ReadError::Fault(_)) => cert_of_json(alloc, bytes, plan),
+    }
+}
+
+#[tactic(auto, unfolding(crate::specs::CertOf::cert_of))]
+fn cert_of_json(alloc: Global, bytes: &[u8], plan: &Plan) -> Result<Cert, CertError>
     ensures { Gives (λ cert. cert) result (spec.cert_of bytes.now plan.now) }
 {
     let value = document_of(alloc, bytes)?;

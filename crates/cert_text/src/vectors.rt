@@ -36,7 +36,7 @@ pub fn numbers_of(alloc: Global, value: &Value, count: usize) -> Result<Vec<u64>
 }
 
 /// How many numbers the row of a class has: queued, each position of its body, its end, and done.
-fn class_points(plan: &Plan, class: usize) -> usize
+pub fn class_points(plan: &Plan, class: usize) -> usize
     ensures { result ≡ spec.class_points plan.now class }
 {
     match plan.class_at(class) {
@@ -46,7 +46,7 @@ fn class_points(plan: &Plan, class: usize) -> usize
 }
 
 /// How many numbers the row of a kind of clients has: each position of its body, and its end.
-fn client_points(plan: &Plan, client: usize) -> usize
+pub fn client_points(plan: &Plan, client: usize) -> usize
     ensures { result ≡ spec.client_points plan.now client }
 {
     match plan.client_at(client) {

@@ -1,7 +1,7 @@
-use Rattle.std.proofs.Common.{◌≡◌, ◌≤◌, true, false, ◌∷◌, ◌++◌, [], length, length-append, Some, Result, Ok, Err, IfOk, ap, ◌∙◌, arith}
+use Rattle.std.proofs.Common.{◌≡◌, ◌≤◌, true, false, ◌∷◌, ◌++◌, [], length, length-append, Some, Result, Ok, Err, IfOk, refl, ap, ◌∙◌, arith}
 use Rattle.std.specs.Str.{is_utf8}
 use Rattle.std.proofs.lemmas.Result.{IfOk-weaker}
-use Rattle.std.proofs.lemmas.Str.{is_utf8-from_IsUtf8, IsUtf8-from_is_utf8, IsUtf8-append}
+use Rattle.std.proofs.lemmas.Str.{is_utf8-from_IsUtf8, IsUtf8-append}
 use Rattle.serde_json.specs.Data.{depth}
 use Rattle.serde_json.specs.Read.{read, max_depth}
 use Rattle.serde_json.specs.View.{view}
@@ -11,7 +11,7 @@ use Rattle.cert_text.proofs.Plain.{cert_plain}
 use Rattle.cert_text.proofs.Percent.{cert_bare}
 use Rattle.cert_text.specs.declared.document.TheConstants.{MAX_TEXT_BYTES}
 use Rattle.cert_text.proofs.ReadsBack.{cert_back}
-use Rattle.cert_text.proofs.Newline.{read_before_newline, newline_is_utf8}
+use Rattle.cert_text.proofs.Blank.{read_before_blank, blank_is_utf8}
 use Rattle.cert_text.proofs.write.write_cert.Goals as goal
 
 -- two facts of a value give a third
@@ -50,8 +50,8 @@ returns-clause-line_reads_back c =
     three_ok c.to_vec.result _ _ _ _
     (λ text utf8 compact given plan fits within.
     let line = text.items ++ 10 ∷ [] in
-    let whole : is_utf8 line ≡ true = is_utf8-from_IsUtf8 line (IsUtf8-append text.items (10 ∷ []) utf8 (IsUtf8-from_is_utf8 (10 ∷ []) newline_is_utf8)) in
-    let reads : read line ≡ Some (cert_data c.args.cert.now) = read_before_newline text.items compact ∙ rw seen at (given shallow) in
+    let whole : is_utf8 line ≡ true = is_utf8-from_IsUtf8 line (IsUtf8-append text.items (10 ∷ []) utf8 (blank_is_utf8 (10 ∷ []) refl)) in
+    let reads : read line ≡ Some (cert_data c.args.cert.now) = read_before_blank text.items (10 ∷ []) refl compact ∙ rw seen at (given shallow) in
     let short : length line ≤ MAX_TEXT_BYTES = omega (arith, within, length-append text.items (10 ∷ [])) in
     cert_back line plan c.args.cert.now whole reads fits short)
     c.to_vec.ensures.utf8 c.to_vec.ensures.compact c.to_vec.ensures.reads_back

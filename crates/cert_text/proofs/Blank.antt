@@ -1,16 +1,18 @@
--- A text that is written reads as the same value where a newline stands behind it.
-use Rattle.std.proofs.Common.{◌≡◌, ℕ, Bool, true, false, cond, ◌&&◌, List, [], ◌∷◌, ◌++◌, option_and_then, refl, sym, ap, ap₂, subst, ◌∙◌, append_assoc, append-nil}
-use Rattle.std.specs.Str.{chars, is_utf8}
-use lib.Utf8.{encode}
+-- A text that is written reads as the same value where white space stands behind it.
+use Rattle.std.proofs.Common.{◌≡◌, ◌⊎◌, inl, inr, ℕ, Bool, true, false, cond, ◌&&◌, nat_lt, List, [], ◌∷◌, ◌++◌, IsUtf8, option_and_then, refl, sym, ap, ap₂, subst, ◌∙◌, append_assoc, append-nil, arith}
+use Rattle.std.proofs.lemmas.Bool.{and_parts, and_from}
+use Rattle.std.proofs.lemmas.Bool.Decides.{nat_tests}
 use Rattle.json.specs.Token.{Token, begin_object, end_object, begin_array, end_array, key, string, number, boolean, null, bad}
-use Rattle.json.specs.Word.{ends_word, word}
+use Rattle.json.specs.Word.{is_space, ends_word, word}
 use Rattle.json.specs.Lex.{token, comma, colon, string_token, lex, between, in_word, fresh, punctuate, tokens}
 use Rattle.json.specs.Json as json
 use Rattle.json.specs.Print.{escape, quoted, token_text, begins, ends, separator, print_from, print, IsPrintableOrBad, ArePrintableOrBad}
 use Rattle.json.proofs.Printed.Strings.{content-escape, lex-escape}
 use Rattle.json.proofs.Printed.Numbers.{lex-number, in_word-ended}
+use Rattle.json.proofs.Printed.Utf8.{are_ascii, IsUtf8-are_ascii}
 use Rattle.json.proofs.Numbered.{ArePrintableOrBad-tokens}
 use Rattle.serde_json.specs.Read.{of_json, read, max_depth}
+use Rattle.cert_text.specs.Canonical.{IsBlank}
 
 -- two texts that are read alike, and before which a word ends
 record AreAlike (r s : List ℕ) : Type 0 where
@@ -89,21 +91,50 @@ tokens_alike later (t ∷ ts) r s h alike =
     let around : (u : List ℕ) → (separator later t ++ (token_text t ++ rest)) ++ u ≡ separator later t ++ (token_text t ++ (rest ++ u)) = λ u. simp append_assoc in
     ap (lex between) (around r) ∙ separator_alike (later && begins t) _ _ (token_alike t (rest ++ r) (rest ++ s) h.0 same ended) ∙ sym (ap (lex between) (around s))
 
-newline_alike : AreAlike (10 ∷ []) []
-unfolding lex
-newline_alike = record { lexed = refl; first = refl; second = refl }
+-- one of the four bytes of white space
+space_is : (x : ℕ) → is_space x ≡ true → (x ≡ 32) ⊎ ((x ≡ 9) ⊎ ((x ≡ 10) ⊎ (x ≡ 13)))
+space_is x space = grind (arith, nat_tests)
 
-tokens_before_newline : (text : List ℕ) → text ≡ print (tokens text) → tokens (text ++ 10 ∷ []) ≡ tokens text
-tokens_before_newline text compact =
+-- the lexer passes over it, and a word ends before it
+passed_over : (x : ℕ) (xs : List ℕ) → is_space x ≡ true → (lex between (x ∷ xs) ≡ lex between xs) × (ends_word (x ∷ xs) ≡ true)
+unfolding lex
+passed_over x xs space = elim (space_is x space) [
+  | inl e ↦ (rw e refl, rw e refl)
+  | inr other ↦ elim other [
+    | inl e ↦ (rw e refl, rw e refl)
+    | inr other ↦ elim other [
+      | inl e ↦ (rw e refl, rw e refl)
+      | inr e ↦ (rw e refl, rw e refl)
+    ]
+  ]
+]
+
+blank_alike : (blank : List ℕ) → IsBlank blank → AreAlike blank []
+blank_alike [] h = record { lexed = refl; first = refl; second = refl }
+blank_alike (x ∷ xs) h =
+    let parts = and_parts (is_space x) _ h in
+    let here = passed_over x xs parts.0 in
+    record { lexed = here.0 ∙ (blank_alike xs parts.1).lexed; first = here.1; second = refl }
+
+tokens_before_blank : (text blank : List ℕ) → IsBlank blank → text ≡ print (tokens text) → tokens (text ++ blank) ≡ tokens text
+tokens_before_blank text blank h compact =
     let ts = tokens text in
-    let same = tokens_alike false ts (10 ∷ []) [] (ArePrintableOrBad-tokens text) newline_alike in
-    ap (punctuate fresh) (subst (λ (t : List ℕ). lex between (t ++ 10 ∷ []) ≡ lex between (t ++ [])) (sym compact) same ∙ ap (lex between) (append-nil text))
+    let same = tokens_alike false ts blank [] (ArePrintableOrBad-tokens text) (blank_alike blank h) in
+    ap (punctuate fresh) (subst (λ (t : List ℕ). lex between (t ++ blank) ≡ lex between (t ++ [])) (sym compact) same ∙ ap (lex between) (append-nil text))
 
 -- a text with no space between its tokens
-pub read_before_newline : (text : List ℕ) → text ≡ print (tokens text) → read (text ++ 10 ∷ []) ≡ read text
-read_before_newline text compact =
-    ap (λ ts. option_and_then of_json (option_and_then (λ p. json.if_last p.0 p.1) (json.value max_depth ts))) (tokens_before_newline text compact)
+pub read_before_blank : (text blank : List ℕ) → IsBlank blank → text ≡ print (tokens text) → read (text ++ blank) ≡ read text
+read_before_blank text blank h compact =
+    ap (λ ts. option_and_then of_json (option_and_then (λ p. json.if_last p.0 p.1) (json.value max_depth ts))) (tokens_before_blank text blank h compact)
 
-pub newline_is_utf8 : is_utf8 (10 ∷ []) ≡ true
-unfolding chars is_utf8 encode
-newline_is_utf8 = refl
+space_is_ascii : (x : ℕ) → is_space x ≡ true → nat_lt x 128 ≡ true
+space_is_ascii x space = grind (arith, nat_tests)
+
+blank_is_ascii : (blank : List ℕ) → IsBlank blank → are_ascii blank ≡ true
+blank_is_ascii [] h = refl
+blank_is_ascii (x ∷ xs) h =
+    let parts = and_parts (is_space x) _ h in
+    and_from (nat_lt x 128) _ (space_is_ascii x parts.0) (blank_is_ascii xs parts.1)
+
+pub blank_is_utf8 : (blank : List ℕ) → IsBlank blank → IsUtf8 blank
+blank_is_utf8 blank h = IsUtf8-are_ascii blank (blank_is_ascii blank h)

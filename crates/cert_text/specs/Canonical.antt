@@ -1,0 +1,43 @@
+-- Texts as they are written of certificates. A part of one is read at the front of a text, and leaves the rest.
+use Rattle.std.specs.Prelude.{◌≡◌, ℕ, ◌≤◌, true, List, ◌++◌, length, slice_get, Some, codes, decimal, IsTrue}
+use Rattle.std.specs.List.{list_all}
+use Rattle.json.specs.Word.{is_space}
+use Rattle.serde_json.specs.Data.{Data}
+use Rattle.serde_json.specs.Written.{compact_text}
+use Rattle.job_bodies.specs.Plan.{Plan}
+use Rattle.weights.specs.declared.bound.Bound.{Bound}
+use Rattle.weights.specs.declared.bound.Bound.TheVariants.{Standing, Lifetime}
+use Rattle.certificates.specs.Cert.{Cert, cert_fits}
+use Rattle.cert_text.specs.declared.document.TheConstants.{MAX_TEXT_BYTES}
+use Rattle.cert_text.specs.CertText.{vector_data, version_number, cert_text}
+
+-- the text of a value stands at the front of a text, and this rest behind it
+abbrev pub BeginsWith : List ℕ → Data → List ℕ → Type 0
+BeginsWith text value rest = text ≡ compact_text value ++ rest
+
+-- so many rows, each of as many numbers as there are points at its place
+abbrev pub AreRows : ℕ → (ℕ → ℕ) → List (List ℕ) → Type 0
+AreRows count points rows = (length rows ≡ count) × ((place : ℕ) (row : List ℕ) → slice_get rows place ≡ Some row → length row ≡ points place)
+
+-- a pool's bound and its key, as they stand behind its blocked vector
+abbrev pub bound_text : Bound → List ℕ
+bound_text (Standing v) = codes ",\"standing\":" ++ compact_text (vector_data v)
+bound_text (Lifetime v) = codes ",\"lifetime\":" ++ compact_text (vector_data v)
+
+-- a certificate's version and its key, as they stand behind its ranks, and the end of its text
+abbrev pub version_text : Cert → List ℕ
+version_text cert = codes ",\"version\":" ++ (decimal (version_number cert) ++ codes "}")
+
+-- nothing but white space stands in the text
+abbrev pub IsBlank : List ℕ → Type 0
+IsBlank text = list_all is_space text ≡ true
+
+-- the text is the certificate's, and what stands behind it is blank
+abbrev pub IsTextOf : List ℕ → Cert → Type 0
+IsTextOf text cert = (rest : List ℕ) × IsBlank rest × (text ≡ cert_text cert ++ rest)
+
+-- a text that is not too long, of a certificate that fits the plan
+pub record IsCanonical (plan : Plan) (text : List ℕ) (cert : Cert) : Type 0 where
+  pub written : IsTextOf text cert
+  pub short : length text ≤ MAX_TEXT_BYTES
+  pub fits : IsTrue (cert_fits plan cert)

@@ -1,0 +1,125 @@
+//! Numbers at the front of a text, as they are written of a certificate.
+
+ghost use Rattle.std.specs.Prelude.{◌≡◌, ◌<◌, ◌+◌, ◌∷◌, ◌++◌, [], length, nat_lt, decimal, IfOk, IfSome, IsTrue, vec_len, vec_capacity};
+ghost use Rattle.std.specs.List.{list_all};
+ghost use Rattle.serde_json.specs.Written.{comma_if};
+ghost use Rattle.weights.specs.Vector.{is_small};
+ghost use Rattle.cert_text.specs.CertText.{numbers_data};
+ghost use Rattle.cert_text.specs.Canonical.{BeginsWith};
+
+use readings::ReadError;
+use std::alloc::Global;
+use weights::MAX_WEIGHT;
+
+/// The text is not as it is written of a certificate. Nothing more is said of it.
+#[derive(Clone, Copy, Debug, PartialEq, Eq)]
+pub struct NotCanonical;
+
+/// Why a part of a text gave nothing: memory ran out, or the text is not as it is written.
+pub type CanonicalError = ReadError<NotCanonical>;
+
+/// The error of any text that is not as it is written.
+pub fn not_canonical() -> CanonicalError {
+    ReadError::Fault(NotCanonical)
+}
+
+/// What stands behind this front of a text.
+pub fn behind<'a>(text: &'a [u8], front: &[u8]) -> Result<&'a [u8], CanonicalError>
+    ensures { IfOk result (λ rest. text.now ≡ front.now ++ rest.now) }
+{
+    match text.strip_prefix(front) {
+        Some(rest) => Ok(rest),
+        None => Err(not_canonical()),
+    }
+}
+
+/// What stands behind this first byte of a text.
+#[inline(always)]
+pub fn behind_byte(text: &[u8], byte: u8) -> Result<&[u8], CanonicalError>
+    ensures { IfOk result (λ rest. text.now ≡ byte ∷ rest.now) }
+{
+    match text.split_first() {
+        Some((first, rest)) if *first == byte => Ok(rest),
+        _ => Err(not_canonical()),
+    }
+}
+
+/// What stands behind the comma before the element at this place of a list: nothing is before the first one.
+#[inline(always)]
+pub fn behind_comma(text: &[u8], place: usize) -> Result<&[u8], CanonicalError>
+    ensures { IfOk result (λ rest. text.now ≡ comma_if (nat_lt 0 place) ++ rest.now) }
+{
+    if place == 0 {
+        Ok(text)
+    } else {
+        behind_byte(text, b',')
+    }
+}
+
+/// An empty list with room for so many elements. None is made that the text is too short for.
+pub fn list_for<T>(alloc: Global, count: usize, text: &[u8]) -> Result<Vec<T>, CanonicalError>
+    ensures items { IfOk result (λ list. list.items ≡ []) }
+    ensures len { IfOk result (λ list. vec_len list ≡ 0) }
+    ensures capacity { IfOk result (λ list. vec_capacity list ≡ count) }
+{
+    if text.len() < count {
+        return Err(not_canonical());
+    }
+    Ok(Vec::with_capacity(alloc, count)?)
+}
+
+#[inline(always)]
+fn leading_digit(text: &[u8]) -> Option<(u64, &[u8])>
+    ensures digit { IfSome result (λ read. read.0 < 10) }
+    ensures text { IfSome result (λ read. text.now ≡ (48 + read.0) ∷ read.1.now) }
+{
+    match text.split_first() {
+        Some((first, rest)) if first.is_ascii_digit() => Some((u64::from(*first - b'0'), rest)),
+        _ => None,
+    }
+}
+
+/// The number whose digits stand at the front of a text, and what stands behind them.
+#[inline(always)]
+fn leading_number(text: &[u8]) -> Result<(u64, &[u8]), CanonicalError>
+    ensures text { IfOk result (λ read. text.now ≡ decimal read.0 ++ read.1.now) }
+    ensures small { IfOk result (λ read. IsTrue (is_small read.0)) }
+{
+    let Some((first, behind)) = leading_digit(text) else {
+        return Err(not_canonical());
+    };
+    if first == 0 {
+        return Ok((0, behind));
+    }
+    let mut value = first;
+    let mut rest = behind;
+    'digits: while let Some((digit, behind)) = leading_digit(rest) {
+        value = value * 10 + digit;
+        if value > MAX_WEIGHT {
+            return Err(not_canonical());
+        }
+        rest = behind;
+    }
+    Ok((value, rest))
+}
+
+/// So many numbers of a list at the front of a text, and what stands behind it.
+pub fn leading_numbers(
+    alloc: Global,
+    count: usize,
+    text: &[u8],
+) -> Result<(Vec<u64>, &[u8]), CanonicalError>
+    ensures text { IfOk result (λ read. BeginsWith text.now (numbers_data read.0.items) read.1.now) }
+    ensures count { IfOk result (λ read. length read.0.items ≡ count) }
+    ensures small { IfOk result (λ read. IsTrue (list_all is_small read.0.items)) }
+{
+    let mut numbers = list_for(alloc, count, text)?;
+    let mut rest = behind_byte(text, b'[')?;
+    for place in 0..count {
+        let element = behind_comma(rest, place)?;
+        let (number, behind) = leading_number(element)?;
+        numbers.push_reserved(number);
+        rest = behind;
+    }
+    Ok((numbers, behind_byte(rest, b']')?))
+}

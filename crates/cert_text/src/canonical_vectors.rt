@@ -1,0 +1,84 @@
+//! Vectors at the front of a text, as they are written of a certificate.
+
+ghost use Rattle.std.specs.Prelude.{◌≡◌, IfOk, IsTrue, length, map};
+ghost use Rattle.std.specs.List.{list_all};
+ghost use Rattle.weights.specs.Vector.{is_small, vector_fits};
+ghost use Rattle.cert_text.specs.Vectors.{class_points, client_points};
+ghost use Rattle.cert_text.specs.CertText as spec;
+ghost use Rattle.cert_text.specs.Canonical.{BeginsWith, AreRows};
+
+use crate::canonical_numbers::{
+    CanonicalError, behind, behind_byte, behind_comma, leading_numbers, list_for,
+};
+use crate::vectors::{class_points, client_points};
+use job_bodies::Plan;
+use std::alloc::Global;
+use weights::Vector;
+
+/// A row for each class.
+fn leading_class_rows<'a>(
+    alloc: Global,
+    plan: &Plan,
+    text: &'a [u8],
+) -> Result<(Vec<Vec<u64>>, &'a [u8]), CanonicalError>
+    ensures text { IfOk result (λ read. BeginsWith text.now (spec.rows_data (map (λ row. row.items) read.0.items)) read.1.now) }
+    ensures rows { IfOk result (λ read. AreRows (length plan.now.classes) (class_points plan.now) (map (λ row. row.items) read.0.items)) }
+    ensures small { IfOk result (λ read. IsTrue (list_all (list_all is_small) (map (λ row. row.items) read.0.items))) }
+{
+    let count = plan.classes().len();
+    let mut rows = list_for(alloc, count, text)?;
+    let mut rest = behind_byte(text, b'[')?;
+    for place in 0..count {
+        let element = behind_comma(rest, place)?;
+        let (row, behind) = leading_numbers(alloc, class_points(plan, place), element)?;
+        rows.push(row)?;
+        rest = behind;
+    }
+    Ok((rows, behind_byte(rest, b']')?))
+}
+
+/// A row for each kind of clients.
+fn leading_client_rows<'a>(
+    alloc: Global,
+    plan: &Plan,
+    text: &'a [u8],
+) -> Result<(Vec<Vec<u64>>, &'a [u8]), CanonicalError>
+    ensures text { IfOk result (λ read. BeginsWith text.now (spec.rows_data (map (λ row. row.items) read.0.items)) read.1.now) }
+    ensures rows { IfOk result (λ read. AreRows (length plan.now.clients) (client_points plan.now) (map (λ row. row.items) read.0.items)) }
+    ensures small { IfOk result (λ read. IsTrue (list_all (list_all is_small) (map (λ row. row.items) read.0.items))) }
+{
+    let count = plan.clients().len();
+    let mut rows = list_for(alloc, count, text)?;
+    let mut rest = behind_byte(text, b'[')?;
+    for place in 0..count {
+        let element = behind_comma(rest, place)?;
+        let (row, behind) = leading_numbers(alloc, client_points(plan, place), element)?;
+        rows.push(row)?;
+        rest = behind;
+    }
+    Ok((rows, behind_byte(rest, b']')?))
+}
+
+/// The vector at the front of a text, and what stands behind it.
+pub fn leading_vector<'a>(
+    alloc: Global,
+    plan: &Plan,
+    text: &'a [u8],
+) -> Result<(Vector, &'a [u8]), CanonicalError>
+    ensures text { IfOk result (λ read. BeginsWith text.now (spec.vector_data read.0) read.1.now) }
+    ensures fits { IfOk result (λ read. IsTrue (vector_fits plan.now read.0)) }
+{
+    let rest = behind(text, b"{\"classes\":")?;
+    let (classes, rest) = leading_class_rows(alloc, plan, rest)?;
+    let rest = behind(rest, b",\"clients\":")?;
+    let (clients, rest) = leading_client_rows(alloc, plan, rest)?;
+    let rest = behind(rest, b",\"workers\":")?;
+    let (workers, rest) = leading_numbers(alloc, plan.pools().len(), rest)?;
+    let rest = behind_byte(rest, b'}')?;
+    let vector = Vector {
+        workers,
+        classes,
+        clients,
+    };
+    Ok((vector, rest))
+}
