@@ -1,0 +1,13 @@
+pub mod Tests
+pub mod ByLast
+pub mod Fresh
+pub mod Lawful
+pub mod LinesSay
+pub mod Refusals
+pub mod Deeds
+pub mod Places
+pub mod Ends
+pub mod SubmitPlace
+pub mod Undone
+pub mod PathAfter
+pub mod PathsAfter
