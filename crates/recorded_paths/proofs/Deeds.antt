@@ -5,31 +5,31 @@ use Rattle.std.specs.Option.{option_to_list}
 use Rattle.recording_lines.specs.declared.recording_line.RecordedActor.{RecordedActor}
 use Rattle.recording_lines.specs.RecordingLine.{RecordedLine, Submits, Refused, Got}
 use Rattle.recorded_rules.specs.LineParts.{is_same_actor, refuses_job}
-use Rattle.recorded_paths.specs.Said.{is_refused, has_submitted, has_got, JobDeed, SubmitOf, GetOf, job_of, is_submit_of, is_get_of, deed_said, deeds_said}
+use Rattle.recorded_paths.specs.LineDeeds.{is_refused, has_submitted, has_got, JobDeed, SubmitOf, GetOf, job_of_deed, is_submit_of, is_get_of, deed_by_line, deeds_by_lines}
 use Rattle.recorded_paths.specs.Path.{deeds_of}
 use Rattle.recorded_paths.specs.StandsFor.{KeepsRules}
 use Rattle.recorded_paths.proofs.Tests.{filter_more, filter_same, filter_filter}
 use Rattle.recorded_paths.proofs.Lawful.{Lawful, any_kept, submit_job, get_job, lawful_kept}
-use Rattle.recorded_paths.proofs.LinesSay.{refused_more, said_more, nothing_more, submitted_said, got_said, lawful_said}
+use Rattle.recorded_paths.proofs.LinesSay.{refused_more, by_lines_more, nothing_more, submits_by_lines, gets_by_lines, lawful_by_lines}
 
 -- ---- what they have
 pub lawful_deeds : (actor : RecordedActor) (lines : List RecordedLine) → KeepsRules lines → Lawful (deeds_of lines actor)
 unfolding deeds_of
-lawful_deeds actor lines kept = lawful_kept (λ job. not (is_refused lines job)) (deeds_said lines actor) (lawful_said actor lines kept)
+lawful_deeds actor lines kept = lawful_kept (λ job. not (is_refused lines job)) (deeds_by_lines lines actor) (lawful_by_lines actor lines kept)
 
 pub deeds_submitted : (actor : RecordedActor) (j : ℕ) (lines : List RecordedLine) → list_any (is_submit_of j) (deeds_of lines actor) ≡ (has_submitted lines actor j && not (is_refused lines j))
 unfolding deeds_of
 deeds_submitted actor j lines =
-    any_kept (λ job. not (is_refused lines job)) j (is_submit_of j) (submit_job j) (deeds_said lines actor) ∙ ap (λ b. b && not (is_refused lines j)) (submitted_said actor j lines)
+    any_kept (λ job. not (is_refused lines job)) j (is_submit_of j) (submit_job j) (deeds_by_lines lines actor) ∙ ap (λ b. b && not (is_refused lines j)) (submits_by_lines actor j lines)
 
 pub deeds_got : (actor : RecordedActor) (j : ℕ) (lines : List RecordedLine) → KeepsRules lines → list_any (is_get_of j) (deeds_of lines actor) ≡ ((has_submitted lines actor j && has_got lines actor j) && not (is_refused lines j))
 unfolding deeds_of
 deeds_got actor j lines kept =
-    any_kept (λ job. not (is_refused lines job)) j (is_get_of j) (get_job j) (deeds_said lines actor) ∙ ap (λ b. b && not (is_refused lines j)) (got_said actor j lines kept)
+    any_kept (λ job. not (is_refused lines job)) j (is_get_of j) (get_job j) (deeds_by_lines lines actor) ∙ ap (λ b. b && not (is_refused lines j)) (gets_by_lines actor j lines kept)
 
-pub deeds_none : (actor : RecordedActor) (lines : List RecordedLine) → deeds_said lines actor ≡ [] → deeds_of lines actor ≡ []
+pub deeds_none : (actor : RecordedActor) (lines : List RecordedLine) → deeds_by_lines lines actor ≡ [] → deeds_of lines actor ≡ []
 unfolding deeds_of
-deeds_none actor lines none = ap (filter (λ deed. not (is_refused lines (job_of deed)))) none
+deeds_none actor lines none = ap (filter (λ deed. not (is_refused lines (job_of_deed deed)))) none
 
 -- ---- a line that refuses nothing
 or_none : (a b : Bool) → b ≡ false → (a || b) ≡ a
@@ -37,29 +37,29 @@ or_none true b h = refl
 or_none false b h = h
 
 deeds_behind : (before : List RecordedLine) (line : RecordedLine) (actor : RecordedActor) → ((j : ℕ) → refuses_job j line ≡ false)
-    → deeds_of (before ++ line ∷ []) actor ≡ filter (λ deed. not (is_refused before (job_of deed))) (deeds_said (before ++ line ∷ []) actor)
+    → deeds_of (before ++ line ∷ []) actor ≡ filter (λ deed. not (is_refused before (job_of_deed deed))) (deeds_by_lines (before ++ line ∷ []) actor)
 unfolding deeds_of
 deeds_behind before line actor unrefusing =
-    filter_same (λ deed. not (is_refused (before ++ line ∷ []) (job_of deed))) (λ deed. not (is_refused before (job_of deed)))
-    (λ deed. ap not (refused_more before line (job_of deed) ∙ or_none (is_refused before (job_of deed)) (refuses_job (job_of deed) line) (unrefusing (job_of deed)))) (deeds_said (before ++ line ∷ []) actor)
+    filter_same (λ deed. not (is_refused (before ++ line ∷ []) (job_of_deed deed))) (λ deed. not (is_refused before (job_of_deed deed)))
+    (λ deed. ap not (refused_more before line (job_of_deed deed) ∙ or_none (is_refused before (job_of_deed deed)) (refuses_job (job_of_deed deed) line) (unrefusing (job_of_deed deed)))) (deeds_by_lines (before ++ line ∷ []) actor)
 
-pub deeds_same : (before : List RecordedLine) (line : RecordedLine) (actor : RecordedActor) → ((j : ℕ) → refuses_job j line ≡ false) → deed_said actor before line ≡ None → deeds_of (before ++ line ∷ []) actor ≡ deeds_of before actor
+pub deeds_same : (before : List RecordedLine) (line : RecordedLine) (actor : RecordedActor) → ((j : ℕ) → refuses_job j line ≡ false) → deed_by_line actor before line ≡ None → deeds_of (before ++ line ∷ []) actor ≡ deeds_of before actor
 unfolding deeds_of
 deeds_same before line actor unrefusing nothing =
-    deeds_behind before line actor unrefusing ∙ ap (filter (λ deed. not (is_refused before (job_of deed)))) (nothing_more before line actor nothing)
+    deeds_behind before line actor unrefusing ∙ ap (filter (λ deed. not (is_refused before (job_of_deed deed)))) (nothing_more before line actor nothing)
 
 filter_option : (p : JobDeed → Bool) (before : List JobDeed) (b : Bool) (one : JobDeed) → filter p (before ++ option_to_list (if b then Some one else None)) ≡ (if b && p one then filter p before ++ one ∷ [] else filter p before)
 filter_option p before true one = filter_more p before one
 filter_option p before false one = ap (filter p) (append-nil before)
 
 -- the line may say this one deed more
-deeds_option : (before : List RecordedLine) (line : RecordedLine) (actor : RecordedActor) (b : Bool) (deed : JobDeed) → ((j : ℕ) → refuses_job j line ≡ false) → deed_said actor before line ≡ (if b then Some deed else None)
-    → deeds_of (before ++ line ∷ []) actor ≡ (if b && not (is_refused before (job_of deed)) then deeds_of before actor ++ deed ∷ [] else deeds_of before actor)
+deeds_option : (before : List RecordedLine) (line : RecordedLine) (actor : RecordedActor) (b : Bool) (deed : JobDeed) → ((j : ℕ) → refuses_job j line ≡ false) → deed_by_line actor before line ≡ (if b then Some deed else None)
+    → deeds_of (before ++ line ∷ []) actor ≡ (if b && not (is_refused before (job_of_deed deed)) then deeds_of before actor ++ deed ∷ [] else deeds_of before actor)
 unfolding deeds_of
 deeds_option before line actor b deed unrefusing said =
     deeds_behind before line actor unrefusing
-    ∙ (ap (filter (λ one. not (is_refused before (job_of one)))) (said_more before line actor ∙ ap (λ more. deeds_said before actor ++ option_to_list more) said)
-    ∙ filter_option (λ one. not (is_refused before (job_of one))) (deeds_said before actor) b deed)
+    ∙ (ap (filter (λ one. not (is_refused before (job_of_deed one)))) (by_lines_more before line actor ∙ ap (λ more. deeds_by_lines before actor ++ option_to_list more) said)
+    ∙ filter_option (λ one. not (is_refused before (job_of_deed one))) (deeds_by_lines before actor) b deed)
 
 and_true : (a b : Bool) → b ≡ false → (a && not b) ≡ a
 and_true true b h = ap not h
@@ -92,9 +92,9 @@ neither_refused : (a b : Bool) → not (a || b) ≡ (not a && not b)
 neither_refused true b = refl
 neither_refused false b = refl
 
-pub deeds_refused : (before : List RecordedLine) (who actor : RecordedActor) (j : ℕ) → deeds_of (before ++ Refused who j ∷ []) actor ≡ filter (λ deed. not (j == job_of deed)) (deeds_of before actor)
+pub deeds_refused : (before : List RecordedLine) (who actor : RecordedActor) (j : ℕ) → deeds_of (before ++ Refused who j ∷ []) actor ≡ filter (λ deed. not (j == job_of_deed deed)) (deeds_of before actor)
 unfolding deeds_of
 deeds_refused before who actor j =
-    ap (filter (λ deed. not (is_refused (before ++ Refused who j ∷ []) (job_of deed)))) (nothing_more before (Refused who j) actor refl)
-    ∙ filter_filter (λ deed. not (is_refused before (job_of deed))) (λ deed. not (j == job_of deed)) (λ deed. not (is_refused (before ++ Refused who j ∷ []) (job_of deed)))
-    (λ deed. ap not (refused_more before (Refused who j) (job_of deed)) ∙ neither_refused (is_refused before (job_of deed)) (j == job_of deed)) (deeds_said before actor)
+    ap (filter (λ deed. not (is_refused (before ++ Refused who j ∷ []) (job_of_deed deed)))) (nothing_more before (Refused who j) actor refl)
+    ∙ filter_filter (λ deed. not (is_refused before (job_of_deed deed))) (λ deed. not (j == job_of_deed deed)) (λ deed. not (is_refused (before ++ Refused who j ∷ []) (job_of_deed deed)))
+    (λ deed. ap not (refused_more before (Refused who j) (job_of_deed deed)) ∙ neither_refused (is_refused before (job_of_deed deed)) (j == job_of_deed deed)) (deeds_by_lines before actor)

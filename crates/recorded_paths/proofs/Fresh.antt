@@ -9,7 +9,7 @@ use Rattle.recorded_rules.specs.Before.{submits, begins, is_begun, is_ended, is_
 use Rattle.recorded_rules.specs.Rules.{has_next_number, is_known_actor, is_known_job, is_going}
 use Rattle.recorded_rules.proofs.Appended.{submits_more, begins_more}
 use Rattle.recorded_rules.proofs.Keeping.{Keeps}
-use Rattle.recorded_paths.specs.Said.{submits_by, gets_by, is_refused, has_submitted, has_got}
+use Rattle.recorded_paths.specs.LineDeeds.{submits_by, gets_by, is_refused, has_submitted, has_got}
 use Rattle.recorded_paths.specs.StandsFor.{KeepsRules}
 use Rattle.recorded_paths.proofs.Tests.{and_first, and_second, neither, none_more, none_weaker}
 use Rattle.recorded_paths.proofs.ByLast.{by_kept}

@@ -2,7 +2,7 @@
 use Rattle.std.proofs.Common.{◌≡◌, ℕ, ◌==◌, ◌&&◌, ◌||◌, Bool, true, false, if◌then◌else◌, List, [], ◌∷◌, ◌++◌, Some, None, refl, ap, sym, subst, ◌∙◌, append-nil, arith}
 use Rattle.std.specs.List.{list_any, filter}
 use Rattle.std.specs.Option.{option_to_list}
-use Rattle.recorded_paths.specs.Said.{JobDeed, SubmitOf, GetOf, job_of, is_submit_of, is_get_of}
+use Rattle.recorded_paths.specs.LineDeeds.{JobDeed, SubmitOf, GetOf, job_of_deed, is_submit_of, is_get_of}
 use Rattle.recorded_paths.proofs.Tests.{not_weaker, any_more, filter_more}
 
 pub data Lawful : List JobDeed → Type 0 where
@@ -30,10 +30,10 @@ got_submitted _ (submit deeds job l fresh) j h =
 got_submitted _ (get deeds job l submitted ungot) j h =
     let before = got_submitted deeds l j in grind (arith, h, before, submitted, any_more (is_get_of j) deeds (GetOf job), any_more (is_submit_of j) deeds (GetOf job))
 
-abbrev pub is_about : ℕ → JobDeed → Bool
-is_about j deed = job_of deed == j
+abbrev pub is_deed_of : ℕ → JobDeed → Bool
+is_deed_of j deed = job_of_deed deed == j
 
-both_about : (j : ℕ) (deeds : List JobDeed) → list_any (is_submit_of j) deeds ≡ false → list_any (is_get_of j) deeds ≡ false → list_any (is_about j) deeds ≡ false
+both_about : (j : ℕ) (deeds : List JobDeed) → list_any (is_submit_of j) deeds ≡ false → list_any (is_get_of j) deeds ≡ false → list_any (is_deed_of j) deeds ≡ false
 both_about j [] h g = refl
 both_about j (SubmitOf job ∷ deeds) h g = grind (arith, h, g, both_about j deeds)
 both_about j (GetOf job ∷ deeds) h g = grind (arith, h, g, both_about j deeds)
@@ -42,7 +42,7 @@ pub unsubmitted_ungot : (deeds : List JobDeed) → Lawful deeds → (j : ℕ) �
 unsubmitted_ungot deeds l j h = not_weaker (list_any (is_get_of j) deeds) (list_any (is_submit_of j) deeds) (got_submitted deeds l j) h
 
 -- a job that is not submitted has no deed
-pub unsubmitted_none : (deeds : List JobDeed) → Lawful deeds → (j : ℕ) → list_any (is_submit_of j) deeds ≡ false → list_any (is_about j) deeds ≡ false
+pub unsubmitted_none : (deeds : List JobDeed) → Lawful deeds → (j : ℕ) → list_any (is_submit_of j) deeds ≡ false → list_any (is_deed_of j) deeds ≡ false
 unsubmitted_none deeds l j h = both_about j deeds h (unsubmitted_ungot deeds l j h)
 
 -- ---- without some jobs
@@ -63,17 +63,17 @@ here_kept : (here job kept rest : Bool) → (here ≡ true → job ≡ kept) →
 here_kept true job kept rest same = ap (λ (b : Bool). (b && true) || (rest && kept)) (same refl) ∙ once kept rest
 here_kept false job kept rest same = ap (λ (b : Bool). b || (rest && kept)) (and_false job)
 
-pub any_kept : (keep : ℕ → Bool) (j : ℕ) (p : JobDeed → Bool) → ((deed : JobDeed) → p deed ≡ true → job_of deed ≡ j) → (deeds : List JobDeed) → list_any p (filter (λ deed. keep (job_of deed)) deeds) ≡ (list_any p deeds && keep j)
+pub any_kept : (keep : ℕ → Bool) (j : ℕ) (p : JobDeed → Bool) → ((deed : JobDeed) → p deed ≡ true → job_of_deed deed ≡ j) → (deeds : List JobDeed) → list_any p (filter (λ deed. keep (job_of_deed deed)) deeds) ≡ (list_any p deeds && keep j)
 any_kept keep j p about [] = refl
 any_kept keep j p about (deed ∷ deeds) =
-    any_if p (keep (job_of deed)) deed (filter (λ one. keep (job_of one)) deeds) ∙ ap (λ b. (keep (job_of deed) && p deed) || b) (any_kept keep j p about deeds)
-    ∙ here_kept (p deed) (keep (job_of deed)) (keep j) (list_any p deeds) (λ h. ap keep (about deed h))
+    any_if p (keep (job_of_deed deed)) deed (filter (λ one. keep (job_of_deed one)) deeds) ∙ ap (λ b. (keep (job_of_deed deed) && p deed) || b) (any_kept keep j p about deeds)
+    ∙ here_kept (p deed) (keep (job_of_deed deed)) (keep j) (list_any p deeds) (λ h. ap keep (about deed h))
 
-pub submit_job : (j : ℕ) (deed : JobDeed) → is_submit_of j deed ≡ true → job_of deed ≡ j
+pub submit_job : (j : ℕ) (deed : JobDeed) → is_submit_of j deed ≡ true → job_of_deed deed ≡ j
 submit_job j (SubmitOf job) h = grind (arith, h)
 submit_job j (GetOf job) h = grind (arith, h)
 
-pub get_job : (j : ℕ) (deed : JobDeed) → is_get_of j deed ≡ true → job_of deed ≡ j
+pub get_job : (j : ℕ) (deed : JobDeed) → is_get_of j deed ≡ true → job_of_deed deed ≡ j
 get_job j (SubmitOf job) h = grind (arith, h)
 get_job j (GetOf job) h = grind (arith, h)
 
@@ -81,16 +81,16 @@ lawful_if : (b : Bool) (deeds : List JobDeed) (deed : JobDeed) → Lawful deeds 
 lawful_if true deeds deed l more = more refl
 lawful_if false deeds deed l more = l
 
-pub lawful_kept : (keep : ℕ → Bool) (deeds : List JobDeed) → Lawful deeds → Lawful (filter (λ deed. keep (job_of deed)) deeds)
+pub lawful_kept : (keep : ℕ → Bool) (deeds : List JobDeed) → Lawful deeds → Lawful (filter (λ deed. keep (job_of_deed deed)) deeds)
 lawful_kept keep _ none = none
 lawful_kept keep _ (submit deeds job l fresh) =
-    let kept = filter (λ deed. keep (job_of deed)) deeds in
+    let kept = filter (λ deed. keep (job_of_deed deed)) deeds in
     let l_kept = lawful_kept keep deeds l in
-    subst Lawful (sym (filter_more (λ deed. keep (job_of deed)) deeds (SubmitOf job)))
+    subst Lawful (sym (filter_more (λ deed. keep (job_of_deed deed)) deeds (SubmitOf job)))
     (lawful_if (keep job) kept (SubmitOf job) l_kept (λ h. submit kept job l_kept (any_kept keep job (is_submit_of job) (submit_job job) deeds ∙ ap (λ b. b && keep job) fresh)))
 lawful_kept keep _ (get deeds job l submitted ungot) =
-    let kept = filter (λ deed. keep (job_of deed)) deeds in
+    let kept = filter (λ deed. keep (job_of_deed deed)) deeds in
     let l_kept = lawful_kept keep deeds l in
-    subst Lawful (sym (filter_more (λ deed. keep (job_of deed)) deeds (GetOf job)))
+    subst Lawful (sym (filter_more (λ deed. keep (job_of_deed deed)) deeds (GetOf job)))
     (lawful_if (keep job) kept (GetOf job) l_kept
     (λ h. get kept job l_kept (any_kept keep job (is_submit_of job) (submit_job job) deeds ∙ (ap (λ b. b && keep job) submitted ∙ h)) (any_kept keep job (is_get_of job) (get_job job) deeds ∙ ap (λ b. b && keep job) ungot)))

@@ -1,5 +1,7 @@
 pub mod Tests
 pub mod ByLast
+pub mod KeptRules
+mod WorkedPaths
 pub mod Fresh
 pub mod Lawful
 pub mod LinesSay
@@ -8,6 +10,6 @@ pub mod Deeds
 pub mod Places
 pub mod Ends
 pub mod SubmitPlace
-pub mod Undone
+pub mod Undo
 pub mod PathAfter
 pub mod PathsAfter

@@ -13,14 +13,14 @@ use Rattle.recorded_paths.specs.declared.deed.RecordedDeed.{RecordedDeed}
 use Rattle.recorded_paths.specs.declared.deed.RecordedDeed.TheVariants as deed
 use Rattle.recorded_paths.specs.declared.paths.Paths.{Paths}
 use Rattle.recorded_paths.specs.Act.{with_get, without_submit}
-use Rattle.recorded_paths.specs.Said.{is_submitted, deed_said}
+use Rattle.recorded_paths.specs.LineDeeds.{is_submitted, deed_by_line}
 use Rattle.recorded_paths.specs.Path.{path_of}
 use Rattle.recorded_paths.specs.Kept.{path_at, path_in}
-use Rattle.recorded_paths.specs.Changes.{Change, Changes, change_of, no_change, at_actor, pushed}
+use Rattle.recorded_paths.specs.Changes.{Change, Changes, change_of, no_change, at_actor, with_deed}
 use Rattle.recorded_paths.specs.StandsFor.{KeepsRules, is_about, live_path_of, IsPathsOf}
 use Rattle.recorded_paths.proofs.ByLast.{keeps_before, keeps_last}
 use Rattle.recorded_paths.proofs.Fresh.{actor_past, next_job, next_round, known_actor, done_fresh, own_fresh, ended_fresh, round_fresh}
-use Rattle.recorded_paths.proofs.LinesSay.{submitted_more, said_none, other_more}
+use Rattle.recorded_paths.proofs.LinesSay.{submitted_more, by_lines_none, other_more}
 use Rattle.recorded_paths.proofs.Places.{same_self}
 use Rattle.recorded_paths.proofs.PathAfter.{path_none, path_same, path_submit, path_get, path_refused}
 
@@ -74,7 +74,7 @@ done_if true false about_then act path path_then h g = sym (shown false about_th
 done_if false about about_then act path path_then h g = sym (shown about about_then path path_then h g)
 
 -- nothing
-stays : (before : List RecordedLine) (line : RecordedLine) (actor : RecordedActor) → comes actor line ≡ false → goes actor line ≡ false → ((j : ℕ) → refuses_job j line ≡ false) → deed_said actor before line ≡ None
+stays : (before : List RecordedLine) (line : RecordedLine) (actor : RecordedActor) → comes actor line ≡ false → goes actor line ≡ false → ((j : ℕ) → refuses_job j line ≡ false) → deed_by_line actor before line ≡ None
     → live_path_of before actor ≡ live_path_of (before ++ line ∷ []) actor
 stays before line actor h g unrefusing nothing =
     sym (shown (is_about before actor) (is_about (before ++ line ∷ []) actor) (path_of before actor) (path_of (before ++ line ∷ []) actor) (still_about before line actor h g) (path_same before line actor unrefusing nothing))
@@ -86,7 +86,7 @@ leaves before line actor g = sym (ap (λ (b : Bool). if b then Some (path_of (be
 -- it begins
 enters : (before : List RecordedLine) (line : RecordedLine) (actor : RecordedActor) → is_about (before ++ line ∷ []) actor ≡ true → is_of actor line ≡ false → list_any (is_of actor) before ≡ false → Some [] ≡ live_path_of (before ++ line ∷ []) actor
 enters before line actor h other none =
-    sym (shown true (is_about (before ++ line ∷ []) actor) [] (path_of (before ++ line ∷ []) actor) h (path_none actor (before ++ line ∷ []) (other_more before line actor other ∙ said_none actor before none)))
+    sym (shown true (is_about (before ++ line ∷ []) actor) [] (path_of (before ++ line ∷ []) actor) h (path_none actor (before ++ line ∷ []) (other_more before line actor other ∙ by_lines_none actor before none)))
 
 round_begins : (before : List RecordedLine) (round r : ℕ) (kind : List ℕ) → KeepsRules before → Keeps before (RoundBegins round kind) → (same : Bool) → (round == r) ≡ same
     → (if same then Some [] else live_path_of before (Round r)) ≡ live_path_of (before ++ RoundBegins round kind ∷ []) (Round r)
@@ -111,14 +111,14 @@ job_throws before job j false same = stays before (JobThrew job) (Job j) refl sa
 -- a submit, by the actor or by another one
 submitted : (before : List RecordedLine) (submitter actor : RecordedActor) (job : ℕ) (class pool : List ℕ) → KeepsRules before → Keeps before (Submits submitter job class pool) → comes actor (Submits submitter job class pool) ≡ false
     → goes actor (Submits submitter job class pool) ≡ false
-    → at_actor submitter (pushed (deed.Submits job)) actor (live_path_of before actor) ≡ live_path_of (before ++ Submits submitter job class pool ∷ []) actor
+    → at_actor submitter (with_deed (deed.Submits job)) actor (live_path_of before actor) ≡ live_path_of (before ++ Submits submitter job class pool ∷ []) actor
 submitted before submitter actor job class pool kept k h g =
     let line = Submits submitter job class pool in
-    done_if (is_same_actor submitter actor) (is_about before actor) (is_about (before ++ line ∷ []) actor) (pushed (deed.Submits job)) (path_of before actor) (path_of (before ++ line ∷ []) actor) (still_about before line actor h g)
+    done_if (is_same_actor submitter actor) (is_about before actor) (is_about (before ++ line ∷ []) actor) (with_deed (deed.Submits job)) (path_of before actor) (path_of (before ++ line ∷ []) actor) (still_about before line actor h g)
     (path_submit before submitter actor job class pool kept (next_job before line job k (same_self job)))
 
 job_submitted : (before : List RecordedLine) (submitter : RecordedActor) (job j : ℕ) (class pool : List ℕ) → KeepsRules before → Keeps before (Submits submitter job class pool) → (same : Bool) → (job == j) ≡ same
-    → (if same then Some [] else at_actor submitter (pushed (deed.Submits job)) (Job j) (live_path_of before (Job j))) ≡ live_path_of (before ++ Submits submitter job class pool ∷ []) (Job j)
+    → (if same then Some [] else at_actor submitter (with_deed (deed.Submits job)) (Job j) (live_path_of before (Job j))) ≡ live_path_of (before ++ Submits submitter job class pool ∷ []) (Job j)
 job_submitted before submitter job j class pool kept k true same =
     let line = Submits submitter job class pool in
     let past = next_job before line j k same in
@@ -132,9 +132,9 @@ refused before who actor job kept h g =
     done_if (is_same_actor who actor) (is_about before actor) (is_about (before ++ Refused who job ∷ []) actor) (without_submit job) (path_of before actor) (path_of (before ++ Refused who job ∷ []) actor)
     (still_about before (Refused who job) actor h g) (path_refused before who actor job kept)
 
-gotten : (before : List RecordedLine) (getter actor : RecordedActor) (job : ℕ) → KeepsRules before → comes actor (Got getter job) ≡ false → goes actor (Got getter job) ≡ false
+at_got : (before : List RecordedLine) (getter actor : RecordedActor) (job : ℕ) → KeepsRules before → comes actor (Got getter job) ≡ false → goes actor (Got getter job) ≡ false
     → at_actor getter (with_get job) actor (live_path_of before actor) ≡ live_path_of (before ++ Got getter job ∷ []) actor
-gotten before getter actor job kept h g =
+at_got before getter actor job kept h g =
     done_if (is_same_actor getter actor) (is_about before actor) (is_about (before ++ Got getter job ∷ []) actor) (with_get job) (path_of before actor) (path_of (before ++ Got getter job ∷ []) actor)
     (still_about before (Got getter job) actor h g) (path_get before getter actor job kept)
 
@@ -148,8 +148,8 @@ path_after before (Refused who job) (Job j) all kept k = refused before who (Job
 path_after before (Refused who job) (Round r) all kept k = refused before who (Round r) job all refl refl
 path_after before (JobEnds job) (Job j) all kept k = job_ends before job j (job == j) refl
 path_after before (JobThrew job) (Job j) all kept k = job_throws before job j (job == j) refl
-path_after before (Got getter job) (Job j) all kept k = gotten before getter (Job j) job kept refl refl
-path_after before (Got getter job) (Round r) all kept k = gotten before getter (Round r) job kept refl refl
+path_after before (Got getter job) (Job j) all kept k = at_got before getter (Job j) job kept refl refl
+path_after before (Got getter job) (Round r) all kept k = at_got before getter (Round r) job kept refl refl
 path_after before line (Job j) all kept k = stays before line (Job j) refl refl (λ i. refl) refl
 path_after before line (Round r) all kept k = stays before line (Round r) refl refl (λ i. refl) refl
 

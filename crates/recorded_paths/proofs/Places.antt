@@ -5,8 +5,8 @@ use Rattle.std.proofs.lemmas.List.{map-append, length-map}
 use Rattle.recorded_paths.specs.declared.deed.RecordedDeed.{RecordedDeed}
 use Rattle.recorded_paths.specs.declared.deed.RecordedDeed.TheVariants.{Submits, Gets}
 use Rattle.recorded_paths.specs.Act.{submits, place_on, submit_place}
-use Rattle.recorded_paths.specs.Said.{JobDeed, SubmitOf, GetOf, is_submit_of, is_get_of}
-use Rattle.recorded_paths.specs.Path.{with_place, placed}
+use Rattle.recorded_paths.specs.LineDeeds.{JobDeed, SubmitOf, GetOf, is_submit_of, is_get_of}
+use Rattle.recorded_paths.specs.Path.{with_place, with_places}
 use Rattle.recorded_paths.proofs.Tests.{any_more, passes, not_weaker}
 use Rattle.recorded_paths.proofs.Lawful.{Lawful, none, submit, get, got_submitted}
 
@@ -73,34 +73,34 @@ places_stay deeds deed (GetOf job ∷ some) known =
     ap (λ path. Gets (position_or_len (is_submit_of job) (deeds ++ deed ∷ [])) ∷ path) (places_stay deeds deed some (λ j h. known j (got_further j (GetOf job) some h)))
     ∙ ap (λ place. Gets place ∷ map (with_place deeds) some) (place_stays (is_submit_of job) deeds deed (known job (got_here job some)))
 
-placed_more : (deeds : List JobDeed) → Lawful deeds → (deed : JobDeed) → placed (deeds ++ deed ∷ []) ≡ placed deeds ++ with_place (deeds ++ deed ∷ []) deed ∷ []
-unfolding placed
-placed_more deeds l deed =
+places_more : (deeds : List JobDeed) → Lawful deeds → (deed : JobDeed) → with_places (deeds ++ deed ∷ []) ≡ with_places deeds ++ with_place (deeds ++ deed ∷ []) deed ∷ []
+unfolding with_places
+places_more deeds l deed =
     map-append (with_place (deeds ++ deed ∷ [])) deeds (deed ∷ [])
     ∙ ap (λ path. path ++ with_place (deeds ++ deed ∷ []) deed ∷ []) (places_stay deeds deed deeds (got_submitted deeds l))
 
-pub placed_submit : (deeds : List JobDeed) → Lawful deeds → (job : ℕ) → placed (deeds ++ SubmitOf job ∷ []) ≡ placed deeds ++ Submits job ∷ []
-placed_submit deeds l job = placed_more deeds l (SubmitOf job)
+pub places_submit : (deeds : List JobDeed) → Lawful deeds → (job : ℕ) → with_places (deeds ++ SubmitOf job ∷ []) ≡ with_places deeds ++ Submits job ∷ []
+places_submit deeds l job = places_more deeds l (SubmitOf job)
 
-pub placed_get : (deeds : List JobDeed) → Lawful deeds → (job : ℕ) → list_any (is_submit_of job) deeds ≡ true → placed (deeds ++ GetOf job ∷ []) ≡ placed deeds ++ Gets (position_or_len (is_submit_of job) deeds) ∷ []
-placed_get deeds l job h = placed_more deeds l (GetOf job) ∙ ap (λ place. placed deeds ++ Gets place ∷ []) (place_stays (is_submit_of job) deeds (GetOf job) h)
+pub places_get : (deeds : List JobDeed) → Lawful deeds → (job : ℕ) → list_any (is_submit_of job) deeds ≡ true → with_places (deeds ++ GetOf job ∷ []) ≡ with_places deeds ++ Gets (position_or_len (is_submit_of job) deeds) ∷ []
+places_get deeds l job h = places_more deeds l (GetOf job) ∙ ap (λ place. with_places deeds ++ Gets place ∷ []) (place_stays (is_submit_of job) deeds (GetOf job) h)
 
-pub placed_none : placed [] ≡ []
-unfolding placed
-placed_none = refl
+pub places_none : with_places [] ≡ []
+unfolding with_places
+places_none = refl
 
-pub length_placed : (deeds : List JobDeed) → length (placed deeds) ≡ length deeds
-unfolding placed
-length_placed deeds = length-map deeds (with_place deeds)
+pub length_places : (deeds : List JobDeed) → length (with_places deeds) ≡ length deeds
+unfolding with_places
+length_places deeds = length-map deeds (with_place deeds)
 
-any_placed_of : (j : ℕ) (deeds some : List JobDeed) → list_any (submits j) (map (with_place deeds) some) ≡ list_any (is_submit_of j) some
-any_placed_of j deeds [] = refl
-any_placed_of j deeds (SubmitOf job ∷ some) = ap (λ b. (job == j) || b) (any_placed_of j deeds some)
-any_placed_of j deeds (GetOf job ∷ some) = any_placed_of j deeds some
+any_with_places_of : (j : ℕ) (deeds some : List JobDeed) → list_any (submits j) (map (with_place deeds) some) ≡ list_any (is_submit_of j) some
+any_with_places_of j deeds [] = refl
+any_with_places_of j deeds (SubmitOf job ∷ some) = ap (λ b. (job == j) || b) (any_with_places_of j deeds some)
+any_with_places_of j deeds (GetOf job ∷ some) = any_with_places_of j deeds some
 
-pub any_placed : (j : ℕ) (deeds : List JobDeed) → list_any (submits j) (placed deeds) ≡ list_any (is_submit_of j) deeds
-unfolding placed
-any_placed j deeds = any_placed_of j deeds deeds
+pub any_with_places : (j : ℕ) (deeds : List JobDeed) → list_any (submits j) (with_places deeds) ≡ list_any (is_submit_of j) deeds
+unfolding with_places
+any_with_places j deeds = any_with_places_of j deeds deeds
 
 -- ---- the place of a submit
 place_on_none : (b : Bool) → place_on b None ≡ (if b then Some 0 else None)
@@ -116,19 +116,19 @@ submit_place_more j [] deed = place_on_none (submits j deed)
 submit_place_more j (first ∷ path) deed = ap (place_on (submits j first)) (submit_place_more j path deed) ∙ place_on_if (submits j first) (submits j deed) (length path) (submit_place j path)
 
 -- by the deeds, with one more that is no submit of the job
-unfoldable pub place_said : ℕ → List JobDeed → Option ℕ
-place_said j deeds = if list_any (is_submit_of j) deeds then Some (position_or_len (is_submit_of j) deeds) else None
+unfoldable pub place_by_deeds : ℕ → List JobDeed → Option ℕ
+place_by_deeds j deeds = if list_any (is_submit_of j) deeds then Some (position_or_len (is_submit_of j) deeds) else None
 
-no_place : (j : ℕ) → place_said j [] ≡ None
-unfolding place_said
+no_place : (j : ℕ) → place_by_deeds j [] ≡ None
+unfolding place_by_deeds
 no_place j = refl
 
 pub or_no : (a b : Bool) → b ≡ false → (a || b) ≡ a
 or_no true b h = refl
 or_no false b h = h
 
-stays_said : (j : ℕ) (deeds : List JobDeed) (deed : JobDeed) → is_submit_of j deed ≡ false → (some : Bool) → list_any (is_submit_of j) deeds ≡ some → place_said j (deeds ++ deed ∷ []) ≡ place_said j deeds
-unfolding place_said
+stays_said : (j : ℕ) (deeds : List JobDeed) (deed : JobDeed) → is_submit_of j deed ≡ false → (some : Bool) → list_any (is_submit_of j) deeds ≡ some → place_by_deeds j (deeds ++ deed ∷ []) ≡ place_by_deeds j deeds
+unfolding place_by_deeds
 stays_said j deeds deed other true some =
     let still : list_any (is_submit_of j) (deeds ++ deed ∷ []) ≡ true = any_more (is_submit_of j) deeds deed ∙ (or_no _ _ other ∙ some) in
     ap (λ (b : Bool). if b then Some (position_or_len (is_submit_of j) (deeds ++ deed ∷ [])) else None) still
@@ -138,26 +138,26 @@ stays_said j deeds deed other false some =
     ap (λ (b : Bool). if b then Some (position_or_len (is_submit_of j) (deeds ++ deed ∷ [])) else None) still
     ∙ sym (ap (λ (b : Bool). if b then Some (position_or_len (is_submit_of j) deeds) else None) some)
 
-last_said : (j : ℕ) (deeds : List JobDeed) → list_any (is_submit_of j) deeds ≡ false → place_said j (deeds ++ SubmitOf j ∷ []) ≡ Some (length deeds)
-unfolding place_said
+last_said : (j : ℕ) (deeds : List JobDeed) → list_any (is_submit_of j) deeds ≡ false → place_by_deeds j (deeds ++ SubmitOf j ∷ []) ≡ Some (length deeds)
+unfolding place_by_deeds
 last_said j deeds fresh =
     let now : list_any (is_submit_of j) (deeds ++ SubmitOf j ∷ []) ≡ true = any_more (is_submit_of j) deeds (SubmitOf j) ∙ (ap (λ b. b || (j == j)) fresh ∙ same_self j) in
     ap (λ (b : Bool). if b then Some (position_or_len (is_submit_of j) (deeds ++ SubmitOf j ∷ [])) else None) now
     ∙ ap Some (place_last (is_submit_of j) deeds (SubmitOf j) fresh (same_self j))
 
-submit_step : (j job : ℕ) (deeds : List JobDeed) → list_any (is_submit_of job) deeds ≡ false → submit_place j (placed deeds) ≡ place_said j deeds
-    → (same : Bool) → (job == j) ≡ same → (if same then Some (length (placed deeds)) else submit_place j (placed deeds)) ≡ place_said j (deeds ++ SubmitOf job ∷ [])
+submit_step : (j job : ℕ) (deeds : List JobDeed) → list_any (is_submit_of job) deeds ≡ false → submit_place j (with_places deeds) ≡ place_by_deeds j deeds
+    → (same : Bool) → (job == j) ≡ same → (if same then Some (length (with_places deeds)) else submit_place j (with_places deeds)) ≡ place_by_deeds j (deeds ++ SubmitOf job ∷ [])
 submit_step j job deeds fresh before true same =
-    ap Some (length_placed deeds) ∙ (sym (last_said job deeds fresh) ∙ ap (λ k. place_said k (deeds ++ SubmitOf job ∷ [])) (same_number job j same))
+    ap Some (length_places deeds) ∙ (sym (last_said job deeds fresh) ∙ ap (λ k. place_by_deeds k (deeds ++ SubmitOf job ∷ [])) (same_number job j same))
 submit_step j job deeds fresh before false same = before ∙ sym (stays_said j deeds (SubmitOf job) same (list_any (is_submit_of j) deeds) refl)
 
-pub place_placed : (deeds : List JobDeed) → Lawful deeds → (j : ℕ) → submit_place j (placed deeds) ≡ place_said j deeds
-place_placed _ none j = ap (submit_place j) placed_none ∙ sym (no_place j)
-place_placed _ (submit deeds job l fresh) j =
-    ap (submit_place j) (placed_submit deeds l job)
-    ∙ (submit_place_more j (placed deeds) (Submits job)
-    ∙ (submit_step j job deeds fresh (place_placed deeds l j) (job == j) refl))
-place_placed _ (get deeds job l submitted ungot) j =
-    ap (submit_place j) (placed_get deeds l job submitted)
-    ∙ (submit_place_more j (placed deeds) (Gets (position_or_len (is_submit_of job) deeds))
-    ∙ (place_placed deeds l j ∙ sym (stays_said j deeds (GetOf job) refl (list_any (is_submit_of j) deeds) refl)))
+pub place_there : (deeds : List JobDeed) → Lawful deeds → (j : ℕ) → submit_place j (with_places deeds) ≡ place_by_deeds j deeds
+place_there _ none j = ap (submit_place j) places_none ∙ sym (no_place j)
+place_there _ (submit deeds job l fresh) j =
+    ap (submit_place j) (places_submit deeds l job)
+    ∙ (submit_place_more j (with_places deeds) (Submits job)
+    ∙ (submit_step j job deeds fresh (place_there deeds l j) (job == j) refl))
+place_there _ (get deeds job l submitted ungot) j =
+    ap (submit_place j) (places_get deeds l job submitted)
+    ∙ (submit_place_more j (with_places deeds) (Gets (position_or_len (is_submit_of job) deeds))
+    ∙ (place_there deeds l j ∙ sym (stays_said j deeds (GetOf job) refl (list_any (is_submit_of j) deeds) refl)))

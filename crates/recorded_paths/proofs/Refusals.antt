@@ -9,13 +9,13 @@ use Rattle.recorded_rules.specs.LineParts.{is_same_actor, is_of, submits_job, re
 use Rattle.recorded_rules.specs.Before.{just_submitted}
 use Rattle.recorded_rules.proofs.Appended as rules
 use Rattle.recorded_rules.proofs.Keeping.{Keeps}
-use Rattle.recorded_paths.specs.Said.{submits_by, is_refused, has_submitted, JobDeed, SubmitOf, deed_said, deeds_said}
+use Rattle.recorded_paths.specs.LineDeeds.{submits_by, is_refused, has_submitted, JobDeed, SubmitOf, deed_by_line, deeds_by_lines}
 use Rattle.recorded_paths.specs.StandsFor.{KeepsRules}
 use Rattle.recorded_paths.proofs.Tests.{and_first, and_second, or_first, or_second, not_weaker}
 use Rattle.recorded_paths.proofs.ByLast.{by_last, by_kept}
 use Rattle.recorded_paths.proofs.Fresh.{next_job, submitted_fresh}
-use Rattle.recorded_paths.proofs.Lawful.{is_about, unsubmitted_none}
-use Rattle.recorded_paths.proofs.LinesSay.{refused_more, has_submitted_more, said_more, other_more, submitted_said, lawful_said}
+use Rattle.recorded_paths.proofs.Lawful.{is_deed_of, unsubmitted_none}
+use Rattle.recorded_paths.proofs.LinesSay.{refused_more, has_submitted_more, by_lines_more, other_more, submits_by_lines, lawful_by_lines}
 
 -- ---- actors
 pub same_actor : (a b : RecordedActor) → is_same_actor a b ≡ true → a ≡ b
@@ -87,32 +87,32 @@ one_submitter a b j =
 pub record EndsBySubmit (deeds : List JobDeed) (j : ℕ) : Type 0 where
   pub front : List JobDeed
   pub whole : deeds ≡ front ++ SubmitOf j ∷ []
-  pub unnamed : list_any (is_about j) front ≡ false
+  pub unnamed : list_any (is_deed_of j) front ≡ false
 
-submit_said : (actor : RecordedActor) (before : List RecordedLine) (line : RecordedLine) (j : ℕ) → is_of actor line ≡ true → submits_job j line ≡ true → deed_said actor before line ≡ Some (SubmitOf j)
+submit_said : (actor : RecordedActor) (before : List RecordedLine) (line : RecordedLine) (j : ℕ) → is_of actor line ≡ true → submits_job j line ≡ true → deed_by_line actor before line ≡ Some (SubmitOf j)
 submit_said actor before (Submits submitter job class pool) j own same = grind (arith, own, same)
 submit_said actor before line j own same = grind (arith, same)
 
 last_step : (actor : RecordedActor) (j : ℕ) (before : List RecordedLine) (line : RecordedLine) → KeepsRules before → Keeps before line
-    → (just_submitted before actor j ≡ true → is_refused before j ≡ false → EndsBySubmit (deeds_said before actor) j)
+    → (just_submitted before actor j ≡ true → is_refused before j ≡ false → EndsBySubmit (deeds_by_lines before actor) j)
     → (if is_of actor line && not (refuses_job j line) then submits_job j line else just_submitted before actor j) ≡ true
     → is_refused before j ≡ false → refuses_job j line ≡ false
-    → (own : Bool) → is_of actor line ≡ own → EndsBySubmit (deeds_said (before ++ line ∷ []) actor) j
+    → (own : Bool) → is_of actor line ≡ own → EndsBySubmit (deeds_by_lines (before ++ line ∷ []) actor) j
 last_step actor j before line kept k known h unrefused unrefusing true own =
     let now : submits_job j line ≡ true = grind (arith, h, own, unrefusing) in
     record {
-      front = deeds_said before actor;
-      whole = said_more before line actor ∙ ap (λ more. deeds_said before actor ++ option_to_list more) (submit_said actor before line j own now);
-      unnamed = unsubmitted_none (deeds_said before actor) (lawful_said actor before kept) j (submitted_said actor j before ∙ submitted_fresh before kept actor j (next_job before line j k now));
+      front = deeds_by_lines before actor;
+      whole = by_lines_more before line actor ∙ ap (λ more. deeds_by_lines before actor ++ option_to_list more) (submit_said actor before line j own now);
+      unnamed = unsubmitted_none (deeds_by_lines before actor) (lawful_by_lines actor before kept) j (submits_by_lines actor j before ∙ submitted_fresh before kept actor j (next_job before line j k now));
     }
 last_step actor j before line kept k known h unrefused unrefusing false own =
     let just : just_submitted before actor j ≡ true = grind (arith, h, own) in
     let last = known just unrefused in
     record { front = last.front; whole = other_more before line actor own ∙ last.whole; unnamed = last.unnamed }
 
-pub last_submitted : (actor : RecordedActor) (j : ℕ) (lines : List RecordedLine) → KeepsRules lines → just_submitted lines actor j ≡ true → is_refused lines j ≡ false → EndsBySubmit (deeds_said lines actor) j
+pub last_submitted : (actor : RecordedActor) (j : ℕ) (lines : List RecordedLine) → KeepsRules lines → just_submitted lines actor j ≡ true → is_refused lines j ≡ false → EndsBySubmit (deeds_by_lines lines actor) j
 last_submitted actor j =
-    by_kept (λ lines. just_submitted lines actor j ≡ true → is_refused lines j ≡ false → EndsBySubmit (deeds_said lines actor) j) (λ h g. absurd (grind (arith, h, just_at_none actor j)))
+    by_kept (λ lines. just_submitted lines actor j ≡ true → is_refused lines j ≡ false → EndsBySubmit (deeds_by_lines lines actor) j) (λ h g. absurd (grind (arith, h, just_at_none actor j)))
     (λ before line kept k known h unrefused.
     let split : (is_refused before j || refuses_job j line) ≡ false = sym (refused_more before line j) ∙ unrefused in
     last_step actor j before line kept k known (sym (rules.submitted_more before line actor j) ∙ h) (or_first _ _ split) (or_second _ _ split) (is_of actor line) refl)

@@ -28,25 +28,25 @@ abbrev pub at_actor : RecordedActor → (List RecordedDeed → List RecordedDeed
 at_actor actor act one there = if is_same_actor actor one then option_map act there else there
 
 -- the actor comes, with an empty path, or goes
-abbrev pub begins : RecordedActor → Change
-begins actor one there = if is_same_actor actor one then Some [] else there
+abbrev pub actor_comes : RecordedActor → Change
+actor_comes actor one there = if is_same_actor actor one then Some [] else there
 
-abbrev pub ends : RecordedActor → Change
-ends actor one there = if is_same_actor actor one then None else there
+abbrev pub actor_goes : RecordedActor → Change
+actor_goes actor one there = if is_same_actor actor one then None else there
 
-abbrev pub pushed : RecordedDeed → List RecordedDeed → List RecordedDeed
-pushed deed path = path ++ deed ∷ []
+abbrev pub with_deed : RecordedDeed → List RecordedDeed → List RecordedDeed
+with_deed deed path = path ++ deed ∷ []
 
 -- the submit stands at the end of its actor's path, and the job comes
-abbrev pub submits : RecordedActor → ℕ → Change
-submits actor job one there = begins (Job job) one (at_actor actor (pushed (deed.Submits job)) one there)
+abbrev pub actor_submits : RecordedActor → ℕ → Change
+actor_submits actor job one there = actor_comes (Job job) one (at_actor actor (with_deed (deed.Submits job)) one there)
 
 abbrev pub change_of : RecordedLine → Change
-change_of (RoundBegins round kind) = begins (Round round)
-change_of (RoundEnds round) = ends (Round round)
-change_of (Submits actor job class pool) = submits actor job
+change_of (RoundBegins round kind) = actor_comes (Round round)
+change_of (RoundEnds round) = actor_goes (Round round)
+change_of (Submits actor job class pool) = actor_submits actor job
 change_of (Refused actor job) = at_actor actor (without_submit job)
-change_of (JobEnds job) = ends (Job job)
-change_of (JobThrew job) = ends (Job job)
+change_of (JobEnds job) = actor_goes (Job job)
+change_of (JobThrew job) = actor_goes (Job job)
 change_of (Got actor job) = at_actor actor (with_get job)
 change_of line = no_change

@@ -1,5 +1,5 @@
 pub mod Act
-pub mod Said
+pub mod LineDeeds
 pub mod Path
 pub mod Kept
 pub mod StandsFor

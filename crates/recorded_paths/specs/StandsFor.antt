@@ -7,7 +7,7 @@ use Rattle.recorded_rules.specs.Before.{is_begun, is_ended, is_done}
 use Rattle.recorded_rules.specs.Rules.{broken_of}
 use Rattle.recorded_paths.specs.declared.deed.RecordedDeed.{RecordedDeed}
 use Rattle.recorded_paths.specs.declared.paths.Paths.{Paths}
-use Rattle.recorded_paths.specs.Said.{is_submitted}
+use Rattle.recorded_paths.specs.LineDeeds.{is_submitted}
 use Rattle.recorded_paths.specs.Path.{path_of}
 use Rattle.recorded_paths.specs.Kept.{path_at}
 

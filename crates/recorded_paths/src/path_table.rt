@@ -3,7 +3,7 @@
 ghost use Rattle.std.specs.Prelude.{◌≡◌, ℕ, [], OnOk, OnErr, None, Some, if◌then◌else◌, ◌==◌};
 ghost use Rattle.std.specs.Option.{option_map};
 ghost use Rattle.recorded_paths.specs.Act.{with_get, without_submit};
-ghost use Rattle.recorded_paths.specs.Changes.{pushed};
+ghost use Rattle.recorded_paths.specs.Changes.{with_deed};
 ghost use Rattle.recorded_paths.specs.Kept.{path_in};
 
 use crate::act::{drop_submit, note_get};
@@ -64,7 +64,7 @@ impl PathTable {
     ///
     /// `AllocError` where there is no memory for it. The paths are then what they were.
     pub(crate) fn push(&mut self, number: usize, deed: RecordedDeed) -> Result<(), AllocError>
-        ensures done { OnOk result ((n : ℕ) → path_in self.new n ≡ (if number == n then option_map (pushed deed) (path_in self.old n) else path_in self.old n)) }
+        ensures done { OnOk result ((n : ℕ) → path_in self.new n ≡ (if number == n then option_map (with_deed deed) (path_in self.old n) else path_in self.old n)) }
         ensures same { OnErr result ((n : ℕ) → path_in self.new n ≡ path_in self.old n) }
     {
         if let Some(path) = self.paths.get_mut(&number) {

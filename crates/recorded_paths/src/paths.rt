@@ -4,8 +4,7 @@ ghost use Rattle.std.specs.Prelude.{◌≡◌, ◌++◌, ◌∷◌, [], List, On
 ghost use Rattle.std.specs.Option.{option_map};
 ghost use Rattle.recording_lines.specs.RecordingLine.{RecordedLine, line_seen};
 ghost use Rattle.recorded_paths.specs.Act.{with_get, without_submit};
-ghost use Rattle.recorded_paths.specs.Changes.{Changes, change_of, no_change, at_actor, pushed};
-ghost use Rattle.recorded_paths.specs.Changes as spec;
+ghost use Rattle.recorded_paths.specs.Changes.{Changes, change_of, no_change, at_actor, actor_submits, with_deed};
 ghost use Rattle.recorded_paths.specs.StandsFor.{KeepsRules, IsPathsOf, live_path_of};
 
 use crate::deed::RecordedDeed;
@@ -80,7 +79,7 @@ impl Paths {
 
     // The job comes, and its submit stands at the end of its actor's path.
     fn submit(&mut self, actor: RecordedActor, job: usize) -> Result<(), AllocError>
-        ensures noted { OnOk result (Changes self.old (spec.submits actor job) self.new) }
+        ensures noted { OnOk result (Changes self.old (actor_submits actor job) self.new) }
         ensures same { OnErr result (Changes self.old no_change self.new) }
     {
         self.push(actor, RecordedDeed::Submits(job))?;
@@ -92,7 +91,7 @@ impl Paths {
     }
 
     fn push(&mut self, actor: RecordedActor, deed: RecordedDeed) -> Result<(), AllocError>
-        ensures noted { OnOk result (Changes self.old (at_actor actor (pushed deed)) self.new) }
+        ensures noted { OnOk result (Changes self.old (at_actor actor (with_deed deed)) self.new) }
         ensures same { OnErr result (Changes self.old no_change self.new) }
     {
         match actor {

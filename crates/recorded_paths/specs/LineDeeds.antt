@@ -32,9 +32,9 @@ pub data JobDeed : Type 0 where
   SubmitOf : ℕ → JobDeed
   GetOf : ℕ → JobDeed
 
-abbrev pub job_of : JobDeed → ℕ
-job_of (SubmitOf job) = job
-job_of (GetOf job) = job
+abbrev pub job_of_deed : JobDeed → ℕ
+job_of_deed (SubmitOf job) = job
+job_of_deed (GetOf job) = job
 
 abbrev pub is_submit_of : ℕ → JobDeed → Bool
 is_submit_of job (SubmitOf one) = one == job
@@ -46,15 +46,15 @@ is_get_of job (SubmitOf one) = false
 
 -- Each submit of the actor is a submit, and the first get of a job that it had submitted is a get. Each other line is
 -- nothing that it did.
-abbrev pub deed_said : RecordedActor → List RecordedLine → RecordedLine → Option JobDeed
-deed_said actor before (Submits submitter job class pool) = if is_same_actor submitter actor then Some (SubmitOf job) else None
-deed_said actor before (Got getter job) = if is_same_actor getter actor && has_submitted before actor job && not (has_got before actor job) then Some (GetOf job) else None
-deed_said actor before line = None
+abbrev pub deed_by_line : RecordedActor → List RecordedLine → RecordedLine → Option JobDeed
+deed_by_line actor before (Submits submitter job class pool) = if is_same_actor submitter actor then Some (SubmitOf job) else None
+deed_by_line actor before (Got getter job) = if is_same_actor getter actor && has_submitted before actor job && not (has_got before actor job) then Some (GetOf job) else None
+deed_by_line actor before line = None
 
 -- each line, with those that stand before it
 abbrev pub with_lines_before : List RecordedLine → List (List RecordedLine × RecordedLine)
 with_lines_before [] = []
 with_lines_before (line ∷ lines) = ([], line) ∷ map (λ (before, one). (line ∷ before, one)) (with_lines_before lines)
 
-unfoldable pub deeds_said : List RecordedLine → RecordedActor → List JobDeed
-deeds_said lines actor = filter_map (λ (before, line). deed_said actor before line) (with_lines_before lines)
+unfoldable pub deeds_by_lines : List RecordedLine → RecordedActor → List JobDeed
+deeds_by_lines lines actor = filter_map (λ (before, line). deed_by_line actor before line) (with_lines_before lines)
