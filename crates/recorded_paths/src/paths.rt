@@ -16,8 +16,8 @@ use std::alloc::{AllocError, Global};
 /// jobs that were submitted and are not done.
 #[derive(Debug, Drop)]
 pub struct Paths {
-    pub(crate) rounds: PathTable,
-    pub(crate) jobs: PathTable,
+    rounds: PathTable,
+    jobs: PathTable,
 }
 
 impl Paths {
