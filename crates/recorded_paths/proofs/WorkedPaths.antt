@@ -1,0 +1,27 @@
+-- Paths of a few lines, worked out.
+use Rattle.std.proofs.Common.{◌≡◌, List, [], ◌∷◌, refl}
+use Rattle.recording_lines.specs.declared.recording_line.RecordedActor.TheVariants.{Job, Round}
+use Rattle.recording_lines.specs.RecordingLine.{RecordedLine, RoundBegins, RoundEnds, Submits, Refused, JobStarts, JobEnds, Got, TimedOut}
+use Rattle.recorded_paths.specs.declared.deed.RecordedDeed.TheVariants as deed
+use Rattle.recorded_paths.specs.LineDeeds.{is_refused, has_submitted, has_got, deeds_by_lines}
+use Rattle.recorded_paths.specs.Path.{deeds_of, with_places, path_of}
+
+-- A round submits two jobs, and a third one that is refused, which its handler runs. It gets the second one first, asks
+-- for the first one in vain, and then gets it, and gets all of them once more. The job of another round is not its own.
+lines : List RecordedLine
+lines =
+    RoundBegins 0 [] ∷ RoundBegins 1 [] ∷ Submits (Round 0) 0 [] [] ∷ Submits (Round 1) 1 [] [] ∷ Submits (Round 0) 2 [] [] ∷ JobStarts 2 ∷ JobEnds 2 ∷ Submits (Round 0) 3 [] [] ∷ Refused (Round 0) 3 ∷ JobStarts 3 ∷ JobEnds 3
+    ∷ Got (Round 0) 2 ∷ TimedOut (Round 0) 0 ∷ JobStarts 0 ∷ Submits (Job 0) 4 [] [] ∷ JobEnds 0 ∷ JobStarts 1 ∷ JobEnds 1 ∷ Got (Round 0) 1 ∷ Got (Round 1) 0 ∷ Got (Round 0) 0 ∷ Got (Round 0) 3 ∷ Got (Round 0) 2 ∷ Got (Round 0) 0
+    ∷ RoundEnds 0 ∷ []
+
+own_jobs : path_of lines (Round 0) ≡ deed.Submits 0 ∷ deed.Submits 2 ∷ deed.Gets 1 ∷ deed.Gets 0 ∷ []
+unfolding lines is_refused has_submitted has_got deeds_by_lines deeds_of with_places
+own_jobs = refl
+
+other_round : path_of lines (Round 1) ≡ deed.Submits 1 ∷ []
+unfolding lines is_refused has_submitted has_got deeds_by_lines deeds_of with_places
+other_round = refl
+
+of_a_job : path_of lines (Job 0) ≡ deed.Submits 4 ∷ []
+unfolding lines is_refused has_submitted has_got deeds_by_lines deeds_of with_places
+of_a_job = refl

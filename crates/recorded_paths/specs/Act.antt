@@ -1,0 +1,53 @@
+-- What is done to the path of one actor, as it is kept.
+use Rattle.std.specs.Prelude.{ℕ, ◌==◌, ◌+◌, ◌-◌, Bool, true, false, if◌then◌else◌, List, [], ◌∷◌, ◌++◌, length, take, drop, slice_get, Option, Some, None}
+use Rattle.std.specs.List.{list_any}
+use Rattle.recorded_paths.specs.declared.deed.RecordedDeed.{RecordedDeed}
+use Rattle.recorded_paths.specs.declared.deed.RecordedDeed.TheVariants.{Submits, Gets}
+
+-- a submit of this job
+abbrev pub submits : ℕ → RecordedDeed → Bool
+submits job (Submits one) = one == job
+submits job (Gets place) = false
+
+-- a get of the job that the submit at this place of the same path made
+abbrev pub gets : ℕ → RecordedDeed → Bool
+gets place (Gets got) = got == place
+gets place (Submits job) = false
+
+-- ---- the submit of a job
+-- one place further, or the first one where none is further on
+abbrev pub place_on : Bool → Option ℕ → Option ℕ
+place_on here (Some place) = Some (place + 1)
+place_on true None = Some 0
+place_on false None = None
+
+-- the place of the last submit of the job
+abbrev pub submit_place : ℕ → List RecordedDeed → Option ℕ
+submit_place job [] = None
+submit_place job (deed ∷ path) = place_on (submits job deed) (submit_place job path)
+
+-- ---- a get
+-- whether the job that the submit at this place made is got behind it
+abbrev pub is_got : ℕ → List RecordedDeed → Bool
+is_got place path = list_any (gets place) (drop (place + 1) path)
+
+-- behind a get of the job that the submit at this place made: only the first one counts
+abbrev pub with_get_at : Option ℕ → List RecordedDeed → List RecordedDeed
+with_get_at None path = path
+with_get_at (Some place) path = if is_got place path then path else path ++ Gets place ∷ []
+
+abbrev pub with_get : ℕ → List RecordedDeed → List RecordedDeed
+with_get job path = with_get_at (submit_place job path) path
+
+-- ---- a refusal
+abbrev pub is_submit_there : ℕ → Option RecordedDeed → Bool
+is_submit_there job None = false
+is_submit_there job (Some deed) = submits job deed
+
+-- whether the submit of the job is the last deed
+unfoldable pub ends_with_submit : ℕ → List RecordedDeed → Bool
+ends_with_submit job path = is_submit_there job (slice_get path (length path - 1))
+
+-- without the submit of the job, where that is the last deed
+abbrev pub without_submit : ℕ → List RecordedDeed → List RecordedDeed
+without_submit job path = if ends_with_submit job path then take (length path - 1) path else path

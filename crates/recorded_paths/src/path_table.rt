@@ -1,0 +1,99 @@
+//! Paths of rounds or of jobs.
+
+ghost use Rattle.std.specs.Prelude.{◌≡◌, ℕ, [], OnOk, OnErr, None, Some, if◌then◌else◌, ◌==◌};
+ghost use Rattle.std.specs.Option.{option_map};
+ghost use Rattle.recorded_paths.specs.Act.{with_get, without_submit};
+ghost use Rattle.recorded_paths.specs.Changes.{with_deed};
+ghost use Rattle.recorded_paths.specs.Kept.{path_in};
+
+use crate::act::{drop_submit, note_get};
+use crate::deed::RecordedDeed;
+use std::alloc::{AllocError, Global};
+use std::collections::HashMap;
+
+/// The paths of the rounds that are about, by their numbers, or those of the jobs.
+#[derive(Debug, Drop)]
+pub(crate) struct PathTable {
+    paths: HashMap<usize, Vec<RecordedDeed>>,
+    alloc: Global,
+}
+
+impl PathTable {
+    /// None so far.
+    pub(crate) fn new(alloc: Global) -> PathTable
+        ensures { (n : ℕ) → path_in result n ≡ None }
+    {
+        PathTable {
+            paths: HashMap::new(alloc),
+            alloc,
+        }
+    }
+
+    pub(crate) fn path(&self, number: usize) -> Option<&[RecordedDeed]>
+        ensures { option_map (λ path. path.now) result ≡ path_in self.now number }
+    {
+        match self.paths.get(&number) {
+            Some(path) => Some(path.as_slice()),
+            None => None,
+        }
+    }
+
+    /// One comes, with an empty path.
+    ///
+    /// # Errors
+    ///
+    /// `AllocError` where there is no memory for it. The paths are then what they were.
+    pub(crate) fn begin(&mut self, number: usize) -> Result<(), AllocError>
+        ensures begun { OnOk result ((n : ℕ) → path_in self.new n ≡ (if number == n then Some [] else path_in self.old n)) }
+        ensures same { OnErr result ((n : ℕ) → path_in self.new n ≡ path_in self.old n) }
+    {
+        self.paths.insert(number, Vec::new(self.alloc))?;
+        Ok(())
+    }
+
+    /// One goes.
+    pub(crate) fn end(&mut self, number: usize)
+        ensures { (n : ℕ) → path_in self.new n ≡ (if number == n then None else path_in self.old n) }
+    {
+        self.paths.remove(&number);
+    }
+
+    /// The deed stands at the end of this path, where the path is there.
+    ///
+    /// # Errors
+    ///
+    /// `AllocError` where there is no memory for it. The paths are then what they were.
+    pub(crate) fn push(&mut self, number: usize, deed: RecordedDeed) -> Result<(), AllocError>
+        ensures done { OnOk result ((n : ℕ) → path_in self.new n ≡ (if number == n then option_map (with_deed deed) (path_in self.old n) else path_in self.old n)) }
+        ensures same { OnErr result ((n : ℕ) → path_in self.new n ≡ path_in self.old n) }
+    {
+        if let Some(path) = self.paths.get_mut(&number) {
+            path.push(deed)?;
+        }
+        Ok(())
+    }
+
+    /// The one of this path, where it is there, got the job.
+    ///
+    /// # Errors
+    ///
+    /// `AllocError` where there is no memory for it. The paths are then what they were.
+    pub(crate) fn note_get(&mut self, number: usize, job: usize) -> Result<(), AllocError>
+        ensures got { OnOk result ((n : ℕ) → path_in self.new n ≡ (if number == n then option_map (with_get job) (path_in self.old n) else path_in self.old n)) }
+        ensures same { OnErr result ((n : ℕ) → path_in self.new n ≡ path_in self.old n) }
+    {
+        if let Some(path) = self.paths.get_mut(&number) {
+            note_get(path, job)?;
+        }
+        Ok(())
+    }
+
+    /// The one of this path, where it is there, was refused the job.
+    pub(crate) fn drop_submit(&mut self, number: usize, job: usize)
+        ensures { (n : ℕ) → path_in self.new n ≡ (if number == n then option_map (without_submit job) (path_in self.old n) else path_in self.old n) }
+    {
+        if let Some(path) = self.paths.get_mut(&number) {
+            drop_submit(path, job);
+        }
+    }
+}

@@ -1,0 +1,121 @@
+//! The paths of the actors of a recording.
+
+ghost use Rattle.std.specs.Prelude.{◌≡◌, ◌++◌, ◌∷◌, [], List, OnOk, OnErr};
+ghost use Rattle.std.specs.Option.{option_map};
+ghost use Rattle.recording_lines.specs.RecordingLine.{RecordedLine, line_seen};
+ghost use Rattle.recorded_paths.specs.Act.{with_get, without_submit};
+ghost use Rattle.recorded_paths.specs.Changes.{Changes, change_of, no_change, at_actor, actor_submits, with_deed};
+ghost use Rattle.recorded_paths.specs.StandsFor.{KeepsRules, IsPathsOf, live_path_of};
+
+use crate::deed::RecordedDeed;
+use crate::path_table::PathTable;
+use recording_lines::{Line, RecordedActor};
+use std::alloc::{AllocError, Global};
+
+/// The paths of the actors that are about, by the lines so far: of the rounds that began and have not ended, and of the
+/// jobs that were submitted and are not done.
+#[derive(Debug, Drop)]
+pub struct Paths {
+    rounds: PathTable,
+    jobs: PathTable,
+}
+
+impl Paths {
+    /// No lines so far.
+    pub fn new(alloc: Global) -> Paths
+        ensures { IsPathsOf result [] }
+    {
+        Paths {
+            rounds: PathTable::new(alloc),
+            jobs: PathTable::new(alloc),
+        }
+    }
+
+    /// Takes the next line of a recording that keeps the rules.
+    ///
+    /// # Errors
+    ///
+    /// `AllocError` where there is no memory for what the line says. The paths are then those of the lines before.
+    pub fn take(&mut self, line: &Line<'_>) -> Result<(), AllocError>
+        ensures taken { (before : List RecordedLine) → KeepsRules (before ++ line_seen line.now ∷ []) → IsPathsOf self.old before → OnOk result (IsPathsOf self.new (before ++ line_seen line.now ∷ [])) }
+        ensures same { (before : List RecordedLine) → IsPathsOf self.old before → OnErr result (IsPathsOf self.new before) }
+    {
+        self.note(line)
+    }
+
+    /// The path of the actor, where it is about.
+    pub fn path(&self, actor: RecordedActor) -> Option<&[RecordedDeed]>
+        ensures { (before : List RecordedLine) → IsPathsOf self.now before → option_map (λ path. path.now) result ≡ live_path_of before actor }
+    {
+        match actor {
+            RecordedActor::Job(job) => self.jobs.path(job),
+            RecordedActor::Round(round) => self.rounds.path(round),
+        }
+    }
+
+    fn note(&mut self, line: &Line<'_>) -> Result<(), AllocError>
+        ensures noted { OnOk result (Changes self.old (change_of (line_seen line.now)) self.new) }
+        ensures same { OnErr result (Changes self.old no_change self.new) }
+    {
+        match *line {
+            Line::RoundBegins { round, .. } => self.rounds.begin(round),
+            Line::RoundEnds { round } => {
+                self.rounds.end(round);
+                Ok(())
+            }
+            Line::Submits { actor, job, .. } => self.submit(actor, job),
+            Line::Refused { actor, job } => {
+                self.drop_submit(actor, job);
+                Ok(())
+            }
+            Line::Got { actor, job } => self.note_get(actor, job),
+            Line::JobEnds { job } | Line::JobThrew { job } => {
+                self.jobs.end(job);
+                Ok(())
+            }
+            _ => Ok(()),
+        }
+    }
+
+    // The job comes, and its submit stands at the end of its actor's path.
+    fn submit(&mut self, actor: RecordedActor, job: usize) -> Result<(), AllocError>
+        ensures noted { OnOk result (Changes self.old (actor_submits actor job) self.new) }
+        ensures same { OnErr result (Changes self.old no_change self.new) }
+    {
+        self.push(actor, RecordedDeed::Submits(job))?;
+        if let Err(error) = self.jobs.begin(job) {
+            self.drop_submit(actor, job);
+            return Err(error);
+        }
+        Ok(())
+    }
+
+    fn push(&mut self, actor: RecordedActor, deed: RecordedDeed) -> Result<(), AllocError>
+        ensures noted { OnOk result (Changes self.old (at_actor actor (with_deed deed)) self.new) }
+        ensures same { OnErr result (Changes self.old no_change self.new) }
+    {
+        match actor {
+            RecordedActor::Job(number) => self.jobs.push(number, deed),
+            RecordedActor::Round(number) => self.rounds.push(number, deed),
+        }
+    }
+
+    fn note_get(&mut self, actor: RecordedActor, job: usize) -> Result<(), AllocError>
+        ensures noted { OnOk result (Changes self.old (at_actor actor (with_get job)) self.new) }
+        ensures same { OnErr result (Changes self.old no_change self.new) }
+    {
+        match actor {
+            RecordedActor::Job(number) => self.jobs.note_get(number, job),
+            RecordedActor::Round(number) => self.rounds.note_get(number, job),
+        }
+    }
+
+    fn drop_submit(&mut self, actor: RecordedActor, job: usize)
+        ensures { Changes self.old (at_actor actor (without_submit job)) self.new }
+    {
+        match actor {
+            RecordedActor::Job(number) => self.jobs.drop_submit(number, job),
+            RecordedActor::Round(number) => self.rounds.drop_submit(number, job),
+        }
+    }
+}
