@@ -7,7 +7,7 @@ use Rattle.serde_json.specs.Data.{Data, object, member, no_members}
 use Rattle.serde_json.specs.View.{items_of}
 use Rattle.serde_json.specs.Written.{comma_if, compact_text, items_text}
 use Rattle.cert_text.specs.CertText.{list_data}
-use Rattle.cert_text.specs.Canonical.{BeginsWith}
+use Rattle.cert_text.specs.Canonical.{BeginsAs}
 
 -- elements, with a comma before each that stands behind something, and no bracket at the end
 abbrev elements_text : Bool → List Data → List ℕ
@@ -42,7 +42,7 @@ list_begun made text rest opened = record { counted = refl; written = opened }
 
 -- one more is read
 pub list_more : {X : Type 0} (made : X → Data) (text : List ℕ) (xs : List X) (x : X) (count : ℕ) (rest element behind : List ℕ) → BeginsList made text xs count rest → rest ≡ comma_if (nat_lt 0 count) ++ element
-    → BeginsWith element (made x) behind → BeginsList made text (xs ++ x ∷ []) (count + 1) behind
+    → BeginsAs element (made x) behind → BeginsList made text (xs ++ x ∷ []) (count + 1) behind
 list_more made text xs x count rest element behind begins comma here = record {
   counted = length_push xs x ∙ ap (λ (n : ℕ). n + 1) begins.counted;
   written =
@@ -58,7 +58,7 @@ list_more made text xs x count rest element behind begins comma here = record {
     regroup a b c d = simp append_assoc
 
 -- the whole list is read
-pub list_whole : {X : Type 0} (made : X → Data) (text : List ℕ) (xs : List X) (count : ℕ) (rest behind : List ℕ) → BeginsList made text xs count rest → rest ≡ 93 ∷ behind → BeginsWith text (list_data (map made xs)) behind
+pub list_whole : {X : Type 0} (made : X → Data) (text : List ℕ) (xs : List X) (count : ℕ) (rest behind : List ℕ) → BeginsList made text xs count rest → rest ≡ 93 ∷ behind → BeginsAs text (list_data (map made xs)) behind
 list_whole made text xs count rest behind begins closed =
     begins.written ∙ ap (λ (t : List ℕ). 91 ∷ t)
     (ap (λ (t : List ℕ). elements_text false (map made xs) ++ t) closed ∙ (sym (append_assoc (elements_text false (map made xs)) (93 ∷ []) behind) ∙ ap (λ (t : List ℕ). t ++ behind) (ended false (map made xs))))
@@ -71,11 +71,11 @@ abbrev pub next_key : List ℕ → List ℕ
 next_key key = 44 ∷ (quoted key ++ 58 ∷ [])
 
 -- an object of three keys whose parts are read one after another
-pub triple_read : (j k l : List ℕ) (d e f : Data) (text at_d behind_d at_e behind_e at_f behind_f rest : List ℕ) → text ≡ first_key j ++ at_d → BeginsWith at_d d behind_d → behind_d ≡ next_key k ++ at_e
-    → BeginsWith at_e e behind_e → behind_e ≡ next_key l ++ at_f → BeginsWith at_f f behind_f → behind_f ≡ 125 ∷ rest → BeginsWith text (object (member j d (member k e (member l f no_members)))) rest
+pub triple_read : (j k l : List ℕ) (d e f : Data) (text at_d behind_d at_e behind_e at_f behind_f rest : List ℕ) → text ≡ first_key j ++ at_d → BeginsAs at_d d behind_d → behind_d ≡ next_key k ++ at_e
+    → BeginsAs at_e e behind_e → behind_e ≡ next_key l ++ at_f → BeginsAs at_f f behind_f → behind_f ≡ 125 ∷ rest → BeginsAs text (object (member j d (member k e (member l f no_members)))) rest
 triple_read j k l d e f text at_d behind_d at_e behind_e at_f behind_f rest a b c p q r s = simp (a, b, c, p, q, r, s, append_assoc)
 
 -- and one of two keys, the second of which is read with its value
-pub pair_read : (j k : List ℕ) (d e : Data) (text at_d behind_d behind_e rest : List ℕ) → text ≡ first_key j ++ at_d → BeginsWith at_d d behind_d → behind_d ≡ (next_key k ++ compact_text e) ++ behind_e → behind_e ≡ 125 ∷ rest
-    → BeginsWith text (object (member j d (member k e no_members))) rest
+pub pair_read : (j k : List ℕ) (d e : Data) (text at_d behind_d behind_e rest : List ℕ) → text ≡ first_key j ++ at_d → BeginsAs at_d d behind_d → behind_d ≡ (next_key k ++ compact_text e) ++ behind_e → behind_e ≡ 125 ∷ rest
+    → BeginsAs text (object (member j d (member k e no_members))) rest
 pair_read j k d e text at_d behind_d behind_e rest a b c p = simp (a, b, c, p, append_assoc)

@@ -12,8 +12,8 @@ use Rattle.cert_text.specs.declared.document.TheConstants.{MAX_TEXT_BYTES}
 use Rattle.cert_text.specs.CertText.{vector_data, version_number, cert_text}
 
 -- the text of a value stands at the front of a text, and this rest behind it
-abbrev pub BeginsWith : List ℕ → Data → List ℕ → Type 0
-BeginsWith text value rest = text ≡ compact_text value ++ rest
+abbrev pub BeginsAs : List ℕ → Data → List ℕ → Type 0
+BeginsAs text value rest = text ≡ compact_text value ++ rest
 
 -- so many rows, each of as many numbers as there are points at its place
 abbrev pub AreRows : ℕ → (ℕ → ℕ) → List (List ℕ) → Type 0
