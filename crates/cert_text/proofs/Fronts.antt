@@ -16,8 +16,8 @@ elements_text later (d ∷ ds) = comma_if later ++ (compact_text d ++ elements_t
 
 -- these elements are read at the front of a list's text, so many
 pub record BeginsList {X : Type 0} (made : X → Data) (text : List ℕ) (xs : List X) (count : ℕ) (rest : List ℕ) : Type 0 where
-  pub counted : length xs ≡ count
-  pub written : text ≡ 91 ∷ (elements_text false (map made xs) ++ rest)
+  pub as_many : length xs ≡ count
+  pub front : text ≡ 91 ∷ (elements_text false (map made xs) ++ rest)
 
 more_behind : (ds : List Data) (d : Data) → elements_text true (ds ++ d ∷ []) ≡ elements_text true ds ++ (44 ∷ compact_text d)
 more_behind [] d = ap (λ (t : List ℕ). 44 ∷ t) (append-nil (compact_text d))
@@ -36,20 +36,16 @@ ended later (d ∷ ds) =
     append_assoc (comma_if later) (compact_text d ++ elements_text true ds) (93 ∷ [])
     ∙ ap (λ (t : List ℕ). comma_if later ++ t) (append_assoc (compact_text d) (elements_text true ds) (93 ∷ []) ∙ ap (λ (t : List ℕ). compact_text d ++ t) (ended true ds))
 
--- none is read yet
-pub list_begun : {X : Type 0} (made : X → Data) (text rest : List ℕ) → text ≡ 91 ∷ rest → BeginsList made text [] 0 rest
-list_begun made text rest opened = record { counted = refl; written = opened }
-
 -- one more is read
 pub list_more : {X : Type 0} (made : X → Data) (text : List ℕ) (xs : List X) (x : X) (count : ℕ) (rest element behind : List ℕ) → BeginsList made text xs count rest → rest ≡ comma_if (nat_lt 0 count) ++ element
     → BeginsAs element (made x) behind → BeginsList made text (xs ++ x ∷ []) (count + 1) behind
 list_more made text xs x count rest element behind begins comma here = record {
-  counted = length_push xs x ∙ ap (λ (n : ℕ). n + 1) begins.counted;
-  written =
-      let as_many : length (map made xs) ≡ count = length-map xs made ∙ begins.counted in
+  as_many = length_push xs x ∙ ap (λ (n : ℕ). n + 1) begins.as_many;
+  front =
+      let mapped : length (map made xs) ≡ count = length-map xs made ∙ begins.as_many in
       let pushed : elements_text false (map made (xs ++ x ∷ [])) ≡ elements_text false (map made xs) ++ (comma_if (nat_lt 0 count) ++ compact_text (made x)) =
-      ap (elements_text false) (map_push made xs x) ∙ (more_elements (map made xs) (made x) ∙ ap (λ (n : ℕ). elements_text false (map made xs) ++ (comma_if (nat_lt 0 n) ++ compact_text (made x))) as_many) in
-      begins.written ∙ ap (λ (t : List ℕ). 91 ∷ t)
+      ap (elements_text false) (map_push made xs x) ∙ (more_elements (map made xs) (made x) ∙ ap (λ (n : ℕ). elements_text false (map made xs) ++ (comma_if (nat_lt 0 n) ++ compact_text (made x))) mapped) in
+      begins.front ∙ ap (λ (t : List ℕ). 91 ∷ t)
       (ap (λ (t : List ℕ). elements_text false (map made xs) ++ t) (comma ∙ ap (λ (t : List ℕ). comma_if (nat_lt 0 count) ++ t) here)
       ∙ (regroup (elements_text false (map made xs)) (comma_if (nat_lt 0 count)) (compact_text (made x)) behind ∙ ap (λ (t : List ℕ). t ++ behind) (sym pushed)));
 }
@@ -60,7 +56,7 @@ list_more made text xs x count rest element behind begins comma here = record {
 -- the whole list is read
 pub list_whole : {X : Type 0} (made : X → Data) (text : List ℕ) (xs : List X) (count : ℕ) (rest behind : List ℕ) → BeginsList made text xs count rest → rest ≡ 93 ∷ behind → BeginsAs text (list_data (map made xs)) behind
 list_whole made text xs count rest behind begins closed =
-    begins.written ∙ ap (λ (t : List ℕ). 91 ∷ t)
+    begins.front ∙ ap (λ (t : List ℕ). 91 ∷ t)
     (ap (λ (t : List ℕ). elements_text false (map made xs) ++ t) closed ∙ (sym (append_assoc (elements_text false (map made xs)) (93 ∷ []) behind) ∙ ap (λ (t : List ℕ). t ++ behind) (ended false (map made xs))))
 
 -- the text of a key before its value, as it stands at the front of an object and behind another member

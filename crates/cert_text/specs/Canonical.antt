@@ -38,6 +38,6 @@ IsTextOf text cert = (rest : List ℕ) × IsBlank rest × (text ≡ cert_text ce
 
 -- a text that is not too long, of a certificate that fits the plan
 pub record IsCanonical (plan : Plan) (text : List ℕ) (cert : Cert) : Type 0 where
-  pub written : IsTextOf text cert
+  pub is_text : IsTextOf text cert
   pub short : length text ≤ MAX_TEXT_BYTES
   pub fits : IsTrue (cert_fits plan cert)
