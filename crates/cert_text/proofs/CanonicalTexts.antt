@@ -104,11 +104,11 @@ cert_readable cert small =
 
 pub canonical_back : (plan : Plan) (text : List ℕ) (cert : Cert) → IsCanonical plan text cert → cert_of text plan ≡ Ok cert
 canonical_back plan text cert canonical =
-    let blank = canonical.written.0 in
+    let blank = canonical.is_text.0 in
     let whole : List ℕ = cert_text cert ++ blank in
-    let same : text ≡ whole = canonical.written.2 in
+    let same : text ≡ whole = canonical.is_text.2 in
     let readable = cert_readable cert (fits_small plan cert canonical.fits) in
-    let utf8 : is_utf8 whole ≡ true = is_utf8-from_IsUtf8 whole (IsUtf8-append (cert_text cert) blank readable.utf8 (blank_is_utf8 blank canonical.written.1)) in
-    let reads : read whole ≡ Some (cert_data cert) = read_before_blank (cert_text cert) blank canonical.written.1 (text_is_compact 6 _ readable) ∙ text_reads 6 _ (omega arith) readable in
+    let utf8 : is_utf8 whole ≡ true = is_utf8-from_IsUtf8 whole (IsUtf8-append (cert_text cert) blank readable.utf8 (blank_is_utf8 blank canonical.is_text.1)) in
+    let reads : read whole ≡ Some (cert_data cert) = read_before_blank (cert_text cert) blank canonical.is_text.1 (text_is_compact 6 _ readable) ∙ text_reads 6 _ (omega arith) readable in
     let short : length whole ≤ MAX_TEXT_BYTES = subst (λ (t : List ℕ). length t ≤ MAX_TEXT_BYTES) same canonical.short in
     ap (λ (t : List ℕ). cert_of t plan) same ∙ cert_back whole plan cert utf8 reads canonical.fits short

@@ -7,7 +7,7 @@ use Rattle.serde_json.specs.Data.{Data, object, member, no_members}
 use Rattle.serde_json.specs.View.{items_of}
 use Rattle.serde_json.specs.Written.{comma_if, compact_text, items_text}
 use Rattle.cert_text.specs.CertText.{list_data}
-use Rattle.cert_text.specs.Canonical.{BeginsWith}
+use Rattle.cert_text.specs.Canonical.{BeginsAs}
 
 -- elements, with a comma before each that stands behind something, and no bracket at the end
 abbrev elements_text : Bool → List Data → List ℕ
@@ -16,8 +16,8 @@ elements_text later (d ∷ ds) = comma_if later ++ (compact_text d ++ elements_t
 
 -- these elements are read at the front of a list's text, so many
 pub record BeginsList {X : Type 0} (made : X → Data) (text : List ℕ) (xs : List X) (count : ℕ) (rest : List ℕ) : Type 0 where
-  pub counted : length xs ≡ count
-  pub written : text ≡ 91 ∷ (elements_text false (map made xs) ++ rest)
+  pub as_many : length xs ≡ count
+  pub front : text ≡ 91 ∷ (elements_text false (map made xs) ++ rest)
 
 more_behind : (ds : List Data) (d : Data) → elements_text true (ds ++ d ∷ []) ≡ elements_text true ds ++ (44 ∷ compact_text d)
 more_behind [] d = ap (λ (t : List ℕ). 44 ∷ t) (append-nil (compact_text d))
@@ -36,20 +36,16 @@ ended later (d ∷ ds) =
     append_assoc (comma_if later) (compact_text d ++ elements_text true ds) (93 ∷ [])
     ∙ ap (λ (t : List ℕ). comma_if later ++ t) (append_assoc (compact_text d) (elements_text true ds) (93 ∷ []) ∙ ap (λ (t : List ℕ). compact_text d ++ t) (ended true ds))
 
--- none is read yet
-pub list_begun : {X : Type 0} (made : X → Data) (text rest : List ℕ) → text ≡ 91 ∷ rest → BeginsList made text [] 0 rest
-list_begun made text rest opened = record { counted = refl; written = opened }
-
 -- one more is read
 pub list_more : {X : Type 0} (made : X → Data) (text : List ℕ) (xs : List X) (x : X) (count : ℕ) (rest element behind : List ℕ) → BeginsList made text xs count rest → rest ≡ comma_if (nat_lt 0 count) ++ element
-    → BeginsWith element (made x) behind → BeginsList made text (xs ++ x ∷ []) (count + 1) behind
+    → BeginsAs element (made x) behind → BeginsList made text (xs ++ x ∷ []) (count + 1) behind
 list_more made text xs x count rest element behind begins comma here = record {
-  counted = length_push xs x ∙ ap (λ (n : ℕ). n + 1) begins.counted;
-  written =
-      let as_many : length (map made xs) ≡ count = length-map xs made ∙ begins.counted in
+  as_many = length_push xs x ∙ ap (λ (n : ℕ). n + 1) begins.as_many;
+  front =
+      let mapped : length (map made xs) ≡ count = length-map xs made ∙ begins.as_many in
       let pushed : elements_text false (map made (xs ++ x ∷ [])) ≡ elements_text false (map made xs) ++ (comma_if (nat_lt 0 count) ++ compact_text (made x)) =
-      ap (elements_text false) (map_push made xs x) ∙ (more_elements (map made xs) (made x) ∙ ap (λ (n : ℕ). elements_text false (map made xs) ++ (comma_if (nat_lt 0 n) ++ compact_text (made x))) as_many) in
-      begins.written ∙ ap (λ (t : List ℕ). 91 ∷ t)
+      ap (elements_text false) (map_push made xs x) ∙ (more_elements (map made xs) (made x) ∙ ap (λ (n : ℕ). elements_text false (map made xs) ++ (comma_if (nat_lt 0 n) ++ compact_text (made x))) mapped) in
+      begins.front ∙ ap (λ (t : List ℕ). 91 ∷ t)
       (ap (λ (t : List ℕ). elements_text false (map made xs) ++ t) (comma ∙ ap (λ (t : List ℕ). comma_if (nat_lt 0 count) ++ t) here)
       ∙ (regroup (elements_text false (map made xs)) (comma_if (nat_lt 0 count)) (compact_text (made x)) behind ∙ ap (λ (t : List ℕ). t ++ behind) (sym pushed)));
 }
@@ -58,9 +54,9 @@ list_more made text xs x count rest element behind begins comma here = record {
     regroup a b c d = simp append_assoc
 
 -- the whole list is read
-pub list_whole : {X : Type 0} (made : X → Data) (text : List ℕ) (xs : List X) (count : ℕ) (rest behind : List ℕ) → BeginsList made text xs count rest → rest ≡ 93 ∷ behind → BeginsWith text (list_data (map made xs)) behind
+pub list_whole : {X : Type 0} (made : X → Data) (text : List ℕ) (xs : List X) (count : ℕ) (rest behind : List ℕ) → BeginsList made text xs count rest → rest ≡ 93 ∷ behind → BeginsAs text (list_data (map made xs)) behind
 list_whole made text xs count rest behind begins closed =
-    begins.written ∙ ap (λ (t : List ℕ). 91 ∷ t)
+    begins.front ∙ ap (λ (t : List ℕ). 91 ∷ t)
     (ap (λ (t : List ℕ). elements_text false (map made xs) ++ t) closed ∙ (sym (append_assoc (elements_text false (map made xs)) (93 ∷ []) behind) ∙ ap (λ (t : List ℕ). t ++ behind) (ended false (map made xs))))
 
 -- the text of a key before its value, as it stands at the front of an object and behind another member
@@ -71,11 +67,11 @@ abbrev pub next_key : List ℕ → List ℕ
 next_key key = 44 ∷ (quoted key ++ 58 ∷ [])
 
 -- an object of three keys whose parts are read one after another
-pub triple_read : (j k l : List ℕ) (d e f : Data) (text at_d behind_d at_e behind_e at_f behind_f rest : List ℕ) → text ≡ first_key j ++ at_d → BeginsWith at_d d behind_d → behind_d ≡ next_key k ++ at_e
-    → BeginsWith at_e e behind_e → behind_e ≡ next_key l ++ at_f → BeginsWith at_f f behind_f → behind_f ≡ 125 ∷ rest → BeginsWith text (object (member j d (member k e (member l f no_members)))) rest
+pub triple_read : (j k l : List ℕ) (d e f : Data) (text at_d behind_d at_e behind_e at_f behind_f rest : List ℕ) → text ≡ first_key j ++ at_d → BeginsAs at_d d behind_d → behind_d ≡ next_key k ++ at_e
+    → BeginsAs at_e e behind_e → behind_e ≡ next_key l ++ at_f → BeginsAs at_f f behind_f → behind_f ≡ 125 ∷ rest → BeginsAs text (object (member j d (member k e (member l f no_members)))) rest
 triple_read j k l d e f text at_d behind_d at_e behind_e at_f behind_f rest a b c p q r s = simp (a, b, c, p, q, r, s, append_assoc)
 
 -- and one of two keys, the second of which is read with its value
-pub pair_read : (j k : List ℕ) (d e : Data) (text at_d behind_d behind_e rest : List ℕ) → text ≡ first_key j ++ at_d → BeginsWith at_d d behind_d → behind_d ≡ (next_key k ++ compact_text e) ++ behind_e → behind_e ≡ 125 ∷ rest
-    → BeginsWith text (object (member j d (member k e no_members))) rest
+pub pair_read : (j k : List ℕ) (d e : Data) (text at_d behind_d behind_e rest : List ℕ) → text ≡ first_key j ++ at_d → BeginsAs at_d d behind_d → behind_d ≡ (next_key k ++ compact_text e) ++ behind_e → behind_e ≡ 125 ∷ rest
+    → BeginsAs text (object (member j d (member k e no_members))) rest
 pair_read j k d e text at_d behind_d behind_e rest a b c p = simp (a, b, c, p, append_assoc)

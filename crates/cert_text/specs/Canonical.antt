@@ -12,8 +12,8 @@ use Rattle.cert_text.specs.declared.document.TheConstants.{MAX_TEXT_BYTES}
 use Rattle.cert_text.specs.CertText.{vector_data, version_number, cert_text}
 
 -- the text of a value stands at the front of a text, and this rest behind it
-abbrev pub BeginsWith : List ℕ → Data → List ℕ → Type 0
-BeginsWith text value rest = text ≡ compact_text value ++ rest
+abbrev pub BeginsAs : List ℕ → Data → List ℕ → Type 0
+BeginsAs text value rest = text ≡ compact_text value ++ rest
 
 -- so many rows, each of as many numbers as there are points at its place
 abbrev pub AreRows : ℕ → (ℕ → ℕ) → List (List ℕ) → Type 0
@@ -38,6 +38,6 @@ IsTextOf text cert = (rest : List ℕ) × IsBlank rest × (text ≡ cert_text ce
 
 -- a text that is not too long, of a certificate that fits the plan
 pub record IsCanonical (plan : Plan) (text : List ℕ) (cert : Cert) : Type 0 where
-  pub written : IsTextOf text cert
+  pub is_text : IsTextOf text cert
   pub short : length text ≤ MAX_TEXT_BYTES
   pub fits : IsTrue (cert_fits plan cert)

@@ -10,7 +10,7 @@ ghost use Rattle.weights.specs.Bound.{bound_vector};
 ghost use Rattle.pool_ranks.specs.Ranks.{ranks_fit};
 ghost use Rattle.certificates.specs.Cert.{pool_cert_fits, cert_fits};
 ghost use Rattle.cert_text.specs.CertText as spec;
-ghost use Rattle.cert_text.specs.Canonical.{BeginsWith, bound_text, version_text, IsCanonical};
+ghost use Rattle.cert_text.specs.Canonical.{BeginsAs, bound_text, version_text, IsCanonical};
 
 use crate::canonical_numbers::{
     CanonicalError, behind, behind_byte, behind_comma, leading_numbers, list_for, not_canonical,
@@ -47,7 +47,7 @@ fn leading_pool<'a>(
     plan: &Plan,
     text: &'a [u8],
 ) -> Result<(PoolCert, &'a [u8]), CanonicalError>
-    ensures text { IfOk result (λ read. BeginsWith text.now (spec.pool_data read.0) read.1.now) }
+    ensures text { IfOk result (λ read. BeginsAs text.now (spec.pool_data read.0) read.1.now) }
     ensures fits { IfOk result (λ read. IsTrue (pool_cert_fits plan.now read.0)) }
 {
     let rest = behind(text, b"{\"blocked\":")?;
@@ -62,7 +62,7 @@ fn leading_pools<'a>(
     plan: &Plan,
     text: &'a [u8],
 ) -> Result<(Vec<PoolCert>, &'a [u8]), CanonicalError>
-    ensures text { IfOk result (λ read. BeginsWith text.now (spec.list_data (map spec.pool_data read.0.items)) read.1.now) }
+    ensures text { IfOk result (λ read. BeginsAs text.now (spec.list_data (map spec.pool_data read.0.items)) read.1.now) }
     ensures count { IfOk result (λ read. length read.0.items ≡ length plan.now.pools) }
     ensures fit { IfOk result (λ read. IsTrue (list_all (pool_cert_fits plan.now) read.0.items)) }
 {
@@ -83,7 +83,7 @@ fn leading_ranks<'a>(
     plan: &Plan,
     text: &'a [u8],
 ) -> Result<(Ranks, &'a [u8]), CanonicalError>
-    ensures text { IfOk result (λ read. BeginsWith text.now (spec.ranks_data read.0) read.1.now) }
+    ensures text { IfOk result (λ read. BeginsAs text.now (spec.ranks_data read.0) read.1.now) }
     ensures fit { IfOk result (λ read. IsTrue (ranks_fit plan.now read.0)) }
 {
     let rest = behind(text, b"{\"levels\":")?;
@@ -118,7 +118,7 @@ fn leading_cert<'a>(
     plan: &Plan,
     text: &'a [u8],
 ) -> Result<(Cert, &'a [u8]), CanonicalError>
-    ensures text { IfOk result (λ read. BeginsWith text.now (spec.cert_data read.0) read.1.now) }
+    ensures text { IfOk result (λ read. BeginsAs text.now (spec.cert_data read.0) read.1.now) }
     ensures fits { IfOk result (λ read. IsTrue (cert_fits plan.now read.0)) }
 {
     let rest = behind(text, b"{\"pools\":")?;

@@ -5,7 +5,7 @@ ghost use Rattle.std.specs.List.{list_all};
 ghost use Rattle.serde_json.specs.Written.{comma_if};
 ghost use Rattle.weights.specs.Vector.{is_small};
 ghost use Rattle.cert_text.specs.CertText.{numbers_data};
-ghost use Rattle.cert_text.specs.Canonical.{BeginsWith};
+ghost use Rattle.cert_text.specs.Canonical.{BeginsAs};
 
 use readings::ReadError;
 use std::alloc::Global;
@@ -109,7 +109,7 @@ pub fn leading_numbers(
     count: usize,
     text: &[u8],
 ) -> Result<(Vec<u64>, &[u8]), CanonicalError>
-    ensures text { IfOk result (λ read. BeginsWith text.now (numbers_data read.0.items) read.1.now) }
+    ensures text { IfOk result (λ read. BeginsAs text.now (numbers_data read.0.items) read.1.now) }
     ensures count { IfOk result (λ read. length read.0.items ≡ count) }
     ensures small { IfOk result (λ read. IsTrue (list_all is_small read.0.items)) }
 {

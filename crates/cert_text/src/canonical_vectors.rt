@@ -5,7 +5,7 @@ ghost use Rattle.std.specs.List.{list_all};
 ghost use Rattle.weights.specs.Vector.{is_small, vector_fits};
 ghost use Rattle.cert_text.specs.Vectors.{class_points, client_points};
 ghost use Rattle.cert_text.specs.CertText as spec;
-ghost use Rattle.cert_text.specs.Canonical.{BeginsWith, AreRows};
+ghost use Rattle.cert_text.specs.Canonical.{BeginsAs, AreRows};
 
 use crate::canonical_numbers::{
     CanonicalError, behind, behind_byte, behind_comma, leading_numbers, list_for,
@@ -21,7 +21,7 @@ fn leading_class_rows<'a>(
     plan: &Plan,
     text: &'a [u8],
 ) -> Result<(Vec<Vec<u64>>, &'a [u8]), CanonicalError>
-    ensures text { IfOk result (λ read. BeginsWith text.now (spec.rows_data (map (λ row. row.items) read.0.items)) read.1.now) }
+    ensures text { IfOk result (λ read. BeginsAs text.now (spec.rows_data (map (λ row. row.items) read.0.items)) read.1.now) }
     ensures rows { IfOk result (λ read. AreRows (length plan.now.classes) (class_points plan.now) (map (λ row. row.items) read.0.items)) }
     ensures small { IfOk result (λ read. IsTrue (list_all (list_all is_small) (map (λ row. row.items) read.0.items))) }
 {
@@ -43,7 +43,7 @@ fn leading_client_rows<'a>(
     plan: &Plan,
     text: &'a [u8],
 ) -> Result<(Vec<Vec<u64>>, &'a [u8]), CanonicalError>
-    ensures text { IfOk result (λ read. BeginsWith text.now (spec.rows_data (map (λ row. row.items) read.0.items)) read.1.now) }
+    ensures text { IfOk result (λ read. BeginsAs text.now (spec.rows_data (map (λ row. row.items) read.0.items)) read.1.now) }
     ensures rows { IfOk result (λ read. AreRows (length plan.now.clients) (client_points plan.now) (map (λ row. row.items) read.0.items)) }
     ensures small { IfOk result (λ read. IsTrue (list_all (list_all is_small) (map (λ row. row.items) read.0.items))) }
 {
@@ -65,7 +65,7 @@ pub fn leading_vector<'a>(
     plan: &Plan,
     text: &'a [u8],
 ) -> Result<(Vector, &'a [u8]), CanonicalError>
-    ensures text { IfOk result (λ read. BeginsWith text.now (spec.vector_data read.0) read.1.now) }
+    ensures text { IfOk result (λ read. BeginsAs text.now (spec.vector_data read.0) read.1.now) }
     ensures fits { IfOk result (λ read. IsTrue (vector_fits plan.now read.0)) }
 {
     let rest = behind(text, b"{\"classes\":")?;

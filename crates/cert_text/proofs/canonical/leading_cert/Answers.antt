@@ -3,14 +3,14 @@ use Rattle.std.proofs.lemmas.Bool.{and_from, eq-eqb}
 use Rattle.serde_json.proofs.OnLiterals.{serde_json_on_literals}
 use Rattle.certificates.specs.Cert.{Cert}
 use Rattle.cert_text.specs.CertText.{list_data, number_data, pool_data, ranks_data, version_number, cert_data}
-use Rattle.cert_text.specs.Canonical.{BeginsWith, version_text}
+use Rattle.cert_text.specs.Canonical.{BeginsAs, version_text}
 use Rattle.cert_text.proofs.Fronts.{first_key, next_key, triple_read}
 use Rattle.std.specs.Prelude.{map}
 use Rattle.cert_text.proofs.canonical.leading_cert.Goals as goal
 
 -- a certificate whose parts are read one after another
-cert_read : (cert : Cert) (text at_pools behind_pools at_ranks behind_ranks rest : List ℕ) → text ≡ first_key (codes "pools") ++ at_pools → BeginsWith at_pools (list_data (map pool_data cert.pools)) behind_pools
-    → behind_pools ≡ next_key (codes "ranks") ++ at_ranks → BeginsWith at_ranks (ranks_data cert.ranks) behind_ranks → behind_ranks ≡ version_text cert ++ rest → BeginsWith text (cert_data cert) rest
+cert_read : (cert : Cert) (text at_pools behind_pools at_ranks behind_ranks rest : List ℕ) → text ≡ first_key (codes "pools") ++ at_pools → BeginsAs at_pools (list_data (map pool_data cert.pools)) behind_pools
+    → behind_pools ≡ next_key (codes "ranks") ++ at_ranks → BeginsAs at_ranks (ranks_data cert.ranks) behind_ranks → behind_ranks ≡ version_text cert ++ rest → BeginsAs text (cert_data cert) rest
 unfolding cert_data serde_json_on_literals
 cert_read cert text at_pools behind_pools at_ranks behind_ranks rest a b c d e =
     let version = decimal (version_number cert) in

@@ -5,13 +5,13 @@ use Rattle.weights.specs.declared.bound.Bound.{Bound}
 use Rattle.weights.specs.declared.bound.Bound.TheVariants.{Standing, Lifetime}
 use Rattle.weights.specs.Vector.{Vector}
 use Rattle.cert_text.specs.CertText.{vector_data, bounded_data}
-use Rattle.cert_text.specs.Canonical.{BeginsWith, bound_text}
+use Rattle.cert_text.specs.Canonical.{BeginsAs, bound_text}
 use Rattle.cert_text.proofs.Fronts.{first_key, pair_read}
 use Rattle.cert_text.proofs.canonical.leading_pool.Goals as goal
 
 -- a pool whose vectors are read one after another
-pool_read : (blocked : Vector) (bound : Bound) (text at_blocked at_bound behind rest : List ℕ) → text ≡ first_key (codes "blocked") ++ at_blocked → BeginsWith at_blocked (vector_data blocked) at_bound
-    → at_bound ≡ bound_text bound ++ behind → behind ≡ 125 ∷ rest → BeginsWith text (bounded_data (vector_data blocked) bound) rest
+pool_read : (blocked : Vector) (bound : Bound) (text at_blocked at_bound behind rest : List ℕ) → text ≡ first_key (codes "blocked") ++ at_blocked → BeginsAs at_blocked (vector_data blocked) at_bound
+    → at_bound ≡ bound_text bound ++ behind → behind ≡ 125 ∷ rest → BeginsAs text (bounded_data (vector_data blocked) bound) rest
 unfolding bounded_data serde_json_on_literals
 pool_read blocked (Standing v) text at_blocked at_bound behind rest a b c d = pair_read (codes "blocked") (codes "standing") (vector_data blocked) (vector_data v) text at_blocked at_bound behind rest a b c d
 pool_read blocked (Lifetime v) text at_blocked at_bound behind rest a b c d = pair_read (codes "blocked") (codes "lifetime") (vector_data blocked) (vector_data v) text at_blocked at_bound behind rest a b c d

@@ -15,4 +15,4 @@ pub returns-clause-text : goal.returns-clause-text
 returns-clause-text c = list_whole pool_data _ _ _ _ _ c.loop-place.invariant.begins c.in_ok-behind_byte.ensures
 
 pub returns-clause-count : goal.returns-clause-count
-returns-clause-count c = c.loop-place.invariant.begins.counted ∙ (omega arith ∙ ap length c.pools-count.ensures.value)
+returns-clause-count c = c.loop-place.invariant.begins.as_many ∙ (omega arith ∙ ap length c.pools-count.ensures.value)

@@ -17,4 +17,4 @@ pub returns-clause-text : goal.returns-clause-text
 returns-clause-text c = list_whole number_data _ _ _ _ _ c.loop-place.invariant.begins c.in_ok-behind_byte.ensures
 
 pub returns-clause-count : goal.returns-clause-count
-returns-clause-count c = omega (arith, c.loop-place.invariant.begins.counted)
+returns-clause-count c = omega (arith, c.loop-place.invariant.begins.as_many)

@@ -17,7 +17,7 @@ loop-place-preserved c =
     let row : List ℕ = c.in_ok-row.row.items in
     let pushed : map items c.push.new.self.items ≡ before ++ row ∷ [] = rw c.in_ok-push.ensures.items (map_push items c.loop-place.rows.items c.in_ok-row.row) in
     let long : length row ≡ class_points c.args.plan.now (length before) =
-    c.in_ok-row.ensures.count ∙ (c.class_points.ensures ∙ ap (class_points c.args.plan.now) (sym c.loop-place.invariant.begins.counted)) in
+    c.in_ok-row.ensures.count ∙ (c.class_points.ensures ∙ ap (class_points c.args.plan.now) (sym c.loop-place.invariant.begins.as_many)) in
     record {
       begins = rw pushed (list_more numbers_data _ _ _ _ _ _ _ c.loop-place.invariant.begins c.in_ok-element.ensures c.in_ok-row.ensures.text);
       long = rw pushed (each_place_push (λ (place : ℕ) (r : List ℕ). length r ≡ class_points c.args.plan.now place) before row c.loop-place.invariant.long long);
@@ -28,4 +28,4 @@ pub returns-clause-text : goal.returns-clause-text
 returns-clause-text c = list_whole numbers_data _ _ _ _ _ c.loop-place.invariant.begins c.in_ok-behind_byte.ensures
 
 pub returns-clause-rows : goal.returns-clause-rows
-returns-clause-rows c = (c.loop-place.invariant.begins.counted ∙ (omega arith ∙ ap length c.classes-count.ensures.value), c.loop-place.invariant.long)
+returns-clause-rows c = (c.loop-place.invariant.begins.as_many ∙ (omega arith ∙ ap length c.classes-count.ensures.value), c.loop-place.invariant.long)
