@@ -18,6 +18,10 @@ from read_plans import read_plan
 from recording import read
 
 
+# The greatest number of a name NAME_2, NAME_3, and so on, as of every number of a recording.
+MAX_NUMBER = 1_000_000_000
+
+
 class Step(NamedTuple):
     """What an actor did, as far as a body says it: a submit, or a get that its submitter was the first to make."""
 
@@ -64,8 +68,8 @@ class Comparison:
 
     def family(self, entries, name):
         """The entries of the plan that a label may be: NAME itself, NAME_2, NAME_3, and so on."""
-        return [number for number, entry in enumerate(entries) if re.fullmatch(re.escape(name) + "(_[0-9]+)?", entry.name)
-                and (entry.name == name or int(entry.name[len(name) + 1:]) >= 2)]
+        return [number for number, entry in enumerate(entries) if re.fullmatch(re.escape(name) + "(_[1-9][0-9]*)?", entry.name)
+                and (entry.name == name or 2 <= int(entry.name[len(name) + 1:]) <= MAX_NUMBER)]
 
     def classes_of(self, job):
         return [number for number in self.family(self.plan.classes, job.name) if self.plan.pools[self.plan.classes[number].pool].name == job.pool]
