@@ -1,0 +1,4 @@
+pub mod Course
+pub mod Label
+pub mod Classes
+pub mod Laws
