@@ -3,3 +3,9 @@ pub mod Through
 pub mod Later
 pub mod Labels
 pub mod Stays
+pub mod Known
+pub mod Words
+pub mod Follows
+pub mod LineActors
+pub mod KeptAfter
+pub mod KeptNone
