@@ -1,0 +1,6 @@
+pub mod Names
+pub mod Explained
+pub mod Asked
+pub mod ToldClasses
+pub mod ToldKinds
+mod WorkedFamilies

@@ -1,0 +1,27 @@
+-- The classes that a path is of, where all of the family were asked.
+use Rattle.std.proofs.Common.{ℕ, Bool, List, length, IsTrue}
+use Rattle.std.specs.List.{All}
+use Rattle.std.specs.List.Sorted.{IsStrictlyIncreasing}
+use Rattle.std.proofs.lemmas.List.Elements.{All-weaker, All-contains}
+use Rattle.job_bodies.specs.Plan.{Plan}
+use Rattle.body_paths.specs.declared.deed.Deed.{Deed}
+use Rattle.body_paths.specs.declared.deed.Course.{Course}
+use Rattle.plan_families.specs.Family.{is_class_in_family, class_family}
+use Rattle.plan_families.specs.PathFamily.{IsClassOf, AreExactly, class_body}
+use Rattle.plan_families.specs.Told.{IsTold}
+use Rattle.plan_families.proofs.Asked.{IsMember, told_complete, told_ascending, range_ascends}
+
+pub class_sound : (plan : Plan) (label pool : List ℕ) (course : Course) (path : List Deed) (budget : ℕ) (members : List ℕ) (longest : ℕ) (is_decided : Bool) → IsTold (class_body plan) course path budget (class_family plan label pool) members longest is_decided → All (IsClassOf plan label pool course path) members
+class_sound plan label pool course path budget members longest is_decided told =
+    All-weaker (IsMember (class_body plan) course path (class_family plan label pool)) (IsClassOf plan label pool course path) (λ n one. record { among = one.0; path_of = one.1 }) members told.sound
+
+pub class_exact : (plan : Plan) (label pool : List ℕ) (course : Course) (path : List Deed) (budget : ℕ) (members : List ℕ) (longest : ℕ) (is_decided : Bool) → IsTold (class_body plan) course path budget (class_family plan label pool) members longest is_decided → IsTrue is_decided → AreExactly (IsClassOf plan label pool course path) members
+class_exact plan label pool course path budget members longest is_decided told all n = (
+  λ there. All-contains (IsClassOf plan label pool course path) members n (class_sound plan label pool course path budget members longest is_decided told) there,
+  λ one. told_complete (class_body plan) course path budget (class_family plan label pool) members longest is_decided told all n one.among one.path_of,
+)
+
+pub class_ascending : (plan : Plan) (label pool : List ℕ) (course : Course) (path : List Deed) (budget : ℕ) (members : List ℕ) (longest : ℕ) (is_decided : Bool) → IsTold (class_body plan) course path budget (class_family plan label pool) members longest is_decided → IsStrictlyIncreasing members
+unfolding class_family
+class_ascending plan label pool course path budget members longest is_decided told =
+    told_ascending (class_body plan) course path budget (class_family plan label pool) members longest is_decided told (range_ascends (is_class_in_family plan label pool) (length plan.classes))

@@ -1,0 +1,27 @@
+-- The kinds of clients that a path is of, where all of the family were asked.
+use Rattle.std.proofs.Common.{ℕ, Bool, List, length, IsTrue}
+use Rattle.std.specs.List.{All}
+use Rattle.std.specs.List.Sorted.{IsStrictlyIncreasing}
+use Rattle.std.proofs.lemmas.List.Elements.{All-weaker, All-contains}
+use Rattle.job_bodies.specs.Plan.{Plan}
+use Rattle.body_paths.specs.declared.deed.Deed.{Deed}
+use Rattle.body_paths.specs.declared.deed.Course.{Course}
+use Rattle.plan_families.specs.Family.{is_client_in_family, client_family}
+use Rattle.plan_families.specs.PathFamily.{IsKindOf, AreExactly, client_body}
+use Rattle.plan_families.specs.Told.{IsTold}
+use Rattle.plan_families.proofs.Asked.{IsMember, told_complete, told_ascending, range_ascends}
+
+pub kind_sound : (plan : Plan) (label : List ℕ) (course : Course) (path : List Deed) (budget : ℕ) (members : List ℕ) (longest : ℕ) (is_decided : Bool) → IsTold (client_body plan) course path budget (client_family plan label) members longest is_decided → All (IsKindOf plan label course path) members
+kind_sound plan label course path budget members longest is_decided told =
+    All-weaker (IsMember (client_body plan) course path (client_family plan label)) (IsKindOf plan label course path) (λ n one. record { among = one.0; path_of = one.1 }) members told.sound
+
+pub kind_exact : (plan : Plan) (label : List ℕ) (course : Course) (path : List Deed) (budget : ℕ) (members : List ℕ) (longest : ℕ) (is_decided : Bool) → IsTold (client_body plan) course path budget (client_family plan label) members longest is_decided → IsTrue is_decided → AreExactly (IsKindOf plan label course path) members
+kind_exact plan label course path budget members longest is_decided told all n = (
+  λ there. All-contains (IsKindOf plan label course path) members n (kind_sound plan label course path budget members longest is_decided told) there,
+  λ one. told_complete (client_body plan) course path budget (client_family plan label) members longest is_decided told all n one.among one.path_of,
+)
+
+pub kind_ascending : (plan : Plan) (label : List ℕ) (course : Course) (path : List Deed) (budget : ℕ) (members : List ℕ) (longest : ℕ) (is_decided : Bool) → IsTold (client_body plan) course path budget (client_family plan label) members longest is_decided → IsStrictlyIncreasing members
+unfolding client_family
+kind_ascending plan label course path budget members longest is_decided told =
+    told_ascending (client_body plan) course path budget (client_family plan label) members longest is_decided told (range_ascends (is_client_in_family plan label) (length plan.clients))

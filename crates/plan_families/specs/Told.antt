@@ -1,0 +1,20 @@
+-- What is told of the first bodies of a family, while one after another is asked.
+use Rattle.std.specs.Prelude.{◌<◌, ℕ, Bool, List, map, All, AllPairs, Contains, IsTrue}
+use Rattle.job_bodies.specs.declared.action.Action.{Action}
+use Rattle.body_paths.specs.declared.deed.Deed.{Deed}
+use Rattle.body_paths.specs.declared.deed.Course.{Course}
+use Rattle.body_paths.specs.Path.{IsPathOf}
+use Rattle.plan_families.specs.declared.path_family.PathFamily.{PathFamily}
+use Rattle.plan_families.specs.PathFamily.{IsMostExplained, IsEnoughFor}
+
+-- the members so far, how much is explained, and whether all was decided, where these numbers, each with its body, were asked
+pub record IsTold (body_of : ℕ → List Action) (course : Course) (path : List Deed) (budget : ℕ) (asked : List ℕ) (members : List ℕ) (longest : ℕ) (is_decided : Bool) : Type 0 where
+  pub sound : All (λ n. Contains asked n × IsPathOf course (body_of n) path) members
+  pub complete : IsTrue is_decided → All (λ n. IsPathOf course (body_of n) path → Contains members n) asked
+  pub explained : IsTrue is_decided → IsMostExplained (map body_of asked) path longest
+  pub decided : All (IsEnoughFor budget) (map body_of asked) → IsTrue is_decided
+  pub ascending : AllPairs (λ m n. m < n) asked → AllPairs (λ m n. m < n) members
+
+-- the same, of what is kept
+abbrev pub Tells : PathFamily → (ℕ → List Action) → Course → List Deed → ℕ → List ℕ → Type 0
+Tells told body_of course path budget asked = IsTold body_of course path budget asked told.members.items told.explained told.is_decided

@@ -1,0 +1,88 @@
+//! Which entries of a plan a label of a recording may stand for.
+
+ghost use Rattle.std.specs.Prelude.{◌≡◌, ◌↔◌, false, nat_le, IsTrue, IfOk};
+ghost use Rattle.std.specs.Option.{option_map_or};
+ghost use Rattle.job_bodies.specs.Plan.{pool_at, class_at};
+ghost use Rattle.plan_families.specs.Family as spec;
+
+use job_bodies::Plan;
+use line_words::number_of;
+use std::alloc::{AllocError, Global};
+
+/// Whether an entry of this name is of the family of the label: the name is the label itself, or the label, `_` and a
+/// number from 2 to 1,000,000,000 in decimal digits without leading zeros, as are `query`, `query_2` and `query_17` of
+/// `query`.
+#[tactic(auto, unfolding(crate::specs::Family::is_of_family))]
+pub fn is_of_family(label: &str, name: &str) -> bool
+    ensures value { result ≡ spec.is_of_family label.now name.now }
+    ensures names { IsTrue result ↔ spec.IsOfFamily label.now name.now }
+{
+    match name.as_bytes().strip_prefix(label.as_bytes()) {
+        Some(end) => is_family_end(end),
+        None => false,
+    }
+}
+
+fn is_family_end(end: &[u8]) -> bool
+    ensures { result ≡ spec.is_family_end end.now }
+{
+    match end.split_first() {
+        Some((byte, digits)) => *byte == b'_' && is_from_two(number_of(digits)),
+        None => true,
+    }
+}
+
+fn is_from_two(number: Option<usize>) -> bool
+    ensures { result ≡ option_map_or (nat_le 2) number false }
+{
+    match number {
+        Some(number) => number >= 2,
+        None => false,
+    }
+}
+
+/// The numbers of the classes that jobs of this label may be of, in the pool of this name, ascending.
+///
+/// # Errors
+///
+/// [`AllocError`] where memory runs out.
+#[tactic(auto, unfolding(crate::specs::Family::class_family))]
+pub fn class_family(
+    alloc: Global,
+    plan: &Plan,
+    label: &str,
+    pool: &str,
+) -> Result<Vec<usize>, AllocError>
+    ensures { IfOk result (λ family. family.items ≡ spec.class_family plan.now label.now pool.now) }
+{
+    (0..plan.classes().len())
+        .filter(|class| is_class_in_family(plan, label, pool, *class))
+        .collect(alloc)
+}
+
+fn is_class_in_family(plan: &Plan, label: &str, pool: &str, class: usize) -> bool
+    ensures { result ≡ spec.is_class_in_family plan.now label.now pool.now class }
+{
+    is_of_family(label, plan.class_name(class)) && pool_of_class(plan, class) == pool
+}
+
+/// The name of the pool that runs the jobs of the class.
+fn pool_of_class(plan: &Plan, class: usize) -> &str
+    ensures { result.now ≡ (pool_at plan.now (class_at plan.now class).pool).name }
+{
+    plan.pool_name(plan.class_at(class).map_or(0, |class| class.pool))
+}
+
+/// The numbers of the kinds of clients that rounds of this label may be of, ascending.
+///
+/// # Errors
+///
+/// [`AllocError`] where memory runs out.
+#[tactic(auto, unfolding(crate::specs::Family::client_family))]
+pub fn client_family(alloc: Global, plan: &Plan, label: &str) -> Result<Vec<usize>, AllocError>
+    ensures { IfOk result (λ family. family.items ≡ spec.client_family plan.now label.now) }
+{
+    (0..plan.clients().len())
+        .filter(|client| is_of_family(label, plan.client_name(*client)))
+        .collect(alloc)
+}

@@ -1,0 +1,69 @@
+//! The classes and the kinds of clients that a path is of.
+
+ghost use Rattle.std.specs.Prelude.{All, IsTrue, IfOk};
+ghost use Rattle.std.specs.List.Sorted.{IsStrictlyIncreasing};
+ghost use Rattle.plan_families.specs.PathFamily.{IsClassOf, IsKindOf, AreExactly, IsMostExplained, IsEnoughFor, class_bodies, client_bodies};
+
+use crate::bodies::{class_body, client_body};
+use crate::family::{class_family, client_family};
+use crate::path_family::PathFamily;
+use body_paths::{Course, Deed};
+use job_bodies::Plan;
+use std::alloc::{AllocError, Global};
+
+/// The classes that a job of this label in this pool may be of, by what it did. Each body of the family has the budget
+/// for itself, in steps of [`path_fits`](body_paths::path_fits).
+///
+/// # Errors
+///
+/// [`AllocError`] where memory runs out.
+pub fn classes_of_path(
+    alloc: Global,
+    plan: &Plan,
+    label: &str,
+    pool: &str,
+    path: &[Deed],
+    course: Course,
+    budget: u64,
+) -> Result<PathFamily, AllocError>
+    ensures sound { IfOk result (λ told. All (IsClassOf plan.now label.now pool.now course path.now) told.members.items) }
+    ensures ascending { IfOk result (λ told. IsStrictlyIncreasing told.members.items) }
+    ensures exact { IfOk result (λ told. IsTrue told.is_decided → AreExactly (IsClassOf plan.now label.now pool.now course path.now) told.members.items) }
+    ensures explained { IfOk result (λ told. IsTrue told.is_decided → IsMostExplained (class_bodies plan.now label.now pool.now) path.now told.explained) }
+    ensures decided { IfOk result (λ told. All (IsEnoughFor budget) (class_bodies plan.now label.now pool.now) → IsTrue told.is_decided) }
+{
+    let family = class_family(alloc, plan, label, pool)?;
+    let mut told = PathFamily::new(alloc);
+    for class in &family {
+        told.ask(*class, class_body(plan, *class), path, course, budget)?;
+    }
+    Ok(told)
+}
+
+/// The kinds of clients that a round of this label may be of, by what it did. Each body of the family has the budget
+/// for itself, in steps of [`path_fits`](body_paths::path_fits).
+///
+/// # Errors
+///
+/// [`AllocError`] where memory runs out.
+pub fn kinds_of_path(
+    alloc: Global,
+    plan: &Plan,
+    label: &str,
+    path: &[Deed],
+    course: Course,
+    budget: u64,
+) -> Result<PathFamily, AllocError>
+    ensures sound { IfOk result (λ told. All (IsKindOf plan.now label.now course path.now) told.members.items) }
+    ensures ascending { IfOk result (λ told. IsStrictlyIncreasing told.members.items) }
+    ensures exact { IfOk result (λ told. IsTrue told.is_decided → AreExactly (IsKindOf plan.now label.now course path.now) told.members.items) }
+    ensures explained { IfOk result (λ told. IsTrue told.is_decided → IsMostExplained (client_bodies plan.now label.now) path.now told.explained) }
+    ensures decided { IfOk result (λ told. All (IsEnoughFor budget) (client_bodies plan.now label.now) → IsTrue told.is_decided) }
+{
+    let family = client_family(alloc, plan, label)?;
+    let mut told = PathFamily::new(alloc);
+    for kind in &family {
+        told.ask(*kind, client_body(plan, *kind), path, course, budget)?;
+    }
+    Ok(told)
+}
