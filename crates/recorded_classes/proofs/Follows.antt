@@ -1,5 +1,5 @@
 -- What a line does to the actors that are kept.
-use Rattle.std.proofs.Common.{◌≡◌, ℕ, ◌==◌, Bool, true, false, if◌then◌else◌, List, [], Option, Some, None, is_some, refl, ap, sym, subst, ◌∙◌, arith}
+use Rattle.std.proofs.Common.{◌≡◌, ℕ, ◌==◌, Bool, true, false, if◌then◌else◌, List, [], Option, Some, None, is_some, refl, ap, sym, subst, ◌∙◌}
 use Rattle.std.specs.Option.{option_map}
 use Rattle.std.specs.Prelude.{string_bytes}
 use Rattle.recording_lines.specs.declared.recording_line.RecordedActor.{RecordedActor}
@@ -7,7 +7,7 @@ use Rattle.recording_lines.specs.declared.recording_line.RecordedActor.TheVarian
 use Rattle.recording_lines.specs.RecordingLine.{RecordedLine, RoundBegins, RoundEnds, Submits, Refused, JobEnds, JobThrew}
 use Rattle.recorded_rules.specs.LineParts.{is_actor, is_same_actor}
 use Rattle.recorded_paths.specs.LineDeeds.{submits_by}
-use Rattle.recorded_paths.proofs.Tests.{and_first, and_second}
+use Rattle.recorded_paths.proofs.Tests.{and_first}
 use Rattle.recorded_paths.proofs.Refusals.{same_actor}
 use Rattle.recorded_classes.specs.declared.actor_table.ActorTable.{ActorTable}
 use Rattle.recorded_classes.specs.declared.actor_table.KeptActor.{KeptActor}

@@ -1,16 +1,15 @@
 -- What is kept of the actors stands for the lines with one more behind them.
-use Rattle.std.proofs.Common.{◌≡◌, ◌≤◌, ◌⊎◌, ℕ, ◌==◌, ◌||◌, ◌&&◌, not, Bool, true, false, if◌then◌else◌, List, [], ◌∷◌, ◌++◌, length, take, is_some, Option, Some, None, refl, ap, sym, subst, ◌∙◌, inl, inr, zero-le, arith}
+use Rattle.std.proofs.Common.{◌≡◌, ◌⊎◌, ℕ, ◌||◌, true, false, List, [], ◌∷◌, ◌++◌, is_some, Some, None, refl, ap, sym, subst, ◌∙◌, inl, inr, arith}
 use Rattle.std.specs.Prelude.{string_bytes}
-use Rattle.std.specs.List.{list_any}
 use Rattle.recording_lines.specs.declared.recording_line.RecordedActor.{RecordedActor}
 use Rattle.recording_lines.specs.declared.recording_line.RecordedActor.TheVariants.{Job, Round}
 use Rattle.recording_lines.specs.RecordingLine.{RecordedLine, Submits}
-use Rattle.recorded_rules.specs.LineParts.{is_actor, submits_job, refuses_job}
-use Rattle.recorded_rules.specs.Before.{submits, begins}
+use Rattle.recorded_rules.specs.LineParts.{is_actor, refuses_job}
+use Rattle.recorded_rules.specs.Before.{begins}
 use Rattle.recorded_paths.specs.declared.deed.RecordedDeed.{RecordedDeed}
 use Rattle.recorded_paths.specs.LineDeeds.{submits_by, is_refused, has_submitted}
 use Rattle.recorded_paths.specs.Path.{path_of}
-use Rattle.recorded_paths.specs.StandsFor.{KeepsRules, is_about}
+use Rattle.recorded_paths.specs.StandsFor.{KeepsRules}
 use Rattle.recorded_paths.proofs.Tests.{or_first, or_second}
 use Rattle.recorded_paths.proofs.ByLast.{keeps_before, keeps_last}
 use Rattle.recorded_paths.proofs.Fresh.{submitted_fresh}
@@ -21,17 +20,16 @@ use Rattle.recorded_classes.specs.declared.actor_table.KeptActor.{KeptActor}
 use Rattle.recorded_classes.specs.declared.actor_table.Waiting.{Waiting}
 use Rattle.recorded_classes.specs.declared.job_classes.ClassTable.{ClassTable}
 use Rattle.recorded_classes.specs.Course.{is_through}
-use Rattle.recorded_classes.specs.Label.{label_in, label_of, kind_in, kind_of}
-use Rattle.recorded_classes.specs.Classes.{AreClassesOf, IsSettled}
+use Rattle.recorded_classes.specs.Classes.{IsSettled}
 use Rattle.recorded_classes.specs.Kept.{in_table, classes_in, AreKnown, AreSettledBefore}
-use Rattle.recorded_classes.specs.Changes.{ended_by, begun_by, refused_by}
+use Rattle.recorded_classes.specs.Changes.{ended_by, begun_by}
 use Rattle.recorded_classes.specs.StandsFor.{IsNamed, IsWaiting, IsBlocked, IsKept}
-use Rattle.recorded_classes.proofs.Words.{by_bool, by_option, apart, some_of, none_some, two_of, one_of, is_none_of, or_left, or_right, or_either}
+use Rattle.recorded_classes.proofs.Words.{by_bool, by_option, apart, some_of, none_some, two_of, one_of, is_none_of, or_right, or_either}
 use Rattle.recorded_classes.proofs.Labels.{label_more, label_new, label_fresh, kind_more, kind_new, kind_fresh}
 use Rattle.recorded_classes.proofs.Through.{stays}
 use Rattle.recorded_classes.proofs.Stays.{settled_stays, classes_stay}
 use Rattle.recorded_classes.proofs.Follows.{WasKept, IsNamedIn, Follows}
-use Rattle.recorded_classes.proofs.LineActors.{job_begins, job_refused, begun_unended, ended_is, path_at_end, through_after, job_past, round_past, begun_going, begun_submits_none, about_before, ended_about}
+use Rattle.recorded_classes.proofs.LineActors.{job_refused, begun_unended, ended_is, path_at_end, through_after, job_past, round_past, begun_going, begun_submits_none, about_before, ended_about}
 
 -- ---- labels
 named_new : (before : List RecordedLine) (line : RecordedLine) (one : RecordedActor) (kept : KeptActor) → KeepsRules (before ++ line ∷ []) → is_actor one (begun_by line) ≡ true → IsNamedIn line one kept → IsNamed (before ++ line ∷ []) one kept

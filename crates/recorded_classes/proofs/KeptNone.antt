@@ -1,27 +1,24 @@
 -- Nothing is kept of no lines; and who is kept is not settled.
-use Rattle.std.proofs.Common.{◌≡◌, ◌⊎◌, ℕ, ◌==◌, ◌&&◌, Bool, true, false, List, [], ◌∷◌, ◌++◌, is_some, Option, Some, None, refl, ap, sym, subst, ◌∙◌, inl, inr, arith}
+use Rattle.std.proofs.Common.{◌≡◌, ◌⊎◌, ℕ, true, false, List, [], Some, None, refl, subst, inl, inr}
 use Rattle.std.specs.List.{list_any}
 use Rattle.recording_lines.specs.declared.recording_line.RecordedActor.{RecordedActor}
 use Rattle.recording_lines.specs.declared.recording_line.RecordedActor.TheVariants.{Job, Round}
 use Rattle.recording_lines.specs.RecordingLine.{RecordedLine}
 use Rattle.recorded_rules.specs.Before.{is_begun, is_ended, is_done}
 use Rattle.recorded_paths.specs.declared.deed.RecordedDeed.{RecordedDeed}
-use Rattle.recorded_paths.specs.declared.deed.RecordedDeed.TheVariants as recorded
 use Rattle.recorded_paths.specs.Act.{submits}
-use Rattle.recorded_paths.specs.LineDeeds.{is_submitted, has_submitted}
+use Rattle.recorded_paths.specs.LineDeeds.{is_submitted}
 use Rattle.recorded_paths.specs.Path.{path_of}
 use Rattle.recorded_paths.specs.StandsFor.{is_about}
-use Rattle.recorded_paths.proofs.Places.{same_self}
 use Rattle.job_bodies.specs.Plan.{Plan}
 use Rattle.recorded_classes.specs.declared.actor_table.ActorTable.{ActorTable}
-use Rattle.recorded_classes.specs.declared.actor_table.KeptActor.{KeptActor}
 use Rattle.recorded_classes.specs.declared.actor_table.Waiting.{Waiting}
 use Rattle.recorded_classes.specs.declared.job_classes.ClassTable.{ClassTable}
 use Rattle.recorded_classes.specs.Course.{is_through}
 use Rattle.recorded_classes.specs.Classes.{IsSettled, settled}
 use Rattle.recorded_classes.specs.Kept.{in_table, classes_in}
 use Rattle.recorded_classes.specs.StandsFor.{IsWaiting, IsBlocked, IsKept}
-use Rattle.recorded_classes.proofs.Words.{by_option, apart, none_some, two_of, any_at}
+use Rattle.recorded_classes.proofs.Words.{by_option, apart, none_some, two_of}
 
 -- ---- no lines
 none_through : (one : RecordedActor) → is_through [] one ≡ false
@@ -55,9 +52,9 @@ waiting_blocked : (actors : ActorTable) (waiting : Waiting) (one : RecordedActor
 waiting_blocked actors waiting one (inl b) = b
 waiting_blocked actors waiting one (inr is) = absurd (cc)
 
-blocked_below : (lines : List RecordedLine) (known : ClassTable) (actors : ActorTable) (one : RecordedActor) (waiting : Waiting) → IsWaiting lines known one waiting → (b : IsBlocked actors waiting) → list_any (submits b.job) (path_of lines one) ≡ true
+pub blocked_below : (lines : List RecordedLine) (known : ClassTable) (actors : ActorTable) (one : RecordedActor) (waiting : Waiting) → IsWaiting lines known one waiting → (b : IsBlocked actors waiting) → list_any (submits b.job) (path_of lines one) ≡ true
 blocked_below lines known actors one waiting w b =
-    subst (λ (path : List RecordedDeed). list_any (submits b.job) path ≡ true) w.path (any_at (submits b.job) waiting.path.items waiting.known (recorded.Submits b.job) b.next (same_self b.job))
+    subst (λ (path : List RecordedDeed). list_any (submits b.job) path ≡ true) w.path b.next
 
 pub settled_gone : (plan : Plan) (lines : List RecordedLine) (actors : ActorTable) (known : ClassTable) → IsKept plan lines actors known None → (one : RecordedActor) → IsSettled lines one → in_table actors one ≡ None
 settled_gone plan lines actors known k _ (settled one through below) =

@@ -1,17 +1,13 @@
 -- Paths of which each job is settled.
-use Rattle.std.proofs.Common.{◌≡◌, ◌<◌, ℕ, suc, ◌+◌, ◌==◌, ◌||◌, not, Bool, true, false, if◌then◌else◌, List, [], ◌∷◌, ◌++◌, length, take, slice_get, get_or, is_some, Option, Some, None, refl, ap, sym, subst, ◌∙◌, arith}
-use Rattle.std.specs.List.{list_any}
+use Rattle.std.proofs.Common.{ℕ, List, [], ◌∷◌, ◌++◌}
 use Rattle.std.specs.declared.alloc.Global.{Global}
 use Rattle.std.specs.declared.vec.Vec.{Vec}
 use Rattle.recording_lines.specs.RecordingLine.{RecordedLine}
 use Rattle.recorded_paths.specs.declared.deed.RecordedDeed.{RecordedDeed}
 use Rattle.recorded_paths.specs.declared.deed.RecordedDeed.TheVariants as recorded
-use Rattle.recorded_paths.specs.Act.{submits}
-use Rattle.recorded_paths.proofs.Tests.{any_more}
 use Rattle.job_bodies.specs.Plan.{Plan}
 use Rattle.body_paths.specs.declared.deed.Deed.{Deed}
 use Rattle.body_paths.specs.declared.deed.Deed.TheVariants as deed
-use Rattle.recorded_classes.specs.declared.job_classes.JobClasses.{JobClasses}
 use Rattle.recorded_classes.specs.Classes.{AreClassesOf, StandFor, none, submit, get}
 
 pub stand_append : (plan : Plan) (lines : List RecordedLine) (path : List RecordedDeed) (deeds : List Deed) (rest : List RecordedDeed) (last : List Deed) → StandFor plan lines path deeds → StandFor plan lines rest last → StandFor plan lines (path ++ rest) (deeds ++ last)

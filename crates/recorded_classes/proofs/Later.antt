@@ -1,11 +1,9 @@
 -- A job submits later ones.
-use Rattle.std.proofs.Common.{◌≡◌, ◌<◌, ℕ, ◌==◌, ◌&&◌, ◌||◌, not, Bool, true, false, List, [], ◌∷◌, ◌++◌, refl, sym, ◌∙◌, arith}
+use Rattle.std.proofs.Common.{◌≡◌, ◌<◌, ℕ, ◌&&◌, ◌||◌, not, Bool, true, false, List, [], refl, sym, ◌∙◌, arith}
 use Rattle.std.specs.List.{list_any}
 use Rattle.recording_lines.specs.declared.recording_line.RecordedActor.{RecordedActor}
 use Rattle.recording_lines.specs.declared.recording_line.RecordedActor.TheVariants.{Job, Round}
 use Rattle.recording_lines.specs.RecordingLine.{RecordedLine, Submits}
-use Rattle.recorded_rules.specs.LineParts.{is_same_actor}
-use Rattle.recorded_rules.specs.Before as said
 use Rattle.recorded_rules.proofs.Keeping.{Keeps}
 use Rattle.recorded_paths.specs.Act.{submits}
 use Rattle.recorded_paths.specs.LineDeeds.{submits_by, has_submitted, is_refused}

@@ -9,3 +9,7 @@ pub mod Follows
 pub mod LineActors
 pub mod KeptAfter
 pub mod KeptNone
+pub mod KeptTaken
+pub mod Progress
+pub mod Telling
+pub mod LineTaken

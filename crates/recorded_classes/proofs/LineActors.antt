@@ -1,15 +1,15 @@
 -- Who is through and who is about, once one more line stands behind the others.
-use Rattle.std.proofs.Common.{◌≡◌, ◌<◌, ◌≤◌, ℕ, ◌+◌, ◌==◌, ◌||◌, ◌&&◌, not, nat_lt, Bool, true, false, if◌then◌else◌, List, [], ◌∷◌, ◌++◌, Option, Some, None, refl, ap, sym, subst, ◌∙◌, arith}
+use Rattle.std.proofs.Common.{◌≡◌, ◌<◌, ◌≤◌, ℕ, ◌+◌, ◌==◌, ◌||◌, not, nat_lt, true, false, if◌then◌else◌, List, [], ◌∷◌, ◌++◌, Option, Some, refl, ap, sym, subst, ◌∙◌, arith}
 use Rattle.std.specs.List.{list_any}
 use Rattle.recording_lines.specs.declared.recording_line.RecordedActor.{RecordedActor}
 use Rattle.recording_lines.specs.declared.recording_line.RecordedActor.TheVariants.{Job, Round}
 use Rattle.recording_lines.specs.RecordingLine.{RecordedLine, RoundBegins, RoundEnds, Submits, Refused, JobEnds, JobThrew}
 use Rattle.recorded_rules.specs.LineParts.{is_actor, is_same_actor, is_of, actor_of, is_submit, submits_job, refuses_job, finishes_job, begins_round, ends_round}
-use Rattle.recorded_rules.specs.Before.{submits, begins, is_begun, is_ended, has_started, is_done}
+use Rattle.recorded_rules.specs.Before.{submits, begins, is_ended, has_started, is_done}
 use Rattle.recorded_rules.specs.Rules.{has_next_number, is_known_actor, is_running, is_going}
 use Rattle.recorded_rules.proofs.Appended.{submits_more, is_begun_more, is_ended_more, done_more}
 use Rattle.recorded_rules.proofs.Keeping.{Keeps}
-use Rattle.recorded_paths.specs.LineDeeds.{submits_by, is_submitted, is_refused, has_submitted}
+use Rattle.recorded_paths.specs.LineDeeds.{submits_by, is_submitted, has_submitted}
 use Rattle.recorded_paths.specs.Path.{path_of}
 use Rattle.recorded_paths.specs.StandsFor.{KeepsRules, is_about}
 use Rattle.recorded_paths.proofs.Tests.{and_first, and_second, none_weaker}
@@ -20,7 +20,7 @@ use Rattle.recorded_paths.proofs.PathAfter.{path_same}
 use Rattle.recorded_paths.proofs.Refusals.{same_actor}
 use Rattle.recorded_classes.specs.Course.{is_through}
 use Rattle.recorded_classes.specs.Changes.{ended_by, begun_by, refused_by}
-use Rattle.recorded_classes.proofs.Words.{by_bool, apart, or_left, or_right, or_either}
+use Rattle.recorded_classes.proofs.Words.{by_bool, apart, or_left, or_right}
 
 -- ---- what the line says
 job_ends : (j : ℕ) (line : RecordedLine) → finishes_job j line ≡ is_actor (Job j) (ended_by line)

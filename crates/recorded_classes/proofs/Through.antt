@@ -1,5 +1,5 @@
 -- An actor that is through has no more lines, so its path is what it is.
-use Rattle.std.proofs.Common.{◌≡◌, ℕ, ◌||◌, not, Bool, true, false, if◌then◌else◌, List, [], ◌∷◌, ◌++◌, Option, Some, None, refl, ap, ◌∙◌, arith}
+use Rattle.std.proofs.Common.{◌≡◌, ◌||◌, Bool, true, false, if◌then◌else◌, List, [], ◌∷◌, ◌++◌, Option, Some, None, refl, ap, ◌∙◌, arith}
 use Rattle.recording_lines.specs.declared.recording_line.RecordedActor.{RecordedActor}
 use Rattle.recording_lines.specs.declared.recording_line.RecordedActor.TheVariants.{Job, Round}
 use Rattle.recording_lines.specs.RecordingLine.{RecordedLine, Refused}
@@ -7,7 +7,6 @@ use Rattle.recorded_rules.specs.LineParts.{actor_of, is_actor, is_of, finishes_j
 use Rattle.recorded_rules.specs.Before.{is_ended, is_done}
 use Rattle.recorded_rules.specs.Rules.{is_going, is_running}
 use Rattle.recorded_rules.proofs.Appended.{is_ended_more, done_more}
-use Rattle.recorded_paths.specs.declared.deed.RecordedDeed.{RecordedDeed}
 use Rattle.recorded_paths.specs.Act.{without_submit}
 use Rattle.recorded_paths.specs.Path.{path_of}
 use Rattle.recorded_paths.specs.StandsFor.{KeepsRules}

@@ -1,5 +1,5 @@
 -- Small facts.
-use Rattle.std.proofs.Common.{◌≡◌, ℕ, ◌||◌, ◌&&◌, not, Bool, true, false, if◌then◌else◌, List, is_some, Option, Some, None, refl, ap, sym, ◌∙◌, slice_get}
+use Rattle.std.proofs.Common.{◌≡◌, ℕ, ◌||◌, Bool, true, false, if◌then◌else◌, List, is_some, Option, Some, None, refl, ap, sym, ◌∙◌, slice_get}
 use Rattle.std.specs.List.{list_any}
 use Rattle.recorded_paths.proofs.Tests.{passes, passes_nowhere}
 

@@ -1,7 +1,8 @@
 -- What is kept of the actors that are not settled, and of the jobs that are and whose submitters are not.
-use Rattle.std.specs.Prelude.{◌≡◌, ℕ, nat_eq, not, Bool, true, false, List, take, slice_get, string_bytes, if◌then◌else◌, is_some, IsTrue, Option, Some, None}
+use Rattle.std.specs.Prelude.{◌≡◌, ◌⊎◌, ℕ, nat_eq, not, Bool, true, List, take, slice_get, string_bytes, if◌then◌else◌, is_some, IsTrue, Option, Some, None}
 use Rattle.std.specs.List.{list_any}
 use Rattle.std.specs.HashMap.{get}
+use Rattle.std.specs.Option.{option_map}
 use Rattle.recording_lines.specs.declared.recording_line.RecordedActor.{RecordedActor}
 use Rattle.recording_lines.specs.declared.recording_line.RecordedActor.TheVariants.{Job, Round}
 use Rattle.recording_lines.specs.RecordingLine.{RecordedLine}
@@ -30,6 +31,9 @@ without_submitter kept = record kept { submitter = None }
 
 abbrev pub with_waiting : Waiting → KeptActor → KeptActor
 with_waiting waiting kept = record kept { waiting = Some waiting }
+
+abbrev pub with_known : ℕ → KeptActor → KeptActor
+with_known known kept = record kept { waiting = option_map (λ (waiting : Waiting). record waiting { known = known }) kept.waiting }
 
 -- an actor with this label comes
 pub record Comes (old : ActorTable) (actor : RecordedActor) (label pool : List ℕ) (submitter : Option RecordedActor) (new : ActorTable) : Type 0 where
@@ -67,3 +71,9 @@ is_unsettled table (Some deed) = not (is_settled_deed table deed)
 -- at this place the path ends, or submits a job that is not there
 abbrev pub IsUnsettledAt : ClassTable → List RecordedDeed → ℕ → Type 0
 IsUnsettledAt table path place = is_unsettled table (slice_get path place) ≡ true
+
+-- the actor is settled, with these classes, which are kept of a job that was submitted by one
+pub record Keeps (old : ClassTable) (actor : RecordedActor) (submitter : Option RecordedActor) (classes : List ℕ) (is_decided : Bool) (new : ClassTable) : Type 0 where
+  pub known : (job : ℕ) (known : JobClasses) → classes_in new job ≡ Some known → (classes_in old job ≡ Some known) ⊎ ((actor ≡ Job job) × (known.classes.items ≡ classes) × (known.is_decided ≡ is_decided))
+  pub there : (job : ℕ) (by : RecordedActor) → actor ≡ Job job → submitter ≡ Some by → is_some (classes_in new job) ≡ true
+  pub stay : (job : ℕ) → is_some (classes_in old job) ≡ true → is_some (classes_in new job) ≡ true

@@ -5,3 +5,4 @@ pub mod Laws
 pub mod Kept
 pub mod Changes
 pub mod StandsFor
+pub mod Told

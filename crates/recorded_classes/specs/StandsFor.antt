@@ -1,11 +1,10 @@
 -- What is kept of the actors of a recording, and how it stands for the lines so far.
-use Rattle.std.specs.Prelude.{◌≡◌, ◌≤◌, ◌⊎◌, ℕ, ◌==◌, Bool, true, false, List, [], ◌∷◌, ◌++◌, length, take, slice_get, string_bytes, is_some, IsTrue, All, Option, Some, None}
+use Rattle.std.specs.Prelude.{◌≡◌, ◌≤◌, ◌⊎◌, ℕ, Bool, true, false, List, ◌++◌, length, string_bytes, is_some, IsTrue, All, Option, Some, None}
 use Rattle.std.specs.List.{list_any}
 use Rattle.recording_lines.specs.declared.recording_line.RecordedActor.{RecordedActor}
 use Rattle.recording_lines.specs.declared.recording_line.RecordedActor.TheVariants.{Job, Round}
 use Rattle.recording_lines.specs.RecordingLine.{RecordedLine}
 use Rattle.recorded_rules.specs.LineParts.{is_same_actor}
-use Rattle.recorded_paths.specs.declared.deed.RecordedDeed.TheVariants as recorded
 use Rattle.recorded_paths.specs.Act.{submits}
 use Rattle.recorded_paths.specs.LineDeeds.{has_submitted, is_refused}
 use Rattle.recorded_paths.specs.Path.{path_of}
@@ -34,10 +33,10 @@ pub record IsWaiting (lines : List RecordedLine) (known : ClassTable) (actor : R
   pub within : waiting.known ≤ length waiting.path.items
   pub front : AreSettledBefore known waiting.path.items waiting.known
 
--- the deed behind those submits a job that is not settled
+-- a job of its path is not settled
 pub record IsBlocked (actors : ActorTable) (waiting : Waiting) : Type 0 where
   pub job : ℕ
-  pub next : slice_get waiting.path.items waiting.known ≡ Some (recorded.Submits job)
+  pub next : list_any (submits job) waiting.path.items ≡ true
   pub kept : is_some (in_table actors (Job job)) ≡ true
 
 -- The actors that are not settled are kept, and of those that are, the classes of jobs whose submitters are kept. One actor

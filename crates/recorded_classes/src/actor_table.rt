@@ -5,7 +5,7 @@ ghost use Rattle.std.specs.HashMap.{hash_map_len};
 ghost use Rattle.std.specs.Option.{option_map, option_copied, option_and_then};
 ghost use Rattle.recording_lines.specs.declared.recording_line.RecordedActor.{RecordedActor};
 ghost use Rattle.recorded_rules.specs.LineParts.{is_same_actor};
-ghost use Rattle.recorded_classes.specs.Kept.{in_table, Comes, without_submitter, with_waiting, is_job};
+ghost use Rattle.recorded_classes.specs.Kept.{in_table, Comes, without_submitter, with_waiting, with_known, is_job};
 
 use recorded_paths::RecordedDeed;
 use recording_lines::RecordedActor;
@@ -31,6 +31,16 @@ pub(crate) struct Waiting {
     pub(crate) path: Vec<RecordedDeed>,
     /// So many of the first deeds submit only jobs that are settled.
     pub(crate) known: usize,
+}
+
+impl KeptActor {
+    fn advance(&mut self, known: usize)
+        ensures { self.new ≡ with_known known self.old }
+    {
+        if let Some(waiting) = &mut self.waiting {
+            waiting.known = known;
+        }
+    }
 }
 
 /// The actors that are not settled, by their numbers.
@@ -124,10 +134,30 @@ impl ActorTable {
         kept.waiting.as_ref()
     }
 
+    /// Of so many of its first deeds it is known that they submit only jobs that are settled, where the actor is there and
+    /// is through.
+    pub(crate) fn advance(&mut self, actor: RecordedActor, known: usize)
+        ensures after { (one : RecordedActor) → in_table self.new one ≡ (if is_same_actor actor one then option_map (with_known known) (in_table self.old one) else in_table self.old one) }
+    {
+        match actor {
+            RecordedActor::Job(job) => {
+                if let Some(kept) = self.jobs.get_mut(&job) {
+                    kept.advance(known);
+                }
+            }
+            RecordedActor::Round(round) => {
+                if let Some(kept) = self.rounds.get_mut(&round) {
+                    kept.advance(known);
+                }
+            }
+        }
+    }
+
     /// The actor goes.
     pub(crate) fn remove(&mut self, actor: RecordedActor) -> Option<KeptActor>
         ensures value { result ≡ in_table self.old actor }
         ensures after { (one : RecordedActor) → in_table self.new one ≡ (if is_same_actor actor one then None else in_table self.old one) }
+        ensures fewer { hash_map_len self.new.jobs + (if is_some result then is_job actor else 0) ≡ hash_map_len self.old.jobs }
     {
         match actor {
             RecordedActor::Job(job) => self.jobs.remove(&job),

@@ -7,10 +7,12 @@ ghost use Rattle.recorded_paths.specs.declared.deed.RecordedDeed.{RecordedDeed};
 ghost use Rattle.recorded_paths.specs.Act.{submits};
 ghost use Rattle.job_bodies.specs.Plan.{Plan};
 ghost use Rattle.recorded_classes.specs.Classes.{AreClassesOf, StandFor};
-ghost use Rattle.recorded_classes.specs.Kept.{classes_in, is_settled_deed, AreKnown, AreSettledBefore, IsUnsettledAt};
+ghost use Rattle.recorded_classes.specs.Kept.{Keeps, classes_in, is_settled_deed, AreKnown, AreSettledBefore, IsUnsettledAt};
 
 use body_paths::Deed;
+use plan_families::PathFamily;
 use recorded_paths::RecordedDeed;
+use recording_lines::RecordedActor;
 use std::alloc::{AllocError, Global};
 use std::collections::HashMap;
 
@@ -55,6 +57,29 @@ impl ClassTable {
         Ok(())
     }
 
+    /// The actor is settled. Where it is a job that somebody submitted, its classes are kept.
+    ///
+    /// # Errors
+    ///
+    /// `AllocError` where there is no memory for them.
+    pub(crate) fn keep(
+        &mut self,
+        actor: RecordedActor,
+        submitter: Option<RecordedActor>,
+        family: &PathFamily,
+    ) -> Result<(), AllocError>
+        ensures { OnOk result (Keeps self.old actor submitter family.now.members.items family.now.is_decided self.new) }
+    {
+        if let (RecordedActor::Job(job), Some(_)) = (actor, submitter) {
+            let classes = JobClasses {
+                classes: family.members.clone()?,
+                is_decided: family.is_decided,
+            };
+            self.insert(job, classes)?;
+        }
+        Ok(())
+    }
+
     /// The submitter of the jobs of this path is settled.
     pub(crate) fn forget(&mut self, path: &[RecordedDeed])
         ensures { (one : ℕ) → classes_in self.new one ≡ (if list_any (submits one) path.now then None else classes_in self.old one) }
@@ -68,8 +93,7 @@ impl ClassTable {
 
     /// The first place of the path, from this one on, that submits a job that is not settled, or its end.
     pub(crate) fn first_unsettled(&self, path: &[RecordedDeed], from: usize) -> usize
-        requires { from ≤ length path.now }
-        ensures within { result ≤ length path.now }
+        ensures within { from ≤ length path.now → result ≤ length path.now }
         ensures before { AreSettledBefore self.now path.now from → AreSettledBefore self.now path.now result }
         ensures there { IsUnsettledAt self.now path.now result }
     {
@@ -140,7 +164,7 @@ impl ClassTable {
     }
 }
 
-fn are_both(one: bool, other: bool) -> bool
+pub(crate) fn are_both(one: bool, other: bool) -> bool
     ensures { result ≡ (one && other) }
 {
     one && other
