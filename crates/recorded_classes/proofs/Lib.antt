@@ -12,4 +12,5 @@ pub mod KeptNone
 pub mod KeptTaken
 pub mod Progress
 pub mod Telling
+pub mod Advanced
 pub mod LineTaken

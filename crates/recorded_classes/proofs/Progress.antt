@@ -101,7 +101,7 @@ with_blocked plan lines actors known actor k its = record {
   submitter = k.submitter;
 }
 
-waits_as : (actors : ActorTable) (actor : RecordedActor) (kept : KeptActor) (waiting : Waiting) → in_table actors actor ≡ Some kept → kept.waiting ≡ Some waiting → waiting_of actors actor ≡ Some waiting
+pub waits_as : (actors : ActorTable) (actor : RecordedActor) (kept : KeptActor) (waiting : Waiting) → in_table actors actor ≡ Some kept → kept.waiting ≡ Some waiting → waiting_of actors actor ≡ Some waiting
 waits_as actors actor kept waiting h is = ap (option_and_then (λ (k : KeptActor). k.waiting)) h ∙ is
 
 pub kept_unready : (plan : Plan) (lines : List RecordedLine) (actors : ActorTable) (known : ClassTable) (actor : RecordedActor) → IsKept plan lines actors known (Some actor) → waiting_of actors actor ≡ None → IsKept plan lines actors known None

@@ -181,6 +181,7 @@ impl Classes {
                 if progress.is_ready {
                     self.tell(plan, actor, told)
                 } else {
+                    self.actors.advance(actor, progress.known);
                     Ok(None)
                 }
             }
