@@ -4,13 +4,13 @@
 //! (`plan_families`) of whose bodies its path is (`recorded_paths`, `body_paths`), where each job that it submitted may be
 //! of any class that that job can be of. They are *settled* once the job is through and all jobs of its path are settled:
 //! no line that comes changes them ([`settled_actors_stay`]). [`Classes`] takes one line after another of a recording that
-//! keeps its rules (`recorded_rules`), and tells of each actor that is settled by the line, of no other one, and of none
-//! twice, with the classes or kinds that it can be of, exactly, where each was decided within the budget.
+//! keeps its rules (`recorded_rules`), and tells of each actor that is settled by the line and of no other one, with the
+//! classes or kinds that it can be of, exactly, where each was decided within the budget.
 //!
 //! What is kept is the actors that are about or that wait for a job of their path, and the classes of each settled job whose
 //! submitter is not. A job that was refused, cancelled or removed and never ran is about for ever. An actor that waits is
 //! gone along once, from one job that is not settled to the next. What a line costs is in no contract, nor is when a budget
-//! is enough.
+//! is enough, nor how much of a path is explained.
 #![tactic(auto)]
 
 mod actor_table;
