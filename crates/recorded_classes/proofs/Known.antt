@@ -1,0 +1,22 @@
+-- Paths of which each job is settled.
+use Rattle.std.proofs.Common.{ℕ, List, [], ◌∷◌, ◌++◌}
+use Rattle.std.specs.declared.alloc.Global.{Global}
+use Rattle.std.specs.declared.vec.Vec.{Vec}
+use Rattle.recording_lines.specs.RecordingLine.{RecordedLine}
+use Rattle.recorded_paths.specs.declared.deed.RecordedDeed.{RecordedDeed}
+use Rattle.recorded_paths.specs.declared.deed.RecordedDeed.TheVariants as recorded
+use Rattle.job_bodies.specs.Plan.{Plan}
+use Rattle.body_paths.specs.declared.deed.Deed.{Deed}
+use Rattle.body_paths.specs.declared.deed.Deed.TheVariants as deed
+use Rattle.recorded_classes.specs.Classes.{AreClassesOf, StandFor, none, submit, get}
+
+pub stand_append : (plan : Plan) (lines : List RecordedLine) (path : List RecordedDeed) (deeds : List Deed) (rest : List RecordedDeed) (last : List Deed) → StandFor plan lines path deeds → StandFor plan lines rest last → StandFor plan lines (path ++ rest) (deeds ++ last)
+stand_append plan lines _ _ rest last none h = h
+stand_append plan lines _ _ rest last (submit job classes path deeds known s) h = submit job classes (path ++ rest) (deeds ++ last) known (stand_append plan lines path deeds rest last s h)
+stand_append plan lines _ _ rest last (get place path deeds s) h = get place (path ++ rest) (deeds ++ last) (stand_append plan lines path deeds rest last s h)
+
+pub stand_get : (plan : Plan) (lines : List RecordedLine) (path : List RecordedDeed) (deeds : List Deed) (place : ℕ) → StandFor plan lines path deeds → StandFor plan lines (path ++ recorded.Gets place ∷ []) (deeds ++ deed.Gets place ∷ [])
+stand_get plan lines path deeds place s = stand_append plan lines path deeds (recorded.Gets place ∷ []) (deed.Gets place ∷ []) s (get place [] [] none)
+
+pub stand_submit : (plan : Plan) (lines : List RecordedLine) (path : List RecordedDeed) (deeds : List Deed) (job : ℕ) (classes : Vec ℕ Global) → StandFor plan lines path deeds → AreClassesOf plan lines job classes.items → StandFor plan lines (path ++ recorded.Submits job ∷ []) (deeds ++ deed.Submits classes ∷ [])
+stand_submit plan lines path deeds job classes s known = stand_append plan lines path deeds (recorded.Submits job ∷ []) (deed.Submits classes ∷ []) s (submit job classes [] [] known none)

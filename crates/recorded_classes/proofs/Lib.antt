@@ -1,0 +1,16 @@
+pub mod Onward
+pub mod Through
+pub mod Later
+pub mod Labels
+pub mod Stays
+pub mod Known
+pub mod Words
+pub mod Follows
+pub mod LineActors
+pub mod KeptAfter
+pub mod KeptNone
+pub mod KeptTaken
+pub mod Progress
+pub mod Telling
+pub mod Advanced
+pub mod LineTaken

@@ -1,0 +1,43 @@
+-- What a line changes in the actors that are kept.
+use Rattle.std.specs.Prelude.{◌≡◌, if◌then◌else◌, [], Option, Some, None}
+use Rattle.std.specs.Option.{option_map}
+use Rattle.recording_lines.specs.declared.recording_line.RecordedActor.{RecordedActor}
+use Rattle.recording_lines.specs.declared.recording_line.RecordedActor.TheVariants.{Job, Round}
+use Rattle.recording_lines.specs.RecordingLine.{RecordedLine, RoundBegins, RoundEnds, Submits, Refused, JobEnds, JobThrew}
+use Rattle.recorded_rules.specs.LineParts.{is_same_actor}
+use Rattle.recorded_classes.specs.declared.actor_table.ActorTable.{ActorTable}
+use Rattle.recorded_classes.specs.declared.actor_table.KeptActor.{KeptActor}
+use Rattle.recorded_classes.specs.declared.actor_table.Waiting.{Waiting}
+use Rattle.recorded_classes.specs.Kept.{in_table, Comes, without_submitter, with_waiting}
+
+-- the actor that comes to its end
+abbrev pub ended_by : RecordedLine → Option RecordedActor
+ended_by (RoundEnds round) = Some (Round round)
+ended_by (JobEnds job) = Some (Job job)
+ended_by (JobThrew job) = Some (Job job)
+ended_by line = None
+
+-- the actor that comes
+abbrev pub begun_by : RecordedLine → Option RecordedActor
+begun_by (RoundBegins round kind) = Some (Round round)
+begun_by (Submits actor job class pool) = Some (Job job)
+begun_by line = None
+
+-- the job that was refused
+abbrev pub refused_by : RecordedLine → Option RecordedActor
+refused_by (Refused actor job) = Some (Job job)
+refused_by line = None
+
+-- something is done to what is kept of this actor, where it is there
+abbrev pub IsChanged : ActorTable → RecordedActor → (KeptActor → KeptActor) → ActorTable → Type 0
+IsChanged old actor change new = (one : RecordedActor) → in_table new one ≡ (if is_same_actor actor one then option_map change (in_table old one) else in_table old one)
+
+-- the actor waits, with this path
+abbrev pub Changed : ActorTable → RecordedLine → Waiting → ActorTable → Type 0
+Changed old (RoundBegins round kind) waiting new = Comes old (Round round) kind [] None new
+Changed old (Submits actor job class pool) waiting new = Comes old (Job job) class pool (Some actor) new
+Changed old (Refused actor job) waiting new = IsChanged old (Job job) without_submitter new
+Changed old (RoundEnds round) waiting new = IsChanged old (Round round) (with_waiting waiting) new
+Changed old (JobEnds job) waiting new = IsChanged old (Job job) (with_waiting waiting) new
+Changed old (JobThrew job) waiting new = IsChanged old (Job job) (with_waiting waiting) new
+Changed old line waiting new = (one : RecordedActor) → in_table new one ≡ in_table old one

@@ -1,0 +1,17 @@
+-- Whether an actor is through.
+use Rattle.std.specs.Prelude.{Bool, if◌then◌else◌, List}
+use Rattle.recording_lines.specs.declared.recording_line.RecordedActor.{RecordedActor}
+use Rattle.recording_lines.specs.declared.recording_line.RecordedActor.TheVariants.{Job, Round}
+use Rattle.recording_lines.specs.RecordingLine.{RecordedLine}
+use Rattle.recorded_rules.specs.Before.{is_ended, is_done}
+use Rattle.body_paths.specs.declared.deed.Course.{Course}
+use Rattle.body_paths.specs.declared.deed.Course.TheVariants.{Whole, Begun}
+
+-- its last line is there
+abbrev pub is_through : List RecordedLine → RecordedActor → Bool
+is_through lines (Job job) = is_done lines job
+is_through lines (Round round) = is_ended lines round
+
+-- how much of what the actor did its path has
+abbrev pub course_of : List RecordedLine → RecordedActor → Course
+course_of lines actor = if is_through lines actor then Whole else Begun

@@ -1,0 +1,79 @@
+-- What is kept of the actors that are not settled, and of the jobs that are and whose submitters are not.
+use Rattle.std.specs.Prelude.{◌≡◌, ◌⊎◌, ℕ, nat_eq, not, Bool, true, List, take, slice_get, string_bytes, if◌then◌else◌, is_some, IsTrue, Option, Some, None}
+use Rattle.std.specs.List.{list_any}
+use Rattle.std.specs.HashMap.{get}
+use Rattle.std.specs.Option.{option_map}
+use Rattle.recording_lines.specs.declared.recording_line.RecordedActor.{RecordedActor}
+use Rattle.recording_lines.specs.declared.recording_line.RecordedActor.TheVariants.{Job, Round}
+use Rattle.recording_lines.specs.RecordingLine.{RecordedLine}
+use Rattle.recorded_rules.specs.LineParts.{is_same_actor}
+use Rattle.recorded_paths.specs.declared.deed.RecordedDeed.{RecordedDeed}
+use Rattle.recorded_paths.specs.declared.deed.RecordedDeed.TheVariants as recorded
+use Rattle.recorded_paths.specs.Act.{submits}
+use Rattle.job_bodies.specs.Plan.{Plan}
+use Rattle.recorded_classes.specs.declared.actor_table.ActorTable.{ActorTable}
+use Rattle.recorded_classes.specs.declared.actor_table.KeptActor.{KeptActor}
+use Rattle.recorded_classes.specs.declared.actor_table.Waiting.{Waiting}
+use Rattle.recorded_classes.specs.declared.job_classes.ClassTable.{ClassTable}
+use Rattle.recorded_classes.specs.declared.job_classes.JobClasses.{JobClasses}
+use Rattle.recorded_classes.specs.Classes.{AreClassesOf, IsSettled}
+
+abbrev pub in_table : ActorTable → RecordedActor → Option KeptActor
+in_table table (Job job) = get nat_eq table.jobs job
+in_table table (Round round) = get nat_eq table.rounds round
+
+abbrev pub classes_in : ClassTable → ℕ → Option JobClasses
+classes_in table job = get nat_eq table.jobs job
+
+-- ---- changes of an actor
+abbrev pub without_submitter : KeptActor → KeptActor
+without_submitter kept = record kept { submitter = None }
+
+abbrev pub with_waiting : Waiting → KeptActor → KeptActor
+with_waiting waiting kept = record kept { waiting = Some waiting }
+
+abbrev pub with_known : ℕ → KeptActor → KeptActor
+with_known known kept = record kept { waiting = option_map (λ (waiting : Waiting). record waiting { known = known }) kept.waiting }
+
+-- an actor with this label comes
+pub record Comes (old : ActorTable) (actor : RecordedActor) (label pool : List ℕ) (submitter : Option RecordedActor) (new : ActorTable) : Type 0 where
+  pub kept : KeptActor
+  pub label_is : string_bytes kept.label ≡ label
+  pub pool_is : string_bytes kept.pool ≡ pool
+  pub submitter_is : kept.submitter ≡ submitter
+  pub going : kept.waiting ≡ None
+  pub after : (one : RecordedActor) → in_table new one ≡ (if is_same_actor actor one then Some kept else in_table old one)
+
+-- 1 of a job, 0 of a round
+abbrev pub is_job : RecordedActor → ℕ
+is_job (Job job) = 1
+is_job (Round round) = 0
+
+-- ---- settled jobs
+-- each of these jobs is settled, and its classes are those that it can be of, where they are decided
+pub record AreKnown (plan : Plan) (lines : List RecordedLine) (table : ClassTable) : Type 0 where
+  pub settled : (job : ℕ) (known : JobClasses) → classes_in table job ≡ Some known → IsSettled lines (Job job)
+  pub classes : (job : ℕ) (known : JobClasses) → classes_in table job ≡ Some known → IsTrue known.is_decided → AreClassesOf plan lines job known.classes.items
+
+-- the jobs that the path submits before this place are there
+abbrev pub AreSettledBefore : ClassTable → List RecordedDeed → ℕ → Type 0
+AreSettledBefore table path place = (job : ℕ) → list_any (submits job) (take place path) ≡ true → is_some (classes_in table job) ≡ true
+
+-- a submit of a job that is there, or a get
+abbrev pub is_settled_deed : ClassTable → RecordedDeed → Bool
+is_settled_deed table (recorded.Gets place) = true
+is_settled_deed table (recorded.Submits job) = is_some (classes_in table job)
+
+abbrev pub is_unsettled : ClassTable → Option RecordedDeed → Bool
+is_unsettled table None = true
+is_unsettled table (Some deed) = not (is_settled_deed table deed)
+
+-- at this place the path ends, or submits a job that is not there
+abbrev pub IsUnsettledAt : ClassTable → List RecordedDeed → ℕ → Type 0
+IsUnsettledAt table path place = is_unsettled table (slice_get path place) ≡ true
+
+-- the actor is settled, with these classes, which are kept of a job that was submitted by one
+pub record Keeps (old : ClassTable) (actor : RecordedActor) (submitter : Option RecordedActor) (classes : List ℕ) (is_decided : Bool) (new : ClassTable) : Type 0 where
+  pub known : (job : ℕ) (known : JobClasses) → classes_in new job ≡ Some known → (classes_in old job ≡ Some known) ⊎ ((actor ≡ Job job) × (known.classes.items ≡ classes) × (known.is_decided ≡ is_decided))
+  pub there : (job : ℕ) (by : RecordedActor) → actor ≡ Job job → submitter ≡ Some by → is_some (classes_in new job) ≡ true
+  pub stay : (job : ℕ) → is_some (classes_in old job) ≡ true → is_some (classes_in new job) ≡ true

@@ -1,0 +1,27 @@
+-- What stays of an actor that is through, whatever lines come.
+use Rattle.std.specs.Prelude.{◌≡◌, ◌<◌, ℕ, true, List, ◌++◌}
+use Rattle.std.specs.List.{list_any}
+use Rattle.recording_lines.specs.declared.recording_line.RecordedActor.{RecordedActor}
+use Rattle.recording_lines.specs.declared.recording_line.RecordedActor.TheVariants.{Job, Round}
+use Rattle.recording_lines.specs.RecordingLine.{RecordedLine}
+use Rattle.recorded_paths.specs.Act.{submits}
+use Rattle.recorded_paths.specs.Path.{path_of}
+use Rattle.recorded_paths.specs.StandsFor.{KeepsRules}
+use Rattle.job_bodies.specs.Plan.{Plan}
+use Rattle.recorded_classes.specs.Course.{is_through}
+use Rattle.recorded_classes.specs.Classes.{AreClassesOf, AreKindsOf, IsSettled}
+
+-- the path of an actor that is through is what it is
+abbrev pub PathsStay : Type 0
+PathsStay = (before more : List RecordedLine) (actor : RecordedActor) → KeepsRules (before ++ more) → is_through before actor ≡ true → path_of (before ++ more) actor ≡ path_of before actor
+
+-- a job submits later ones
+abbrev pub JobsAreLater : Type 0
+JobsAreLater = (lines : List RecordedLine) (submitter job : ℕ) → KeepsRules lines → list_any (submits job) (path_of lines (Job submitter)) ≡ true → submitter < job
+
+-- the classes of a job that is settled are what they are, and so are the kinds of a round
+abbrev pub ClassesStay : Type 0
+ClassesStay = (plan : Plan) (before more : List RecordedLine) (job : ℕ) (classes : List ℕ) → KeepsRules (before ++ more) → IsSettled before (Job job) → AreClassesOf plan before job classes → AreClassesOf plan (before ++ more) job classes
+
+abbrev pub KindsStay : Type 0
+KindsStay = (plan : Plan) (before more : List RecordedLine) (round : ℕ) (kinds : List ℕ) → KeepsRules (before ++ more) → IsSettled before (Round round) → AreKindsOf plan before round kinds → AreKindsOf plan (before ++ more) round kinds

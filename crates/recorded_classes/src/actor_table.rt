@@ -1,0 +1,167 @@
+//! The actors of a recording that are not settled.
+
+ghost use Rattle.std.specs.Prelude.{◌≡◌, ◌+◌, OnOk, None, Some, is_some, if◌then◌else◌};
+ghost use Rattle.std.specs.HashMap.{hash_map_len};
+ghost use Rattle.std.specs.Option.{option_map, option_copied, option_and_then};
+ghost use Rattle.recording_lines.specs.declared.recording_line.RecordedActor.{RecordedActor};
+ghost use Rattle.recorded_rules.specs.LineParts.{is_same_actor};
+ghost use Rattle.recorded_classes.specs.Kept.{in_table, Comes, without_submitter, with_waiting, with_known, is_job};
+
+use recorded_paths::RecordedDeed;
+use recording_lines::RecordedActor;
+use std::alloc::{AllocError, Global};
+use std::collections::HashMap;
+
+/// An actor that is not settled: it is about, or it is through and waits for a job of its path.
+#[derive(Debug, Drop)]
+pub(crate) struct KeptActor {
+    /// The class of a job, or the kind of a round.
+    pub(crate) label: String,
+    /// The pool of a job.
+    pub(crate) pool: String,
+    /// Who submitted a job, unless it was refused.
+    pub(crate) submitter: Option<RecordedActor>,
+    /// Of one that is through.
+    pub(crate) waiting: Option<Waiting>,
+}
+
+/// An actor that is through.
+#[derive(Debug, Drop)]
+pub(crate) struct Waiting {
+    pub(crate) path: Vec<RecordedDeed>,
+    /// So many of the first deeds submit only jobs that are settled.
+    pub(crate) known: usize,
+}
+
+impl KeptActor {
+    fn advance(&mut self, known: usize)
+        ensures { self.new ≡ with_known known self.old }
+    {
+        if let Some(waiting) = &mut self.waiting {
+            waiting.known = known;
+        }
+    }
+}
+
+/// The actors that are not settled, by their numbers.
+#[derive(Debug, Drop)]
+pub(crate) struct ActorTable {
+    pub(crate) jobs: HashMap<usize, KeptActor>,
+    pub(crate) rounds: HashMap<usize, KeptActor>,
+}
+
+impl ActorTable {
+    /// None so far.
+    pub(crate) fn new(alloc: Global) -> ActorTable
+        ensures { (one : RecordedActor) → in_table result one ≡ None }
+    {
+        ActorTable {
+            jobs: HashMap::new(alloc),
+            rounds: HashMap::new(alloc),
+        }
+    }
+
+    /// The actor comes.
+    pub(crate) fn insert(&mut self, actor: RecordedActor, kept: KeptActor) -> Result<(), AllocError>
+        ensures { OnOk result ((one : RecordedActor) → in_table self.new one ≡ (if is_same_actor actor one then Some kept else in_table self.old one)) }
+    {
+        match actor {
+            RecordedActor::Job(job) => self.jobs.insert(job, kept)?,
+            RecordedActor::Round(round) => self.rounds.insert(round, kept)?,
+        };
+        Ok(())
+    }
+
+    /// The actor comes, with this label.
+    ///
+    /// # Errors
+    ///
+    /// `AllocError` where there is no memory for it.
+    pub(crate) fn begin(
+        &mut self,
+        alloc: Global,
+        actor: RecordedActor,
+        label: &str,
+        pool: &str,
+        submitter: Option<RecordedActor>,
+    ) -> Result<(), AllocError>
+        ensures { OnOk result (Comes self.old actor label.now pool.now submitter self.new) }
+    {
+        let kept = KeptActor {
+            label: String::from_str(alloc, label)?,
+            pool: String::from_str(alloc, pool)?,
+            submitter,
+            waiting: None,
+        };
+        self.insert(actor, kept)
+    }
+
+    /// The job was refused: it is of no path.
+    pub(crate) fn forget_submitter(&mut self, job: usize)
+        ensures { (one : RecordedActor) → in_table self.new one ≡ (if is_same_actor (RecordedActor.Job job) one then option_map without_submitter (in_table self.old one) else in_table self.old one) }
+    {
+        if let Some(kept) = self.jobs.get_mut(&job) {
+            kept.submitter = None;
+        }
+    }
+
+    /// The actor, where it is there, is through.
+    pub(crate) fn wait(&mut self, actor: RecordedActor, waiting: Waiting)
+        ensures { (one : RecordedActor) → in_table self.new one ≡ (if is_same_actor actor one then option_map (with_waiting waiting) (in_table self.old one) else in_table self.old one) }
+    {
+        match actor {
+            RecordedActor::Job(job) => {
+                if let Some(kept) = self.jobs.get_mut(&job) {
+                    kept.waiting = Some(waiting);
+                }
+            }
+            RecordedActor::Round(round) => {
+                if let Some(kept) = self.rounds.get_mut(&round) {
+                    kept.waiting = Some(waiting);
+                }
+            }
+        }
+    }
+
+    /// How far the actor, where it is through, has come.
+    pub(crate) fn waiting(&self, actor: RecordedActor) -> Option<&Waiting>
+        ensures { option_copied result ≡ option_and_then (λ kept. kept.waiting) (in_table self.now actor) }
+    {
+        let kept = match actor {
+            RecordedActor::Job(job) => self.jobs.get(&job)?,
+            RecordedActor::Round(round) => self.rounds.get(&round)?,
+        };
+        kept.waiting.as_ref()
+    }
+
+    /// Of so many of its first deeds it is known that they submit only jobs that are settled, where the actor is there and
+    /// is through.
+    pub(crate) fn advance(&mut self, actor: RecordedActor, known: usize)
+        ensures after { (one : RecordedActor) → in_table self.new one ≡ (if is_same_actor actor one then option_map (with_known known) (in_table self.old one) else in_table self.old one) }
+    {
+        match actor {
+            RecordedActor::Job(job) => {
+                if let Some(kept) = self.jobs.get_mut(&job) {
+                    kept.advance(known);
+                }
+            }
+            RecordedActor::Round(round) => {
+                if let Some(kept) = self.rounds.get_mut(&round) {
+                    kept.advance(known);
+                }
+            }
+        }
+    }
+
+    /// The actor goes.
+    pub(crate) fn remove(&mut self, actor: RecordedActor) -> Option<KeptActor>
+        ensures value { result ≡ in_table self.old actor }
+        ensures after { (one : RecordedActor) → in_table self.new one ≡ (if is_same_actor actor one then None else in_table self.old one) }
+        ensures fewer { hash_map_len self.new.jobs + (if is_some result then is_job actor else 0) ≡ hash_map_len self.old.jobs }
+    {
+        match actor {
+            RecordedActor::Job(job) => self.jobs.remove(&job),
+            RecordedActor::Round(round) => self.rounds.remove(&round),
+        }
+    }
+}
