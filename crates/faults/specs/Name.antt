@@ -1,6 +1,6 @@
 -- The names of the faults by their numbers, and the words with which a fault's line begins.
 use Rattle.std.specs.Prelude.{ℕ, ◌==◌, ◌++◌, List, if◌then◌else◌, codes, decimal}
-use Rattle.faults.specs.declared.number.TheConstants.{NOT_TOML, TOO_MANY, UNKNOWN_KEY, MISSING_KEY, WRONG_TYPE, BAD_NAME, DOUBLE_NAME, BAD_NUMBER, NO_SUCH_POOL, NO_SUCH_CLASS, BAD_ACTION, SLOT_OPEN, SLOT_EMPTY, MEMORY, NOT_JSON, WRONG_SHAPE, WEIGHT_TOO_LARGE, VERSION, CERT_TOO_LONG, RUN_TOO_LARGE, STRANGE, MIXED, GATE, NO_SEPARATOR, BAD_EVENT, INPUT_TOO_LONG, READ_FAILED, WRITE_FAILED}
+use Rattle.faults.specs.declared.number.TheConstants.{NOT_TOML, TOO_MANY, UNKNOWN_KEY, MISSING_KEY, WRONG_TYPE, BAD_NAME, DOUBLE_NAME, BAD_NUMBER, NO_SUCH_POOL, NO_SUCH_CLASS, BAD_ACTION, SLOT_OPEN, SLOT_EMPTY, MEMORY, NOT_JSON, WRONG_SHAPE, WEIGHT_TOO_LARGE, VERSION, CERT_TOO_LONG, RUN_TOO_LARGE, STRANGE, MIXED, GATE, NO_SEPARATOR, BAD_EVENT, INPUT_TOO_LONG, BAD_RECORDING, READ_FAILED, WRITE_FAILED}
 
 -- the name of the fault with this number
 abbrev pub name_of : ℕ → List ℕ
@@ -31,9 +31,10 @@ name_of number =
     if number == NO_SEPARATOR then codes "NoSeparator" else (
     if number == BAD_EVENT then codes "BadEvent" else (
     if number == INPUT_TOO_LONG then codes "InputTooLong" else (
+    if number == BAD_RECORDING then codes "BadRecording" else (
     if number == READ_FAILED then codes "ReadFailed" else (
     if number == WRITE_FAILED then codes "WriteFailed" else (
-    codes "Unknown"))))))))))))))))))))))))))))
+    codes "Unknown")))))))))))))))))))))))))))))
 
 -- `fault N NAME`
 abbrev pub head : ℕ → List ℕ

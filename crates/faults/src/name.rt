@@ -36,6 +36,7 @@ pub fn name_of(number: u8) -> &'static str
         NO_SEPARATOR => "NoSeparator",
         BAD_EVENT => "BadEvent",
         INPUT_TOO_LONG => "InputTooLong",
+        BAD_RECORDING => "BadRecording",
         READ_FAILED => "ReadFailed",
         WRITE_FAILED => "WriteFailed",
         _ => "Unknown",

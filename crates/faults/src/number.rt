@@ -66,6 +66,8 @@ pub const NO_SEPARATOR: u8 = 50;
 pub const BAD_EVENT: u8 = 51;
 /// The input, or its event lines, are too long.
 pub const INPUT_TOO_LONG: u8 = 52;
+/// A line of a recording has none of the forms of a line, or breaks a rule of the lines before it.
+pub const BAD_RECORDING: u8 = 53;
 
 // ---- of input and output
 
