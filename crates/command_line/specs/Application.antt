@@ -85,10 +85,14 @@ abbrev pub ask_shape : Shape
 ask_shape =
     (with_rule (with_rule (with_rule (with_rule (of_both (codes "ask")) strict_option) json_option) dot_option) certificate_option).top
 
+abbrev pub conform_shape : Shape
+conform_shape = (of_both (codes "conform")).top
+
 -- the program, with a subcommand for each command
 abbrev pub sizing : App
 sizing =
     with_subcommand
+    (with_subcommand
     (with_subcommand
     (with_subcommand
     (with_subcommand
@@ -98,4 +102,5 @@ sizing =
     fit_shape)
     run_shape)
     refute_shape)
-    ask_shape
+    ask_shape)
+    conform_shape

@@ -12,8 +12,9 @@ use Rattle.command_line.specs.Application.{sizing}
 use Rattle.command_line.specs.declared.command.TheConstants.{MAX_ROUNDS, MAX_STATES, MAX_WORKERS}
 use Rattle.command_line.specs.declared.command.Asked.{Asked}
 use Rattle.command_line.specs.declared.command.Command.{Command}
-use Rattle.command_line.specs.declared.command.Command.TheVariants.{Alone, OnThreads}
+use Rattle.command_line.specs.declared.command.Command.TheVariants.{Alone, OnRecording, OnThreads}
 use Rattle.command_line.specs.declared.command.Review.TheVariants.{Replay, Check, Explain}
+use Rattle.command_line.specs.declared.command.Reading.TheVariants.{Conform}
 use Rattle.command_line.specs.declared.command.Task.{Task}
 use Rattle.command_line.specs.declared.command.Task.TheVariants.{Certify, Fit, Run, Refute, Ask}
 use Rattle.command_line.specs.declared.command.SizesForm.TheVariants.{Sizes, Bundle}
@@ -81,7 +82,8 @@ abbrev pub command_named : Text × List Row → Option Command
 command_named (name, rows) =
     if bytes_eq name (codes "replay") then Some (Alone Replay)
     else (if bytes_eq name (codes "check") then Some (Alone Check)
-    else (if bytes_eq name (codes "explain") then Some (Alone Explain) else option_map (λ task. OnThreads task) (task_of name rows)))
+    else (if bytes_eq name (codes "explain") then Some (Alone Explain)
+    else (if bytes_eq name (codes "conform") then Some (OnRecording Conform) else option_map (λ task. OnThreads task) (task_of name rows))))
 
 -- the command of the subcommand that was entered, if one was
 abbrev pub command_among : Option (Text × List Row) → Option Command
@@ -144,4 +146,5 @@ IsTaskInRange (Ask given manner) = Unit {0}
 -- those of a command
 abbrev pub IsInRange : Command → Type 0
 IsInRange (Alone review) = Unit {0}
+IsInRange (OnRecording reading) = Unit {0}
 IsInRange (OnThreads task) = IsTaskInRange task

@@ -2,10 +2,10 @@
 ghost use Rattle.std.specs.Prelude.{◌≡◌, IfOk, false, codes};
 ghost use Rattle.clap.specs.Words.{app_of, new_app, rule_of, shape_of};
 ghost use Rattle.clap.specs.declared.builder.command.Command.TheViews.{out-Command as fields_of};
-ghost use Rattle.command_line.specs.Application.{ask_shape, bundle_option, certificate_option, certify_shape, check_shape, dot_option, explain_shape, file_argument, fit_shape, json_option, number_option, of_both, refute_shape, replay_shape, rounds_option, run_shape, sizing, states_option, strict_option, workers_option};
+ghost use Rattle.command_line.specs.Application.{ask_shape, bundle_option, certificate_option, certify_shape, check_shape, conform_shape, dot_option, explain_shape, file_argument, fit_shape, json_option, number_option, of_both, refute_shape, replay_shape, rounds_option, run_shape, sizing, states_option, strict_option, workers_option};
 
 use crate::command::{MAX_ROUNDS, MAX_STATES, MAX_WORKERS};
-use crate::{ask_help, help, search_help};
+use crate::{ask_help, help, recording_help, search_help};
 use clap::builder::ValueParser;
 use clap::{Arg, ArgAction, Command};
 use std::alloc::{AllocError, Global};
@@ -22,7 +22,8 @@ pub(crate) fn application<'a>(alloc: Global) -> Result<Command<'a>, AllocError>
         .subcommand(fit(alloc)?)?
         .subcommand(run(alloc)?)?
         .subcommand(refute(alloc)?)?
-        .subcommand(ask(alloc)?)
+        .subcommand(ask(alloc)?)?
+        .subcommand(conform(alloc)?)
 }
 
 // The program, with no subcommand yet.
@@ -234,6 +235,21 @@ fn question<'a>(alloc: Global) -> Result<Command<'a>, AllocError>
         ask_help::ASK_ABOUT,
         ask_help::ASK_USAGE,
         ask_help::ASK_NOTES,
+    )
+    .arg(plan(alloc))?
+    .arg(second(alloc))
+}
+
+fn conform<'a>(alloc: Global) -> Result<Command<'a>, AllocError>
+    ensures shape { IfOk result (λ made. shape_of made ≡ conform_shape) }
+    ensures local { IfOk result (λ made. (fields_of made).has_globals ≡ false) }
+{
+    subcommand(
+        alloc,
+        "conform",
+        recording_help::CONFORM_ABOUT,
+        recording_help::CONFORM_USAGE,
+        recording_help::CONFORM_NOTES,
     )
     .arg(plan(alloc))?
     .arg(second(alloc))

@@ -27,6 +27,8 @@ pub const MAX_STATES: u64 = 10_000_000;
 pub enum Command {
     /// Starts no thread, and waits for nobody.
     Alone(Review),
+    /// Starts no thread, and reads a recording.
+    OnRecording(Reading),
     /// Starts threads, and waits for them.
     OnThreads(Task),
 }
@@ -40,6 +42,13 @@ pub enum Review {
     Check,
     /// Lists the conditions of a certificate that fail.
     Explain,
+}
+
+/// What is said of a recording of what a service did.
+#[derive(Clone, Copy, Debug, PartialEq, Eq)]
+pub enum Reading {
+    /// Says whether the service still is the plan in front of the recording.
+    Conform,
 }
 
 /// What is looked for or run.
@@ -203,6 +212,7 @@ fn command_among(matches: &ArgMatches<'_>) -> Option<Command>
         ("replay", _) => Some(Command::Alone(Review::Replay)),
         ("check", _) => Some(Command::Alone(Review::Check)),
         ("explain", _) => Some(Command::Alone(Review::Explain)),
+        ("conform", _) => Some(Command::OnRecording(Reading::Conform)),
         (name, options) => Some(Command::OnThreads(task_of(name, options)?)),
     }
 }

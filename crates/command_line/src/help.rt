@@ -14,6 +14,7 @@ sizing reads files, or standard input where none is named and where the name is 
 `certify`, `fit` and `refute` it reads a plan. For the others it reads a plan and a second text:
   for `replay`                      one event a line
   for `check`, `explain` and `run`  a certificate
+  for `conform`                     a recording of what a service did
 A file may hold both, with a line between them that is exactly `%%`, and standard input has them so.
 `ask` takes a kept certificate too, as a file of its own. Answers go to standard output. To begin,
 paste the example of `sizing ask --help` into a shell.
@@ -21,10 +22,10 @@ paste the example of `sizing ask --help` into a shell.
 Exit status:
   0  yes, or done
   1  no: a condition fails, a job is refused or stuck, an event is not possible, no certificate or no
-     sizes were found, sizes change, or a witness was found
+     sizes were found, sizes change, a witness was found, or a service is not as planned
   2  bad text in the input, a run that is too large, or bad arguments
   3  memory ran out, or reading, writing or running failed
-  4  not decided, of `ask` and `refute` (with --bundle that is 1)";
+  4  not decided, of `ask`, `conform` and `refute` (with --bundle that is 1)";
 
 /// What `replay` does, in the list of commands and at the top of its own help.
 pub(crate) const REPLAY_ABOUT: &str = "Replays events on a plan, and says what came of each";

@@ -11,9 +11,10 @@ mod command;
 mod flag;
 mod help;
 mod number;
+mod recording_help;
 mod search_help;
 
 pub use command::{
     Asked, Command, DEFAULT_WORKERS, Form, Given, MAX_ROUNDS, MAX_STATES, MAX_WORKERS, Manner,
-    Review, Shown, SizesForm, Task, read_words,
+    Reading, Review, Shown, SizesForm, Task, read_words,
 };

@@ -8,6 +8,7 @@ pub mod Certified
 pub mod FittedAnswers
 pub mod AsDeclared
 pub mod RefutedAnswers
+mod ConformedAnswers
 pub mod ServedAnswers
 mod Runs
 mod AskedAnswers

@@ -9,7 +9,9 @@ use Rattle.job_bodies.specs.Plan.{Plan}
 use Rattle.job_bodies.specs.declared.fault.PlanFault.{PlanFault}
 use Rattle.plan_text.specs.PlanOf.{plan_of}
 use Rattle.command_line.specs.declared.command.Command.{Command}
-use Rattle.command_line.specs.declared.command.Command.TheVariants.{Alone, OnThreads}
+use Rattle.command_line.specs.declared.command.Command.TheVariants.{Alone, OnRecording, OnThreads}
+use Rattle.command_line.specs.declared.command.Reading.{Reading}
+use Rattle.command_line.specs.declared.command.Reading.TheVariants.{Conform}
 use Rattle.command_line.specs.declared.command.Review.TheVariants.{Replay, Check, Explain}
 use Rattle.command_line.specs.declared.command.Task.{Task}
 use Rattle.command_line.specs.declared.command.Task.TheVariants.{Certify, Fit, Run, Refute, Ask}
@@ -17,7 +19,7 @@ use Rattle.command_line.specs.declared.command.Given.{Given}
 use Rattle.command_line.specs.declared.command.Manner.{Manner}
 use Rattle.command_line.specs.declared.command.SizesForm.TheVariants.{Sizes, Bundle}
 use Rattle.command_line.specs.declared.command.Shown.TheVariants as shown
-use Rattle.sizing_cli.specs.declared.limits.TheConstants.{MAX_INPUT_BYTES}
+use Rattle.sizing_cli.specs.declared.limits.TheConstants.{MAX_INPUT_BYTES, MAX_RECORDED_BYTES}
 use Rattle.sizing_cli.specs.declared.status.Status.{Status}
 use Rattle.sizing_cli.specs.declared.status.Status.TheVariants.{Done, Refused, BadText}
 use Rattle.sizing_cli.specs.Answer.{Answer, input_too_long}
@@ -25,13 +27,16 @@ use Rattle.sizing_cli.specs.Report.{run}
 use Rattle.sizing_cli.specs.Certify.{IsCertifyAnswer, IsCertifiedBundle, AnswersReading, AnswersPlan, whole_lines}
 use Rattle.sizing_cli.specs.Fit as fit
 use Rattle.sizing_cli.specs.Refute as refute
-use Rattle.sizing_cli.specs.Served.{IsAnswer, IsLeftBy, IsTaskAnswer, WritesAnswer, WritesFront, WritesLeaving, MeansSafe}
+use Rattle.sizing_cli.specs.Bundle.{bundle_of}
+use Rattle.sizing_cli.specs.Conform.{AnswersBundle, IsConformAnswer}
+use Rattle.sizing_cli.specs.Served.{IsAnswer, IsLeftBy, IsReadingAnswer, IsTaskAnswer, WritesAnswer, WritesFront, WritesLeaving, MeansSafe}
 use Rattle.sizing_cli.proofs.PastTheLimit.{answered_whole}
 use Rattle.sizing_cli.proofs.SafeInputs.{yes_means_safe, run_means_safe}
 use Rattle.sizing_cli.proofs.FittedAnswers.{sizes_mean_safe, bundle_means_fitted}
 use Rattle.sizing_cli.proofs.RefutedAnswers.{refuted_means_safe, bundle_means_witness}
 use Rattle.sizing_cli.specs.Ask.{AnswersInput, IsAskAnswer}
 use Rattle.sizing_cli.proofs.AskedAnswers.{asked_means_safe}
+use Rattle.sizing_cli.proofs.ConformedAnswers.{conformed}
 
 -- ---- an answer to what was read is one to the whole input
 
@@ -39,20 +44,33 @@ abbrev ByLength : Type 0 → Type 0 → Bool → Type 0
 ByLength TooLong Answers long = MatchBool long TooLong Answers
 
 -- by its length first
+abbrev IsWithin : ℕ → Type 0 → (List ℕ → Type 0) → List ℕ → Type 0
+IsWithin most TooLong Answers input = ByLength TooLong (Answers input) (nat_lt most (length input))
+
+answered_within : (most : ℕ) (TooLong : Type 0) (Answers : List ℕ → Type 0) (remaining : Option (List ℕ)) (items : List ℕ) → IfSome remaining (λ input. items ≡ take (most + 1) input)
+    → IsWithin most TooLong Answers items → IfSome remaining (IsWithin most TooLong Answers)
+answered_within most TooLong Answers None items front is = tt
+answered_within most TooLong Answers (Some input) items front is =
+    elim (cases_lt (most + 1) (length input)) [
+      | inl long ↦
+          let cut : length items ≡ most + 1 = ap (λ (l : List ℕ). length l) front ∙ length-take-le (most + 1) input (omega arith) in
+          let too_long : TooLong = subst (ByLength TooLong (Answers items)) (lt-ltb most (length items) (omega arith)) is in
+          subst (ByLength TooLong (Answers input)) (sym (lt-ltb most (length input) (omega arith))) too_long
+      | inr short ↦ subst (IsWithin most TooLong Answers) (front ∙ take_all (most + 1) input short) is
+    ]
+
 abbrev IsByLength : Type 0 → (List ℕ → Type 0) → List ℕ → Type 0
-IsByLength TooLong Answers input = ByLength TooLong (Answers input) (nat_lt MAX_INPUT_BYTES (length input))
+IsByLength = IsWithin MAX_INPUT_BYTES
 
 answered_by_length : (TooLong : Type 0) (Answers : List ℕ → Type 0) (remaining : Option (List ℕ)) (items : List ℕ) → IfSome remaining (λ input. items ≡ take (MAX_INPUT_BYTES + 1) input)
     → IsByLength TooLong Answers items → IfSome remaining (IsByLength TooLong Answers)
-answered_by_length TooLong Answers None items front is = tt
-answered_by_length TooLong Answers (Some input) items front is =
-    elim (cases_lt (MAX_INPUT_BYTES + 1) (length input)) [
-      | inl long ↦
-          let cut : length items ≡ MAX_INPUT_BYTES + 1 = ap (λ (l : List ℕ). length l) front ∙ length-take-le (MAX_INPUT_BYTES + 1) input (omega arith) in
-          let too_long : TooLong = subst (ByLength TooLong (Answers items)) (lt-ltb MAX_INPUT_BYTES (length items) (omega arith)) is in
-          subst (ByLength TooLong (Answers input)) (sym (lt-ltb MAX_INPUT_BYTES (length input) (omega arith))) too_long
-      | inr short ↦ subst (IsByLength TooLong Answers) (front ∙ take_all (MAX_INPUT_BYTES + 1) input short) is
-    ]
+answered_by_length = answered_within MAX_INPUT_BYTES
+
+-- an answer to a recording
+pub recorded_by_front : (remaining : Option (List ℕ)) (items slice : List ℕ) (reading : Reading) (answer : Answer) → IfSome remaining (λ input. items ≡ take (MAX_RECORDED_BYTES + 1) input) → slice ≡ items
+    → IsReadingAnswer reading slice answer → IfSome remaining (λ input. IsReadingAnswer reading input answer)
+recorded_by_front remaining items slice Conform answer front same is =
+    answered_within MAX_RECORDED_BYTES (answer ≡ input_too_long) (λ bytes. AnswersBundle (bundle_of bytes) answer) remaining items front (subst (λ (bytes : List ℕ). IsConformAnswer bytes answer) same is)
 
 asked_by_front : (remaining : Option (List ℕ)) (items : List ℕ) (given : Given) (manner : Manner) (left : Option (List ℕ)) (answer : Answer)
     → IfSome remaining (λ input. items ≡ take (MAX_INPUT_BYTES + 1) input) → IsAskAnswer given manner items left answer → IfSome remaining (λ input. IsAskAnswer given manner input left answer)
@@ -140,6 +158,7 @@ means_safe : (command : Command) (input : List ℕ) (status : Status) (old new :
 means_safe (Alone Replay) input status old new writes done = tt
 means_safe (Alone Check) input status old new writes done = yes_means_safe input (sym (ap (λ (a : Answer). a.status) writes.is_answer) ∙ (sym writes.status_is ∙ done))
 means_safe (Alone Explain) input status old new writes done = tt
+means_safe (OnRecording Conform) input status old new writes done = conformed input writes.answer writes.is_answer (sym writes.status_is ∙ done)
 means_safe (OnThreads (Fit Sizes)) input status old new writes done = sizes_mean_safe input writes.answer writes.is_answer (sym writes.status_is ∙ done)
 means_safe (OnThreads (Fit Bundle)) input status old new writes done =
     let fitted = bundle_means_fitted input writes.answer writes.is_answer (sym writes.status_is ∙ done) in

@@ -7,6 +7,8 @@ pub mod Certify
 pub mod Fit
 pub mod Refute
 pub mod Ask
+pub mod Limits
+pub mod Conform
 pub mod SplitAt
 pub mod Served
 pub mod ServeFault

@@ -8,7 +8,7 @@ use Rattle.cert_text.specs.declared.document.TheConstants as cert_text
 use Rattle.line_words.specs.declared.number.TheConstants.{MAX_NUMBER}
 use Rattle.locked_runner.specs.declared.limits.TheConstants.{MAX_RUN_CLIENTS, MAX_RUN_CARRIERS, MAX_RUN_EVENTS}
 use Rattle.command_line.specs.declared.command.TheConstants.{MAX_WORKERS, DEFAULT_WORKERS, MAX_ROUNDS, MAX_STATES}
-use Rattle.sizing_cli.specs.declared.limits.TheConstants.{MAX_INPUT_BYTES, MAX_EVENT_BYTES}
+use Rattle.sizing_cli.specs.declared.limits.TheConstants.{MAX_INPUT_BYTES, MAX_EVENT_BYTES, MAX_RECORDED_BYTES}
 
 -- what a plan may have, and how large its numbers, and the weights of a certificate, may be
 pub record PlanLimitsAreStated : Type 0 where
@@ -27,6 +27,7 @@ pub record TextLimitsAreStated : Type 0 where
   pub certificate : cert_text.MAX_TEXT_BYTES ≡ 1048576
   pub events : MAX_EVENT_BYTES ≡ 1048576
   pub input : MAX_INPUT_BYTES ≡ 2097155
+  pub recorded : MAX_RECORDED_BYTES ≡ 268435456
   pub number : MAX_NUMBER ≡ 1000000000
 
 -- how many threads a search may have, and has where it is not said, how many states, and what a run may have
@@ -67,5 +68,6 @@ pub record FaultNumbersAreStated : Type 0 where
   pub no_separator : fault.NO_SEPARATOR ≡ 50
   pub bad_event : fault.BAD_EVENT ≡ 51
   pub input_too_long : fault.INPUT_TOO_LONG ≡ 52
+  pub bad_recording : fault.BAD_RECORDING ≡ 53
   pub read_failed : fault.READ_FAILED ≡ 60
   pub write_failed : fault.WRITE_FAILED ≡ 61

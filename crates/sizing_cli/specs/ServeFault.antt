@@ -5,7 +5,7 @@ use Rattle.byte_streams.specs.declared.reading.InputError.TheVariants.{Memory, F
 use Rattle.cert_search.specs.declared.finding.SearchFault.{SearchFault}
 use Rattle.cert_search.specs.declared.finding.SearchFault.TheVariants as search
 use Rattle.command_line.specs.declared.command.Command.{Command}
-use Rattle.command_line.specs.declared.command.Command.TheVariants.{Alone, OnThreads}
+use Rattle.command_line.specs.declared.command.Command.TheVariants.{Alone, OnRecording, OnThreads}
 use Rattle.command_line.specs.declared.command.Task.{Task}
 use Rattle.command_line.specs.declared.command.Task.TheVariants.{Certify, Fit, Run, Refute, Ask}
 use Rattle.faults.specs.declared.number.TheConstants.{MEMORY, STRANGE, MIXED, GATE, READ_FAILED, WRITE_FAILED}
@@ -51,4 +51,5 @@ is_of_threads (Ask given manner) number = is_of_search number
 -- a call that serves the command ends with no fault of another number
 abbrev pub is_known_of : Command → ℕ → Bool
 is_known_of (Alone review) number = is_known number
+is_known_of (OnRecording reading) number = is_known number
 is_known_of (OnThreads task) number = is_known number || is_of_threads task number

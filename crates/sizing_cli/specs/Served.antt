@@ -7,17 +7,19 @@ use Rattle.faults.specs.declared.number.TheConstants.{READ_FAILED, WRITE_FAILED}
 use Rattle.job_bodies.specs.Plan.{Plan}
 use Rattle.plan_text.specs.PlanOf.{plan_of}
 use Rattle.command_line.specs.declared.command.Command.{Command}
-use Rattle.command_line.specs.declared.command.Command.TheVariants.{Alone, OnThreads}
+use Rattle.command_line.specs.declared.command.Command.TheVariants.{Alone, OnRecording, OnThreads}
+use Rattle.command_line.specs.declared.command.Reading.{Reading}
+use Rattle.command_line.specs.declared.command.Reading.TheVariants.{Conform}
 use Rattle.command_line.specs.declared.command.Review.TheVariants.{Replay, Check, Explain}
 use Rattle.command_line.specs.declared.command.Task.{Task}
 use Rattle.command_line.specs.declared.command.Task.TheVariants.{Certify, Fit, Run, Refute, Ask}
 use Rattle.command_line.specs.declared.command.SizesForm.TheVariants.{Sizes, Bundle}
 use Rattle.command_line.specs.declared.command.Shown.TheVariants as shown
-use Rattle.sizing_cli.specs.declared.limits.TheConstants.{MAX_INPUT_BYTES}
 use Rattle.sizing_cli.specs.declared.status.ServeFault.{ServeFault}
 use Rattle.sizing_cli.specs.declared.status.Status.{Status}
 use Rattle.sizing_cli.specs.declared.status.Status.TheVariants.{Done}
 use Rattle.sizing_cli.specs.ServeFault.{count_of, is_known_of}
+use Rattle.sizing_cli.specs.Limits.{most_bytes}
 use Rattle.sizing_cli.specs.Answer.{Answer}
 use Rattle.sizing_cli.specs.Report.{report, run_report}
 use Rattle.sizing_cli.specs.SafeInput.{IsSafeInput, IsSafePlan}
@@ -25,6 +27,7 @@ use Rattle.sizing_cli.specs.Certify.{IsCertifyAnswer, IsCertifiedBundle, whole_l
 use Rattle.sizing_cli.specs.Fit.{IsFitAnswer, IsFittedBundle}
 use Rattle.sizing_cli.specs.Refute.{IsRefuteAnswer, IsWitnessBundle}
 use Rattle.sizing_cli.specs.Ask.{IsAskAnswer, IsSafeAsked}
+use Rattle.sizing_cli.specs.Conform.{IsConformAnswer, IsConformingInput}
 
 -- the answer is one that the task may come to
 abbrev pub IsTaskAnswer : Task → List ℕ → Answer → Type 0
@@ -34,9 +37,14 @@ IsTaskAnswer (Run rounds) input answer = answer ≡ run_report rounds input
 IsTaskAnswer (Refute states shown) input answer = IsRefuteAnswer states shown input answer
 IsTaskAnswer (Ask given manner) input answer = (left : Option (List ℕ)) × IsAskAnswer given manner input left answer
 
+-- the answer is one to an input with a recording
+abbrev pub IsReadingAnswer : Reading → List ℕ → Answer → Type 0
+IsReadingAnswer Conform input answer = IsConformAnswer input answer
+
 -- the answer is one that the command may give to the input
 abbrev pub IsAnswer : Command → List ℕ → Answer → Type 0
 IsAnswer (Alone review) input answer = answer ≡ report review input
+IsAnswer (OnRecording reading) input answer = IsReadingAnswer reading input answer
 IsAnswer (OnThreads task) input answer = IsTaskAnswer task input answer
 
 -- such an answer was written, and the status is its
@@ -74,11 +82,13 @@ pub record WritesWitness (input : List ℕ) (old new : Option (List ℕ)) : Type
   pub written : Appends old new text
 
 -- what status 0 means: of `check`, `run`, `ask`, the sizes of `fit` and the story of `refute`, that the input's plan is safe; of `certify`
--- and the bundle of `fit`, that what was written is a plan that is; of the bundle of `refute`, that what was written has a witness
+-- and the bundle of `fit`, that what was written is a plan that is; of the bundle of `refute`, that what was written has a witness; of
+-- `conform`, that the recording is one of the plan
 abbrev pub MeansSafe : Command → List ℕ → Option (List ℕ) → Option (List ℕ) → Type 0
 MeansSafe (Alone Replay) input old new = Unit {0}
 MeansSafe (Alone Check) input old new = IsSafeInput input
 MeansSafe (Alone Explain) input old new = Unit {0}
+MeansSafe (OnRecording Conform) input old new = IsConformingInput input
 MeansSafe (OnThreads (Certify workers)) input old new = WritesCertified input old new
 MeansSafe (OnThreads (Fit Sizes)) input old new = IsSafePlan input
 MeansSafe (OnThreads (Fit Bundle)) input old new = WritesFitted input old new
@@ -105,6 +115,7 @@ pub record WritesLeaving (task : Task) (input : List ℕ) (status : Status) (lef
 -- what is left behind what was written: of `ask` the certificate that the answer rests on, where it says that the plan is safe
 abbrev pub Leaves : Command → List ℕ → Status → Option (List ℕ) → Option (List ℕ) → Option (List ℕ) → Type 0
 Leaves (Alone review) input status left old new = Unit {0}
+Leaves (OnRecording reading) input status left old new = Unit {0}
 Leaves (OnThreads task) input status left old new = WritesLeaving task input status left old new
 
 -- ---- the whole
@@ -133,4 +144,4 @@ pub record Serves (command : Command) (source sink : Passage) (result : Result S
   pub known : IfErr result (λ fault. IsTrue (is_known_of command fault.number))
   pub read_failed : source.failed_after ≡ source.failed_before + count_of READ_FAILED result
   pub write_failed : sink.failed_after ≡ sink.failed_before + count_of WRITE_FAILED result
-  pub at_most : ConsumesAtMost source.before source.after (MAX_INPUT_BYTES + 1)
+  pub at_most : ConsumesAtMost source.before source.after (most_bytes command + 1)

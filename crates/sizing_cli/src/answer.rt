@@ -4,6 +4,7 @@ ghost use Rattle.std.specs.Prelude.{◌≡◌, ◌++◌, [], IfOk, string_bytes}
 ghost use Rattle.faults.specs.Name.{head};
 ghost use Rattle.job_bodies.specs.FaultText.{fault_line};
 ghost use Rattle.sizing_cli.specs.Answer as spec;
+ghost use Rattle.sizing_cli.specs.Conform.{bad_recording as bad_recording_spec};
 ghost use Rattle.sizing_cli.specs.Report.{too_large};
 ghost use Rattle.sizing_cli.specs.Transcript.{is_no, replied};
 
@@ -14,6 +15,7 @@ use event_lines::{Reply, push_reply};
 use faults::{Head, number};
 use interleaving::Outcome;
 use job_bodies::{Plan, PlanFault};
+use recorded_rules::RecordingFault;
 use std::alloc::{AllocError, Global};
 use std::marker::Model;
 
@@ -103,6 +105,13 @@ pub fn bad_event(alloc: Global, line: u64) -> Result<Answer, AllocError>
     ensures { IfOk result (λ answer. answer ≡ spec.bad_event line) }
 {
     fault(format!(in alloc; "{} at line {line}", Head(number::BAD_EVENT))?)
+}
+
+/// The answer to a recording with this bad line.
+pub fn bad_recording(alloc: Global, found: RecordingFault) -> Result<Answer, AllocError>
+    ensures { IfOk result (λ answer. answer ≡ bad_recording_spec found) }
+{
+    fault(format!(in alloc; "{} at {found}", Head(number::BAD_RECORDING))?)
 }
 
 /// The answer to a plan text with this fault.

@@ -10,6 +10,7 @@ mod bundle;
 mod certificate;
 mod certified_bundle;
 mod certify;
+mod conforming;
 mod finding;
 mod fitting;
 mod found_answer;
@@ -18,6 +19,7 @@ mod judging;
 mod laws;
 mod limits;
 mod output;
+mod recorded;
 mod refuting;
 mod replaying;
 mod report;
@@ -32,13 +34,16 @@ pub use alone::serve_alone;
 pub use asking::{Replied, ask};
 pub use byte_streams::{IoFault, MemorySink, MemorySource, Sink, Source, StdSink, StdSource};
 pub use certify::whole_lines;
-pub use command_line::{Command, Form, Given, Manner, Review, Shown, SizesForm, Task, read_words};
+pub use command_line::{
+    Command, Form, Given, Manner, Reading, Review, Shown, SizesForm, Task, read_words,
+};
 pub use fitting::answer_of_sizes;
 pub use laws::{
     a_yes_means_safe, inputs_split_at_the_last_separator, limits_and_fault_numbers_are_stated,
     no_bundle_without_a_separator,
 };
-pub use limits::{MAX_EVENT_BYTES, MAX_INPUT_BYTES};
+pub use limits::{MAX_EVENT_BYTES, MAX_INPUT_BYTES, MAX_RECORDED_BYTES, most_bytes};
 pub use output::Output;
+pub use recorded::serve_recording;
 pub use serving::{serve, serve_named};
 pub use status::{ServeFault, Status};

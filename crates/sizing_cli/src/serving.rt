@@ -13,6 +13,7 @@ use crate::certify::certify;
 use crate::fitting::fit;
 use crate::limits::MAX_INPUT_BYTES;
 use crate::output::Output;
+use crate::recorded::serve_recording;
 use crate::refuting::refute;
 use crate::running::run_report;
 use crate::status::{ServeFault, Status};
@@ -28,7 +29,7 @@ const STANDARD_INPUT_NAME: &str = "<stdin>";
 /// Reads an input, and writes the command's answer to it. The whole answer is made before its first byte is written. The
 /// numbers of the command lie in their ranges.
 ///
-/// It reads at most 2,097,156 bytes, one at least in each turn but the last. For a [`Task`] it starts threads, and waits for
+/// It reads at most 2,097,156 bytes, of a command about a recording 268,435,457, one at least in each turn but the last. For a [`Task`] it starts threads, and waits for
 /// them.
 ///
 /// # Errors
@@ -82,6 +83,7 @@ pub fn serve_named<R: Threads + Wait + Sync, S: Source, K: Sink>(
 {
     match command {
         Command::Alone(review) => serve_alone(alloc, review, source, sink),
+        Command::OnRecording(reading) => serve_recording(alloc, reading, source, sink),
         Command::OnThreads(task) => {
             serve_on_threads(rt, alloc, task, file, certificate, source, sink)
         }

@@ -2,46 +2,47 @@
 use Rattle.std.proofs.Common.{◌≡◌, ℕ, List, Option, Some, None, Result, Ok, Err, option_map, ap₂, subst, sym}
 use Rattle.std.specs.Prelude.{IfErr, IfOk, IfSome, IsErrAnd}
 use Rattle.clap.specs.Words.{Text}
+use Rattle.command_line.specs.declared.command.Command.{Command}
 use Rattle.sizing_cli.specs.declared.status.Status.{Status}
 use Rattle.sizing_cli.specs.declared.status.Status.TheVariants.{Done}
 use Rattle.sizing_words.specs.declared.fault.WordsFault.{WordsFault}
 use Rattle.sizing_words.specs.Texts.{both_fronts, file_named, front, input_named, joined, text_named}
 
 -- two texts that were read are joined to what is known of both
-both_known : (first second : Option (List ℕ)) (plan behind : List ℕ) → IfSome first (λ known. plan ≡ front known) → IfSome second (λ known. behind ≡ front known)
-    → IfSome (both_fronts first second) (λ known. joined plan behind ≡ known)
-both_known (Some first) (Some second) plan behind is_plan is_behind = ap₂ joined is_plan is_behind
-both_known (Some first) None plan behind is_plan is_behind = tt
-both_known None second plan behind is_plan is_behind = tt
+both_known : (command : Command) (first second : Option (List ℕ)) (plan behind : List ℕ) → IfSome first (λ known. plan ≡ front command known) → IfSome second (λ known. behind ≡ front command known)
+    → IfSome (both_fronts command first second) (λ known. joined plan behind ≡ known)
+both_known command (Some first) (Some second) plan behind is_plan is_behind = ap₂ joined is_plan is_behind
+both_known command (Some first) None plan behind is_plan is_behind = tt
+both_known command None second plan behind is_plan is_behind = tt
 
 -- the front of a text that was read is that of what is known
-fronted : (known : Option (List ℕ)) (text : List ℕ) → IfSome known (λ whole. text ≡ front whole) → IfSome (option_map front known) (λ whole. text ≡ whole)
-fronted (Some whole) text is = is
-fronted None text is = tt
+fronted : (command : Command) (known : Option (List ℕ)) (text : List ℕ) → IfSome known (λ whole. text ≡ front command whole) → IfSome (option_map (front command) known) (λ whole. text ≡ whole)
+fronted command (Some whole) text is = is
+fronted command None text is = tt
 
 -- what one file was read as
-pub one_known : (files : Text → Option (List ℕ)) (input : Option (List ℕ)) (first : Option Text) (name : Text) (text : List ℕ) → Some name ≡ file_named first
-    → IfSome (files name) (λ known. text ≡ front known) → IfSome (input_named files input (first, None)) (λ whole. text ≡ whole)
-one_known files input first name text named is = rw (← named) (fronted (files name) text is)
+pub one_known : (command : Command) (files : Text → Option (List ℕ)) (input : Option (List ℕ)) (first : Option Text) (name : Text) (text : List ℕ) → Some name ≡ file_named first
+    → IfSome (files name) (λ known. text ≡ front command known) → IfSome (input_named command files input (first, None)) (λ whole. text ≡ whole)
+one_known command files input first name text named is = rw (← named) (fronted command (files name) text is)
 
 -- what the text of a file, or of standard input, was read as
-abbrev pub IsRead : (Text → Option (List ℕ)) → Option (List ℕ) → Option Text → List ℕ → Type 0
-IsRead files input (Some name) text = IfSome (files name) (λ known. text ≡ front known)
-IsRead files input None text = IfSome input (λ known. text ≡ front known)
+abbrev pub IsRead : Command → (Text → Option (List ℕ)) → Option (List ℕ) → Option Text → List ℕ → Type 0
+IsRead command files input (Some name) text = IfSome (files name) (λ known. text ≡ front command known)
+IsRead command files input None text = IfSome input (λ known. text ≡ front command known)
 
-named_known : (files : Text → Option (List ℕ)) (input : Option (List ℕ)) (name file : Option Text) (text : List ℕ) → file ≡ file_named name
-    → IsRead files input file text → IfSome (text_named files input name) (λ known. text ≡ front known)
-named_known files input name (Some file) text named is = rw (← named) is
-named_known files input name None text named is = rw (← named) is
+named_known : (command : Command) (files : Text → Option (List ℕ)) (input : Option (List ℕ)) (name file : Option Text) (text : List ℕ) → file ≡ file_named name
+    → IsRead command files input file text → IfSome (text_named files input name) (λ known. text ≡ front command known)
+named_known command files input name (Some file) text named is = rw (← named) is
+named_known command files input name None text named is = rw (← named) is
 
 -- what two texts were read as
-pub two_known : (files : Text → Option (List ℕ)) (input : Option (List ℕ)) (first : Option Text) (second : Text) (plan_file behind_file : Option Text) (plan behind : List ℕ)
-    → plan_file ≡ file_named first → behind_file ≡ file_named (Some second) → IsRead files input plan_file plan → IsRead files input behind_file behind
-    → IfSome (input_named files input (first, Some second)) (λ whole. joined plan behind ≡ whole)
-two_known files input first second plan_file behind_file plan behind is_first is_second is_plan is_behind =
-    both_known (text_named files input first) (text_named files input (Some second)) plan behind
-    (named_known files input first plan_file plan is_first is_plan)
-    (named_known files input (Some second) behind_file behind is_second is_behind)
+pub two_known : (command : Command) (files : Text → Option (List ℕ)) (input : Option (List ℕ)) (first : Option Text) (second : Text) (plan_file behind_file : Option Text) (plan behind : List ℕ)
+    → plan_file ≡ file_named first → behind_file ≡ file_named (Some second) → IsRead command files input plan_file plan → IsRead command files input behind_file behind
+    → IfSome (input_named command files input (first, Some second)) (λ whole. joined plan behind ≡ whole)
+two_known command files input first second plan_file behind_file plan behind is_first is_second is_plan is_behind =
+    both_known command (text_named files input first) (text_named files input (Some second)) plan behind
+    (named_known command files input first plan_file plan is_first is_plan)
+    (named_known command files input (Some second) behind_file behind is_second is_behind)
 
 -- what holds of a text holds of what is known of it
 of_known : (known : Option (List ℕ)) (text : List ℕ) (P : List ℕ → Type 0) → IfSome known (λ whole. text ≡ whole) → P text → IfSome known P

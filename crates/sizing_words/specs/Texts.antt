@@ -2,10 +2,11 @@
 use Rattle.std.specs.Prelude.{◌≡◌, ℕ, ◌+◌, false, ◌++◌, List, ◌∷◌, take, codes, Option, Some, None, if◌then◌else◌, option_and_then, option_map}
 use Rattle.std.specs.Str.{bytes_eq}
 use Rattle.clap.specs.Words.{Text}
+use Rattle.command_line.specs.declared.command.Command.{Command}
 use Rattle.sizing_cli.specs.Bundle.{bundle_of}
 use Rattle.sizing_cli.specs.Certify.{whole_lines}
 use Rattle.sizing_cli.specs.Laws.{has_separator}
-use Rattle.sizing_cli.specs.declared.limits.TheConstants.{MAX_INPUT_BYTES}
+use Rattle.sizing_cli.specs.Limits.{most_bytes}
 
 -- the bundle of a plan's text and a second text
 abbrev pub joined : List ℕ → List ℕ → List ℕ
@@ -16,9 +17,9 @@ abbrev pub JoinedTextsSplitAgain : Type 0
 JoinedTextsSplitAgain = (plan second : List ℕ) → has_separator second ≡ false
     → bundle_of (joined plan second) ≡ Some (record { plan = whole_lines plan; second = second })
 
--- as much of a text as is read: of one that is too long, enough to see it
-abbrev pub front : List ℕ → List ℕ
-front = take (MAX_INPUT_BYTES + 1)
+-- as much of a text as the command reads: of one that is too long, enough to see it
+abbrev pub front : Command → List ℕ → List ℕ
+front command = take (most_bytes command + 1)
 
 -- the name, where it is not that of standard input
 abbrev pub not_input : Text → Option Text
@@ -38,15 +39,15 @@ abbrev pub text_named : (Text → Option (List ℕ)) → Option (List ℕ) → O
 text_named files input name = text_of files input (file_named name)
 
 -- what is served where all is in one text
-abbrev pub served_of : (Text → Option (List ℕ)) → Option (List ℕ) → Option Text → Option (List ℕ)
-served_of files input None = input
-served_of files input (Some name) = option_map front (files name)
+abbrev pub served_of : Command → (Text → Option (List ℕ)) → Option (List ℕ) → Option Text → Option (List ℕ)
+served_of command files input None = input
+served_of command files input (Some name) = option_map (front command) (files name)
 
-abbrev pub both_fronts : Option (List ℕ) → Option (List ℕ) → Option (List ℕ)
-both_fronts (Some plan) (Some second) = Some (joined (front plan) (front second))
-both_fronts _ _ = None
+abbrev pub both_fronts : Command → Option (List ℕ) → Option (List ℕ) → Option (List ℕ)
+both_fronts command (Some plan) (Some second) = Some (joined (front command plan) (front command second))
+both_fronts command _ _ = None
 
--- the input that the files of the words stand for, where it is known: the files by their names, and standard input
-abbrev pub input_named : (Text → Option (List ℕ)) → Option (List ℕ) → Option Text × Option Text → Option (List ℕ)
-input_named files input (first, None) = served_of files input (file_named first)
-input_named files input (first, Some second) = both_fronts (text_named files input first) (text_named files input (Some second))
+-- the input of the command that the files of the words stand for, where it is known: the files by their names, and standard input
+abbrev pub input_named : Command → (Text → Option (List ℕ)) → Option (List ℕ) → Option Text × Option Text → Option (List ℕ)
+input_named command files input (first, None) = served_of command files input (file_named first)
+input_named command files input (first, Some second) = both_fronts command (text_named files input first) (text_named files input (Some second))

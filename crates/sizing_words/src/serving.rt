@@ -14,7 +14,7 @@ use crate::joining::joined;
 use crate::text_files::TextFiles;
 use byte_streams::{InputError, MemorySource, Sink, Source, read_up_to};
 use command_line::{Asked, Command};
-use sizing_cli::{MAX_INPUT_BYTES, ServeFault, Status, read_words, serve_named};
+use sizing_cli::{ServeFault, Status, most_bytes, read_words, serve_named};
 use std::alloc::Global;
 use std::sync::Wait;
 use std::thread::Threads;
@@ -45,16 +45,16 @@ pub fn serve_words<'a, R: Threads + Wait + Sync, F: TextFiles, S: Source, K: Sin
 ) -> Result<Status, WordsFault<'a>>
     // What was written, and the status, are an answer that the command of the words may give to the texts that they name.
     ensures named { IfOk result (λ _. (is_some (command_of (map (λ word. word.now) words.now)) ≡ true) × (faults_of (map (λ word. word.now) words.now) ≡ [])) }
-    ensures answered { IfOk result (λ status. IfSome (command_of (map (λ word. word.now) words.now)) (λ command. IfSome (spec.input_named (F.content files.now) (S.remaining input.old) (files_of (map (λ word. word.now) words.now))) (λ text. WritesAnswer command text status (K.written sink.old) (K.written sink.new)))) }
-    ensures safe { IfOk result (λ status. status ≡ Status.Done → IfSome (command_of (map (λ word. word.now) words.now)) (λ command. IfSome (spec.input_named (F.content files.now) (S.remaining input.old) (files_of (map (λ word. word.now) words.now))) (λ text. MeansSafe command text (K.written sink.old) (K.written sink.new)))) }
+    ensures answered { IfOk result (λ status. IfSome (command_of (map (λ word. word.now) words.now)) (λ command. IfSome (spec.input_named command (F.content files.now) (S.remaining input.old) (files_of (map (λ word. word.now) words.now))) (λ text. WritesAnswer command text status (K.written sink.old) (K.written sink.new)))) }
+    ensures safe { IfOk result (λ status. status ≡ Status.Done → IfSome (command_of (map (λ word. word.now) words.now)) (λ command. IfSome (spec.input_named command (F.content files.now) (S.remaining input.old) (files_of (map (λ word. word.now) words.now))) (λ text. MeansSafe command text (K.written sink.old) (K.written sink.new)))) }
 
     // The file that the words name for a certificate was made of the text of the one that the answer rests on.
-    ensures kept { IfOk result (λ status. IfSome (command_of (map (λ word. word.now) words.now)) (λ command. IfSome (spec.input_named (F.content files.now) (S.remaining input.old) (files_of (map (λ word. word.now) words.now))) (λ text. LeavesKept (F.made files.now) (certificate_of (map (λ word. word.now) words.now)) command text status (K.written sink.old) (K.written sink.new)))) }
+    ensures kept { IfOk result (λ status. IfSome (command_of (map (λ word. word.now) words.now)) (λ command. IfSome (spec.input_named command (F.content files.now) (S.remaining input.old) (files_of (map (λ word. word.now) words.now))) (λ text. LeavesKept (F.made files.now) (certificate_of (map (λ word. word.now) words.now)) command text status (K.written sink.old) (K.written sink.new)))) }
     ensures fault { IfErr result (IsFaultOf (map (λ word. word.now) words.now)) }
     ensures nothing { IfErr result (λ fault. is_of_sink fault ≡ false → Keeps (K.written sink.old) (K.written sink.new)) }
 
     // Where the sink failed, it has a front of such an answer; where the file of the certificate did, it has the whole answer.
-    ensures before { IfErr result (λ fault. IfSome (command_of (map (λ word. word.now) words.now)) (λ command. IfSome (spec.input_named (F.content files.now) (S.remaining input.old) (files_of (map (λ word. word.now) words.now))) (λ text. IsWrittenBefore fault command text (K.written sink.old) (K.written sink.new)))) }
+    ensures before { IfErr result (λ fault. IfSome (command_of (map (λ word. word.now) words.now)) (λ command. IfSome (spec.input_named command (F.content files.now) (S.remaining input.old) (files_of (map (λ word. word.now) words.now))) (λ text. IsWrittenBefore fault command text (K.written sink.old) (K.written sink.new)))) }
 {
     let Some(asked) = read_words(alloc, words)? else {
         return Err(WordsFault::NoCommand);
@@ -98,22 +98,22 @@ fn serve_asked<'a, R: Threads + Wait + Sync, F: TextFiles, S: Source, K: Sink>(
     sink: &mut K,
 ) -> Result<Status, WordsFault<'a>>
     requires { IsInRange asked.command }
-    ensures answered { IfOk result (λ status. IfSome (spec.input_named (F.content files.now) (S.remaining input.old) (files_asked asked.entry)) (λ text. WritesAnswer asked.entry.command text status (K.written sink.old) (K.written sink.new))) }
-    ensures safe { IfOk result (λ status. status ≡ Status.Done → IfSome (spec.input_named (F.content files.now) (S.remaining input.old) (files_asked asked.entry)) (λ text. MeansSafe asked.entry.command text (K.written sink.old) (K.written sink.new))) }
-    ensures left { IfOk result (λ status. IfSome (spec.input_named (F.content files.now) (S.remaining input.old) (files_asked asked.entry)) (λ text. Leaves asked.entry.command text status (option_map (λ text. text.items) found.new) (K.written sink.old) (K.written sink.new))) }
+    ensures answered { IfOk result (λ status. IfSome (spec.input_named asked.entry.command (F.content files.now) (S.remaining input.old) (files_asked asked.entry)) (λ text. WritesAnswer asked.entry.command text status (K.written sink.old) (K.written sink.new))) }
+    ensures safe { IfOk result (λ status. status ≡ Status.Done → IfSome (spec.input_named asked.entry.command (F.content files.now) (S.remaining input.old) (files_asked asked.entry)) (λ text. MeansSafe asked.entry.command text (K.written sink.old) (K.written sink.new))) }
+    ensures left { IfOk result (λ status. IfSome (spec.input_named asked.entry.command (F.content files.now) (S.remaining input.old) (files_asked asked.entry)) (λ text. Leaves asked.entry.command text status (option_map (λ text. text.items) found.new) (K.written sink.old) (K.written sink.new))) }
     ensures fault { IfErr result (IsOfTexts asked.entry.command (files_asked asked.entry)) }
     ensures nothing { IfErr result (λ fault. is_of_sink fault ≡ false → Keeps (K.written sink.old) (K.written sink.new)) }
-    ensures before { IfErr result (λ fault. IfSome (spec.input_named (F.content files.now) (S.remaining input.old) (files_asked asked.entry)) (λ text. IsWrittenBefore fault asked.entry.command text (K.written sink.old) (K.written sink.new))) }
+    ensures before { IfErr result (λ fault. IfSome (spec.input_named asked.entry.command (F.content files.now) (S.remaining input.old) (files_asked asked.entry)) (λ text. IsWrittenBefore fault asked.entry.command text (K.written sink.old) (K.written sink.new))) }
 {
     match asked.second {
         Some(second) => {
-            let text = read_both(alloc, files, input, asked.first, second)?;
+            let text = read_both(alloc, asked.command, files, input, asked.first, second)?;
             let shown = shown_name(asked.first);
             serve_text(rt, alloc, asked.command, shown, found, &text, sink)
         }
         None => match file_named(asked.first) {
             Some(name) => {
-                let text = read_file(alloc, files, name)?;
+                let text = read_file(alloc, asked.command, files, name)?;
                 serve_text(rt, alloc, asked.command, name, found, &text, sink)
             }
             None => Ok(serve_named(rt, alloc, asked.command, NO_FILE, found, input, sink)?),
@@ -158,57 +158,63 @@ fn serve_text<'a, R: Threads + Wait + Sync, K: Sink>(
     Ok(serve_named(rt, alloc, command, shown, found, &mut source, sink)?)
 }
 
-/// Reads two texts, and joins them.
+/// Reads two texts for the command, and joins them.
 fn read_both<'a, F: TextFiles, S: Source>(
     alloc: Global,
+    command: Command,
     files: &F,
     input: &mut S,
     first: Option<&'a str>,
     second: &'a str,
 ) -> Result<Vec<u8>, WordsFault<'a>>
-    ensures text { IfOk result (λ text. IfSome (spec.input_named (F.content files.now) (S.remaining input.old) (option_map (λ name. name.now) first.entry, Some second.now)) (λ known. text.items ≡ known)) }
-    ensures fault { IfErr result (λ fault. (command : CommandValue) → IsOfTexts command (option_map (λ name. name.now) first.entry, Some second.now) fault) }
+    ensures text { IfOk result (λ text. IfSome (spec.input_named command (F.content files.now) (S.remaining input.old) (option_map (λ name. name.now) first.entry, Some second.now)) (λ known. text.items ≡ known)) }
+    ensures fault { IfErr result (λ fault. (any : CommandValue) → IsOfTexts any (option_map (λ name. name.now) first.entry, Some second.now) fault) }
     ensures before { IfErr result (λ fault. is_of_sink fault ≡ false) }
 {
     let (plan, behind) = match (file_named(first), file_named(Some(second))) {
         (None, None) => return Err(WordsFault::InputTwice),
         (Some(first), Some(second)) => {
-            let plan = read_file(alloc, files, first)?;
-            (plan, read_file(alloc, files, second)?)
+            let plan = read_file(alloc, command, files, first)?;
+            (plan, read_file(alloc, command, files, second)?)
         }
         (Some(first), None) => {
-            let plan = read_file(alloc, files, first)?;
-            (plan, read_input(alloc, input)?)
+            let plan = read_file(alloc, command, files, first)?;
+            (plan, read_input(alloc, command, input)?)
         }
         (None, Some(second)) => {
-            let plan = read_input(alloc, input)?;
-            (plan, read_file(alloc, files, second)?)
+            let plan = read_input(alloc, command, input)?;
+            (plan, read_file(alloc, command, files, second)?)
         }
     };
     Ok(joined(plan, &behind)?)
 }
 
-/// Reads standard input.
-fn read_input<'a, S: Source>(alloc: Global, input: &mut S) -> Result<Vec<u8>, WordsFault<'a>>
-    ensures text { IfOk result (λ text. IfSome (S.remaining input.old) (λ known. text.items ≡ spec.front known)) }
+/// Reads standard input for the command.
+fn read_input<'a, S: Source>(
+    alloc: Global,
+    command: Command,
+    input: &mut S,
+) -> Result<Vec<u8>, WordsFault<'a>>
+    ensures text { IfOk result (λ text. IfSome (S.remaining input.old) (λ known. text.items ≡ spec.front command known)) }
     ensures fault { IfErr result IsOfReading }
 {
-    match read_up_to(alloc, input, MAX_INPUT_BYTES + 1) {
+    match read_up_to(alloc, input, most_bytes(command) + 1) {
         Ok(text) => Ok(text),
         Err(error) => Err(WordsFault::Served(ServeFault::from(error))),
     }
 }
 
-/// Reads a file.
+/// Reads a file for the command.
 fn read_file<'a, F: TextFiles>(
     alloc: Global,
+    command: Command,
     files: &F,
     name: &'a str,
 ) -> Result<Vec<u8>, WordsFault<'a>>
-    ensures text { IfOk result (λ text. IfSome (F.content files.now name.now) (λ known. text.items ≡ spec.front known)) }
+    ensures text { IfOk result (λ text. IfSome (F.content files.now name.now) (λ known. text.items ≡ spec.front command known)) }
     ensures fault { IfErr result (IsOfFile name.now) }
 {
-    match files.read(alloc, name, MAX_INPUT_BYTES + 1) {
+    match files.read(alloc, name, most_bytes(command) + 1) {
         Ok(text) => Ok(text),
         Err(InputError::Fault) => Err(WordsFault::Unread(name)),
         Err(error) => Err(WordsFault::Served(ServeFault::from(error))),

@@ -18,7 +18,7 @@ returns-in_ok-text-in-Some-clause-answered g c =
     let content = g.F.TextFiles.content c.args.files.now in
     let remaining = g.S.Source.remaining c.args.input.now in
     let known =
-    subst (λ (second : Option (Bor (List ℕ))). IfSome (input_named content remaining (first, option_map (λ name. name.now) second)) (λ whole. c.in_ok-text-in-Some.text.items ≡ whole))
+    subst (λ (second : Option (Bor (List ℕ))). IfSome (input_named c.args.asked.command content remaining (first, option_map (λ name. name.now) second)) (λ whole. c.in_ok-text-in-Some.text.items ≡ whole))
     (sym c.in-Some.is) c.in_ok-text-in-Some.ensures.text in
     served_known _ _ c.deref.result.now _ (also_known _ _ _ c.deref.ensures.value known) c.serve_text.ensures.answered
 
@@ -28,7 +28,7 @@ returns-in_ok-text-in-Some-clause-safe g c =
     let content = g.F.TextFiles.content c.args.files.now in
     let remaining = g.S.Source.remaining c.args.input.now in
     let known =
-    subst (λ (second : Option (Bor (List ℕ))). IfSome (input_named content remaining (first, option_map (λ name. name.now) second)) (λ whole. c.in_ok-text-in-Some.text.items ≡ whole))
+    subst (λ (second : Option (Bor (List ℕ))). IfSome (input_named c.args.asked.command content remaining (first, option_map (λ name. name.now) second)) (λ whole. c.in_ok-text-in-Some.text.items ≡ whole))
     (sym c.in-Some.is) c.in_ok-text-in-Some.ensures.text in
     safely_known _ _ c.deref.result.now _ (also_known _ _ _ c.deref.ensures.value known) c.serve_text.ensures.safe
 
@@ -38,9 +38,9 @@ returns-in_ok-text-in-Some-file_named-clause-answered g c =
     let content = g.F.TextFiles.content c.args.files.now in
     let remaining = g.S.Source.remaining c.args.input.now in
     let named : Some c.in-Some-file_named.name.now ≡ file_named first = ap (option_map (λ name. name.now)) (sym c.in-Some-file_named.is) ∙ c.file_named.ensures in
-    let alone = one_known content remaining first c.in-Some-file_named.name.now c.in_ok-text-in-Some-file_named.text.items named c.in_ok-text-in-Some-file_named.ensures.text in
+    let alone = one_known c.args.asked.command content remaining first c.in-Some-file_named.name.now c.in_ok-text-in-Some-file_named.text.items named c.in_ok-text-in-Some-file_named.ensures.text in
     let known =
-    subst (λ (second : Option (Bor (List ℕ))). IfSome (input_named content remaining (first, option_map (λ name. name.now) second)) (λ whole. c.in_ok-text-in-Some-file_named.text.items ≡ whole))
+    subst (λ (second : Option (Bor (List ℕ))). IfSome (input_named c.args.asked.command content remaining (first, option_map (λ name. name.now) second)) (λ whole. c.in_ok-text-in-Some-file_named.text.items ≡ whole))
     (sym c.in-None.is) alone in
     served_known _ _ c.deref-in-Some-file_named.result.now _ (also_known _ _ _ c.deref-in-Some-file_named.ensures.value known) c.serve_text-in-Some-file_named.ensures.answered
 
@@ -50,9 +50,9 @@ returns-in_ok-text-in-Some-file_named-clause-left g c =
     let content = g.F.TextFiles.content c.args.files.now in
     let remaining = g.S.Source.remaining c.args.input.now in
     let named : Some c.in-Some-file_named.name.now ≡ file_named first = ap (option_map (λ name. name.now)) (sym c.in-Some-file_named.is) ∙ c.file_named.ensures in
-    let alone = one_known content remaining first c.in-Some-file_named.name.now c.in_ok-text-in-Some-file_named.text.items named c.in_ok-text-in-Some-file_named.ensures.text in
+    let alone = one_known c.args.asked.command content remaining first c.in-Some-file_named.name.now c.in_ok-text-in-Some-file_named.text.items named c.in_ok-text-in-Some-file_named.ensures.text in
     let known =
-    subst (λ (second : Option (Bor (List ℕ))). IfSome (input_named content remaining (first, option_map (λ name. name.now) second)) (λ whole. c.in_ok-text-in-Some-file_named.text.items ≡ whole))
+    subst (λ (second : Option (Bor (List ℕ))). IfSome (input_named c.args.asked.command content remaining (first, option_map (λ name. name.now) second)) (λ whole. c.in_ok-text-in-Some-file_named.text.items ≡ whole))
     (sym c.in-None.is) alone in
     served_known _ _ c.deref-in-Some-file_named.result.now _ (also_known _ _ _ c.deref-in-Some-file_named.ensures.value known) c.serve_text-in-Some-file_named.ensures.left
 
@@ -62,9 +62,9 @@ returns-in_ok-text-in-Some-file_named-clause-safe g c =
     let content = g.F.TextFiles.content c.args.files.now in
     let remaining = g.S.Source.remaining c.args.input.now in
     let named : Some c.in-Some-file_named.name.now ≡ file_named first = ap (option_map (λ name. name.now)) (sym c.in-Some-file_named.is) ∙ c.file_named.ensures in
-    let alone = one_known content remaining first c.in-Some-file_named.name.now c.in_ok-text-in-Some-file_named.text.items named c.in_ok-text-in-Some-file_named.ensures.text in
+    let alone = one_known c.args.asked.command content remaining first c.in-Some-file_named.name.now c.in_ok-text-in-Some-file_named.text.items named c.in_ok-text-in-Some-file_named.ensures.text in
     let known =
-    subst (λ (second : Option (Bor (List ℕ))). IfSome (input_named content remaining (first, option_map (λ name. name.now) second)) (λ whole. c.in_ok-text-in-Some-file_named.text.items ≡ whole))
+    subst (λ (second : Option (Bor (List ℕ))). IfSome (input_named c.args.asked.command content remaining (first, option_map (λ name. name.now) second)) (λ whole. c.in_ok-text-in-Some-file_named.text.items ≡ whole))
     (sym c.in-None.is) alone in
     safely_known _ _ c.deref-in-Some-file_named.result.now _ (also_known _ _ _ c.deref-in-Some-file_named.ensures.value known) c.serve_text-in-Some-file_named.ensures.safe
 
@@ -80,8 +80,8 @@ returns-in_ok-text-in-Some-file_named-clause-before g c =
     let content = g.F.TextFiles.content c.args.files.now in
     let remaining = g.S.Source.remaining c.args.input.now in
     let named : Some c.in-Some-file_named.name.now ≡ file_named first = ap (option_map (λ name. name.now)) (sym c.in-Some-file_named.is) ∙ c.file_named.ensures in
-    let alone = one_known content remaining first c.in-Some-file_named.name.now c.in_ok-text-in-Some-file_named.text.items named c.in_ok-text-in-Some-file_named.ensures.text in
+    let alone = one_known c.args.asked.command content remaining first c.in-Some-file_named.name.now c.in_ok-text-in-Some-file_named.text.items named c.in_ok-text-in-Some-file_named.ensures.text in
     let known =
-    subst (λ (second : Option (Bor (List ℕ))). IfSome (input_named content remaining (first, option_map (λ name. name.now) second)) (λ whole. c.in_ok-text-in-Some-file_named.text.items ≡ whole))
+    subst (λ (second : Option (Bor (List ℕ))). IfSome (input_named c.args.asked.command content remaining (first, option_map (λ name. name.now) second)) (λ whole. c.in_ok-text-in-Some-file_named.text.items ≡ whole))
     (sym c.in-None.is) alone in
     failed_known _ _ c.deref-in-Some-file_named.result.now _ (also_known _ _ _ c.deref-in-Some-file_named.ensures.value known) c.serve_text-in-Some-file_named.ensures.before

@@ -1,0 +1,67 @@
+//! The texts of help of what reads a recording.
+
+/// What `conform` does, in the list of commands and at the top of its own help.
+pub(crate) const CONFORM_ABOUT: &str =
+    "Says whether a service, as it was recorded, still is its plan";
+
+/// How `conform` is called.
+pub(crate) const CONFORM_USAGE: &str = "\
+sizing conform PLAN RECORDING
+       sizing conform < INPUT";
+
+/// What `conform` reads and answers, with an example.
+pub(crate) const CONFORM_NOTES: &str = "\
+INPUT is a plan in TOML, a line that is exactly `%%`, and a recording: what the service did with its
+pools, a line for each event, as the recorder in `java/` writes it (docs/RECORDING.md).
+
+The answer is `conforms`: each pool has the plan's sizes, each job and each round outside did what
+its body says, where submits may be left out, each with its get, and never were more rounds of a
+kind about than its `count`. It is so of the recorded run, and says nothing of the next one. Else the
+answer has a line for each thing that is not as the plan says, the first of each pool, class and
+kind, with the recording's line, as
+  line 812: job 44 of class order submitted price; its body has no such submit behind get stock
+  line 903: kind tomcat: 31 at once, count is 30
+  line 3: pool db: max 20, plan 10
+and the first line of each sort from which on a yes for the plan says nothing of the service, as
+  line 40: a yes is void from here on: job 3 was refused
+
+Exit status:
+  0  it conforms
+  1  it does not, or a line voids a yes
+  2  bad text in INPUT, or bad arguments
+  3  memory ran out, or reading or writing failed
+  4  not decided: a body has so many alike submits that too many ways would have to be tried
+
+Example, to be pasted into a shell:
+
+sizing conform <<'END'
+[[pool]]
+name = \"pages\"
+core = 1
+max = 1
+queue = 2
+
+[[class]]
+name = \"render\"
+pool = \"pages\"
+body = [\"work 1\"]
+
+[[client]]
+name = \"browser\"
+count = 2
+repeat = true
+body = [\"submit render as page\", \"get page\"]
+%%
+recording 1
+pool pages core 1 max 1 queue array 3 timeout no prestarted 0 handler abort
+round 0 begin browser
+round 0 submit 0 render pages
+job 0 start
+job 0 end
+round 0 end
+END
+
+It answers, with status 1:
+
+line 2: pool pages: queue 3, plan 2
+line 7: round 0 of kind browser ended; its body has a get before its end";

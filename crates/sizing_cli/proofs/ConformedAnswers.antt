@@ -1,0 +1,54 @@
+-- What status 0 of `conform` means.
+use Rattle.std.proofs.Common.{◌≡◌, ℕ, inl, inr, Bool, true, false, cond, List, [], ◌∷◌, length, Option, Some, None, Result, Ok, Err, refl, sym, ap, ◌∙◌}
+use Rattle.std.specs.Prelude.{MatchBool, nat_lt}
+use Rattle.std.specs.List.{list_all}
+use Rattle.job_bodies.specs.Plan.{Plan}
+use Rattle.job_bodies.specs.declared.fault.PlanFault.{PlanFault}
+use Rattle.plan_text.specs.PlanOf.{plan_of}
+use Rattle.conformance.specs.declared.conform.Conformance.{Conformance}
+use Rattle.conformance.specs.declared.conform.Conformance.TheVariants.{Bad, Compared}
+use Rattle.conformance.specs.declared.finding.Finding.{Finding}
+use Rattle.sizing_cli.specs.declared.limits.TheConstants.{MAX_RECORDED_BYTES}
+use Rattle.sizing_cli.specs.declared.status.Status.TheVariants.{Done, Refused, BadText, Undecided}
+use Rattle.sizing_cli.specs.Answer.{Answer, input_too_long}
+use Rattle.sizing_cli.specs.Bundle.{Bundle, bundle_of}
+use Rattle.sizing_cli.specs.Conform.{AnswersBundle, AnswersReading, AnswersRecording, IsConformAnswer, IsConformingInput, IsSaidOf, answer_of, is_undecided, status_of}
+
+-- nothing was found
+none_found : (findings : List Finding) → status_of findings ≡ Done → findings ≡ []
+none_found [] done = refl
+none_found (one ∷ more) done = by_test (list_all is_undecided (one ∷ more)) done
+  where
+    by_test : (test : Bool) → cond test Undecided Refused ≡ Done → (one ∷ more) ≡ []
+    by_test true no = absurd cc
+    by_test false no = absurd cc
+
+with_said : (input : List ℕ) (bundle : Bundle) (plan : Plan) → bundle_of input ≡ Some bundle → plan_of bundle.plan ≡ Ok plan → (said : Conformance)
+    → IsSaidOf plan bundle.second said → (answer_of plan said).status ≡ Done → IsConformingInput input
+with_said input bundle plan is_bundle is_plan (Bad fault) said done = absurd cc
+with_said input bundle plan is_bundle is_plan (Compared findings) said done =
+    let all = said.conforms (none_found findings.items done) in
+    record { bundle = bundle; is_bundle = is_bundle; plan = plan; is_plan = is_plan; no_fault = said.bad; conforms = all.0; valid = all.1 }
+
+with_reading : (input : List ℕ) (bundle : Bundle) (answer : Answer) (found : Result Plan PlanFault) → bundle_of input ≡ Some bundle → plan_of bundle.plan ≡ found
+    → AnswersReading bundle.second found answer → answer.status ≡ Done → IsConformingInput input
+with_reading input bundle answer (Err fault) is_bundle is_plan is done =
+    let no : BadText ≡ Done = sym (ap (λ (a : Answer). a.status) is) ∙ done in
+    absurd cc
+with_reading input bundle answer (Ok plan) is_bundle is_plan is done =
+    with_said input bundle plan is_bundle is_plan is.said is.is_said (sym (ap (λ (a : Answer). a.status) is.answer_is) ∙ done)
+
+with_bundle : (input : List ℕ) (answer : Answer) (found : Option Bundle) → bundle_of input ≡ found → AnswersBundle found answer → answer.status ≡ Done → IsConformingInput input
+with_bundle input answer None is_bundle is done =
+    let no : BadText ≡ Done = sym (ap (λ (a : Answer). a.status) is) ∙ done in
+    absurd cc
+with_bundle input answer (Some bundle) is_bundle is done = with_reading input bundle answer (plan_of bundle.plan) is_bundle refl is done
+
+pub conformed : (input : List ℕ) (answer : Answer) → IsConformAnswer input answer → answer.status ≡ Done → IsConformingInput input
+conformed input answer is done = by_length (nat_lt MAX_RECORDED_BYTES (length input)) is
+  where
+    by_length : (long : Bool) → MatchBool long (answer ≡ input_too_long) (AnswersBundle (bundle_of input) answer) → IsConformingInput input
+    by_length true too_long =
+        let no : BadText ≡ Done = sym (ap (λ (a : Answer). a.status) too_long) ∙ done in
+        absurd cc
+    by_length false answers = with_bundle input answer (bundle_of input) refl answers done

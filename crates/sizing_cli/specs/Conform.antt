@@ -1,0 +1,97 @@
+-- What `conform` may answer to an input: a relation, since nothing is said of which ways through a body are tried first.
+use Rattle.std.specs.Prelude.{◌≡◌, ℕ, Bool, true, false, nat_lt, if◌then◌else◌, List, [], ◌∷◌, ◌++◌, length, codes, All, Option, Some, None, Result, Ok, Err, MatchBool}
+use Rattle.std.specs.List.{list_all}
+use Rattle.job_bodies.specs.Plan.{Plan}
+use Rattle.job_bodies.specs.FaultText.{fault_line}
+use Rattle.job_bodies.specs.declared.fault.PlanFault.{PlanFault}
+use Rattle.plan_text.specs.PlanOf.{plan_of}
+use Rattle.faults.specs.Name.{head}
+use Rattle.faults.specs.declared.number.TheConstants.{BAD_RECORDING}
+use Rattle.recording_lines.specs.RecordingLine.{lines_read}
+use Rattle.recorded_rules.specs.Faults.{IsFirstFault}
+use Rattle.recorded_rules.specs.FaultText.{fault_text}
+use Rattle.recorded_rules.specs.declared.fault.RecordingFault.{RecordingFault}
+use Rattle.conformance.specs.declared.conform.Conformance.{Conformance}
+use Rattle.conformance.specs.declared.conform.Conformance.TheVariants.{Bad, Compared}
+use Rattle.conformance.specs.declared.finding.Finding.{Finding}
+use Rattle.conformance.specs.declared.finding.Finding.TheVariants as finding
+use Rattle.conformance.specs.Conforms.{Conforms, IsNotVoid}
+use Rattle.conformance.specs.FindingText.{findings_text}
+use Rattle.conformance.specs.Found.{IsFinding}
+use Rattle.conformance.specs.Lines.{lines_of}
+use Rattle.conformance.specs.Outcome.{AreInOrder, IfCompared, fault_of}
+use Rattle.sizing_cli.specs.declared.limits.TheConstants.{MAX_RECORDED_BYTES, MAX_PATH_STEPS}
+use Rattle.sizing_cli.specs.declared.status.Status.{Status}
+use Rattle.sizing_cli.specs.declared.status.Status.TheVariants.{Done, Refused, Undecided}
+use Rattle.sizing_cli.specs.Answer.{Answer, fault, input_too_long, no_separator}
+use Rattle.sizing_cli.specs.Bundle.{Bundle, bundle_of}
+
+-- ---- what is written
+-- the recording has this bad line
+abbrev pub bad_recording : RecordingFault → Answer
+bad_recording found = fault (head BAD_RECORDING ++ codes " at " ++ fault_text found)
+
+abbrev pub is_undecided : Finding → Bool
+is_undecided (finding.NotDecided actor name) = true
+is_undecided (finding.Pool deviation) = false
+is_undecided (finding.NotPlanned name) = false
+is_undecided (finding.Strays line stray) = false
+is_undecided (finding.TooMany excess) = false
+is_undecided (finding.ForeignGet get name) = false
+is_undecided (finding.Void void) = false
+
+-- a no, where more was found than what could not be decided
+abbrev pub status_of : List Finding → Status
+status_of [] = Done
+status_of (one ∷ more) = if list_all is_undecided (one ∷ more) then Undecided else Refused
+
+abbrev pub told_text : Plan → List Finding → List ℕ
+told_text plan [] = codes "conforms" ++ 10 ∷ []
+told_text plan (one ∷ more) = findings_text plan (one ∷ more)
+
+abbrev pub findings_answer : Plan → List Finding → Answer
+findings_answer plan findings = record { text = told_text plan findings; status = status_of findings }
+
+abbrev pub answer_of : Plan → Conformance → Answer
+answer_of plan (Bad found) = bad_recording found
+answer_of plan (Compared findings) = findings_answer plan findings.items
+
+-- ---- what it means
+-- where nothing was found, the recording conforms and no line of it voids a yes
+abbrev pub AreAllFindings : Plan → List ℕ → List Finding → Type 0
+AreAllFindings plan recording findings = findings ≡ [] → Conforms plan (lines_of recording) × IsNotVoid (lines_of recording)
+
+-- the recording's first bad line; or what was found, where it has none: each is so, and they are all
+pub record IsSaidOf (plan : Plan) (recording : List ℕ) (said : Conformance) : Type 0 where
+  pub bad : IsFirstFault (lines_read recording) (fault_of said)
+  pub conforms : IfCompared said (AreAllFindings plan recording)
+  pub sound : IfCompared said (All (IsFinding plan MAX_PATH_STEPS (lines_of recording)))
+  pub ascending : IfCompared said AreInOrder
+
+-- to a plan and a recording
+pub record AnswersRecording (plan : Plan) (recording : List ℕ) (answer : Answer) : Type 0 where
+  pub said : Conformance
+  pub is_said : IsSaidOf plan recording said
+  pub answer_is : answer ≡ answer_of plan said
+
+abbrev pub AnswersReading : List ℕ → Result Plan PlanFault → Answer → Type 0
+AnswersReading recording (Err f) answer = answer ≡ fault (fault_line f)
+AnswersReading recording (Ok plan) answer = AnswersRecording plan recording answer
+
+abbrev pub AnswersBundle : Option Bundle → Answer → Type 0
+AnswersBundle None answer = answer ≡ no_separator
+AnswersBundle (Some bundle) answer = AnswersReading bundle.second (plan_of bundle.plan) answer
+
+-- to an input
+abbrev pub IsConformAnswer : List ℕ → Answer → Type 0
+IsConformAnswer input answer = MatchBool (nat_lt MAX_RECORDED_BYTES (length input)) (answer ≡ input_too_long) (AnswersBundle (bundle_of input) answer)
+
+-- what status 0 says: the input is a plan and a recording that conforms to it, and no line of it voids a yes
+pub record IsConformingInput (input : List ℕ) : Type 0 where
+  pub bundle : Bundle
+  pub is_bundle : bundle_of input ≡ Some bundle
+  pub plan : Plan
+  pub is_plan : plan_of bundle.plan ≡ Ok plan
+  pub no_fault : IsFirstFault (lines_read bundle.second) None
+  pub conforms : Conforms plan (lines_of bundle.second)
+  pub valid : IsNotVoid (lines_of bundle.second)

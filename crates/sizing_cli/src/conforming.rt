@@ -1,0 +1,78 @@
+//! What a recording is answered that stands behind a plan.
+
+ghost use Rattle.std.specs.Prelude.{◌≡◌, IfOk};
+ghost use Rattle.sizing_cli.specs.Conform as spec;
+
+use crate::Status;
+use crate::answer::{Answer, bad_recording, input_too_long, no_separator, plan_fault};
+use crate::bundle::bundle_of;
+use crate::limits::{MAX_PATH_STEPS, MAX_RECORDED_BYTES};
+use crate::texts::plan_in;
+use conformance::{Conformance, Finding, conform, push_findings};
+use job_bodies::Plan;
+use std::alloc::{AllocError, Global};
+
+/// The answer to an input, which is a plan and a recording: whether the service still is the plan.
+///
+/// # Errors
+///
+/// [`AllocError`] where memory runs out.
+pub fn conform_report(alloc: Global, input: &[u8]) -> Result<Answer, AllocError>
+    ensures { IfOk result (spec.IsConformAnswer input.now) }
+{
+    if input.len() > MAX_RECORDED_BYTES {
+        return input_too_long(alloc);
+    }
+    let Some(bundle) = bundle_of(input) else {
+        return no_separator(alloc);
+    };
+    match plan_in(alloc, bundle.plan)? {
+        Ok(plan) => compared(alloc, &plan, bundle.second),
+        Err(fault) => plan_fault(alloc, fault),
+    }
+}
+
+/// The answer to a recording of what the service of this plan did.
+fn compared(alloc: Global, plan: &Plan, recording: &[u8]) -> Result<Answer, AllocError>
+    ensures { IfOk result (spec.AnswersRecording plan.now recording.now) }
+{
+    match conform(alloc, plan, recording, MAX_PATH_STEPS)? {
+        Conformance::Bad(fault) => bad_recording(alloc, fault),
+        Conformance::Compared(findings) => findings_told(alloc, plan, &findings),
+    }
+}
+
+fn findings_told(
+    alloc: Global,
+    plan: &Plan,
+    findings: &[Finding],
+) -> Result<Answer, AllocError>
+    ensures { IfOk result (λ answer. answer ≡ spec.findings_answer plan.now findings.now) }
+{
+    let mut text = String::new(alloc);
+    if findings.is_empty() {
+        text.push_str("conforms\n")?;
+    } else {
+        push_findings(&mut text, plan, findings)?;
+    }
+    let status = status_of(findings);
+    Ok(Answer { text, status })
+}
+
+fn status_of(findings: &[Finding]) -> Status
+    ensures { result ≡ spec.status_of findings.now }
+{
+    if findings.is_empty() {
+        Status::Done
+    } else if findings.iter().all(is_undecided) {
+        Status::Undecided
+    } else {
+        Status::Refused
+    }
+}
+
+fn is_undecided(finding: &Finding) -> bool
+    ensures { result ≡ spec.is_undecided finding.now }
+{
+    matches!(finding, Finding::NotDecided { .. })
+}

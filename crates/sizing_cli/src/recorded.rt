@@ -1,0 +1,44 @@
+//! Serves one input that has a recording: reads it, answers it, and writes the answer.
+
+ghost use Rattle.std.specs.Prelude.{IfOk};
+ghost use Rattle.command_line.specs.declared.command.Command.TheVariants.{OnRecording};
+ghost use Rattle.sizing_cli.specs.Served.{IsReadingAnswer, Serves, passage};
+
+use crate::answer::Answer;
+use crate::conforming::conform_report;
+use crate::limits::MAX_RECORDED_BYTES;
+use crate::status::{ServeFault, Status};
+use byte_streams::{Sink, Source, read_up_to, write_all};
+use command_line::Reading;
+use std::alloc::{AllocError, Global};
+
+/// Reads an input, and writes what is said of it. The whole answer is made before its first byte is written.
+///
+/// It reads at most 268,435,457 bytes, one at least in each turn but the last, so it returns whatever the source and the
+/// sink do.
+///
+/// # Errors
+///
+/// Fault 20 where memory ran out, 60 where the source failed in this call, and 61 where the sink did. After 20 and 60
+/// nothing was written; after 61 a front of the answer was.
+pub fn serve_recording<S: Source, K: Sink>(
+    alloc: Global,
+    reading: Reading,
+    source: &mut S,
+    sink: &mut K,
+) -> Result<Status, ServeFault>
+    ensures { Serves (OnRecording reading) (passage S.remaining S.failures source.old source.new) (passage K.written K.failures sink.old sink.new) result }
+{
+    let input = read_up_to(alloc, source, MAX_RECORDED_BYTES + 1)?;
+    let answer = report(alloc, reading, input.as_slice())?;
+    write_all(sink, answer.text.as_bytes())?;
+    Ok(answer.status)
+}
+
+fn report(alloc: Global, reading: Reading, input: &[u8]) -> Result<Answer, AllocError>
+    ensures { IfOk result (IsReadingAnswer reading input.now) }
+{
+    match reading {
+        Reading::Conform => conform_report(alloc, input),
+    }
+}
