@@ -1,8 +1,7 @@
 -- What is kept of the actors of which is told.
 use Rattle.std.specs.Prelude.{◌≡◌, ℕ, nat_eq, Bool, true, false, ◌==◌, ◌&&◌, ◌||◌, not, if◌then◌else◌, List, [], ◌∷◌, ◌++◌, filter, string_bytes, All, Contains}
 use Rattle.std.specs.List.{list_any}
-use Rattle.std.specs.declared.alloc.Global.{Global}
-use Rattle.std.specs.HashSet.{contains}
+use Rattle.conformance.specs.JobSet.{has_job}
 use Rattle.recording_lines.specs.declared.recording_line.RecordedActor.{RecordedActor}
 use Rattle.recording_lines.specs.declared.recording_line.RecordedActor.TheVariants.{Job, Round}
 use Rattle.job_bodies.specs.Plan.{Plan}
@@ -50,7 +49,7 @@ is_classless_job job told = is_job job told.actor && is_classless told
 pub record IsVerdictsOf (plan : Plan) (told : List Settled) (verdicts : Verdicts) : Type 0 where
   pub strays : AreFirsts (filter (is_stray plan) told) verdicts.strays.actors.items
   pub open : AreFirsts (filter (is_open plan) told) verdicts.open.actors.items
-  pub classless : (job : ℕ) → is_in verdicts.classless job ≡ list_any (is_classless_job job) told
+  pub classless : (job : ℕ) → has_job verdicts.classless job ≡ list_any (is_classless_job job) told
 
 -- behind the others, where the plan has its label
 abbrev pub with_planned : Plan → Settled → List Settled → List Settled

@@ -1,17 +1,18 @@
 //! What is kept of the actors of which is told.
 
-ghost use Rattle.std.specs.Prelude.{◌≡◌, ◌++◌, ◌∷◌, [], ℕ, List, OnOk};
+ghost use Rattle.std.specs.Prelude.{◌≡◌, ◌++◌, ◌∷◌, [], ℕ, List, OnOk, IfOk};
 ghost use Rattle.job_bodies.specs.Plan as plans;
 ghost use Rattle.recorded_classes.specs.declared.settled.Settled as settleds;
+ghost use Rattle.conformance.specs.JobSet.{has_job};
 ghost use Rattle.conformance.specs.Verdicts as spec;
 
 use crate::firsts::Firsts;
+use crate::job_set::JobSet;
 use job_bodies::Plan;
 use plan_families::{class_family, client_family};
 use recorded_classes::Settled;
 use recording_lines::RecordedActor;
 use std::alloc::{AllocError, Global};
-use std::collections::HashSet;
 
 /// The actors that are of no body of the plan, and those of which that was not decided: of each label that the plan has the
 /// one with the smallest number.
@@ -20,7 +21,7 @@ pub(crate) struct Verdicts {
     pub(crate) strays: Firsts,
     pub(crate) open: Firsts,
     /// The jobs that are of no class of the plan.
-    pub(crate) classless: HashSet<usize>,
+    pub(crate) classless: JobSet,
     alloc: Global,
 }
 
@@ -32,7 +33,7 @@ impl Verdicts {
         Verdicts {
             strays: Firsts::new(alloc),
             open: Firsts::new(alloc),
-            classless: HashSet::new(alloc),
+            classless: JobSet::new(alloc),
             alloc,
         }
     }
@@ -68,7 +69,7 @@ impl Verdicts {
     fn note_stray(&mut self, plan: &Plan, settled: Settled) -> Result<(), AllocError>
         ensures strays { OnOk result ((told : List settleds.Settled) → spec.AreFirsts told self.old.strays.actors.items → spec.AreFirsts (spec.with_planned plan.now settled told) self.new.strays.actors.items) }
         ensures open { self.new.open ≡ self.old.open }
-        ensures classless { OnOk result ((job : ℕ) → spec.is_in self.new.classless job ≡ spec.with_job settled.actor (spec.is_in self.old.classless job) job) }
+        ensures classless { OnOk result ((job : ℕ) → has_job self.new.classless job ≡ spec.with_job settled.actor (has_job self.old.classless job) job) }
     {
         if let RecordedActor::Job(job) = settled.actor {
             self.classless.insert(job)?;
