@@ -1,0 +1,61 @@
+-- When a service still is its plan, by the lines of a recording that keeps the rules.
+use Rattle.std.specs.Prelude.{◌≡◌, ◌<◌, ◌++◌, ℕ, Bool, true, false, List, length, Contains, Option, Some, None}
+use Rattle.recording_lines.specs.declared.pool_sizes.PoolSizes.{PoolSizes}
+use Rattle.recording_lines.specs.RecordingLine.{RecordedLine, Pool, Refused, Cancels, InvokesAny, Removed, JobThrew, Unseen}
+use Rattle.recorded_rules.specs.Before.{has_pool, is_closed, is_begun}
+use Rattle.recorded_paths.specs.LineDeeds.{is_submitted}
+use Rattle.job_bodies.specs.Plan.{Plan, pool_at}
+use Rattle.recorded_classes.specs.Classes.{AreClassesOf, AreKindsOf}
+use Rattle.recorded_notes.specs.ForeignGets.{first_foreign_get}
+use Rattle.plan_differences.specs.Rounds.{IsWithinPlan}
+use Rattle.plan_differences.specs.RoundExcesses as rounds
+use Rattle.plan_differences.specs.WatchLaws.{IsPlannedPool}
+
+-- ---- what a yes says
+-- there are classes of the plan that the job can be of
+pub record IsOfAClass (plan : Plan) (lines : List RecordedLine) (job : ℕ) : Type 0 where
+  pub classes : List ℕ
+  pub exact : AreClassesOf plan lines job classes
+  pub some : 0 < length classes
+
+-- there are kinds of clients that the round can be of
+pub record IsOfAKind (plan : Plan) (lines : List RecordedLine) (round : ℕ) : Type 0 where
+  pub kinds : List ℕ
+  pub exact : AreKindsOf plan lines round kinds
+  pub some : 0 < length kinds
+
+-- the round has a kind here, and is one that it can be of
+pub record HasItsKind (plan : Plan) (lines : List RecordedLine) (kinds : List (Option ℕ)) (round : ℕ) : Type 0 where
+  pub kind : ℕ
+  pub can_be : List ℕ
+  pub exact : AreKindsOf plan lines round can_be
+  pub among : Contains can_be kind
+  pub is : rounds.kind_of kinds round ≡ Some kind
+
+-- Where each round is taken for a kind that it can be of, some choice of these is such that after each line there are no more
+-- rounds of a kind than the plan says.
+pub record AreEnoughClients (plan : Plan) (lines : List RecordedLine) : Type 0 where
+  pub kinds : List (Option ℕ)
+  pub each : (round : ℕ) → is_begun lines round ≡ true → HasItsKind plan lines kinds round
+  pub within : (before behind : List RecordedLine) → lines ≡ before ++ behind → (kind : ℕ) → kind < length plan.clients → IsWithinPlan (rounds.rounds_of plan kinds before kind)
+
+pub record Conforms (plan : Plan) (lines : List RecordedLine) : Type 0 where
+  pub pools : (name : List ℕ) (sizes : PoolSizes) → Contains lines (Pool name sizes) → IsPlannedPool plan name sizes
+  pub recorded : is_closed lines ≡ true → (pool : ℕ) → pool < length plan.pools → has_pool lines (pool_at plan pool).name ≡ true
+  pub jobs : (job : ℕ) → is_submitted lines job ≡ true → IsOfAClass plan lines job
+  pub rounds : (round : ℕ) → is_begun lines round ≡ true → IsOfAKind plan lines round
+  pub clients : AreEnoughClients plan lines
+  pub gets : first_foreign_get lines ≡ None
+
+-- ---- what voids a yes, whatever the paths are
+abbrev pub is_void : RecordedLine → Bool
+is_void (Refused actor job) = true
+is_void (Cancels actor job) = true
+is_void (InvokesAny actor pool) = true
+is_void (Removed job) = true
+is_void (JobThrew job) = true
+is_void (Unseen pool jobs) = true
+is_void line = false
+
+abbrev pub IsNotVoid : List RecordedLine → Type 0
+IsNotVoid lines = (line : RecordedLine) → Contains lines line → is_void line ≡ false

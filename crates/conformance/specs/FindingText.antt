@@ -1,0 +1,68 @@
+-- The lines that tell what was found.
+use Rattle.std.specs.Prelude.{ℕ, ◌++◌, List, [], ◌∷◌, codes, decimal, string_bytes, flat_map, Option, Some, None}
+use Rattle.job_bodies.specs.Plan.{Plan, pool_at, client_at}
+use Rattle.plan_differences.specs.declared.difference.Difference.{Difference}
+use Rattle.plan_differences.specs.declared.pool_watch.PoolDeviation.{PoolDeviation}
+use Rattle.plan_differences.specs.declared.pool_watch.PoolDeviation.TheVariants as pool
+use Rattle.plan_differences.specs.declared.round_watch.RoundExcess.{RoundExcess}
+use Rattle.plan_differences.specs.Difference.{difference_text}
+use Rattle.plan_differences.specs.Excess.{excess_text}
+use Rattle.recorded_notes.specs.declared.foreign_get.ForeignGet.{ForeignGet}
+use Rattle.recorded_notes.specs.declared.voiding.Void.{Void}
+use Rattle.recorded_notes.specs.VoidText.{void_text}
+use Rattle.conformance.specs.declared.finding.Finding.{Finding}
+use Rattle.conformance.specs.declared.finding.Finding.TheVariants as finding
+use Rattle.conformance.specs.declared.unplanned.NotPlanned.{NotPlanned}
+use Rattle.conformance.specs.declared.unplanned.NotPlanned.TheVariants as label
+use Rattle.conformance.specs.Finding.{line_of}
+use Rattle.conformance.specs.Stray.{actor_text, stray_text}
+
+-- the number of the line, if there is one
+abbrev pub line_text : Option ℕ → List ℕ
+line_text None = []
+line_text (Some line) = codes "line " ++ decimal line ++ codes ": "
+
+-- ---- each kind of finding, without the number of its line
+abbrev pub pool_difference_text : List ℕ → Difference → List ℕ
+pool_difference_text name difference = codes "pool " ++ name ++ codes ": " ++ difference_text difference
+
+abbrev pub not_recorded_text : List ℕ → List ℕ
+not_recorded_text name = codes "pool " ++ name ++ codes ": in the plan and not in the recording"
+
+abbrev pub deviation_text : Plan → PoolDeviation → List ℕ
+deviation_text plan (pool.NotPlanned line name) = codes "pool " ++ string_bytes name ++ codes ": not in the plan"
+deviation_text plan (pool.Differs line number difference) = pool_difference_text (pool_at plan number).name difference
+deviation_text plan (pool.NotRecorded number) = not_recorded_text (pool_at plan number).name
+
+abbrev pub not_planned_text : NotPlanned → List ℕ
+not_planned_text (label.Class line class name) = codes "class " ++ string_bytes class ++ codes " in pool " ++ string_bytes name ++ codes ": not in the plan"
+not_planned_text (label.Kind line kind) = codes "kind " ++ string_bytes kind ++ codes ": not in the plan"
+
+abbrev pub kind_excess_text : Plan → RoundExcess → List ℕ
+kind_excess_text plan found = codes "kind " ++ (client_at plan found.kind).name ++ codes ": " ++ excess_text found.excess
+
+abbrev pub foreign_get_text : ForeignGet → List ℕ → List ℕ
+foreign_get_text get name = actor_text get.actor name ++ (codes " got job " ++ decimal get.job ++ codes ", which it did not submit")
+
+abbrev pub void_line_text : Void → List ℕ
+void_line_text void = codes "a yes is void from here on: " ++ void_text void.what
+
+abbrev pub found_text : Plan → Finding → List ℕ
+found_text plan (finding.Pool deviation) = deviation_text plan deviation
+found_text plan (finding.NotPlanned name) = not_planned_text name
+found_text plan (finding.Strays line stray) = stray_text stray
+found_text plan (finding.NotDecided actor name) = actor_text actor (string_bytes name) ++ codes ": not decided, its body has too many alike submits"
+found_text plan (finding.TooMany excess) = kind_excess_text plan excess
+found_text plan (finding.ForeignGet get name) = foreign_get_text get (string_bytes name)
+found_text plan (finding.Void void) = void_line_text void
+
+-- ---- lines
+-- without its newline
+abbrev pub finding_text : Plan → Finding → List ℕ
+finding_text plan found = line_text (line_of found) ++ found_text plan found
+
+abbrev pub finding_line : Plan → Finding → List ℕ
+finding_line plan found = finding_text plan found ++ 10 ∷ []
+
+abbrev pub findings_text : Plan → List Finding → List ℕ
+findings_text plan findings = flat_map (finding_line plan) findings

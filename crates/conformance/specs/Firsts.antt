@@ -1,0 +1,36 @@
+-- Of each label the actor with the smallest number.
+use Rattle.std.specs.Prelude.{◌≡◌, ◌≤◌, ◌<◌, ℕ, Bool, true, false, ◌&&◌, List, slice_get, string_bytes, All, Any, AllPairs, Contains, Option, Some, None}
+use Rattle.std.specs.Str.{bytes_eq}
+use Rattle.std.specs.List.{list_any}
+use Rattle.recording_lines.specs.declared.recording_line.RecordedActor.{RecordedActor}
+use Rattle.recording_lines.specs.declared.recording_line.RecordedActor.TheVariants.{Job, Round}
+use Rattle.recorded_classes.specs.declared.settled.Settled.{Settled}
+
+abbrev pub is_same_sort : RecordedActor → RecordedActor → Bool
+is_same_sort (Job n) (Job m) = true
+is_same_sort (Round n) (Round m) = true
+is_same_sort a b = false
+
+abbrev pub number_of : RecordedActor → ℕ
+number_of (Job job) = job
+number_of (Round round) = round
+
+-- both are jobs of the same class and pool, or rounds of the same kind
+abbrev pub is_same_label : Settled → Settled → Bool
+is_same_label one other =
+    is_same_sort one.actor other.actor && bytes_eq (string_bytes one.label) (string_bytes other.label) && bytes_eq (string_bytes one.pool) (string_bytes other.pool)
+
+-- the first stands for the other one
+pub record StandsFor (other first : Settled) : Type 0 where
+  pub label : is_same_label first other ≡ true
+  pub before : number_of first.actor ≤ number_of other.actor
+
+-- of all these actors those with the smallest numbers, one of each label
+pub record AreFirsts (all firsts : List Settled) : Type 0 where
+  pub among : All (Contains all) firsts
+  pub each : All (λ one. Any (StandsFor one) firsts) all
+
+-- the place of the one of the same label
+abbrev pub IsPlaceOf : List Settled → Settled → Option ℕ → Type 0
+IsPlaceOf firsts one None = list_any (λ first. is_same_label first one) firsts ≡ false
+IsPlaceOf firsts one (Some place) = (first : Settled) × (slice_get firsts place ≡ Some first) × (is_same_label first one ≡ true)

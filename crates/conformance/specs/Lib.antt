@@ -1,0 +1,17 @@
+pub mod Lines
+pub mod Wanted
+pub mod Labels
+pub mod JobSet
+pub mod Stray
+pub mod Unplanned
+pub mod Finding
+pub mod FindingText
+pub mod Firsts
+pub mod Verdicts
+pub mod FirstKinds
+pub mod Survey
+pub mod Described
+pub mod Found
+pub mod Conforms
+pub mod Gathered
+pub mod Outcome

@@ -1,0 +1,21 @@
+-- What a comparison comes to.
+use Rattle.std.specs.Prelude.{◌≤◌, ℕ, List, ⊤, AllPairs, Option, Some, None}
+use Rattle.recorded_rules.specs.declared.fault.RecordingFault.{RecordingFault}
+use Rattle.conformance.specs.declared.conform.Conformance.{Conformance}
+use Rattle.conformance.specs.declared.conform.Conformance.TheVariants.{Bad, Compared}
+use Rattle.conformance.specs.declared.finding.Finding.{Finding}
+use Rattle.conformance.specs.Finding.{place_of}
+
+-- the bad line, if there is one
+abbrev pub fault_of : Conformance → Option RecordingFault
+fault_of (Bad fault) = Some fault
+fault_of (Compared findings) = None
+
+-- a fact of the findings, where there is no bad line
+abbrev pub IfCompared : Conformance → (List Finding → Type 0) → Type 0
+IfCompared (Bad fault) P = ⊤
+IfCompared (Compared findings) P = P findings.items
+
+-- in the order of their lines, those without a line last
+abbrev pub AreInOrder : List Finding → Type 0
+AreInOrder findings = AllPairs (λ earlier later. place_of earlier ≤ place_of later) findings

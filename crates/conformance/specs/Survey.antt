@@ -1,0 +1,54 @@
+-- What is kept of the lines of a recording, and how it stands for them.
+use Rattle.std.specs.Prelude.{◌≡◌, ℕ, List, ◌++◌, map}
+use Rattle.job_bodies.specs.Plan.{Plan}
+use Rattle.recording_lines.specs.RecordingLine.{RecordedLine}
+use Rattle.plan_differences.specs.PoolDeviations.{Deviation, deviation_seen, deviations_by_lines, deviations_at_end}
+use Rattle.plan_differences.specs.PoolWatch.{IsPoolWatchOf}
+use Rattle.recorded_notes.specs.StandsFor.{IsNotesOf}
+use Rattle.recorded_classes.specs.declared.classes.Classes.{Classes}
+use Rattle.recorded_classes.specs.declared.settled.Settled.{Settled}
+use Rattle.recorded_classes.specs.Settled.{AreTold, AreAllTold}
+use Rattle.recorded_classes.specs.StandsFor.{IsClassesOf}
+use Rattle.conformance.specs.declared.survey.Watched.{Watched}
+use Rattle.conformance.specs.declared.survey.Judged.{Judged}
+use Rattle.conformance.specs.declared.survey.Survey.{Survey}
+use Rattle.conformance.specs.Unplanned.{IsUnplannedOf}
+use Rattle.conformance.specs.Verdicts.{IsVerdictsOf}
+use Rattle.conformance.specs.FirstKinds.{AreFirstKinds}
+
+-- ---- line by line
+pub record IsWatchedOf (plan : Plan) (lines : List RecordedLine) (watched : Watched) : Type 0 where
+  pub pools : IsPoolWatchOf plan watched.pools lines
+  pub deviations : map deviation_seen watched.deviations.items ≡ deviations_by_lines plan lines
+  pub notes : IsNotesOf watched.notes lines
+  pub unplanned : IsUnplannedOf plan lines watched.unplanned
+
+-- the same, where the lines end
+pub record IsWatched (plan : Plan) (lines : List RecordedLine) (watched : Watched) : Type 0 where
+  pub deviations : map deviation_seen watched.deviations.items ≡ deviations_by_lines plan lines ++ deviations_at_end plan lines
+  pub notes : IsNotesOf watched.notes lines
+  pub unplanned : IsUnplannedOf plan lines watched.unplanned
+
+-- ---- actor by actor
+-- it was told of these actors
+pub record IsJudgedOf (plan : Plan) (budget : ℕ) (lines : List RecordedLine) (told : List Settled) (judged : Judged) : Type 0 where
+  pub told_so : AreTold plan budget lines told
+  pub verdicts : IsVerdictsOf plan told judged.verdicts
+  pub kinds : AreFirstKinds plan lines told judged.kinds.kinds.items
+
+-- it was told of each that is settled
+pub record IsSoFar (plan : Plan) (budget : ℕ) (lines : List RecordedLine) (classes : Classes) (judged : Judged) : Type 0 where
+  pub told : List Settled
+  pub classes_stand : IsClassesOf plan budget classes lines
+  pub judged_so : IsJudgedOf plan budget lines told judged
+
+-- it was told of each
+pub record IsJudged (plan : Plan) (budget : ℕ) (lines : List RecordedLine) (judged : Judged) : Type 0 where
+  pub told : List Settled
+  pub all : AreAllTold plan budget lines told
+  pub verdicts : IsVerdictsOf plan told judged.verdicts
+  pub kinds : AreFirstKinds plan lines told judged.kinds.kinds.items
+
+pub record IsSurveyOf (plan : Plan) (budget : ℕ) (lines : List RecordedLine) (survey : Survey) : Type 0 where
+  pub watched : IsWatched plan lines survey.watched
+  pub judged : IsJudged plan budget lines survey.judged

@@ -1,0 +1,55 @@
+-- The labels of a recording that the plan has not.
+use Rattle.std.specs.Prelude.{◌≡◌, ◌+◌, ◌||◌, ◌⊎◌, ℕ, Bool, true, false, List, [], ◌∷◌, ◌++◌, length, map, All, Any, Contains, Option, Some, None, string_bytes}
+use Rattle.std.specs.List.{list_any}
+use Rattle.std.specs.Str.{bytes_eq}
+use Rattle.job_bodies.specs.Plan.{Plan}
+use Rattle.recording_lines.specs.declared.recording_line.RecordedActor.{RecordedActor}
+use Rattle.recording_lines.specs.RecordingLine.{RecordedLine, Submits, RoundBegins}
+use Rattle.plan_families.specs.Family.{class_family, client_family}
+use Rattle.conformance.specs.declared.unplanned.NotPlanned.{NotPlanned}
+use Rattle.conformance.specs.declared.unplanned.NotPlanned.TheVariants as code
+use Rattle.conformance.specs.declared.unplanned.Unplanned.{Unplanned}
+use Rattle.conformance.specs.Labels.{has_label, pair_text}
+use Rattle.conformance.specs.Wanted.{IsLine}
+
+-- the next line has this number, from 1
+abbrev pub IsNext : ℕ → List RecordedLine → Type 0
+IsNext number before = number ≡ length before + 1
+
+-- ---- one label
+-- this line submits a job of this class to this pool, and the plan has no such class there
+pub record IsClassNotPlanned (plan : Plan) (lines : List RecordedLine) (number : ℕ) (class pool : List ℕ) : Type 0 where
+  pub actor : RecordedActor
+  pub job : ℕ
+  pub line : IsLine lines number (Submits actor job class pool)
+  pub none : class_family plan class pool ≡ []
+
+-- this line begins a round of this kind, and the plan has no such kind
+pub record IsKindNotPlanned (plan : Plan) (lines : List RecordedLine) (number : ℕ) (kind : List ℕ) : Type 0 where
+  pub round : ℕ
+  pub line : IsLine lines number (RoundBegins round kind)
+  pub none : client_family plan kind ≡ []
+
+abbrev pub IsNotPlanned : Plan → List RecordedLine → NotPlanned → Type 0
+IsNotPlanned plan lines (code.Class line class pool) = IsClassNotPlanned plan lines line (string_bytes class) (string_bytes pool)
+IsNotPlanned plan lines (code.Kind line kind) = IsKindNotPlanned plan lines line (string_bytes kind)
+
+-- ---- all of them
+-- it tells of this class in this pool
+abbrev pub tells_class : List ℕ → List ℕ → NotPlanned → Bool
+tells_class class pool (code.Class line c p) = bytes_eq (pair_text (string_bytes c) (string_bytes p)) (pair_text class pool)
+tells_class class pool (code.Kind line kind) = false
+
+abbrev pub tells_kind : List ℕ → NotPlanned → Bool
+tells_kind kind (code.Class line c p) = false
+tells_kind kind (code.Kind line k) = bytes_eq (string_bytes k) kind
+
+-- what is found is so, each label is told of that the plan has not, and the labels that are kept are those of what is found
+pub record IsUnplannedOf (plan : Plan) (lines : List RecordedLine) (unplanned : Unplanned) : Type 0 where
+  pub sound : All (IsNotPlanned plan lines) unplanned.found.items
+  pub classes : (actor : RecordedActor) (job : ℕ) (class pool : List ℕ) → Contains lines (Submits actor job class pool) → class_family plan class pool ≡ []
+      → list_any (tells_class class pool) unplanned.found.items ≡ true
+  pub kinds : (round : ℕ) (kind : List ℕ) → Contains lines (RoundBegins round kind) → client_family plan kind ≡ []
+      → list_any (tells_kind kind) unplanned.found.items ≡ true
+  pub kept_classes : (class pool : List ℕ) → has_label unplanned.classes (pair_text class pool) ≡ list_any (tells_class class pool) unplanned.found.items
+  pub kept_kinds : (kind : List ℕ) → has_label unplanned.kinds kind ≡ list_any (tells_kind kind) unplanned.found.items

@@ -1,0 +1,59 @@
+-- What is kept of the actors of which is told.
+use Rattle.std.specs.Prelude.{◌≡◌, ℕ, nat_eq, Bool, true, false, ◌==◌, ◌&&◌, ◌||◌, not, if◌then◌else◌, List, [], ◌∷◌, ◌++◌, filter, string_bytes, All, Contains}
+use Rattle.std.specs.List.{list_any}
+use Rattle.conformance.specs.JobSet.{has_job}
+use Rattle.recording_lines.specs.declared.recording_line.RecordedActor.{RecordedActor}
+use Rattle.recording_lines.specs.declared.recording_line.RecordedActor.TheVariants.{Job, Round}
+use Rattle.job_bodies.specs.Plan.{Plan}
+use Rattle.plan_families.specs.Family.{class_family, client_family}
+use Rattle.recorded_classes.specs.declared.settled.Settled.{Settled}
+use Rattle.conformance.specs.declared.verdicts.Verdicts.{Verdicts}
+use Rattle.conformance.specs.Firsts as firsts
+
+abbrev pub AreFirsts : List Settled → List Settled → Type 0
+AreFirsts all firsts = firsts.AreFirsts all firsts
+
+-- ---- of one
+abbrev pub is_empty : List ℕ → Bool
+is_empty [] = true
+is_empty (n ∷ more) = false
+
+-- the classes that a label may be, or the kinds
+abbrev pub family_of : Plan → RecordedActor → List ℕ → List ℕ → List ℕ
+family_of plan (Job job) label pool = class_family plan label pool
+family_of plan (Round round) label pool = client_family plan label
+
+-- the plan has its label
+abbrev pub is_planned : Plan → Settled → Bool
+is_planned plan told = not (is_empty (family_of plan told.actor (string_bytes told.label) (string_bytes told.pool)))
+
+-- it is of no body
+abbrev pub is_classless : Settled → Bool
+is_classless told = told.family.is_decided && is_empty told.family.members.items
+
+abbrev pub is_stray : Plan → Settled → Bool
+is_stray plan told = is_classless told && is_planned plan told
+
+-- that is not decided
+abbrev pub is_open : Plan → Settled → Bool
+is_open plan told = not told.family.is_decided && is_planned plan told
+
+abbrev pub is_job : ℕ → RecordedActor → Bool
+is_job job (Job one) = one == job
+is_job job (Round round) = false
+
+abbrev pub is_classless_job : ℕ → Settled → Bool
+is_classless_job job told = is_job job told.actor && is_classless told
+
+-- ---- of all
+pub record IsVerdictsOf (plan : Plan) (told : List Settled) (verdicts : Verdicts) : Type 0 where
+  pub strays : AreFirsts (filter (is_stray plan) told) verdicts.strays.actors.items
+  pub open : AreFirsts (filter (is_open plan) told) verdicts.open.actors.items
+  pub classless : (job : ℕ) → has_job verdicts.classless job ≡ list_any (is_classless_job job) told
+
+-- behind the others, where the plan has its label
+abbrev pub with_planned : Plan → Settled → List Settled → List Settled
+with_planned plan one told = if is_planned plan one then told ++ one ∷ [] else told
+
+abbrev pub with_job : RecordedActor → Bool → ℕ → Bool
+with_job actor there job = there || is_job job actor

@@ -1,0 +1,51 @@
+-- Lines of a recording that are looked for, and the first of them.
+use Rattle.std.specs.Prelude.{◌≡◌, ◌<◌, ◌+◌, ℕ, Bool, false, true, ◌==◌, ◌&&◌, List, [], slice_get, Option, Some, None}
+use Rattle.std.specs.List.{list_any}
+use Rattle.recording_lines.specs.declared.recording_line.RecordedActor.{RecordedActor}
+use Rattle.recording_lines.specs.declared.recording_line.RecordedActor.TheVariants.{Job, Round}
+use Rattle.recording_lines.specs.declared.recording_line.Line.{Line}
+use Rattle.recording_lines.specs.RecordingLine.{RecordedLine, Submits, RoundBegins, line_seen}
+use Rattle.recorded_rules.specs.LineParts as parts
+use Rattle.recorded_rules.specs.LineParts.{submits_job, begins_round, ends_round, finishes_job}
+use Rattle.recorded_paths.specs.LineDeeds.{gets_by}
+use Rattle.conformance.specs.declared.wanted.Wanted.{Wanted}
+use Rattle.conformance.specs.declared.wanted.Wanted.TheVariants as wanted
+
+abbrev pub is_same_actor : RecordedActor → RecordedActor → Bool
+is_same_actor one other = parts.is_same_actor one other
+
+-- the last line of the actor
+abbrev pub is_last : RecordedActor → RecordedLine → Bool
+is_last (Job job) line = finishes_job job line
+is_last (Round round) line = ends_round round line
+
+abbrev pub is_wanted : Wanted → RecordedLine → Bool
+is_wanted (wanted.Submit job) line = submits_job job line
+is_wanted (wanted.Begin round) line = begins_round round line
+is_wanted (wanted.Got actor job) line = gets_by actor job line
+is_wanted (wanted.Last actor) line = is_last actor line
+
+-- the line that gives the actor its label
+abbrev pub label_line : RecordedActor → Wanted
+label_line (Job job) = wanted.Submit job
+label_line (Round round) = wanted.Begin round
+
+-- a class of a job, or a kind of a round
+abbrev pub label_in : RecordedLine → List ℕ
+label_in (Submits actor job class pool) = class
+label_in (RoundBegins round kind) = kind
+label_in line = []
+
+-- a line with its number
+abbrev pub found_seen : Option (ℕ × Line) → Option (ℕ × RecordedLine)
+found_seen None = None
+found_seen (Some (number, line)) = Some (number, line_seen line)
+
+-- the line of this number, from 1
+abbrev pub IsLine : List RecordedLine → ℕ → RecordedLine → Type 0
+IsLine lines number line = (i : ℕ) × (number ≡ i + 1) × (slice_get lines i ≡ Some line)
+
+-- the first line that is wanted; None where there is none
+abbrev pub IsFirstLine : List RecordedLine → Wanted → Option (ℕ × RecordedLine) → Type 0
+IsFirstLine lines what None = list_any (is_wanted what) lines ≡ false
+IsFirstLine lines what (Some (number, line)) = IsLine lines number line × (is_wanted what line ≡ true)

@@ -1,0 +1,79 @@
+//! Whether a service still is its plan.
+
+ghost use Rattle.std.specs.Prelude.{◌≡◌, ◌++◌, [], ℕ, List, All, AllPairs, IfOk, OnOk, map};
+ghost use Rattle.recording_lines.specs.RecordingLine.{lines_read};
+ghost use Rattle.recorded_rules.specs.Faults.{IsFirstFault};
+ghost use Rattle.recorded_paths.specs.StandsFor.{KeepsRules};
+ghost use Rattle.conformance.specs.Lines.{lines_of};
+ghost use Rattle.conformance.specs.Conforms.{Conforms, IsNotVoid};
+ghost use Rattle.conformance.specs.Found as found;
+ghost use Rattle.conformance.specs.Outcome as spec;
+
+use crate::counted::excesses;
+use crate::finding::Finding;
+use crate::gathered::gathered;
+use crate::survey::survey;
+use job_bodies::Plan;
+use recorded_rules::{RecordingFault, first_fault};
+use std::alloc::{AllocError, Global};
+
+/// What a recording says of a plan.
+#[derive(Debug, Drop)]
+pub enum Conformance {
+    /// A line of the recording is bad: nothing is said of it.
+    Bad(RecordingFault),
+    /// All that is not of the plan, and what voids a yes, in the order of the lines, those without a line last. Where it is
+    /// none, the recording conforms.
+    Compared(Vec<Finding>),
+}
+
+/// Whether the service of a recording still is its plan. Each body of the plan has a budget of steps for each path that it is
+/// asked of.
+///
+/// A get that timed out or was interrupted is no finding: where the actor's path is of a body without it, it voids nothing, and
+/// where it is not, the actor strays.
+///
+/// # Errors
+///
+/// [`AllocError`] where memory runs out.
+pub fn conform(
+    alloc: Global,
+    plan: &Plan,
+    recording: &[u8],
+    budget: u64,
+) -> Result<Conformance, AllocError>
+    ensures bad { IfOk result (λ told. IsFirstFault (lines_read recording.now) (spec.fault_of told)) }
+    ensures conforms { IfOk result (λ told. spec.IfCompared told (λ findings. findings ≡ [] → Conforms plan.now (lines_of recording.now) × IsNotVoid (lines_of recording.now))) }
+    ensures sound { IfOk result (λ told. spec.IfCompared told (All (found.IsFinding plan.now budget (lines_of recording.now)))) }
+    ensures ascending { IfOk result (λ told. spec.IfCompared told spec.AreInOrder) }
+{
+    match first_fault(alloc, recording)? {
+        Some(fault) => Ok(Conformance::Bad(fault)),
+        None => Ok(Conformance::Compared(compared(
+            alloc, plan, recording, budget,
+        )?)),
+    }
+}
+
+// What of a recording without a bad line is not of the plan.
+fn compared(
+    alloc: Global,
+    plan: &Plan,
+    recording: &[u8],
+    budget: u64,
+) -> Result<Vec<Finding>, AllocError>
+    ensures conforms { IfOk result (λ findings. KeepsRules (lines_of recording.now) → findings.items ≡ [] → Conforms plan.now (lines_of recording.now) × IsNotVoid (lines_of recording.now)) }
+    ensures sound { IfOk result (λ findings. KeepsRules (lines_of recording.now) → All (found.IsFinding plan.now budget (lines_of recording.now)) findings.items) }
+    ensures ascending { IfOk result (λ findings. spec.AreInOrder findings.items) }
+{
+    let survey = survey(alloc, plan, recording, budget)?;
+    let excesses = excesses(
+        alloc,
+        plan,
+        recording,
+        survey.judged.kinds.kinds.as_slice(),
+    )?;
+    let mut findings = gathered(alloc, recording, survey, excesses)?;
+    findings.sort_by_key(Finding::place)?;
+    Ok(findings)
+}

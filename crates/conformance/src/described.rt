@@ -1,0 +1,151 @@
+//! What an actor did that is of no body, looked up in the text of the recording.
+
+ghost use Rattle.std.specs.Prelude.{◌≡◌, IfOk};
+ghost use Rattle.recording_lines.specs.declared.recording_line.RecordedActor as actors;
+ghost use Rattle.conformance.specs.Lines.{lines_of};
+ghost use Rattle.conformance.specs.Described as spec;
+
+use crate::job_set::JobSet;
+use crate::stray::{NamedDeed, Stray, StrayDeed};
+use crate::wanted::{Wanted, first_line, label_in};
+use recorded_classes::Settled;
+use recorded_paths::RecordedDeed;
+use recording_lines::RecordedActor;
+use std::alloc::{AllocError, Global};
+
+/// What the actor did behind the most of its path that a body explains, and the line with which it did so. Each of these jobs
+/// is of no class of the plan.
+///
+/// # Errors
+///
+/// `AllocError` where there is no memory for it.
+pub(crate) fn described(
+    alloc: Global,
+    recording: &[u8],
+    classless: &JobSet,
+    told: &Settled,
+) -> Result<(Option<usize>, Stray), AllocError>
+    ensures { IfOk result (λ found. spec.IsDescribed (lines_of recording.now) classless.now told.now found.0 found.1) }
+{
+    let explained = told.family.explained;
+    let deed = deed_at(&told.path, explained);
+    let line = first_line(recording, wanted_of(told.actor, deed)).map(|found| found.0);
+    let behind = match explained.checked_sub(1) {
+        None => None,
+        Some(last) => named(alloc, recording, deed_at(&told.path, last))?,
+    };
+    let stray = Stray {
+        actor: told.actor,
+        label: told.label.clone()?,
+        deed: stray_deed(alloc, recording, classless, deed)?,
+        behind,
+    };
+    Ok((line, stray))
+}
+
+/// What an actor did with a job.
+#[derive(Clone, Copy, Debug)]
+enum JobDeed {
+    Submits(usize),
+    Gets(usize),
+}
+
+/// The deed at this place of a path; None behind its end.
+fn deed_at(path: &[RecordedDeed], place: usize) -> Option<JobDeed>
+    ensures { result ≡ spec.deed_at path.now place }
+{
+    match path.get(place)? {
+        RecordedDeed::Submits(job) => Some(JobDeed::Submits(*job)),
+        RecordedDeed::Gets(submit) => got_at(path, *submit),
+    }
+}
+
+fn got_at(path: &[RecordedDeed], submit: usize) -> Option<JobDeed>
+    ensures { result ≡ spec.got_at path.now submit }
+{
+    match path.get(submit)? {
+        RecordedDeed::Submits(job) => Some(JobDeed::Gets(*job)),
+        RecordedDeed::Gets(_) => None,
+    }
+}
+
+/// The line of the deed, or that of the actor's end.
+fn wanted_of(actor: RecordedActor, deed: Option<JobDeed>) -> Wanted
+    ensures { result ≡ spec.wanted_of actor deed }
+{
+    match deed {
+        None => Wanted::Last(actor),
+        Some(JobDeed::Submits(job)) => Wanted::Submit(job),
+        Some(JobDeed::Gets(job)) => Wanted::Got { actor, job },
+    }
+}
+
+fn stray_deed(
+    alloc: Global,
+    recording: &[u8],
+    classless: &JobSet,
+    deed: Option<JobDeed>,
+) -> Result<StrayDeed, AllocError>
+    ensures { IfOk result (λ told. spec.IsStrayDeed (lines_of recording.now) classless.now deed told) }
+{
+    match deed {
+        None => Ok(StrayDeed::Ends),
+        Some(JobDeed::Submits(job)) => {
+            let class = class_of(alloc, recording, job)?;
+            if classless.contains(job) {
+                Ok(StrayDeed::SubmitsStray { job, class })
+            } else {
+                Ok(StrayDeed::Deed(NamedDeed::Submits(class)))
+            }
+        }
+        Some(JobDeed::Gets(job)) => {
+            let class = class_of(alloc, recording, job)?;
+            Ok(StrayDeed::Deed(NamedDeed::Gets(class)))
+        }
+    }
+}
+
+fn named(
+    alloc: Global,
+    recording: &[u8],
+    deed: Option<JobDeed>,
+) -> Result<Option<NamedDeed>, AllocError>
+    ensures { IfOk result (λ told. spec.IsNamed (lines_of recording.now) deed told) }
+{
+    match deed {
+        None => Ok(None),
+        Some(JobDeed::Submits(job)) => {
+            let class = class_of(alloc, recording, job)?;
+            Ok(Some(NamedDeed::Submits(class)))
+        }
+        Some(JobDeed::Gets(job)) => {
+            let class = class_of(alloc, recording, job)?;
+            Ok(Some(NamedDeed::Gets(class)))
+        }
+    }
+}
+
+/// The class that the job's submit names.
+fn class_of(alloc: Global, recording: &[u8], job: usize) -> Result<String, AllocError>
+    ensures { IfOk result (spec.IsLabelOf (lines_of recording.now) (actors.TheVariants.Job job)) }
+{
+    label_of(alloc, recording, RecordedActor::Job(job))
+}
+
+/// The label of an actor: the class that its submit names, or the kind that its begin names; empty where it has none.
+///
+/// # Errors
+///
+/// `AllocError` where there is no memory for it.
+pub(crate) fn label_of(
+    alloc: Global,
+    recording: &[u8],
+    actor: RecordedActor,
+) -> Result<String, AllocError>
+    ensures { IfOk result (spec.IsLabelOf (lines_of recording.now) actor) }
+{
+    match first_line(recording, Wanted::label_of(actor)) {
+        Some((_, line)) => String::from_str(alloc, label_in(&line)),
+        None => Ok(String::new(alloc)),
+    }
+}

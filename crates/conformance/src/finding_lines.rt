@@ -1,0 +1,125 @@
+//! The lines that tell what was found.
+
+ghost use Rattle.std.specs.Prelude.{◌≡◌, ◌++◌};
+ghost use Rattle.decimals.specs.Pushed.{Pushes};
+ghost use Rattle.conformance.specs.FindingText as spec;
+
+use crate::finding::Finding;
+use crate::stray::{push_actor, push_stray};
+use crate::unplanned::NotPlanned;
+use job_bodies::Plan;
+use plan_differences::{Difference, PoolDeviation, RoundExcess};
+use recorded_notes::{ForeignGet, Void};
+use std::alloc::AllocError;
+
+/// Tells each finding on a line of its own, as `line 3: pool db: max 20, plan 10`. Of none there is no line.
+///
+/// # Errors
+///
+/// [`AllocError`] where memory runs out.
+pub fn push_findings(
+    text: &mut String,
+    plan: &Plan,
+    findings: &[Finding],
+) -> Result<(), AllocError>
+    ensures { Pushes result text.old text.new (spec.findings_text plan.now findings.now) }
+{
+    for finding in findings {
+        push_finding(text, plan, finding)?;
+        text.push('\n')?;
+    }
+    Ok(())
+}
+
+fn push_finding(text: &mut String, plan: &Plan, finding: &Finding) -> Result<(), AllocError>
+    ensures { Pushes result text.old text.new (spec.finding_text plan.now finding.now) }
+{
+    push_line_number(text, finding.line())?;
+    match finding {
+        Finding::Pool(deviation) => push_deviation(text, plan, deviation),
+        Finding::NotPlanned(label) => push_not_planned(text, label),
+        Finding::Strays { stray, .. } => push_stray(text, stray),
+        Finding::NotDecided { actor, label } => {
+            push_actor(text, *actor, label)?;
+            text.push_str(": not decided, its body has too many alike submits")
+        }
+        Finding::TooMany(excess) => push_excess(text, plan, *excess),
+        Finding::ForeignGet { get, label } => push_foreign_get(text, *get, label),
+        Finding::Void(void) => push_void(text, *void),
+    }
+}
+
+fn push_line_number(text: &mut String, line: Option<usize>) -> Result<(), AllocError>
+    ensures { Pushes result text.old text.new (spec.line_text line) }
+{
+    match line {
+        Some(line) => write!(text, "line {line}: "),
+        None => Ok(()),
+    }
+}
+
+fn push_deviation(
+    text: &mut String,
+    plan: &Plan,
+    deviation: &PoolDeviation,
+) -> Result<(), AllocError>
+    ensures { Pushes result text.old text.new (spec.deviation_text plan.now deviation.now) }
+{
+    match deviation {
+        PoolDeviation::NotPlanned { pool, .. } => write!(text, "pool {pool}: not in the plan"),
+        PoolDeviation::Differs {
+            pool, difference, ..
+        } => push_difference(text, plan.pool_name(*pool), *difference),
+        PoolDeviation::NotRecorded { pool } => push_not_recorded(text, plan.pool_name(*pool)),
+    }
+}
+
+fn push_difference(
+    text: &mut String,
+    name: &str,
+    difference: Difference,
+) -> Result<(), AllocError>
+    ensures { Pushes result text.old text.new (spec.pool_difference_text name.now difference) }
+{
+    write!(text, "pool {name}: {difference}")
+}
+
+fn push_not_recorded(text: &mut String, name: &str) -> Result<(), AllocError>
+    ensures { Pushes result text.old text.new (spec.not_recorded_text name.now) }
+{
+    write!(text, "pool {name}: in the plan and not in the recording")
+}
+
+fn push_not_planned(text: &mut String, label: &NotPlanned) -> Result<(), AllocError>
+    ensures { Pushes result text.old text.new (spec.not_planned_text label.now) }
+{
+    match label {
+        NotPlanned::Class { class, pool, .. } => {
+            write!(text, "class {class} in pool {pool}: not in the plan")
+        }
+        NotPlanned::Kind { kind, .. } => write!(text, "kind {kind}: not in the plan"),
+    }
+}
+
+fn push_excess(text: &mut String, plan: &Plan, found: RoundExcess) -> Result<(), AllocError>
+    ensures { Pushes result text.old text.new (spec.kind_excess_text plan.now found) }
+{
+    let kind = plan.client_name(found.kind);
+    let excess = found.excess;
+    write!(text, "kind {kind}: {excess}")
+}
+
+fn push_foreign_get(text: &mut String, get: ForeignGet, label: &str) -> Result<(), AllocError>
+    ensures { Pushes result text.old text.new (spec.foreign_get_text get label.now) }
+{
+    push_actor(text, get.actor, label)?;
+    let job = get.job;
+    write!(text, " got job {job}, which it did not submit")
+}
+
+fn push_void(text: &mut String, void: Void) -> Result<(), AllocError>
+    ensures { Pushes result text.old text.new (spec.void_line_text void) }
+{
+    let what = void.what;
+    write!(text, "a yes is void from here on: {what}")
+}

@@ -1,0 +1,154 @@
+//! All findings, one kind behind another.
+
+ghost use Rattle.std.specs.Prelude.{◌≡◌, ◌++◌, ◌∷◌, [], ℕ, List, All, map, filter, OnOk, IfOk};
+ghost use Rattle.recording_lines.specs.RecordingLine.{RecordedLine};
+ghost use Rattle.recorded_notes.specs.StandsFor.{IsNotesOf};
+ghost use Rattle.recorded_notes.specs.ForeignGets.{first_foreign_get};
+ghost use Rattle.recorded_notes.specs.Voids.{voids_of};
+ghost use Rattle.conformance.specs.Lines.{lines_of};
+ghost use Rattle.conformance.specs.Gathered as spec;
+ghost use Rattle.conformance.specs.declared.finding.Finding.TheVariants as findings;
+
+use crate::described::{described, label_of};
+use crate::finding::Finding;
+use crate::job_set::JobSet;
+use crate::survey::Survey;
+use crate::unplanned::NotPlanned;
+use plan_differences::{PoolDeviation, RoundExcess};
+use recorded_classes::Settled;
+use recorded_notes::{RecordedNotes, Void, Voiding};
+use std::alloc::{AllocError, Global};
+
+/// All that was found, in no order.
+///
+/// # Errors
+///
+/// `AllocError` where memory runs out.
+pub(crate) fn gathered(
+    alloc: Global,
+    recording: &[u8],
+    survey: Survey,
+    excesses: Vec<RoundExcess>,
+) -> Result<Vec<Finding>, AllocError>
+    ensures { (lines : List RecordedLine) → IsNotesOf survey.watched.notes lines → IfOk result (λ found. spec.AreGathered (lines_of recording.now) lines survey excesses.items found.items) }
+{
+    let Survey { watched, judged } = survey;
+    let mut findings = Vec::new(alloc);
+    push_pools(&mut findings, watched.deviations)?;
+    push_labels(&mut findings, watched.unplanned.found)?;
+    push_strays(
+        &mut findings,
+        alloc,
+        recording,
+        &judged.verdicts.classless,
+        &judged.verdicts.strays.actors,
+    )?;
+    push_open(&mut findings, judged.verdicts.open.actors)?;
+    push_excesses(&mut findings, &excesses)?;
+    push_foreign_get(&mut findings, alloc, recording, &watched.notes)?;
+    push_voids(&mut findings, alloc, &watched.notes)?;
+    Ok(findings)
+}
+
+fn push_pools(
+    findings: &mut Vec<Finding>,
+    deviations: Vec<PoolDeviation>,
+) -> Result<(), AllocError>
+    ensures { OnOk result (findings.new.items ≡ findings.old.items ++ map findings.Pool deviations.items) }
+{
+    for deviation in deviations {
+        findings.push(Finding::Pool(deviation))?;
+    }
+    Ok(())
+}
+
+fn push_labels(findings: &mut Vec<Finding>, labels: Vec<NotPlanned>) -> Result<(), AllocError>
+    ensures { OnOk result (findings.new.items ≡ findings.old.items ++ map findings.NotPlanned labels.items) }
+{
+    for label in labels {
+        findings.push(Finding::NotPlanned(label))?;
+    }
+    Ok(())
+}
+
+fn push_strays(
+    findings: &mut Vec<Finding>,
+    alloc: Global,
+    recording: &[u8],
+    classless: &JobSet,
+    strays: &[Settled],
+) -> Result<(), AllocError>
+    ensures { OnOk result (spec.Adds findings.old.items (spec.AreStrays (lines_of recording.now) classless.now strays.now) findings.new.items) }
+{
+    for told in strays {
+        let (line, stray) = described(alloc, recording, classless, told)?;
+        findings.push(Finding::Strays { line, stray })?;
+    }
+    Ok(())
+}
+
+fn push_open(findings: &mut Vec<Finding>, open: Vec<Settled>) -> Result<(), AllocError>
+    ensures { OnOk result (findings.new.items ≡ findings.old.items ++ map spec.not_decided open.items) }
+{
+    for told in open {
+        let Settled { actor, label, .. } = told;
+        findings.push(Finding::NotDecided { actor, label })?;
+    }
+    Ok(())
+}
+
+fn push_excesses(findings: &mut Vec<Finding>, excesses: &[RoundExcess]) -> Result<(), AllocError>
+    ensures { OnOk result (findings.new.items ≡ findings.old.items ++ map findings.TooMany excesses.now) }
+{
+    for excess in excesses {
+        findings.push(Finding::TooMany(*excess))?;
+    }
+    Ok(())
+}
+
+fn push_foreign_get(
+    findings: &mut Vec<Finding>,
+    alloc: Global,
+    recording: &[u8],
+    notes: &RecordedNotes,
+) -> Result<(), AllocError>
+    ensures { (lines : List RecordedLine) → IsNotesOf notes.now lines → OnOk result (spec.Adds findings.old.items (spec.AreForeign (lines_of recording.now) (first_foreign_get lines)) findings.new.items) }
+{
+    if let Some(get) = notes.foreign_get() {
+        let label = label_of(alloc, recording, get.actor)?;
+        findings.push(Finding::ForeignGet { get, label })?;
+    }
+    Ok(())
+}
+
+fn push_voids(
+    findings: &mut Vec<Finding>,
+    alloc: Global,
+    notes: &RecordedNotes,
+) -> Result<(), AllocError>
+    ensures { (lines : List RecordedLine) → IsNotesOf notes.now lines → OnOk result (findings.new.items ≡ findings.old.items ++ map findings.Void (filter spec.is_lasting (voids_of lines))) }
+{
+    let voids = notes.voids(alloc)?;
+    push_lasting(findings, &voids)
+}
+
+fn push_lasting(findings: &mut Vec<Finding>, voids: &[Void]) -> Result<(), AllocError>
+    ensures { OnOk result (findings.new.items ≡ findings.old.items ++ map findings.Void (filter spec.is_lasting voids.now)) }
+{
+    for void in voids {
+        if is_lasting(*void) {
+            findings.push(Finding::Void(*void))?;
+        }
+    }
+    Ok(())
+}
+
+/// Whether it voids a yes where the actor's path is of a body.
+fn is_lasting(void: Void) -> bool
+    ensures { result ≡ spec.is_lasting void }
+{
+    !matches!(
+        void.what,
+        Voiding::TimedOut { .. } | Voiding::Interrupted { .. }
+    )
+}

@@ -1,0 +1,47 @@
+//! The lines of a text that have one of the forms, one after another.
+
+ghost use Rattle.std.specs.Prelude.{◌≡◌, ◌≤◌, ◌∷◌, [], length, MatchOption};
+ghost use Rattle.recording_lines.specs.RecordingLine.{line_seen};
+ghost use Rattle.conformance.specs.Lines.{lines_of};
+
+use recording_lines::{Line, RecordingLines};
+use std::marker::Model;
+
+/// The lines of a recording, without those that have none of the forms.
+#[derive(Debug, Drop)]
+pub(crate) struct GoodLines<'a> {
+    lines: RecordingLines<'a>,
+}
+
+impl<'a> Model for GoodLines<'a> {
+    ghost use Rattle.std.specs.Prelude.{List};
+    ghost use Rattle.recording_lines.specs.RecordingLine.{RecordedLine};
+    ghost use Rattle.conformance.specs.Lines.{with_form};
+
+    ghost Value = { List RecordedLine };
+
+    ghost view = { λ l. with_form l.lines };
+}
+
+impl<'a> GoodLines<'a> {
+    pub(crate) fn new(text: &'a [u8]) -> GoodLines<'a>
+        ensures lines { result ≡ lines_of text.now }
+        ensures few { length result ≤ length text.now }
+    {
+        GoodLines {
+            lines: RecordingLines::new(text),
+        }
+    }
+
+    /// The next one; None behind the last.
+    pub(crate) fn next(&mut self) -> Option<Line<'a>>
+        ensures { MatchOption result ((self.old ≡ []) × (self.new ≡ [])) (λ line. self.old ≡ line_seen line ∷ self.new) }
+    {
+        while let Some(line) = self.lines.next() {
+            if let Ok(line) = line {
+                return Some(line);
+            }
+        }
+        None
+    }
+}

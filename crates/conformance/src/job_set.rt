@@ -1,0 +1,42 @@
+//! A set of jobs.
+
+ghost use Rattle.std.specs.Prelude.{◌≡◌, ◌||◌, ◌==◌, ℕ, OnOk, false};
+ghost use Rattle.conformance.specs.JobSet.{has_job};
+
+use std::alloc::{AllocError, Global};
+use std::collections::HashSet;
+
+/// A set of jobs, by their numbers.
+#[derive(Debug, Drop)]
+pub(crate) struct JobSet {
+    jobs: HashSet<usize>,
+}
+
+impl JobSet {
+    /// None so far.
+    pub(crate) fn new(alloc: Global) -> JobSet
+        ensures { (job : ℕ) → has_job result job ≡ false }
+    {
+        JobSet {
+            jobs: HashSet::new(alloc),
+        }
+    }
+
+    pub(crate) fn contains(&self, job: usize) -> bool
+        ensures { result ≡ has_job self.now job }
+    {
+        self.jobs.contains(&job)
+    }
+
+    /// The job is one of them from here on.
+    ///
+    /// # Errors
+    ///
+    /// `AllocError` where there is no memory for it.
+    pub(crate) fn insert(&mut self, job: usize) -> Result<(), AllocError>
+        ensures { OnOk result ((one : ℕ) → has_job self.new one ≡ (has_job self.old one || job == one)) }
+    {
+        self.jobs.insert(job)?;
+        Ok(())
+    }
+}

@@ -1,0 +1,55 @@
+//! Labels of a recording, each once.
+
+ghost use Rattle.std.specs.Prelude.{◌≡◌, ◌||◌, ◌++◌, ℕ, List, OnOk, IfOk, false, codes, string_bytes};
+ghost use Rattle.std.specs.Str.{bytes_eq};
+ghost use Rattle.conformance.specs.Labels.{has_label, pair_text};
+
+use std::alloc::{AllocError, Global};
+use std::collections::HashSet;
+
+/// A set of labels.
+#[derive(Debug, Drop)]
+pub(crate) struct Labels {
+    labels: HashSet<String>,
+    alloc: Global,
+}
+
+impl Labels {
+    /// None so far.
+    pub(crate) fn new(alloc: Global) -> Labels
+        ensures { (q : List ℕ) → has_label result q ≡ false }
+    {
+        Labels {
+            labels: HashSet::new(alloc),
+            alloc,
+        }
+    }
+
+    pub(crate) fn contains(&self, label: &str) -> bool
+        ensures { result ≡ has_label self.now label.now }
+    {
+        self.labels.contains(label)
+    }
+
+    /// The label is one of them from here on.
+    ///
+    /// # Errors
+    ///
+    /// `AllocError` where there is no memory for it.
+    pub(crate) fn insert(&mut self, label: &str) -> Result<(), AllocError>
+        ensures { OnOk result ((q : List ℕ) → has_label self.new q ≡ (has_label self.old q || bytes_eq label.now q)) }
+    {
+        if !self.labels.contains(label) {
+            let label = String::from_str(self.alloc, label)?;
+            self.labels.insert(label)?;
+        }
+        Ok(())
+    }
+}
+
+/// The words of a submit that name its class and its pool.
+pub(crate) fn pair(alloc: Global, class: &str, pool: &str) -> Result<String, AllocError>
+    ensures { IfOk result (λ text. string_bytes text ≡ pair_text class.now pool.now) }
+{
+    format!(in alloc; "{class} {pool}")
+}

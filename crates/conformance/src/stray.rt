@@ -1,0 +1,99 @@
+//! An actor whose path is of no body of the plan, and its words.
+
+ghost use Rattle.decimals.specs.Pushed.{Pushes};
+ghost use Rattle.conformance.specs.Stray as spec;
+
+use decimals::push_number;
+use recording_lines::RecordedActor;
+use std::alloc::AllocError;
+
+/// An actor whose label the plan has, and whose path is of no body of those that the label may be.
+#[derive(Debug, Drop)]
+pub struct Stray {
+    pub actor: RecordedActor,
+    /// The class of a job, or the kind of a round.
+    pub label: String,
+    /// What it did that no body says, behind the most of its path that one explains.
+    pub deed: StrayDeed,
+    /// The last deed that is explained; None where none is.
+    pub behind: Option<NamedDeed>,
+}
+
+/// What an actor did that no body says.
+#[derive(Debug, Drop)]
+pub enum StrayDeed {
+    /// It submitted or got a job.
+    Deed(NamedDeed),
+    /// It submitted this job, which is of no class of the plan itself.
+    SubmitsStray { job: usize, class: String },
+    /// It came to its end, and a get is missing.
+    Ends,
+}
+
+/// A deed, by the class of its job.
+#[derive(Debug, Drop)]
+pub enum NamedDeed {
+    /// It submitted a job of this class.
+    Submits(String),
+    /// It got a job of this class.
+    Gets(String),
+}
+
+/// Tells what the actor did, as `job 44 of class order submitted price; its body has no such submit behind get stock`.
+pub(crate) fn push_stray(text: &mut String, stray: &Stray) -> Result<(), AllocError>
+    ensures { Pushes result text.old text.new (spec.stray_text stray.now) }
+{
+    push_actor(text, stray.actor, &stray.label)?;
+    match &stray.deed {
+        StrayDeed::Ends => text.push_str(" ended; its body has a get before its end"),
+        StrayDeed::SubmitsStray { job, class } => push_cause(text, *job, class),
+        StrayDeed::Deed(deed) => {
+            push_deed(text, deed)?;
+            push_behind(text, &stray.behind)
+        }
+    }
+}
+
+/// Tells who it is, as `job 44 of class order`.
+pub(crate) fn push_actor(
+    text: &mut String,
+    actor: RecordedActor,
+    label: &str,
+) -> Result<(), AllocError>
+    ensures { Pushes result text.old text.new (spec.actor_text actor label.now) }
+{
+    match actor {
+        RecordedActor::Job(job) => write!(text, "job {job} of class {label}"),
+        RecordedActor::Round(round) => write!(text, "round {round} of kind {label}"),
+    }
+}
+
+fn push_cause(text: &mut String, job: usize, class: &str) -> Result<(), AllocError>
+    ensures { Pushes result text.old text.new (spec.cause_text job class.now) }
+{
+    write!(
+        text,
+        " submitted {class}, which is job {job} and of no class of the plan"
+    )
+}
+
+fn push_deed(text: &mut String, deed: &NamedDeed) -> Result<(), AllocError>
+    ensures { Pushes result text.old text.new (spec.deed_text deed.now) }
+{
+    match deed {
+        NamedDeed::Submits(class) => {
+            write!(text, " submitted {class}; its body has no such submit")
+        }
+        NamedDeed::Gets(class) => write!(text, " got {class}; its body has no such get"),
+    }
+}
+
+fn push_behind(text: &mut String, behind: &Option<NamedDeed>) -> Result<(), AllocError>
+    ensures { Pushes result text.old text.new (spec.behind_text behind.now) }
+{
+    match behind {
+        None => text.push_str(" at its begin"),
+        Some(NamedDeed::Submits(class)) => write!(text, " behind submit {class}"),
+        Some(NamedDeed::Gets(class)) => write!(text, " behind get {class}"),
+    }
+}

@@ -1,0 +1,177 @@
+//! What the lines of a recording say, beside a plan: all but how many rounds there are at once.
+
+ghost use Rattle.std.specs.Prelude.{◌≡◌, ◌++◌, ◌∷◌, [], ℕ, List, OnOk, IfOk};
+ghost use Rattle.job_bodies.specs.Plan as plans;
+ghost use Rattle.recording_lines.specs.RecordingLine.{RecordedLine, line_seen};
+ghost use Rattle.recorded_paths.specs.StandsFor.{KeepsRules};
+ghost use Rattle.recorded_classes.specs.declared.settled.Settled as settleds;
+ghost use Rattle.recorded_classes.specs.Settled.{AreTold, AreAllTold};
+ghost use Rattle.conformance.specs.Lines.{lines_of};
+ghost use Rattle.conformance.specs.FirstKinds.{with_all};
+ghost use Rattle.conformance.specs.Unplanned.{IsNext};
+ghost use Rattle.conformance.specs.Verdicts.{IsVerdictsOf};
+ghost use Rattle.conformance.specs.Survey as spec;
+
+use crate::first_kinds::FirstKinds;
+use crate::good_lines::GoodLines;
+use crate::unplanned::Unplanned;
+use crate::verdicts::Verdicts;
+use job_bodies::Plan;
+use plan_differences::{PoolDeviation, PoolWatch, pools_are_as_planned};
+use recorded_classes::{Classes, Settled};
+use recorded_notes::RecordedNotes;
+use recording_lines::Line;
+use std::alloc::{AllocError, Global};
+
+/// What is seen line by line.
+#[derive(Debug, Drop)]
+pub(crate) struct Watched {
+    pools: PoolWatch,
+    pub(crate) deviations: Vec<PoolDeviation>,
+    pub(crate) notes: RecordedNotes,
+    pub(crate) unplanned: Unplanned,
+}
+
+impl Watched {
+    /// No lines so far.
+    pub(crate) fn new(alloc: Global) -> Watched
+        ensures { (plan : plans.Plan) → spec.IsWatchedOf plan [] result }
+    {
+        Watched {
+            pools: PoolWatch::new(alloc),
+            deviations: Vec::new(alloc),
+            notes: RecordedNotes::new(alloc),
+            unplanned: Unplanned::new(alloc),
+        }
+    }
+
+    /// Takes the next line of a recording that keeps the rules, which has this number.
+    ///
+    /// # Errors
+    ///
+    /// `AllocError` where there is no memory for what it says.
+    pub(crate) fn take(
+        &mut self,
+        plan: &Plan,
+        number: usize,
+        line: &Line<'_>,
+    ) -> Result<(), AllocError>
+        ensures { (before : List RecordedLine) → KeepsRules (before ++ line_seen line.now ∷ []) → IsNext number before → spec.IsWatchedOf plan.now before self.old → OnOk result (spec.IsWatchedOf plan.now (before ++ line_seen line.now ∷ []) self.new) }
+    {
+        pools_are_as_planned();
+        self.pools.take(plan, number, line, &mut self.deviations)?;
+        self.notes.take(number, line)?;
+        self.unplanned.take(plan, number, line)
+    }
+
+    /// The lines end.
+    ///
+    /// # Errors
+    ///
+    /// `AllocError` where there is no memory for what is found.
+    pub(crate) fn finish(&mut self, plan: &Plan) -> Result<(), AllocError>
+        ensures { (lines : List RecordedLine) → spec.IsWatchedOf plan.now lines self.old → OnOk result (spec.IsWatched plan.now lines self.new) }
+    {
+        self.pools.finish(plan, &mut self.deviations)
+    }
+}
+
+/// What is seen of each actor that it is told of.
+#[derive(Debug, Drop)]
+pub(crate) struct Judged {
+    pub(crate) verdicts: Verdicts,
+    pub(crate) kinds: FirstKinds,
+}
+
+impl Judged {
+    /// No lines so far.
+    pub(crate) fn new(alloc: Global) -> Judged
+        ensures { (plan : plans.Plan) (budget : ℕ) → AreTold plan budget [] [] → spec.IsJudgedOf plan budget [] [] result }
+    {
+        Judged {
+            verdicts: Verdicts::new(alloc),
+            kinds: FirstKinds::new(alloc),
+        }
+    }
+
+    /// It is told of these actors.
+    ///
+    /// # Errors
+    ///
+    /// `AllocError` where there is no memory for them.
+    pub(crate) fn note_all(&mut self, plan: &Plan, told: Vec<Settled>) -> Result<(), AllocError>
+        ensures verdicts { (earlier : List settleds.Settled) → IsVerdictsOf plan.now earlier self.old.verdicts → OnOk result (IsVerdictsOf plan.now (earlier ++ told.items) self.new.verdicts) }
+        ensures kinds { OnOk result (self.new.kinds.kinds.items ≡ with_all told.items self.old.kinds.kinds.items) }
+    {
+        for settled in told {
+            self.kinds.note(&settled);
+            self.verdicts.note(plan, settled)?;
+        }
+        Ok(())
+    }
+}
+
+/// All that the lines say.
+#[derive(Debug, Drop)]
+pub(crate) struct Survey {
+    pub(crate) watched: Watched,
+    pub(crate) judged: Judged,
+}
+
+/// Surveys a recording that keeps the rules.
+///
+/// # Errors
+///
+/// `AllocError` where there is no memory for what its lines say.
+pub(crate) fn survey(
+    alloc: Global,
+    plan: &Plan,
+    recording: &[u8],
+    budget: u64,
+) -> Result<Survey, AllocError>
+    ensures { KeepsRules (lines_of recording.now) → IfOk result (spec.IsSurveyOf plan.now budget (lines_of recording.now)) }
+{
+    let mut watched = Watched::new(alloc);
+    let mut classes = Classes::new(alloc, budget);
+    let mut judged = Judged::new(alloc);
+    let mut lines = GoodLines::new(recording);
+    let mut number = 0;
+    while let Some(line) = lines.next() {
+        number += 1;
+        watched.take(plan, number, &line)?;
+        take_line(alloc, plan, &line, &mut classes, &mut judged)?;
+    }
+    watched.finish(plan)?;
+    finish(alloc, plan, classes, &mut judged)?;
+    Ok(Survey { watched, judged })
+}
+
+// It is told of each actor that is settled by the line.
+fn take_line(
+    alloc: Global,
+    plan: &Plan,
+    line: &Line<'_>,
+    classes: &mut Classes,
+    judged: &mut Judged,
+) -> Result<(), AllocError>
+    ensures { (budget : ℕ) (before : List RecordedLine) → KeepsRules (before ++ line_seen line.now ∷ []) → spec.IsSoFar plan.now budget before classes.old judged.old → OnOk result (spec.IsSoFar plan.now budget (before ++ line_seen line.now ∷ []) classes.new judged.new) }
+{
+    let mut told = Vec::new(alloc);
+    classes.take(plan, line, &mut told)?;
+    judged.kinds.take(plan, line)?;
+    judged.note_all(plan, told)
+}
+
+// It is told of each actor that is not settled where the lines end.
+fn finish(
+    alloc: Global,
+    plan: &Plan,
+    classes: Classes,
+    judged: &mut Judged,
+) -> Result<(), AllocError>
+    ensures { (budget : ℕ) (lines : List RecordedLine) → KeepsRules lines → spec.IsSoFar plan.now budget lines classes judged.old → OnOk result (spec.IsJudged plan.now budget lines judged.new) }
+{
+    let mut told = Vec::new(alloc);
+    classes.finish(plan, &mut told)?;
+    judged.note_all(plan, told)
+}

@@ -1,0 +1,104 @@
+//! The labels of a recording that the plan has not.
+
+ghost use Rattle.std.specs.Prelude.{◌≡◌, ◌++◌, ◌∷◌, [], List, OnOk};
+ghost use Rattle.job_bodies.specs.Plan as plans;
+ghost use Rattle.recording_lines.specs.RecordingLine.{RecordedLine, line_seen};
+ghost use Rattle.conformance.specs.Unplanned as spec;
+
+use crate::labels::{Labels, pair};
+use job_bodies::Plan;
+use plan_families::{class_family, client_family};
+use recording_lines::Line;
+use std::alloc::{AllocError, Global};
+
+/// A label that the plan has not, with the number of the first line that has it.
+#[derive(Debug, Drop)]
+pub enum NotPlanned {
+    /// A job was submitted to this pool, and the plan has no such class there.
+    Class {
+        line: usize,
+        class: String,
+        pool: String,
+    },
+    /// A round began, and the plan has no such kind.
+    Kind { line: usize, kind: String },
+}
+
+/// The labels that the plan has not, by the lines so far.
+#[derive(Debug, Drop)]
+pub(crate) struct Unplanned {
+    pub(crate) found: Vec<NotPlanned>,
+    classes: Labels,
+    kinds: Labels,
+    alloc: Global,
+}
+
+impl Unplanned {
+    /// No lines so far.
+    pub(crate) fn new(alloc: Global) -> Unplanned
+        ensures { (plan : plans.Plan) → spec.IsUnplannedOf plan [] result }
+    {
+        Unplanned {
+            found: Vec::new(alloc),
+            classes: Labels::new(alloc),
+            kinds: Labels::new(alloc),
+            alloc,
+        }
+    }
+
+    /// Takes the next line, which has this number.
+    ///
+    /// # Errors
+    ///
+    /// `AllocError` where there is no memory for a label.
+    pub(crate) fn take(
+        &mut self,
+        plan: &Plan,
+        number: usize,
+        line: &Line<'_>,
+    ) -> Result<(), AllocError>
+        ensures { (before : List RecordedLine) → spec.IsNext number before → spec.IsUnplannedOf plan.now before self.old → OnOk result (spec.IsUnplannedOf plan.now (before ++ line_seen line.now ∷ []) self.new) }
+    {
+        match *line {
+            Line::Submits { class, pool, .. } => self.take_class(plan, number, class, pool),
+            Line::RoundBegins { kind, .. } => self.take_kind(plan, number, kind),
+            _ => Ok(()),
+        }
+    }
+
+    fn take_class(
+        &mut self,
+        plan: &Plan,
+        number: usize,
+        class: &str,
+        pool: &str,
+    ) -> Result<(), AllocError>
+        ensures { OnOk result (spec.TakesClass plan.now number class.now pool.now self.old self.new) }
+    {
+        let label = pair(self.alloc, class, pool)?;
+        if !self.classes.contains(&label)
+            && class_family(self.alloc, plan, class, pool)?.is_empty()
+        {
+            self.classes.insert(&label)?;
+            self.found.push(NotPlanned::Class {
+                line: number,
+                class: String::from_str(self.alloc, class)?,
+                pool: String::from_str(self.alloc, pool)?,
+            })?;
+        }
+        Ok(())
+    }
+
+    fn take_kind(&mut self, plan: &Plan, number: usize, kind: &str) -> Result<(), AllocError>
+        ensures { OnOk result (spec.TakesKind plan.now number kind.now self.old self.new) }
+    {
+        if !self.kinds.contains(kind) && client_family(self.alloc, plan, kind)?.is_empty() {
+            self.kinds.insert(kind)?;
+            self.found.push(NotPlanned::Kind {
+                line: number,
+                kind: String::from_str(self.alloc, kind)?,
+            })?;
+        }
+        Ok(())
+    }
+}

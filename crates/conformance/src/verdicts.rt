@@ -1,0 +1,93 @@
+//! What is kept of the actors of which is told.
+
+ghost use Rattle.std.specs.Prelude.{◌≡◌, ◌++◌, ◌∷◌, [], ℕ, List, OnOk, IfOk};
+ghost use Rattle.job_bodies.specs.Plan as plans;
+ghost use Rattle.recorded_classes.specs.declared.settled.Settled as settleds;
+ghost use Rattle.conformance.specs.JobSet.{has_job};
+ghost use Rattle.conformance.specs.Verdicts as spec;
+
+use crate::firsts::Firsts;
+use crate::job_set::JobSet;
+use job_bodies::Plan;
+use plan_families::{class_family, client_family};
+use recorded_classes::Settled;
+use recording_lines::RecordedActor;
+use std::alloc::{AllocError, Global};
+
+/// The actors that are of no body of the plan, and those of which that was not decided: of each label that the plan has the
+/// one with the smallest number.
+#[derive(Debug, Drop)]
+pub(crate) struct Verdicts {
+    pub(crate) strays: Firsts,
+    pub(crate) open: Firsts,
+    /// The jobs that are of no class of the plan.
+    pub(crate) classless: JobSet,
+    alloc: Global,
+}
+
+impl Verdicts {
+    /// None so far.
+    pub(crate) fn new(alloc: Global) -> Verdicts
+        ensures { (plan : plans.Plan) → spec.IsVerdictsOf plan [] result }
+    {
+        Verdicts {
+            strays: Firsts::new(alloc),
+            open: Firsts::new(alloc),
+            classless: JobSet::new(alloc),
+            alloc,
+        }
+    }
+
+    /// It is told of one more actor.
+    ///
+    /// # Errors
+    ///
+    /// `AllocError` where there is no memory for it.
+    pub(crate) fn note(&mut self, plan: &Plan, settled: Settled) -> Result<(), AllocError>
+        ensures { (told : List settleds.Settled) → spec.IsVerdictsOf plan.now told self.old → OnOk result (spec.IsVerdictsOf plan.now (told ++ settled ∷ []) self.new) }
+    {
+        if !settled.family.is_decided {
+            return self.note_open(plan, settled);
+        }
+        if settled.family.members.is_empty() {
+            return self.note_stray(plan, settled);
+        }
+        Ok(())
+    }
+
+    fn note_open(&mut self, plan: &Plan, settled: Settled) -> Result<(), AllocError>
+        ensures open { OnOk result ((told : List settleds.Settled) → spec.AreFirsts told self.old.open.actors.items → spec.AreFirsts (spec.with_planned plan.now settled told) self.new.open.actors.items) }
+        ensures strays { self.new.strays ≡ self.old.strays }
+        ensures classless { self.new.classless ≡ self.old.classless }
+    {
+        if is_planned(self.alloc, plan, &settled)? {
+            self.open.note(settled)?;
+        }
+        Ok(())
+    }
+
+    fn note_stray(&mut self, plan: &Plan, settled: Settled) -> Result<(), AllocError>
+        ensures strays { OnOk result ((told : List settleds.Settled) → spec.AreFirsts told self.old.strays.actors.items → spec.AreFirsts (spec.with_planned plan.now settled told) self.new.strays.actors.items) }
+        ensures open { self.new.open ≡ self.old.open }
+        ensures classless { OnOk result ((job : ℕ) → has_job self.new.classless job ≡ spec.with_job settled.actor (has_job self.old.classless job) job) }
+    {
+        if let RecordedActor::Job(job) = settled.actor {
+            self.classless.insert(job)?;
+        }
+        if is_planned(self.alloc, plan, &settled)? {
+            self.strays.note(settled)?;
+        }
+        Ok(())
+    }
+}
+
+/// Whether the plan has the actor's label.
+fn is_planned(alloc: Global, plan: &Plan, settled: &Settled) -> Result<bool, AllocError>
+    ensures { IfOk result (λ is. is ≡ spec.is_planned plan.now settled.now) }
+{
+    let family = match settled.actor {
+        RecordedActor::Job(_) => class_family(alloc, plan, &settled.label, &settled.pool)?,
+        RecordedActor::Round(_) => client_family(alloc, plan, &settled.label)?,
+    };
+    Ok(!family.is_empty())
+}

@@ -1,0 +1,93 @@
+//! Lines of a recording that are looked for, and the first of them.
+
+ghost use Rattle.std.specs.Prelude.{◌≡◌};
+ghost use Rattle.recording_lines.specs.RecordingLine.{line_seen};
+ghost use Rattle.conformance.specs.Lines.{lines_of};
+ghost use Rattle.conformance.specs.Wanted as spec;
+
+use crate::good_lines::GoodLines;
+use recording_lines::{Line, RecordedActor};
+
+/// What is looked for.
+#[derive(Clone, Copy, Debug)]
+pub(crate) enum Wanted {
+    /// The line that submits this job.
+    Submit(usize),
+    /// The line that begins this round.
+    Begin(usize),
+    /// A line with which the actor got this job.
+    Got { actor: RecordedActor, job: usize },
+    /// The last line of the actor.
+    Last(RecordedActor),
+}
+
+impl Wanted {
+    /// The line that gives the actor its label.
+    pub(crate) fn label_of(actor: RecordedActor) -> Wanted
+        ensures { result ≡ spec.label_line actor }
+    {
+        match actor {
+            RecordedActor::Job(job) => Wanted::Submit(job),
+            RecordedActor::Round(round) => Wanted::Begin(round),
+        }
+    }
+
+    pub(crate) fn is(self, line: &Line<'_>) -> bool
+        ensures { result ≡ spec.is_wanted self (line_seen line.now) }
+    {
+        match (self, *line) {
+            (Wanted::Submit(job), Line::Submits { job: one, .. }) => one == job,
+            (Wanted::Begin(round), Line::RoundBegins { round: one, .. }) => one == round,
+            (
+                Wanted::Got { actor, job },
+                Line::Got {
+                    actor: who,
+                    job: one,
+                },
+            ) => is_same_actor(who, actor) && one == job,
+            (Wanted::Last(actor), Line::RoundEnds { round }) => {
+                is_same_actor(RecordedActor::Round(round), actor)
+            }
+            (Wanted::Last(actor), Line::JobEnds { job } | Line::JobThrew { job }) => {
+                is_same_actor(RecordedActor::Job(job), actor)
+            }
+            _ => false,
+        }
+    }
+}
+
+fn is_same_actor(one: RecordedActor, other: RecordedActor) -> bool
+    ensures { result ≡ spec.is_same_actor one other }
+{
+    match (one, other) {
+        (RecordedActor::Job(n), RecordedActor::Job(m))
+        | (RecordedActor::Round(n), RecordedActor::Round(m)) => n == m,
+        _ => false,
+    }
+}
+
+/// The first line of the text that is wanted, with its number, from 1.
+pub(crate) fn first_line(text: &[u8], wanted: Wanted) -> Option<(usize, Line<'_>)>
+    ensures { spec.IsFirstLine (lines_of text.now) wanted (spec.found_seen result) }
+{
+    let mut lines = GoodLines::new(text);
+    let mut number = 0;
+    while let Some(line) = lines.next() {
+        number += 1;
+        if wanted.is(&line) {
+            return Some((number, line));
+        }
+    }
+    None
+}
+
+/// The label that a line gives, which submits a job or begins a round; else none.
+pub(crate) fn label_in<'a>(line: &Line<'a>) -> &'a str
+    ensures { result.now ≡ spec.label_in (line_seen line.now) }
+{
+    match *line {
+        Line::Submits { class, .. } => class,
+        Line::RoundBegins { kind, .. } => kind,
+        _ => "",
+    }
+}
