@@ -37,7 +37,7 @@ const WORLDS: [&str; 6] = [
     "world_stuck",
 ];
 
-const SERVED: [&str; 10] = [
+const SERVED: [&str; 11] = [
     "served_replays",
     "served_examples",
     "served_faults",
@@ -48,6 +48,7 @@ const SERVED: [&str; 10] = [
     "served_explanations",
     "served_certificates",
     "served_words",
+    "recorded_conforms",
 ];
 
 const ON_THREADS: [&str; 8] = [

@@ -7,15 +7,15 @@ mod words;
 ghost use Rattle.std.specs.Prelude.{◌<◌};
 
 use crate::files::Suite;
-use crate::served::ended::{Ended, serve};
+use crate::served::ended::{Ended, Query, serve};
 use crate::served::failing::Case;
 use crate::served::words::asked;
-use sizing_cli::{MemorySink, MemorySource, Review};
+use sizing_cli::{MemorySink, MemorySource, Reading, Review};
 use std::alloc::{AllocError, Global};
 
 /// What the program is given.
 ///
-/// - `replay`, `check` and `explain` are the whole input of the command. Its answer is what is written, with the status on a
+/// - `replay`, `check`, `explain` and `conform` are the whole input of the command. Its answer is what is written, with the status on a
 ///   last line. An input that is short is also read and answered where a call of the source or of the sink fails.
 /// - `check and explain` is an input of both commands. Its answer is that of the first, and behind it that of the second
 ///   where that is another.
@@ -33,65 +33,66 @@ const LONG: usize = 20_000;
 impl Suite for Served {
     fn answer(&self, alloc: Global, kind: &str, input: &[u8]) -> Result<String, AllocError> {
         match kind {
-            "replay" => answered(alloc, Review::Replay, input),
-            "check" => answered(alloc, Review::Check, input),
-            "explain" => answered(alloc, Review::Explain, input),
+            "replay" => answered(alloc, Query::Review(Review::Replay), input),
+            "check" => answered(alloc, Query::Review(Review::Check), input),
+            "explain" => answered(alloc, Query::Review(Review::Explain), input),
             "check and explain" => checked_and_explained(alloc, input),
-            "fronts of a replay" => fronts(alloc, Review::Replay, input),
-            "fronts of a check" => fronts(alloc, Review::Check, input),
-            "fronts of an explain" => fronts(alloc, Review::Explain, input),
+            "fronts of a replay" => fronts(alloc, Query::Review(Review::Replay), input),
+            "fronts of a check" => fronts(alloc, Query::Review(Review::Check), input),
+            "fronts of an explain" => fronts(alloc, Query::Review(Review::Explain), input),
+            "conform" => answered(alloc, Query::Reading(Reading::Conform), input),
             "words" => asked(alloc, input),
             _ => String::from_str(alloc, "no such kind of input"),
         }
     }
 }
 
-fn whole(alloc: Global, review: Review, input: &[u8]) -> Result<Ended, AllocError> {
+fn whole(alloc: Global, query: Query, input: &[u8]) -> Result<Ended, AllocError> {
     let sink = MemorySink::new(alloc);
-    serve(alloc, review, &mut MemorySource::new(input), sink)
+    serve(alloc, query, &mut MemorySource::new(input), sink)
 }
 
 // What is answered where a call reads and writes at most so many bytes.
-fn in_pieces(alloc: Global, review: Review, input: &[u8], most: usize) -> Result<Ended, AllocError>
+fn in_pieces(alloc: Global, query: Query, input: &[u8], most: usize) -> Result<Ended, AllocError>
     requires { 0 < most }
 {
     let mut source = MemorySource::new(input).at_most(most);
     let sink = MemorySink::new(alloc).at_most(most);
-    serve(alloc, review, &mut source, sink)
+    serve(alloc, query, &mut source, sink)
 }
 
-fn answered(alloc: Global, review: Review, input: &[u8]) -> Result<String, AllocError> {
-    let ended = whole(alloc, review, input)?;
+fn answered(alloc: Global, query: Query, input: &[u8]) -> Result<String, AllocError> {
+    let ended = whole(alloc, query, input)?;
     let mut answer = ended.shown(alloc)?;
     let in_pieces = if input.len() <= LONG {
-        in_pieces(alloc, review, input, 1)?
+        in_pieces(alloc, query, input, 1)?
     } else {
-        in_pieces(alloc, review, input, 5_000)?
+        in_pieces(alloc, query, input, 5_000)?
     };
     if in_pieces != ended {
         answer.push_str(", but not in pieces")?;
     }
     if input.len() <= SHORT {
         let case = Case { input, ended };
-        case.push_otherwise(alloc, review, &mut answer)?;
+        case.push_otherwise(alloc, query, &mut answer)?;
     }
     Ok(answer)
 }
 
 fn checked_and_explained(alloc: Global, input: &[u8]) -> Result<String, AllocError> {
-    let mut answer = answered(alloc, Review::Check, input)?;
-    let explained = answered(alloc, Review::Explain, input)?;
+    let mut answer = answered(alloc, Query::Review(Review::Check), input)?;
+    let explained = answered(alloc, Query::Review(Review::Explain), input)?;
     if explained != answer {
         write!(answer, "\n{explained}")?;
     }
     Ok(answer)
 }
 
-fn fronts(alloc: Global, review: Review, input: &[u8]) -> Result<String, AllocError> {
-    let mut last = whole(alloc, review, &[])?;
+fn fronts(alloc: Global, query: Query, input: &[u8]) -> Result<String, AllocError> {
+    let mut last = whole(alloc, query, &[])?;
     let mut answer = last.shown(alloc)?;
     for length in 0..input.len() {
-        let ended = whole(alloc, review, &input[..length])?;
+        let ended = whole(alloc, query, &input[..length])?;
         if ended != last {
             let shown = ended.shown(alloc)?;
             write!(answer, "\nfrom {length} bytes:\n{shown}")?;

@@ -1,7 +1,31 @@
 //! Serves inputs to memory.
 
-use sizing_cli::{MemorySink, Review, ServeFault, Source, Status, serve_alone};
+use sizing_cli::{
+    MemorySink, Reading, Review, ServeFault, Sink, Source, Status, serve_alone, serve_recording,
+};
 use std::alloc::{AllocError, Global};
+
+/// What is asked of an input without any thread.
+#[derive(Clone, Copy)]
+pub enum Query {
+    Review(Review),
+    Reading(Reading),
+}
+
+impl Query {
+    /// Serves one input to it.
+    pub fn serve<S: Source, K: Sink>(
+        self,
+        alloc: Global,
+        source: &mut S,
+        sink: &mut K,
+    ) -> Result<Status, ServeFault> {
+        match self {
+            Query::Review(review) => serve_alone(alloc, review, source, sink),
+            Query::Reading(reading) => serve_recording(alloc, reading, source, sink),
+        }
+    }
+}
 
 /// What was written, and how the call ended.
 #[derive(PartialEq, Drop)]
@@ -28,12 +52,12 @@ impl Ended {
 /// Serves what the source gives.
 pub fn serve<S: Source>(
     alloc: Global,
-    review: Review,
+    query: Query,
     source: &mut S,
     sink: MemorySink,
 ) -> Result<Ended, AllocError> {
     let mut sink = sink;
-    let outcome = serve_alone(alloc, review, source, &mut sink);
+    let outcome = query.serve(alloc, source, &mut sink);
     let written = sink.written().to_vec(alloc)?;
     Ok(Ended { written, outcome })
 }

@@ -2,8 +2,8 @@
 
 ghost use Rattle.std.specs.Prelude.{◌<◌};
 
-use crate::served::ended::{Ended, serve};
-use sizing_cli::{MemorySink, MemorySource, Review, ServeFault, StdSink, serve_alone};
+use crate::served::ended::{Ended, Query, serve};
+use sizing_cli::{MemorySink, MemorySource, ServeFault, StdSink};
 use std::alloc::{AllocError, Global};
 use std::io;
 use std::io::Write;
@@ -27,12 +27,12 @@ impl Case<'_> {
     pub fn push_otherwise(
         &self,
         alloc: Global,
-        review: Review,
+        query: Query,
         answer: &mut String,
     ) -> Result<(), AllocError> {
-        self.push_failing_reads(alloc, review, answer, 150)?;
-        self.push_failing_writes(alloc, review, answer, 40)?;
-        self.push_stalling_writes(alloc, review, answer)
+        self.push_failing_reads(alloc, query, answer, 150)?;
+        self.push_failing_writes(alloc, query, answer, 40)?;
+        self.push_stalling_writes(alloc, query, answer)
     }
 
     // A source that fails gives 60, and nothing is written. One call more than those that give the bytes is made, which
@@ -40,7 +40,7 @@ impl Case<'_> {
     fn push_failing_reads(
         &self,
         alloc: Global,
-        review: Review,
+        query: Query,
         answer: &mut String,
         most: usize,
     ) -> Result<(), AllocError>
@@ -51,7 +51,7 @@ impl Case<'_> {
             let mut source = MemorySource::new(self.input)
                 .at_most(most)
                 .failing_after(calls);
-            let failed = serve(alloc, review, &mut source, MemorySink::new(alloc))?;
+            let failed = serve(alloc, query, &mut source, MemorySink::new(alloc))?;
             let is_right = if calls <= last {
                 failed.written.is_empty() && failed.outcome == Err(READ_FAILED)
             } else {
@@ -72,7 +72,7 @@ impl Case<'_> {
     fn push_failing_writes(
         &self,
         alloc: Global,
-        review: Review,
+        query: Query,
         answer: &mut String,
         most: usize,
     ) -> Result<(), AllocError>
@@ -83,7 +83,7 @@ impl Case<'_> {
                 .at_most(most)
                 .failing_after(calls as u64);
             let mut source = MemorySource::new(self.input);
-            let failed = serve(alloc, review, &mut source, sink)?;
+            let failed = serve(alloc, query, &mut source, sink)?;
             if !is_front_of(&failed, &self.ended, most.saturating_mul(calls)) {
                 write!(
                     answer,
@@ -98,7 +98,7 @@ impl Case<'_> {
     fn push_stalling_writes(
         &self,
         alloc: Global,
-        review: Review,
+        query: Query,
         answer: &mut String,
     ) -> Result<(), AllocError> {
         for calls in 0..=self.ended.written.len().div_ceil(STALLING_PIECE) {
@@ -107,7 +107,7 @@ impl Case<'_> {
                 calls,
             });
             let mut source = MemorySource::new(self.input);
-            let outcome = serve_alone(alloc, review, &mut source, &mut sink);
+            let outcome = query.serve(alloc, &mut source, &mut sink);
             let Stalling { taken, calls: _ } = sink.into_inner();
             let failed = Ended {
                 written: taken,

@@ -17,6 +17,7 @@ pub fn asked(alloc: Global, lines: &[u8]) -> Result<String, AllocError> {
 fn told(alloc: Global, asked: &Asked<'_>) -> Result<String, AllocError> {
     let mut text = match asked.command {
         Command::Alone(review) => format!(in alloc; "Some({review:?})")?,
+        Command::OnRecording(reading) => format!(in alloc; "Some({reading:?})")?,
         Command::OnThreads(task) => format!(in alloc; "Some({task:?})")?,
     };
     if let Some(first) = asked.first {
