@@ -67,16 +67,24 @@ pub record IsTooLong (plan : Plan) : Type 0 where
   pub accepts : IsTrue (accepted plan cert)
   pub long : HasLongText cert
 
--- what a search comes to is the line of a certificate, where it is a text
-abbrev pub IsLineIfText : Certified → Type 0
-IsLineIfText (Text line) = IsCertLine line.items
-IsLineIfText Nothing = ⊤
-IsLineIfText TooLong = ⊤
-
 -- sizes were looked for, and the declared ones are not what was found; nor does the steady certificate accept them
 pub record IsUncertified (plan : Plan) : Type 0 where
   pub sizes : SizesFound
   pub is_open : IsOpen plan sizes
+
+-- what a search for a certificate of the plan comes to: the line of one; or none, and then a search for sizes comes to others; or one
+-- that accepts the plan, and whose text is too long
+abbrev pub IsFoundFor : Plan → Certified → Type 0
+IsFoundFor plan (Text line) = IsCertLine line.items
+IsFoundFor plan Nothing = IsUncertified plan
+IsFoundFor plan TooLong = IsTooLong plan
+
+-- what it comes to for the plan of a text, if it is of one
+abbrev pub IsSearched : Result Plan PlanFault → Result Certified PlanFault → Type 0
+IsSearched (Ok plan) (Ok found) = IsFoundFor plan found
+IsSearched (Err fault) (Err told) = told ≡ fault
+IsSearched (Ok plan) (Err told) = ⊥
+IsSearched (Err fault) (Ok found) = ⊥
 
 -- to the text of a plan: a bundle with a certificate; or the line that one is too long, where it is; or the line that none was
 -- found, and then the steady one is none, and a search for sizes comes to others or to none

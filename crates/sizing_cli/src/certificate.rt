@@ -1,6 +1,7 @@
 //! A certificate of a plan as it is.
 
 ghost use Rattle.std.specs.Prelude.{◌≡◌, ◌≤◌, IfOk, IfErr, IfSome, IfNone, IsTrue, false};
+ghost use Rattle.command_line.specs.declared.command.TheConstants.{MAX_WORKERS};
 ghost use Rattle.headline.specs.Accepted.{accepted};
 ghost use Rattle.steady_certificates.specs.Steady.{steady_cert};
 ghost use Rattle.ask_answers.specs.Finding.{IsKnown};
@@ -32,7 +33,7 @@ pub(crate) fn certificate_of<R: Threads + Wait + Sync>(
     plan: &Plan,
 ) -> Result<Option<Cert>, ServeFault>
     requires some { 1 ≤ workers }
-    requires most { workers ≤ 64 }
+    requires most { workers ≤ MAX_WORKERS }
     ensures accepted { IfOk result (λ found. IfSome found (λ cert. IsTrue (accepted plan.now cert))) }
     ensures none { IfOk result (λ found. IfNone found (IsUncertified plan.now)) }
     ensures fault { IfErr result (λ fault. IsTrue (is_of_search fault.number)) }

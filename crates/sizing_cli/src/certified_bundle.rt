@@ -1,6 +1,7 @@
 //! Bundles to which `check` says yes.
 
-ghost use Rattle.std.specs.Prelude.{◌≤◌, IfOk, IfErr, IfSome, IsTrue};
+ghost use Rattle.std.specs.Prelude.{◌≡◌, ◌≤◌, ◌++◌, ◌∷◌, codes, IfOk, IfErr, IfSome, IsTrue};
+ghost use Rattle.command_line.specs.declared.command.TheConstants.{MAX_WORKERS};
 ghost use Rattle.sizing_cli.specs.Certify.{IsBundleWith, IsYes};
 ghost use Rattle.sizing_cli.specs.SplitAt.{IsSplitAt};
 ghost use Rattle.sizing_cli.specs.ServeFault.{is_of_search};
@@ -10,7 +11,7 @@ use crate::at_once::AtOnce;
 use crate::bundle::{Bundle, bundle_of};
 use cert_check::{CheckFault, check_on};
 use faults::number::{GATE, MEMORY};
-use std::alloc::Global;
+use std::alloc::{AllocError, Global};
 use std::sync::Wait;
 use std::thread::Threads;
 
@@ -20,22 +21,30 @@ pub fn certified_bundle<R: Threads + Wait + Sync>(
     alloc: Global,
     workers: usize,
     plan: Vec<u8>,
-    cert: &[u8],
+    cert: Vec<u8>,
 ) -> Result<Option<Vec<u8>>, ServeFault>
     requires some { 1 ≤ workers }
-    requires most { workers ≤ 64 }
-    ensures bundle { IfOk result (λ found. IfSome found (λ text. IsBundleWith plan.items cert.now text.items)) }
+    requires most { workers ≤ MAX_WORKERS }
+    ensures bundle { IfOk result (λ found. IfSome found (λ text. IsBundleWith plan.items cert.items text.items)) }
     ensures fault { IfErr result (λ fault. IsTrue (is_of_search fault.number)) }
 {
     let plan_len = plan.len();
-    let mut text = plan;
-    text.extend_from_slice(b"%%\n")?;
-    text.extend_from_slice(cert)?;
+    let text = joined(plan, cert)?;
     if is_certified(rt, alloc, workers, &text, plan_len)? {
         Ok(Some(text))
     } else {
         Ok(None)
     }
+}
+
+/// The two texts with a line `%%` between them. The room of the second one is free then.
+fn joined(plan: Vec<u8>, cert: Vec<u8>) -> Result<Vec<u8>, AllocError>
+    ensures { IfOk result (λ text. text.items ≡ plan.items ++ (codes "%%" ++ 10 ∷ cert.items)) }
+{
+    let mut text = plan;
+    text.extend_from_slice(b"%%\n")?;
+    text.extend_from_slice(&cert)?;
+    Ok(text)
 }
 
 /// Whether the text is a bundle whose plan has so many bytes, and `check` says yes to its parts.
@@ -47,7 +56,7 @@ fn is_certified<R: Threads + Wait + Sync>(
     plan_len: usize,
 ) -> Result<bool, ServeFault>
     requires some { 1 ≤ workers }
-    requires most { workers ≤ 64 }
+    requires most { workers ≤ MAX_WORKERS }
     ensures yes { IfOk result (λ yes. IsTrue yes → IsSplitAt plan_len text.now) }
     ensures fault { IfErr result (λ fault. IsTrue (is_of_search fault.number)) }
 {
@@ -65,7 +74,7 @@ fn says_yes<R: Threads + Wait + Sync>(
     bundle: Bundle<'_>,
 ) -> Result<bool, ServeFault>
     requires some { 1 ≤ workers }
-    requires most { workers ≤ 64 }
+    requires most { workers ≤ MAX_WORKERS }
     ensures yes { IfOk result (λ yes. IsTrue yes → IsYes bundle.entry.plan.now bundle.entry.second.now) }
     ensures fault { IfErr result (λ fault. IsTrue (is_of_search fault.number)) }
 {

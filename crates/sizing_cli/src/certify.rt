@@ -1,6 +1,8 @@
 //! The search for a certificate, from the bytes of a plan to those of a bundle.
 
 ghost use Rattle.std.specs.Prelude.{◌≡◌, ◌≤◌, IfOk, IfErr, IsTrue, length};
+ghost use Rattle.command_line.specs.declared.command.TheConstants.{MAX_WORKERS};
+ghost use Rattle.plan_text.specs.PlanOf.{plan_of};
 ghost use Rattle.sizing_cli.specs.Certify as spec;
 ghost use Rattle.sizing_cli.specs.ServeFault.{is_of_search};
 
@@ -13,7 +15,7 @@ use crate::texts::plan_in;
 use crate::{ServeFault, Status};
 use cert_text::{MAX_TEXT_BYTES, write_cert};
 use faults::number::MIXED;
-use job_bodies::Plan;
+use job_bodies::{Plan, PlanFault};
 use std::alloc::{AllocError, Global};
 use std::sync::Wait;
 use std::thread::Threads;
@@ -40,7 +42,7 @@ pub fn certify<R: Threads + Wait + Sync>(
     input: Vec<u8>,
 ) -> Result<Output, ServeFault>
     requires some { 1 ≤ workers }
-    requires most { workers ≤ 64 }
+    requires most { workers ≤ MAX_WORKERS }
     ensures answer { IfOk result (spec.IsCertifyAnswer input.items) }
     ensures fault { IfErr result (λ fault. IsTrue (is_of_search fault.number)) }
 {
@@ -48,8 +50,11 @@ pub fn certify<R: Threads + Wait + Sync>(
         return Ok(Output::of(input_too_long(alloc)?));
     }
     let text = whole_lines(input)?;
-    match plan_in(alloc, &text)? {
-        Ok(plan) => certify_plan(rt, alloc, workers, &plan, text),
+    let found = searched(rt, alloc, workers, &text)?;
+    match found {
+        Ok(Certified::Text(cert)) => bundle(rt, alloc, workers, text, cert),
+        Ok(Certified::Nothing) => Ok(Output::of(none_found(alloc)?)),
+        Ok(Certified::TooLong) => Ok(Output::of(text_too_long(alloc)?)),
         Err(fault) => Ok(Output::of(plan_fault(alloc, fault)?)),
     }
 }
@@ -69,23 +74,22 @@ pub fn whole_lines(mut text: Vec<u8>) -> Result<Vec<u8>, AllocError>
     Ok(text)
 }
 
-/// The answer to the text of this plan.
-fn certify_plan<R: Threads + Wait + Sync>(
+/// What a search for a certificate of the plan with this text comes to, or the text's first fault. The plan itself is not
+/// kept, so that its room is free when the bundle is checked.
+fn searched<R: Threads + Wait + Sync>(
     rt: &R,
     alloc: Global,
     workers: usize,
-    plan: &Plan,
-    text: Vec<u8>,
-) -> Result<Output, ServeFault>
+    text: &[u8],
+) -> Result<Result<Certified, PlanFault>, ServeFault>
     requires some { 1 ≤ workers }
-    requires most { workers ≤ 64 }
-    ensures answer { IfOk result (spec.AnswersPlan text.items plan.now) }
+    requires most { workers ≤ MAX_WORKERS }
+    ensures found { IfOk result (spec.IsSearched (plan_of text.now)) }
     ensures fault { IfErr result (λ fault. IsTrue (is_of_search fault.number)) }
 {
-    match found_text(rt, alloc, workers, plan)? {
-        Certified::Text(cert) => bundle(rt, alloc, workers, text, &cert),
-        Certified::Nothing => Ok(Output::of(none_found(alloc)?)),
-        Certified::TooLong => Ok(Output::of(text_too_long(alloc)?)),
+    match plan_in(alloc, text)? {
+        Ok(plan) => Ok(Ok(found_text(rt, alloc, workers, &plan)?)),
+        Err(fault) => Ok(Err(fault)),
     }
 }
 
@@ -96,10 +100,8 @@ fn found_text<R: Threads + Wait + Sync>(
     plan: &Plan,
 ) -> Result<Certified, ServeFault>
     requires some { 1 ≤ workers }
-    requires most { workers ≤ 64 }
-    ensures line { IfOk result spec.IsLineIfText }
-    ensures too_long { IfOk result (λ found. found ≡ Certified.TooLong → spec.IsTooLong plan.now) }
-    ensures nothing { IfOk result (λ found. found ≡ Certified.Nothing → spec.IsUncertified plan.now) }
+    requires most { workers ≤ MAX_WORKERS }
+    ensures found { IfOk result (spec.IsFoundFor plan.now) }
     ensures fault { IfErr result (λ fault. IsTrue (is_of_search fault.number)) }
 {
     let Some(cert) = certificate_of(rt, alloc, workers, plan)? else {
@@ -119,11 +121,11 @@ fn bundle<R: Threads + Wait + Sync>(
     alloc: Global,
     workers: usize,
     plan: Vec<u8>,
-    cert: &[u8],
+    cert: Vec<u8>,
 ) -> Result<Output, ServeFault>
     requires some { 1 ≤ workers }
-    requires most { workers ≤ 64 }
-    requires line { spec.IsCertLine cert.now }
+    requires most { workers ≤ MAX_WORKERS }
+    requires line { spec.IsCertLine cert.items }
     ensures answer { IfOk result (spec.IsCertified plan.items) }
     ensures fault { IfErr result (λ fault. IsTrue (is_of_search fault.number)) }
 {

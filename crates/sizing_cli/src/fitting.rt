@@ -170,7 +170,7 @@ fn bundle_of_sizes<R: Threads + Wait + Sync>(
         return Ok(Output::of(text_too_long(alloc)?));
     }
     cert_text.extend_from_slice(b"\n")?;
-    match certified_bundle(rt, alloc, WORKERS, fit_text.into_bytes(), &cert_text)? {
+    match certified_bundle(rt, alloc, WORKERS, fit_text.into_bytes(), cert_text)? {
         Some(bytes) => Ok(Output {
             bytes,
             status: Status::Done,

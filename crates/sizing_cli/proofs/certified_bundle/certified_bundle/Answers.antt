@@ -6,10 +6,9 @@ use Rattle.sizing_cli.proofs.certified_bundle.certified_bundle.Goals as goal
 pub returns-then-branch-clause-bundle : goal.returns-then-branch-clause-bundle
 returns-then-branch-clause-bundle g c =
     let plan = c.args.plan.items in
-    let cert = c.args.cert.now in
-    let text : List ℕ = c.extend_from_slice-2.new.self.items in
-    let whole : text ≡ plan ++ (codes "%%" ++ 10 ∷ cert) =
-    c.in_ok-extend_from_slice-2.ensures.items ∙ (ap (λ (l : List ℕ). l ++ cert) c.in_ok-extend_from_slice.ensures.items ∙ append_assoc plan (37 ∷ 37 ∷ 10 ∷ []) cert) in
+    let cert = c.args.cert.items in
+    let text : List ℕ = c.in_ok-text.text.items in
+    let whole : text ≡ plan ++ (codes "%%" ++ 10 ∷ cert) = c.in_ok-text.ensures in
     let len : c.len-plan_len.result ≡ length plan = c.len-plan_len.ensures ∙ c.args.plan.ok.0 in
     let split : IsSplitAt c.len-plan_len.result c.deref.result.now = c.in_ok-is_certified.ensures.yes c.if-branch.true in
     let OfText : List ℕ → Type 0 = λ l. IsSplitAt c.len-plan_len.result l in
