@@ -61,6 +61,6 @@ pub both_true : (a b : Bool) → a ≡ true → b ≡ true → (a && b) ≡ true
 both_true true b h g = g
 both_true false b h g = apart false h refl
 
-pub on_ok_both : {X E P Q : Type 0} (r : Result X E) → OnOk r P → OnOk r Q → OnOk r (P × Q)
-on_ok_both (Ok x) p q = (p, q)
-on_ok_both (Err e) p q = tt
+pub on_ok_both : {X E : Type 0} (P Q : Type 0) (r : Result X E) → OnOk r P → OnOk r Q → OnOk r (P × Q)
+on_ok_both P Q (Ok x) p q = (p, q)
+on_ok_both P Q (Err e) p q = tt
