@@ -17,7 +17,7 @@ use Rattle.recorded_classes.specs.Course.{is_through}
 use Rattle.recorded_classes.specs.Label.{HasLabel}
 use Rattle.recorded_classes.specs.Classes.{IsSettled, StandFor}
 use Rattle.recorded_classes.specs.Kept.{in_table}
-use Rattle.recorded_classes.specs.Settled.{CanBe, IsTold, IsExplained, IsOnceEach, AreTold, AreAllTold, TellsSettled, is_told, has_come}
+use Rattle.recorded_classes.specs.Settled.{CanBe, IsTold, IsOnceEach, AreTold, AreAllTold, TellsSettled, is_told, has_come}
 use Rattle.recorded_classes.specs.StandsFor.{IsKept}
 use Rattle.recorded_classes.specs.Told.{TellsTaken}
 use Rattle.recorded_classes.proofs.Words.{by_bool, apart, none_some, is_none_of, or_either}

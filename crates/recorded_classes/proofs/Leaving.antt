@@ -1,6 +1,5 @@
 -- What is left where the lines end, and what is told of one of those.
-use Rattle.std.proofs.Common.{◌≡◌, ◌<◌, ◌⊎◌, ℕ, true, false, if◌then◌else◌, Bool, List, ◌∷◌, [], ◌++◌, is_some, Option, Some, None, refl, ap, sym, subst, ◌∙◌, inl, inr}
-use Rattle.std.specs.Prelude.{string_bytes}
+use Rattle.std.proofs.Common.{◌≡◌, ◌⊎◌, ℕ, true, false, if◌then◌else◌, Bool, List, is_some, Option, Some, None, refl, ap, sym, subst, ◌∙◌, inl, inr}
 use Rattle.std.specs.List.{list_any}
 use Rattle.recording_lines.specs.declared.recording_line.RecordedActor.{RecordedActor}
 use Rattle.recording_lines.specs.declared.recording_line.RecordedActor.TheVariants.{Job, Round}
@@ -18,7 +17,6 @@ use Rattle.recorded_classes.specs.declared.done.Done.{Done}
 use Rattle.recorded_classes.specs.declared.job_classes.ClassTable.{ClassTable}
 use Rattle.recorded_classes.specs.declared.settled.Settled.{Settled}
 use Rattle.recorded_classes.specs.Budget.{IsEnoughForPlan}
-use Rattle.recorded_classes.specs.Course.{is_through}
 use Rattle.recorded_classes.specs.Kept.{in_table, classes_in, AreDecidedIn, AreAllIn}
 use Rattle.recorded_classes.specs.Left.{IsAt, IsDoneBy, IsLeft, AreNoneBelow}
 use Rattle.recorded_classes.specs.Settled.{IsTold}
@@ -28,7 +26,7 @@ use Rattle.recorded_classes.proofs.Words.{by_option, none_some, some_of}
 use Rattle.recorded_classes.proofs.Later.{jobs_are_later}
 use Rattle.recorded_classes.proofs.Coming.{named_come, come_about}
 use Rattle.recorded_classes.proofs.TakenOut.{Out, path_submitted, still, below_then, classes_then, decided_then}
-use Rattle.recorded_classes.proofs.TellsTaken.{tells_one, tells_same}
+use Rattle.recorded_classes.proofs.TellsTaken.{tells_one}
 use Rattle.recorded_classes.proofs.ToldOne.{told_one}
 
 -- ---- all who are kept

@@ -1,4 +1,4 @@
-use Rattle.std.proofs.Common.{◌≡◌, ap, is_some, sym, subst}
+use Rattle.std.proofs.Common.{ap, is_some, sym, subst}
 use Rattle.std.proofs.lemmas.Result.{on_ok_weaker}
 use Rattle.recorded_paths.proofs.Refusals.{same_actor}
 use Rattle.recorded_classes.specs.declared.actor_table.ActorTable.{ActorTable}
@@ -12,9 +12,10 @@ use Rattle.recorded_classes.proofs.classes.Classes.leave.Goals as goal
 pub returns-in_default-clause-left : goal.returns-in_default-clause-left
 returns-in_default-clause-left c = λ lines keeps paths left none.
     let a = c.args in
-    let same = same_without a.self.now.actors c.remove.new.self a.actor (sym c.in_default.ensures.value) (λ one. same_actor a.actor one) c.remove.ensures.after in
-    (left_same a.plan.now a.self.now.budget lines a.self.now.actors c.remove.new.self a.self.now.known same left,
-      tells_same (IsTold a.plan.now a.self.now.budget lines) a.self.now.actors c.remove.new.self (λ one. ap is_some (same one)) a.told.now.items)
+    let same = same_without a.self.now.actors c.remove.new.self a.actor (sym c.in_default.ensures.value) (λ one. same_actor a.actor one) c.remove.ensures.after in (
+      left_same a.plan.now a.self.now.budget lines a.self.now.actors c.remove.new.self a.self.now.known same left,
+      tells_same (IsTold a.plan.now a.self.now.budget lines) a.self.now.actors c.remove.new.self (λ one. ap is_some (same one)) a.told.now.items,
+    )
 
 pub returns-clause-left : goal.returns-clause-left
 returns-clause-left c = λ lines keeps paths left none.

@@ -1,4 +1,4 @@
-use Rattle.std.proofs.Common.{sym, subst, ◌∙◌}
+use Rattle.std.proofs.Common.{sym, subst}
 use Rattle.std.proofs.lemmas.Result.{on_ok_weaker}
 use Rattle.recorded_paths.specs.declared.paths.Paths.{Paths}
 use Rattle.recorded_paths.specs.StandsFor.{IsPathsOf}

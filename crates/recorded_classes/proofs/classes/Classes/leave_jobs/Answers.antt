@@ -28,8 +28,8 @@ loop-job-preserved c =
           let is = l.invariant.budget in
           let so_far = l.invariant.left lines keeps paths left among sorted in
           let now = left_at a.plan.now l.self.budget a.self.now.budget lines l.self.actors c.leave.new.self.actors c.leave.new.self.known l.told.items c.leave.new.told.items is
-              (c.in_ok-leave.ensures.left lines keeps (subst (λ (p : Paths). IsPathsOf p lines) (sym l.invariant.paths) paths) (subst (λ b. IsLeft a.plan.now b lines l.self.actors l.self.known) (sym is) so_far.0)
-              (none_below l.self.actors c.pop.new.self.items c.in-Some.job (subst IsNonDecreasing items (l.invariant.sorted sorted)) (subst (λ (ns : List ℕ). AreJobsAmong l.self.actors ns) items (l.invariant.among among)))) in
+          (c.in_ok-leave.ensures.left lines keeps (subst (λ (p : Paths). IsPathsOf p lines) (sym l.invariant.paths) paths) (subst (λ b. IsLeft a.plan.now b lines l.self.actors l.self.known) (sym is) so_far.0)
+          (none_below l.self.actors c.pop.new.self.items c.in-Some.job (subst IsNonDecreasing items (l.invariant.sorted sorted)) (subst (λ (ns : List ℕ). AreJobsAmong l.self.actors ns) items (l.invariant.among among)))) in
           (now.0, tells_then (IsTold a.plan.now a.self.now.budget lines) a.self.now.actors l.self.actors c.leave.new.self.actors a.told.now.items l.told.items c.leave.new.told.items so_far.1 now.1);
       among = λ among. jobs_among l.self.actors c.leave.new.self.actors c.pop.new.self.items c.in-Some.job c.leave.ensures.goes (subst (λ (ns : List ℕ). AreJobsAmong l.self.actors ns) items (l.invariant.among among));
       sorted = λ sorted. sorted_front c.pop.new.self.items c.in-Some.job (subst IsNonDecreasing items (l.invariant.sorted sorted));

@@ -1,8 +1,8 @@
-use Rattle.std.proofs.Common.{◌≡◌, ℕ, List, length}
+use Rattle.std.proofs.Common.{◌≡◌, List, length}
 use Rattle.std.specs.List.Sorted.{IsNonDecreasing}
 use Rattle.recording_lines.specs.RecordingLine.{RecordedLine}
 use Rattle.recorded_paths.specs.StandsFor.{KeepsRules, IsPathsOf}
-use Rattle.recorded_classes.specs.Left.{IsLeft, AreJobsAmong, AreRoundsAmong, HasNoJobs}
+use Rattle.recorded_classes.specs.Left.{IsLeft, AreJobsAmong}
 use Rattle.recorded_classes.specs.Settled.{IsTold}
 use Rattle.recorded_classes.specs.Told.{TellsTaken}
 use Rattle.recorded_classes.proofs.classes.Classes.leave_jobs.Given as goal

@@ -26,7 +26,7 @@ loop-round-preserved c =
           let is = l.invariant.budget in
           let so_far = l.invariant.left lines keeps paths left none in
           let now = left_at a.plan.now l.self.budget a.self.now.budget lines l.self.actors c.leave.new.self.actors c.leave.new.self.known l.told.items c.leave.new.told.items is
-              (c.in_ok-leave.ensures.left lines keeps (subst (λ (p : Paths). IsPathsOf p lines) (sym l.invariant.paths) paths) (subst (λ b. IsLeft a.plan.now b lines l.self.actors l.self.known) (sym is) so_far.0) (l.invariant.jobs none)) in
+          (c.in_ok-leave.ensures.left lines keeps (subst (λ (p : Paths). IsPathsOf p lines) (sym l.invariant.paths) paths) (subst (λ b. IsLeft a.plan.now b lines l.self.actors l.self.known) (sym is) so_far.0) (l.invariant.jobs none)) in
           (now.0, tells_then (IsTold a.plan.now a.self.now.budget lines) a.self.now.actors l.self.actors c.leave.new.self.actors a.told.now.items l.told.items c.leave.new.told.items so_far.1 now.1);
       among = λ among. rounds_among l.self.actors c.leave.new.self.actors c.pop.new.self.items c.in-Some.round c.leave.ensures.goes (subst (λ (ns : List ℕ). AreRoundsAmong l.self.actors ns) c.in-Some.ensures.items (l.invariant.among among));
       jobs = λ none. jobs_still_none l.self.actors c.leave.new.self.actors c.in-Some.round c.leave.ensures.goes (l.invariant.jobs none);

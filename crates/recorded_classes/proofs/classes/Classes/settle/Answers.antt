@@ -1,4 +1,4 @@
-use Rattle.std.proofs.Common.{◌≡◌, ℕ, Option, List, Some, None, refl, sym, subst, ◌∙◌}
+use Rattle.std.proofs.Common.{ℕ, Option, Some, None, refl, subst, ◌∙◌}
 use Rattle.recording_lines.specs.declared.recording_line.RecordedActor.{RecordedActor}
 use Rattle.recorded_classes.specs.Budget.{IsEnoughForPlan}
 use Rattle.recorded_classes.specs.Told.{IsStep, IsSettledTold}

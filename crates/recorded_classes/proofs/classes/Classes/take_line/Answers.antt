@@ -1,4 +1,4 @@
-use Rattle.std.proofs.Common.{◌≡◌, [], ◌∷◌, ◌++◌, List, Option, None, refl, sym, subst, ◌∙◌}
+use Rattle.std.proofs.Common.{[], ◌∷◌, ◌++◌, List, Option, None, refl, sym, subst, ◌∙◌}
 use Rattle.std.proofs.lemmas.Result.{on_ok_weaker}
 use Rattle.std.specs.declared.alloc.Global.{Global}
 use Rattle.std.specs.declared.vec.Vec.{Vec}
@@ -67,8 +67,8 @@ returns-in-None-clause-told c = λ budget before keeps stand.
     let a = c.args in
     let lines = before ++ line_seen a.line.now ∷ [] in
     let kept = subst (λ (ended : Option RecordedActor). IsKept a.plan.now lines c.note.new.self.actors c.note.new.self.known ended) c.in-None.is
-        (kept_line a.plan.now before (line_seen a.line.now) (waits_for c.in_ok-path.path) a.self.now.actors c.note.new.self.actors a.self.now.known c.note.new.self.known c.ended_by-ended.result keeps stand.kept
-        c.in_ok-note.ensures.noted c.note.ensures.known c.ended_by-ended.ensures (λ actor is about. c.in_ok-path.ensures before actor is stand.paths about) refl) in
+    (kept_line a.plan.now before (line_seen a.line.now) (waits_for c.in_ok-path.path) a.self.now.actors c.note.new.self.actors a.self.now.known c.note.new.self.known c.ended_by-ended.result keeps stand.kept
+    c.in_ok-note.ensures.noted c.note.ensures.known c.ended_by-ended.ensures (λ actor is about. c.in_ok-path.ensures before actor is stand.paths about) refl) in
     let step : IsStep a.plan.now budget lines c.note.new.self.actors c.note.new.self.actors c.note.new.self.known None a.told.now.items a.told.now.items = record {
       kept = kept;
       decided = λ enough. subst (λ (table : ClassTable). AreDecidedIn table) (sym c.note.ensures.known) (stand.decided enough);

@@ -1,4 +1,4 @@
-use Rattle.std.proofs.Common.{◌≡◌, ◌&&◌, true, List, refl, sym, subst, ◌∙◌}
+use Rattle.std.proofs.Common.{◌≡◌, ◌&&◌, true, List, sym, subst, ◌∙◌}
 use Rattle.std.specs.Prelude.{string_bytes}
 use Rattle.recorded_paths.specs.declared.deed.RecordedDeed.{RecordedDeed}
 use Rattle.recorded_paths.proofs.Tests.{and_first, and_second}
@@ -15,9 +15,9 @@ returns-clause-told c =
     let known = c.in_ok-known.known in
     let family : PathFamily = record { members = c.in_ok-family.family.members; explained = c.in_ok-family.family.explained; is_decided = c.are_both.result } in
     let its : IsFamilyOf a.plan.now a.self.now.budget a.actor (string_bytes a.label) (string_bytes a.pool) a.done.course known.deeds.items c.in_ok-family.family =
-        subst (λ deeds. IsFamilyOf a.plan.now a.self.now.budget a.actor (string_bytes a.label) (string_bytes a.pool) a.done.course deeds c.in_ok-family.family) c.deref-4.ensures.value
-        (subst (λ (pool : List _). IsFamilyOf a.plan.now a.self.now.budget a.actor (string_bytes a.label) pool a.done.course c.deref-4.result.now c.in_ok-family.family) c.deref-3.ensures
-        (subst (λ (label : List _). IsFamilyOf a.plan.now a.self.now.budget a.actor label c.deref-3.result.now a.done.course c.deref-4.result.now c.in_ok-family.family) c.deref-2.ensures c.in_ok-family.ensures)) in
+    subst (λ deeds. IsFamilyOf a.plan.now a.self.now.budget a.actor (string_bytes a.label) (string_bytes a.pool) a.done.course deeds c.in_ok-family.family) c.deref-4.ensures.value
+    (subst (λ (pool : List _). IsFamilyOf a.plan.now a.self.now.budget a.actor (string_bytes a.label) pool a.done.course c.deref-4.result.now c.in_ok-family.family) c.deref-3.ensures
+    (subst (λ (label : List _). IsFamilyOf a.plan.now a.self.now.budget a.actor label c.deref-3.result.now a.done.course c.deref-4.result.now c.in_ok-family.family) c.deref-2.ensures c.in_ok-family.ensures)) in
     record {
       family = family;
       behind = c.in_ok-push.ensures.items;
