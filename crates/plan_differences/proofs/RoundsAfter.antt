@@ -87,16 +87,16 @@ pub kept_begun : (plan : Plan) (kinds : List (Option ℕ)) (before : List Record
 kept_begun plan kinds before line kind begins ends =
     let rounds = rounds_begun plan kinds before line kind begins ends in
     let told =
-        exceeded_more plan kinds before line kind
-        ∙ (ap (λ b. has_exceeded plan kinds before kind || (b && is_some (excess_of (rounds_of plan kinds (before ++ line ∷ []) kind)))) begins
-        ∙ ap (λ r. has_exceeded plan kinds before kind || is_some (excess_of r)) rounds) in
+    exceeded_more plan kinds before line kind
+    ∙ (ap (λ b. has_exceeded plan kinds before kind || (b && is_some (excess_of (rounds_of plan kinds (before ++ line ∷ []) kind)))) begins
+    ∙ ap (λ r. has_exceeded plan kinds before kind || is_some (excess_of r)) rounds) in
     ap₂ kept rounds told
 
 pub kept_ended : (plan : Plan) (kinds : List (Option ℕ)) (before : List RecordedLine) (line : RecordedLine) (kind : ℕ) → begins_kind kinds kind line ≡ false → ends_kind kinds kind line ≡ true
     → (rounds_of plan kinds before kind).ended < (rounds_of plan kinds before kind).begun
     → kept_of plan kinds (before ++ line ∷ []) kind ≡ after_end (kept_of plan kinds before kind)
-kept_ended plan kinds before line kind begins ends open =
-    ap₂ kept (rounds_ended plan kinds before line kind begins ends ∙ sym (end_if_open (rounds_of plan kinds before kind) _ (lt-ltb _ _ open))) (exceeded_same plan kinds before line kind begins)
+kept_ended plan kinds before line kind begins ends still =
+    ap₂ kept (rounds_ended plan kinds before line kind begins ends ∙ sym (end_if_open (rounds_of plan kinds before kind) _ (lt-ltb _ _ still))) (exceeded_same plan kinds before line kind begins)
 
 pub kept_same : (plan : Plan) (kinds : List (Option ℕ)) (before : List RecordedLine) (line : RecordedLine) (kind : ℕ) → begins_kind kinds kind line ≡ false → ends_kind kinds kind line ≡ false
     → kept_of plan kinds (before ++ line ∷ []) kind ≡ kept_of plan kinds before kind

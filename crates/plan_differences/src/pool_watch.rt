@@ -1,6 +1,7 @@
 //! A watch over the pools of a recording.
 
 ghost use Rattle.std.specs.Prelude.{◌≡◌, List, [], ◌∷◌, ◌++◌, map, length, ◌<◌, OnOk, IfOk, IfSome};
+ghost use Rattle.std.specs.Option.{option_to_list};
 ghost use Rattle.job_bodies.specs.Plan as plans;
 ghost use Rattle.recording_lines.specs.RecordingLine.{RecordedLine, Pool, line_seen};
 ghost use Rattle.plan_differences.specs.PoolDeviations as spec;
@@ -8,7 +9,7 @@ ghost use Rattle.plan_differences.specs.PoolWatch.{has_name, IsPoolWatchOf, IsNo
 
 use crate::pool_names::PoolNames;
 use crate::{Difference, differences};
-use job_bodies::Plan;
+use job_bodies::{Plan, Pool};
 use recording_lines::{Line, PoolSizes};
 use std::alloc::{AllocError, Global};
 
@@ -134,9 +135,21 @@ impl PoolWatch {
         ensures { OnOk result (Adds found.old.items (spec.unrecorded_by (has_name self.now.named) plan.now) found.new.items) }
     {
         for (number, pool) in plan.pools().iter().enumerate() {
-            if !self.named.contains(&pool.name) {
-                found.push(PoolDeviation::NotRecorded { pool: number })?;
-            }
+            self.push_unless_named(number, pool, found)?;
+        }
+        Ok(())
+    }
+
+    fn push_unless_named(
+        &self,
+        number: usize,
+        pool: &Pool,
+        found: &mut Vec<PoolDeviation>,
+    ) -> Result<(), AllocError>
+        ensures { OnOk result (Adds found.old.items (option_to_list (spec.unrecorded_at (has_name self.now.named) (number, pool.now))) found.new.items) }
+    {
+        if !self.named.contains(&pool.name) {
+            found.push(PoolDeviation::NotRecorded { pool: number })?;
         }
         Ok(())
     }
