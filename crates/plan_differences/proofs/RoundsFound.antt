@@ -22,8 +22,8 @@ not_above : (a b : ℕ) → nat_lt a b ≡ false → b ≤ a
 not_above a b h = grind (arith, h)
 
 in_all_within : (repeat : Bool) (a b : ℕ) → (not repeat && nat_lt a b) ≡ false → repeat ≡ false → b ≤ a
-in_all_within true a b h no = cc
-in_all_within false a b h no = not_above a b h
+in_all_within true a b _ once = cc
+in_all_within false a b h _ = not_above a b h
 
 within_if_none : (rounds : Rounds) → excess_of rounds ≡ None → IsWithinPlan rounds
 within_if_none rounds h =

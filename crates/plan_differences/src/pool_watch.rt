@@ -3,7 +3,8 @@
 ghost use Rattle.std.specs.Prelude.{◌≡◌, List, [], ◌∷◌, ◌++◌, map, length, ◌<◌, OnOk, IfOk, IfSome};
 ghost use Rattle.std.specs.Option.{option_to_list};
 ghost use Rattle.job_bodies.specs.Plan as plans;
-ghost use Rattle.recording_lines.specs.RecordingLine.{RecordedLine, Pool, line_seen};
+ghost use Rattle.recording_lines.specs.RecordingLine.{RecordedLine, line_seen};
+ghost use Rattle.recording_lines.specs.RecordingLine as lines;
 ghost use Rattle.plan_differences.specs.PoolDeviations as spec;
 ghost use Rattle.plan_differences.specs.PoolWatch.{has_name, IsPoolWatchOf, IsNoted, Adds};
 
@@ -118,8 +119,8 @@ impl PoolWatch {
         sizes: &PoolSizes,
         found: &mut Vec<PoolDeviation>,
     ) -> Result<(), AllocError>
-        ensures noted { OnOk result (IsNoted plan.now self.old (Pool name.now sizes.now) self.new) }
-        ensures found { OnOk result (Adds found.old.items (spec.told_by_line plan.now (has_name self.old.deviated) number (Pool name.now sizes.now)) found.new.items) }
+        ensures noted { OnOk result (IsNoted plan.now self.old (lines.Pool name.now sizes.now) self.new) }
+        ensures found { OnOk result (Adds found.old.items (spec.told_by_line plan.now (has_name self.old.deviated) number (lines.Pool name.now sizes.now)) found.new.items) }
     {
         self.named.insert(name)?;
         if !self.deviated.contains(name) {
