@@ -126,7 +126,7 @@ impl RoundWatch {
         found: &mut Vec<RoundExcess>,
     ) -> Result<(), AllocError>
         ensures taken { (plan : plans.Plan) (before : List RecordedLine) → KeepsRules (before ++ line_seen line.now ∷ []) → IsRoundWatchOf plan kinds.now self.old before → OnOk result (IsRoundWatchOf plan kinds.now self.new (before ++ line_seen line.now ∷ [])) }
-        ensures found { (plan : plans.Plan) (before : List RecordedLine) → KeepsRules (before ++ line_seen line.now ∷ []) → IsRoundWatchOf plan kinds.now self.old before → OnOk result (found.new.items ≡ found.old.items ++ spec.excesses_by_line plan kinds.now before number (line_seen line.now)) }
+        ensures found { (plan : plans.Plan) (before : List RecordedLine) → IsRoundWatchOf plan kinds.now self.old before → OnOk result (found.new.items ≡ found.old.items ++ spec.excesses_by_line plan kinds.now before number (line_seen line.now)) }
     {
         self.note(kinds, number, line, found)
     }
