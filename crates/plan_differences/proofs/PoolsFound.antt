@@ -1,6 +1,6 @@
 -- What is known of the pools where nothing is found.
-use Rattle.std.proofs.Common.{◌≡◌, ℕ, zero, suc, ◌+◌, ◌<◌, ◌==◌, nat_lt, ◌&&◌, ◌||◌, not, Bool, true, false, cond, if◌then◌else◌, List, [], ◌∷◌, ◌++◌, length, map, get_or, slice_index_or, IsTrue, Option, Some, None, refl, ap, sym, subst, ◌∙◌, arith}
-use Rattle.std.specs.List.{list_any, filter_map, cons_option, enumerate_from, position_or_len, Contains}
+use Rattle.std.proofs.Common.{◌≡◌, ℕ, zero, suc, ◌+◌, ◌<◌, ◌==◌, nat_lt, ◌&&◌, ◌||◌, not, Bool, true, false, if◌then◌else◌, List, [], ◌∷◌, ◌++◌, length, map, slice_index_or, Option, Some, None, refl, ap, sym, subst, ◌∙◌, arith}
+use Rattle.std.specs.List.{list_any, filter_map, cons_option, enumerate_from, position_or_len}
 use Rattle.std.specs.Str.{bytes_eq}
 use Rattle.std.proofs.lemmas.Bool.{ltb-true, eqb-true, not-true}
 use Rattle.std.proofs.lemmas.List.Sums.{passes_at_first}
@@ -14,7 +14,7 @@ use Rattle.recorded_rules.specs.Before.{has_pool, is_closed}
 use Rattle.plan_differences.specs.declared.difference.Difference.{Difference}
 use Rattle.plan_differences.specs.declared.difference.Difference.TheVariants.{Core, Max, KindOfQueue, Capacity, CoreTimeout, Prestarted}
 use Rattle.plan_differences.specs.Sizes.{differences, unless, is_array_or_linked, IsAsPlanned}
-use Rattle.plan_differences.specs.PoolDeviations.{Deviation, NotPlanned, Differs, NotRecorded, pool_named, deviations_of_pool, are_none, is_planned_pool, is_planned, deviates, has_deviated, deviations_unless, deviations_by_line, deviations_by_lines, unrecorded_at, unrecorded_by, unrecorded, deviations_at_end}
+use Rattle.plan_differences.specs.PoolDeviations.{Deviation, Differs, NotRecorded, pool_named, deviations_of_pool, are_none, is_planned_pool, is_planned, deviates, has_deviated, deviations_unless, deviations_by_line, deviations_by_lines, unrecorded_at, unrecorded_by, unrecorded}
 use Rattle.plan_differences.specs.WatchLaws.{DeviationsAddUp, PoolsAreAsPlanned, PoolsAreRecorded, IsPlannedPool}
 use Rattle.plan_differences.proofs.LineByLine.{by_last, any_more, all_more, nothing_first, nothing_last}
 

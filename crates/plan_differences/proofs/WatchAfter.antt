@@ -1,5 +1,5 @@
 -- What the watches keep stands for the lines with one more behind them.
-use Rattle.std.proofs.Common.{◌≡◌, ℕ, ◌+◌, ◌<◌, ◌≤◌, map, ◌||◌, nat_lt, Bool, true, false, if◌then◌else◌, List, [], ◌∷◌, ◌++◌, length, slice_get, is_some, Option, Some, None, refl, ap, sym, subst, ◌∙◌, arith}
+use Rattle.std.proofs.Common.{◌≡◌, ℕ, ◌≤◌, map, ◌||◌, nat_lt, Bool, true, false, if◌then◌else◌, List, [], ◌∷◌, ◌++◌, length, slice_get, Option, Some, None, refl, ap, sym, ◌∙◌, arith}
 use Rattle.std.specs.Option.{option_map, option_to_list}
 use Rattle.std.proofs.lemmas.Bool.{ltb-true}
 use Rattle.std.proofs.lemmas.Option.{slice_get-get_or, slice_get_past, slice_get-map}
@@ -10,13 +10,12 @@ use Rattle.recorded_rules.specs.Before.{has_pool, is_closed}
 use Rattle.recorded_paths.specs.StandsFor.{KeepsRules}
 use Rattle.plan_differences.specs.declared.pool_watch.PoolWatch.{PoolWatch}
 use Rattle.plan_differences.specs.declared.round_watch.KindRounds.{KindRounds}
-use Rattle.plan_differences.specs.declared.round_watch.RoundExcess.{RoundExcess}
 use Rattle.plan_differences.specs.declared.round_watch.RoundWatch.{RoundWatch}
 use Rattle.plan_differences.specs.Rounds.{no_rounds, excess_of}
 use Rattle.plan_differences.specs.PoolDeviations.{deviates, has_deviated, deviations_unless, told_by_line as pool_told, deviations_by_line}
 use Rattle.plan_differences.specs.PoolWatch.{has_name, IsPoolWatchOf, IsNoted}
-use Rattle.plan_differences.specs.RoundExcesses.{kind_of, is_kind, begins_kind, ends_kind, rounds_of, has_exceeded, excess_at, first_excess, excesses_of_kind, excesses_by_line}
-use Rattle.plan_differences.specs.RoundWatch.{kept_of, IsRoundWatchOf, with_begun, after_begin, after_end, kind_after, IsCounted, told_by_begin, told_of_kind, told_at, told_by_line}
+use Rattle.plan_differences.specs.RoundExcesses.{kind_of, is_kind, rounds_of, has_exceeded, excess_at, first_excess, excesses_of_kind, excesses_by_line}
+use Rattle.plan_differences.specs.RoundWatch.{kept_of, IsRoundWatchOf, after_begin, after_end, kind_after, IsCounted, told_of_kind, told_at, told_by_line}
 use Rattle.plan_differences.proofs.LineByLine.{any_more}
 use Rattle.plan_differences.proofs.PoolsFound.{deviated_more}
 use Rattle.plan_differences.proofs.RoundsAfter.{rounds_begun, kept_begun, kept_ended, kept_same, open_here}

@@ -1,4 +1,4 @@
-use Rattle.std.proofs.Common.{◌≡◌, map, ap, ◌∙◌}
+use Rattle.std.proofs.Common.{map, ap, ◌∙◌}
 use Rattle.std.proofs.lemmas.List.{take_all}
 use Rattle.plan_differences.specs.declared.round_watch.RoundWatch.{RoundWatch}
 use Rattle.plan_differences.proofs.WatchAfter.{first_kept, rounds_none}
