@@ -42,7 +42,7 @@ impl NotedVoids {
                 &mut self.kept,
                 NotedVoid {
                     void: Void { line: number, what },
-                    open: is_asked(what),
+                    pending: is_asked(what),
                 },
             ),
             None => Ok(()),
