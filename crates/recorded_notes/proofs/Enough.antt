@@ -8,7 +8,7 @@ use Rattle.recorded_paths.proofs.Tests.{filter_filter}
 use Rattle.recorded_notes.specs.declared.line_void.NotedVoid.{NotedVoid}
 use Rattle.recorded_notes.specs.declared.voiding.Void.{Void}
 use Rattle.recorded_notes.specs.Voids.{word_of, has_word, first_of_each}
-use Rattle.recorded_notes.specs.Noted.{closed_with, IsEnough, none, keep, leave, is_first_before, with_first, kept_with, closes, is_excused_by, stays_behind, closed_by, settled_by}
+use Rattle.recorded_notes.specs.Noted.{voids_in, closed_with, IsEnough, none, keep, leave, is_first_before, with_first, kept_with, closes, is_excused_by, stays_behind, closed_by, settled_by}
 use Rattle.recorded_notes.proofs.Firsts.{same_text, unlike}
 
 -- ---- some go
@@ -105,12 +105,6 @@ pub enough_more : (line : RecordedLine) (more : Option NotedVoid) (kept all : Li
 enough_more line more kept all h = enough_with more (settled_by line kept) (settled_by line all) (enough_settled line no_word kept all h)
 
 -- ---- the first ones
-abbrev void_in : NotedVoid → Void
-void_in one = one.void
-
-abbrev pub voids_in : List NotedVoid → List Void
-voids_in noted = map (λ one. one.void) noted
-
 abbrev is_new : (List ℕ → Bool) → Void → Bool
 is_new closed void = not (closed (word_of void.what))
 

@@ -1,11 +1,15 @@
 -- The first void of each word.
-use Rattle.std.proofs.Common.{◌≡◌, ℕ, ◌&&◌, ◌||◌, not, Bool, true, false, if◌then◌else◌, List, [], ◌∷◌, ◌++◌, refl, ap, sym, subst, ◌∙◌}
+use Rattle.std.proofs.Common.{◌≡◌, ℕ, ◌&&◌, ◌||◌, not, Bool, true, false, if◌then◌else◌, List, [], ◌∷◌, ◌++◌, length, take, get_or, ◌+◌, ◌<◌, refl, ap, sym, subst, ◌∙◌, arith}
 use Rattle.std.specs.Str.{bytes_eq}
 use Rattle.std.specs.List.{list_any, filter}
+use Rattle.std.proofs.lemmas.Grind.{common_steps}
+use Rattle.std.proofs.lemmas.List.{map-append}
 use Rattle.std.proofs.lemmas.Slice.Eq.{bytes_eq-Decides}
 use Rattle.recorded_paths.proofs.Tests.{filter_more}
 use Rattle.recorded_notes.specs.declared.voiding.Void.{Void}
+use Rattle.recorded_notes.specs.declared.line_void.NotedVoid.{NotedVoid}
 use Rattle.recorded_notes.specs.Voids.{word_of, has_word, first_of_each}
+use Rattle.recorded_notes.specs.Noted.{voids_in, with_word}
 
 pub same_text : (xs ys : List ℕ) → bytes_eq xs ys ≡ true → xs ≡ ys
 same_text xs ys h = (bytes_eq-Decides xs ys).0 h
@@ -40,9 +44,6 @@ stays_unlike : (void one other : Void) → has_word one.what void ≡ false → 
 stays_unlike void one other fresh like = not_like void one other fresh like (has_word other.what void) refl
 
 -- ---- one more behind them
-abbrev pub with_word : Void → List Void → List Void
-with_word one firsts = if list_any (has_word one.what) firsts then firsts else firsts ++ one ∷ []
-
 -- what is behind the first one, where that has the word of the last one or not
 last_goes : (void one : Void) (firsts : List Void) (there : Bool) → unlike void one ≡ false → filter (unlike void) (if there then firsts else firsts ++ one ∷ []) ≡ filter (unlike void) firsts
 last_goes void one firsts true like = refl
@@ -70,3 +71,9 @@ firsts_more [] one = refl
 firsts_more (void ∷ voids) one =
     ap (λ (xs : List Void). void ∷ filter (unlike void) xs) (firsts_more voids one)
     ∙ step void one (first_of_each voids) (has_word one.what void) refl
+
+take_next : (kept : List NotedVoid) (i : ℕ) (one : NotedVoid) → i < length kept → one ≡ get_or kept i one → take (i + 1) kept ≡ take i kept ++ one ∷ []
+take_next kept i one within is = grind (arith, common_steps, within, is)
+
+pub firsts_next : (kept : List NotedVoid) (i : ℕ) (one : NotedVoid) → i < length kept → one ≡ get_or kept i one → with_word one.void (first_of_each (voids_in (take i kept))) ≡ first_of_each (voids_in (take (i + 1) kept))
+firsts_next kept i one within is = sym (ap (λ xs. first_of_each (voids_in xs)) (take_next kept i one within is) ∙ (ap first_of_each (map-append (λ (noted : NotedVoid). noted.void) (take i kept) (one ∷ [])) ∙ firsts_more (voids_in (take i kept)) one.void))

@@ -7,10 +7,10 @@ use Rattle.recorded_notes.specs.declared.line_void.NotedVoid.{NotedVoid}
 use Rattle.recorded_notes.specs.declared.notes.RecordedNotes.{RecordedNotes}
 use Rattle.recorded_notes.specs.Voids.{first_of_each, voids_of}
 use Rattle.recorded_notes.specs.ForeignGets.{submitter_of, is_got_by_own, first_foreign_get}
-use Rattle.recorded_notes.specs.Noted.{noted_from, noted_of, IsEnough, none, kept_with, settled_by}
+use Rattle.recorded_notes.specs.Noted.{voids_in, noted_from, noted_of, IsEnough, none, kept_with, settled_by}
 use Rattle.recorded_notes.specs.Ungot.{submitter_in, table_behind, with_foreign}
 use Rattle.recorded_notes.specs.StandsFor.{IsNotesOf}
-use Rattle.recorded_notes.proofs.Enough.{no_word, enough_more, voids_in, same_firsts}
+use Rattle.recorded_notes.proofs.Enough.{no_word, enough_more, same_firsts}
 use Rattle.recorded_notes.proofs.VoidsBehind.{noted_more, voids_noted}
 use Rattle.recorded_notes.proofs.GetsBehind.{none_submitted, none_got, none_foreign, ungot_of, ungot_behind, foreign_behind}
 

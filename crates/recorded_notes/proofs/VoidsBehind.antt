@@ -11,8 +11,7 @@ use Rattle.recorded_notes.specs.declared.voiding.Void.{Void}
 use Rattle.recorded_notes.specs.declared.voiding.Voiding.{Voiding}
 use Rattle.recorded_notes.specs.declared.voiding.Voiding.TheVariants as what
 use Rattle.recorded_notes.specs.Voids.{asks_for, next_of, asks_next, voiding_of, is_excused, void_of, voids_from}
-use Rattle.recorded_notes.specs.Noted.{is_pending, noted_if, noted_at, noted_from, is_asked, noted_of, excuses, closes, stays_behind, closed_by, settled_by}
-use Rattle.recorded_notes.proofs.Enough.{voids_in}
+use Rattle.recorded_notes.specs.Noted.{voids_in, is_pending, noted_if, noted_at, noted_from, is_asked, noted_of, excuses, closes, stays_behind, closed_by, settled_by}
 
 -- ---- the next line of an actor
 abbrev or_else : Option RecordedLine → Option RecordedLine → Option RecordedLine

@@ -6,9 +6,10 @@ use Rattle.std.specs.Option.{option_and_then, option_map}
 use Rattle.recording_lines.specs.RecordingLine.{RecordedLine}
 use Rattle.recorded_rules.specs.LineParts.{is_of}
 use Rattle.recorded_notes.specs.declared.line_void.NotedVoid.{NotedVoid}
+use Rattle.recorded_notes.specs.declared.voiding.Void.{Void}
 use Rattle.recorded_notes.specs.declared.voiding.Voiding.{Voiding}
 use Rattle.recorded_notes.specs.declared.voiding.Voiding.TheVariants as what
-use Rattle.recorded_notes.specs.Voids.{word_of, is_same_word, asks_for, next_of, voiding_of, is_excused}
+use Rattle.recorded_notes.specs.Voids.{word_of, is_same_word, has_word, asks_for, next_of, voiding_of, is_excused}
 
 -- ---- by all lines
 -- its actor's next line may excuse it, and is not there
@@ -39,6 +40,13 @@ pub data IsEnough : (List ℕ → Bool) → List NotedVoid → List NotedVoid �
   keep : (closed : List ℕ → Bool) (kept all : List NotedVoid) (one : NotedVoid) → IsEnough (closed_with closed one) kept all
       → IsEnough closed (one ∷ kept) (one ∷ all)
   leave : (closed : List ℕ → Bool) (kept all : List NotedVoid) (one : NotedVoid) → closed (word_of one.void.what) ≡ true → IsEnough closed kept all → IsEnough closed kept (one ∷ all)
+
+abbrev pub voids_in : List NotedVoid → List Void
+voids_in noted = map (λ one. one.void) noted
+
+-- behind the first ones of some voids, where none of them has its word
+abbrev pub with_word : Void → List Void → List Void
+with_word one firsts = if list_any (has_word one.what) firsts then firsts else firsts ++ one ∷ []
 
 -- ---- one more line
 abbrev pub is_asked : Voiding → Bool
