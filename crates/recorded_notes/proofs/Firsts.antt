@@ -1,9 +1,8 @@
 -- The first void of each word.
-use Rattle.std.proofs.Common.{◌≡◌, ℕ, ◌&&◌, ◌||◌, not, Bool, true, false, if◌then◌else◌, List, [], ◌∷◌, ◌++◌, length, take, get_or, ◌+◌, ◌<◌, refl, ap, sym, subst, ◌∙◌, arith}
+use Rattle.std.proofs.Common.{◌≡◌, ℕ, ◌&&◌, ◌||◌, not, Bool, true, false, if◌then◌else◌, List, [], ◌∷◌, ◌++◌, length, take, get_or, ◌+◌, ◌<◌, refl, ap, sym, subst, ◌∙◌}
 use Rattle.std.specs.Str.{bytes_eq}
 use Rattle.std.specs.List.{list_any, filter}
-use Rattle.std.proofs.lemmas.Grind.{common_steps}
-use Rattle.std.proofs.lemmas.List.{map-append}
+use Rattle.std.proofs.lemmas.List.{map-append, take_more}
 use Rattle.std.proofs.lemmas.Slice.Eq.{bytes_eq-Decides}
 use Rattle.recorded_paths.proofs.Tests.{filter_more}
 use Rattle.recorded_notes.specs.declared.voiding.Void.{Void}
@@ -72,8 +71,8 @@ firsts_more (void ∷ voids) one =
     ap (λ (xs : List Void). void ∷ filter (unlike void) xs) (firsts_more voids one)
     ∙ step void one (first_of_each voids) (has_word one.what void) refl
 
-take_next : (kept : List NotedVoid) (i : ℕ) (one : NotedVoid) → i < length kept → one ≡ get_or kept i one → take (i + 1) kept ≡ take i kept ++ one ∷ []
-take_next kept i one within is = grind (arith, common_steps, within, is)
-
-pub firsts_next : (kept : List NotedVoid) (i : ℕ) (one : NotedVoid) → i < length kept → one ≡ get_or kept i one → with_word one.void (first_of_each (voids_in (take i kept))) ≡ first_of_each (voids_in (take (i + 1) kept))
-firsts_next kept i one within is = sym (ap (λ xs. first_of_each (voids_in xs)) (take_next kept i one within is) ∙ (ap first_of_each (map-append (λ (noted : NotedVoid). noted.void) (take i kept) (one ∷ [])) ∙ firsts_more (voids_in (take i kept)) one.void))
+-- the list behind a loop that goes over what is kept, by the element that it reads
+pub firsts_next : (kept : List NotedVoid) (i : ℕ) (d : NotedVoid) → i < length kept → with_word (get_or kept i d).void (first_of_each (voids_in (take i kept))) ≡ first_of_each (voids_in (take (i + 1) kept))
+firsts_next kept i d within =
+    let one = get_or kept i d in
+    sym (ap (λ (xs : List NotedVoid). first_of_each (voids_in xs)) (take_more kept i d within) ∙ (ap first_of_each (map-append (λ (noted : NotedVoid). noted.void) (take i kept) (one ∷ [])) ∙ firsts_more (voids_in (take i kept)) one.void))

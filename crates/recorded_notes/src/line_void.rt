@@ -65,10 +65,7 @@ pub(crate) fn voiding_of(line: &Line<'_>) -> Option<Voiding>
 pub(crate) fn is_asked(what: Voiding) -> bool
     ensures { result ≡ noted.is_asked what }
 {
-    matches!(
-        what,
-        Voiding::TimedOut { .. } | Voiding::Interrupted { .. }
-    )
+    matches!(what, Voiding::TimedOut { .. } | Voiding::Interrupted { .. })
 }
 
 /// Whether two have the same word.
