@@ -1,0 +1,5 @@
+mod Moved
+mod PutIn
+mod Grown
+mod LawfulGets
+mod OwnBody

@@ -1,6 +1,6 @@
 //! A body that covers another one and a path.
 
-ghost use Rattle.std.specs.Prelude.{◌≡◌, ◌≤◌, length, IfOk, IfSome};
+ghost use Rattle.std.specs.Prelude.{◌≡◌, ◌≤◌, length, IfOk, IfSome, IsTrue};
 ghost use Rattle.job_bodies.specs.declared.limits.TheConstants.{MAX_ACTIONS};
 ghost use Rattle.body_paths.specs.declared.deed.Course.TheVariants.{Whole};
 ghost use Rattle.body_paths.specs.Path.{IsPathOf};

@@ -1,6 +1,6 @@
 //! Bodies with a submit more, or with a submit and its get.
 
-ghost use Rattle.std.specs.Prelude.{◌≡◌, IfOk, IfSome};
+ghost use Rattle.std.specs.Prelude.{◌≡◌, ◌≤◌, length, map, IfOk, IfSome};
 ghost use Rattle.covering_bodies.specs.Covers.{Grows};
 ghost use Rattle.covering_bodies.specs.Insertion as spec;
 

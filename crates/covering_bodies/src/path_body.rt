@@ -1,6 +1,7 @@
 //! The body that a path has by itself.
 
-ghost use Rattle.std.specs.Prelude.{◌≡◌, ◌↔◌, IfOk, IfSome, IfNone, MatchOption, All, IsTrue};
+ghost use Rattle.std.specs.Prelude.{◌≡◌, ◌≤◌, ◌↔◌, IfOk, IfSome, MatchOption, All, IsTrue, length};
+ghost use Rattle.job_bodies.specs.declared.limits.TheConstants.{MAX_ACTIONS};
 ghost use Rattle.body_paths.specs.declared.deed.Course.TheVariants.{Whole};
 ghost use Rattle.body_paths.specs.Path.{IsPathOf};
 ghost use Rattle.covering_bodies.specs.Lawful.{HasLawfulGets};
@@ -21,8 +22,10 @@ use std::alloc::{AllocError, Global};
 /// [`AllocError`] where memory runs out.
 pub fn body_of_path(alloc: Global, path: &[Deed]) -> Result<Option<Vec<Action>>, AllocError>
     ensures exact { IfOk result (λ found. MatchOption found (¬ spec.HasBody path.now) (λ body. body.items ≡ spec.body_of path.now)) }
-    ensures lawful { IfOk result (λ found. IfSome found (λ body. spec.HasBody path.now)) }
+    ensures has_body { IfOk result (λ found. IfSome found (λ body. spec.HasBody path.now)) }
     ensures fits { IfOk result (λ found. IfSome found (λ body. IsPathOf Whole body.items path.now)) }
+    ensures short { IfOk result (λ found. IfSome found (λ body. length body.items ≤ MAX_ACTIONS)) }
+    ensures lawful { IfOk result (λ found. IfSome found (λ body. HasLawfulGets body.items)) }
 {
     if path.len() > MAX_ACTIONS || !has_classes(path) {
         return Ok(None);
