@@ -63,3 +63,13 @@ grows_both body at class get_at l behind m = record {
   ));
   work = work_put_in (with_action body at (Submit class)) get_at (Get at) refl ∙ work_put_in body at (Submit class) refl;
 }
+
+-- ---- what was made
+pub grows_by_submit : (body new : List Action) (at class : ℕ) → at ≤ length body → new ≡ with_action body at (Submit class) → Grows body new
+grows_by_submit body new at class l e = subst (λ (actions : List Action). Grows body actions) (sym e) (grows_submit body at class l)
+
+pub grows_by_both : (body now new : List Action) (at class get_at : ℕ) → at ≤ length body → now ≡ with_action body at (Submit class) → at < get_at → get_at ≤ length now → new ≡ with_action now get_at (Get at) → Grows body new
+grows_by_both body now new at class get_at l made behind m e =
+    let within = subst (λ (actions : List Action). get_at ≤ length actions) made m in
+    let all = e ∙ ap (λ (actions : List Action). with_action actions get_at (Get at)) made in
+    subst (λ (actions : List Action). Grows body actions) (sym all) (grows_both body at class get_at l behind within)
