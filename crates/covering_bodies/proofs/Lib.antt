@@ -2,5 +2,6 @@ mod Moved
 mod PutIn
 mod Grown
 mod Found
+mod Stood
 mod LawfulGets
 mod OwnBody

@@ -2,3 +2,4 @@ pub mod Covers
 pub mod Lawful
 pub mod PathBody
 pub mod Insertion
+pub mod Stands

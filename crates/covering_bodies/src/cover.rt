@@ -10,11 +10,12 @@ ghost use Rattle.covering_bodies.specs.Lawful.{HasLawfulGets};
 use crate::common::partners_of;
 use crate::lawful::has_lawful_gets;
 use crate::merge::merged;
+use crate::stands::stands_at;
 use body_paths::{Answer, Course, Deed, path_fits};
 use job_bodies::{Action, MAX_ACTIONS};
 use std::alloc::{AllocError, Global};
 
-/// How many steps are spent on whether a path is of a body.
+/// How many steps are spent on whether the path is of the body as it is.
 const BUDGET: u64 = 1_000_000;
 
 /// A body of which the path is, and every path of the given body too: the given one, with the submits and gets of the
@@ -41,34 +42,21 @@ pub fn covering_body(
         return Ok(None);
     }
     match grown(alloc, body, path)? {
-        Some(new) => Ok(if_it_serves(new, path)),
+        Some(new) => Ok(if_lawful(new)),
         None => Ok(None),
     }
 }
 
-/// The body, with what it lacks of the path.
+/// The body, where the path is of it; else with what it lacks of the path.
 fn grown(alloc: Global, body: &[Action], path: &[Deed]) -> Result<Option<Vec<Action>>, AllocError>
     requires { length body.now ≤ MAX_ACTIONS }
-    ensures { IfOk result (λ found. IfSome found (λ new. Grows body.now new.items)) }
+    ensures fits { IfOk result (λ found. IfSome found (λ new. IsPathOf Whole new.items path.now)) }
+    ensures grows { IfOk result (λ found. IfSome found (λ new. Grows body.now new.items)) }
 {
     if is_path_of(body, path) {
-        return Ok(Some(Vec::from_slice(alloc, body)?));
-    }
-    let mut places = partners_of(alloc, body, path)?;
-    merged(alloc, body, path, &mut places)
-}
-
-/// The body, where it is lawful and the path is of it.
-fn if_it_serves(body: Vec<Action>, path: &[Deed]) -> Option<Vec<Action>>
-    ensures same { IfSome result (λ found. found ≡ body) }
-    ensures short { IfSome result (λ found. length found.items ≤ MAX_ACTIONS) }
-    ensures lawful { IfSome result (λ found. HasLawfulGets found.items) }
-    ensures fits { IfSome result (λ found. IsPathOf Whole found.items path.now) }
-{
-    if body.len() <= MAX_ACTIONS && has_lawful_gets(&body) && is_path_of(&body, path) {
-        Some(body)
+        Ok(Some(Vec::from_slice(alloc, body)?))
     } else {
-        None
+        with_path(alloc, body, path)
     }
 }
 
@@ -78,4 +66,39 @@ fn is_path_of(body: &[Action], path: &[Deed]) -> bool
     ensures { IsTrue result → IsPathOf Whole body.now path.now }
 {
     path_fits(body, path, Course::Whole, BUDGET) == Answer::Fits
+}
+
+/// The body, with what it lacks of the path.
+fn with_path(
+    alloc: Global,
+    body: &[Action],
+    path: &[Deed],
+) -> Result<Option<Vec<Action>>, AllocError>
+    ensures fits { IfOk result (λ found. IfSome found (λ new. IsPathOf Whole new.items path.now)) }
+    ensures grows { IfOk result (λ found. IfSome found (λ new. Grows body.now new.items)) }
+{
+    let mut places = partners_of(alloc, body, path)?;
+    match merged(alloc, body, path, &mut places)? {
+        Some(new) => {
+            if stands_at(alloc, &new, path, &places)? {
+                Ok(Some(new))
+            } else {
+                Ok(None)
+            }
+        }
+        None => Ok(None),
+    }
+}
+
+/// The body, where it is one that a plan may have.
+fn if_lawful(body: Vec<Action>) -> Option<Vec<Action>>
+    ensures same { IfSome result (λ found. found ≡ body) }
+    ensures short { IfSome result (λ found. length found.items ≤ MAX_ACTIONS) }
+    ensures lawful { IfSome result (λ found. HasLawfulGets found.items) }
+{
+    if body.len() <= MAX_ACTIONS && has_lawful_gets(&body) {
+        Some(body)
+    } else {
+        None
+    }
 }

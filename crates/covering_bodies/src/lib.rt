@@ -13,6 +13,7 @@ mod insertion;
 mod lawful;
 mod merge;
 mod path_body;
+mod stands;
 
 pub use cover::covering_body;
 pub use path_body::body_of_path;
