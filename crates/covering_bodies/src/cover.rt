@@ -1,10 +1,10 @@
 //! A body that covers another one and a path.
 
-ghost use Rattle.std.specs.Prelude.{◌≡◌, ◌≤◌, length, IfOk, IfSome, IsTrue};
+ghost use Rattle.std.specs.Prelude.{◌≡◌, ◌≤◌, length, IfOk, IfSome, IsSome, IsSomeAnd, IsTrue};
 ghost use Rattle.job_bodies.specs.declared.limits.TheConstants.{MAX_ACTIONS};
 ghost use Rattle.body_paths.specs.declared.deed.Course.TheVariants.{Whole};
 ghost use Rattle.body_paths.specs.Path.{IsPathOf};
-ghost use Rattle.covering_bodies.specs.Covers.{Covers, Grows, work_of};
+ghost use Rattle.covering_bodies.specs.Covers.{Covers, Grows, IsSurelyOf, work_of};
 ghost use Rattle.covering_bodies.specs.Lawful.{HasLawfulGets};
 
 use crate::common::partners_of;
@@ -37,8 +37,11 @@ pub fn covering_body(
     ensures work { IfOk result (λ found. IfSome found (λ new. work_of new.items ≡ work_of body.now)) }
     ensures short { IfOk result (λ found. IfSome found (λ new. length new.items ≤ MAX_ACTIONS)) }
     ensures lawful { IfOk result (λ found. IfSome found (λ new. HasLawfulGets new.items)) }
+
+    // where the path is of a short body already, that is the answer
+    ensures same { IsSurelyOf body.now path.now → IfOk result (λ found. IsSomeAnd found (λ new. new.items ≡ body.now)) }
 {
-    if body.len() > MAX_ACTIONS || path.len() > MAX_ACTIONS {
+    if body.len() > MAX_ACTIONS {
         return Ok(None);
     }
     match grown(alloc, body, path)? {
@@ -52,6 +55,7 @@ fn grown(alloc: Global, body: &[Action], path: &[Deed]) -> Result<Option<Vec<Act
     requires { length body.now ≤ MAX_ACTIONS }
     ensures fits { IfOk result (λ found. IfSome found (λ new. IsPathOf Whole new.items path.now)) }
     ensures grows { IfOk result (λ found. IfSome found (λ new. Grows body.now new.items)) }
+    ensures same { IsSurelyOf body.now path.now → IfOk result (λ found. IsSomeAnd found (λ new. new.items ≡ body.now)) }
 {
     if is_path_of(body, path) {
         Ok(Some(Vec::from_slice(alloc, body)?))
@@ -63,9 +67,13 @@ fn grown(alloc: Global, body: &[Action], path: &[Deed]) -> Result<Option<Vec<Act
 /// Whether the path is of the body. No, too, where that was not found out.
 fn is_path_of(body: &[Action], path: &[Deed]) -> bool
     requires { length body.now ≤ MAX_ACTIONS }
-    ensures { IsTrue result → IsPathOf Whole body.now path.now }
+    ensures yes { IsTrue result → IsPathOf Whole body.now path.now }
+    ensures sure { IsSurelyOf body.now path.now → IsTrue result }
 {
-    path_fits(body, path, Course::Whole, BUDGET) == Answer::Fits
+    match path_fits(body, path, Course::Whole, BUDGET) {
+        Answer::Fits => true,
+        Answer::Deviates(_) | Answer::Undecided => false,
+    }
 }
 
 /// The body, with what it lacks of the path.
@@ -77,6 +85,9 @@ fn with_path(
     ensures fits { IfOk result (λ found. IfSome found (λ new. IsPathOf Whole new.items path.now)) }
     ensures grows { IfOk result (λ found. IfSome found (λ new. Grows body.now new.items)) }
 {
+    if path.len() > MAX_ACTIONS {
+        return Ok(None);
+    }
     let mut places = partners_of(alloc, body, path)?;
     match merged(alloc, body, path, &mut places)? {
         Some(new) => {
@@ -95,6 +106,7 @@ fn if_lawful(body: Vec<Action>) -> Option<Vec<Action>>
     ensures same { IfSome result (λ found. found ≡ body) }
     ensures short { IfSome result (λ found. length found.items ≤ MAX_ACTIONS) }
     ensures lawful { IfSome result (λ found. HasLawfulGets found.items) }
+    ensures always { length body.items ≤ MAX_ACTIONS → HasLawfulGets body.items → IsSome result }
 {
     if body.len() <= MAX_ACTIONS && has_lawful_gets(&body) {
         Some(body)
