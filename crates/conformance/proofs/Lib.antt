@@ -1,0 +1,4 @@
+pub mod Steps
+pub mod Among
+pub mod FormLines
+pub mod Kept
