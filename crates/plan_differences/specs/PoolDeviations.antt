@@ -58,20 +58,31 @@ has_deviated plan before pool = list_any (deviates plan pool) before
 abbrev pub deviations_unless : Bool → Plan → ℕ → List ℕ → PoolSizes → List Deviation
 deviations_unless told plan number name sizes = if told then [] else deviations_of_pool plan number name sizes (pool_named plan name)
 
+-- what a line tells, where it was told before of the pools of these names
+abbrev pub told_by_line : Plan → (List ℕ → Bool) → ℕ → RecordedLine → List Deviation
+told_by_line plan is_told number (Pool name sizes) = deviations_unless (is_told name) plan number name sizes
+told_by_line plan is_told number line = []
+
 -- Of the lines of one name the first that is not as the plan says tells of all in which it is not, and no later one tells
 -- of any.
 abbrev pub deviations_by_line : Plan → List RecordedLine → ℕ → RecordedLine → List Deviation
-deviations_by_line plan before number (Pool name sizes) = deviations_unless (has_deviated plan before name) plan number name sizes
-deviations_by_line plan before number line = []
+deviations_by_line plan before number line = told_by_line plan (has_deviated plan before) number line
 
 -- ---- all lines
 -- lines are numbered from 1
 unfoldable pub deviations_by_lines : Plan → List RecordedLine → List Deviation
 deviations_by_lines plan lines = flat_map (λ (before, line). deviations_by_line plan before (length before + 1) line) (with_lines_before lines)
 
--- the plan's pools that no line names, ascending
+abbrev pub unrecorded_at : (List ℕ → Bool) → ℕ × plans.Pool → Option Deviation
+unrecorded_at is_named (number, pool) = if is_named pool.name then None else Some (NotRecorded number)
+
+-- those of the plan's pools whose names are not so, ascending
+abbrev pub unrecorded_by : (List ℕ → Bool) → Plan → List Deviation
+unrecorded_by is_named plan = filter_map (unrecorded_at is_named) (enumerate_from 0 plan.pools)
+
+-- the plan's pools that no line names
 unfoldable pub unrecorded : Plan → List RecordedLine → List Deviation
-unrecorded plan lines = filter_map (λ (number, pool). if has_pool lines pool.name then None else Some (NotRecorded number)) (enumerate_from 0 plan.pools)
+unrecorded plan lines = unrecorded_by (has_pool lines) plan
 
 -- a recording that is cut off may yet name them
 abbrev pub deviations_at_end : Plan → List RecordedLine → List Deviation

@@ -2,13 +2,13 @@
 use Rattle.std.specs.Prelude.{◌≡◌, ℕ, ◌+◌, ◌||◌, nat_lt, if◌then◌else◌, List, length, slice_get, is_some, Option, Some, None, []}
 use Rattle.std.specs.Option.{option_map, option_to_list}
 use Rattle.job_bodies.specs.Plan.{Plan}
-use Rattle.recording_lines.specs.RecordingLine.{RecordedLine}
+use Rattle.recording_lines.specs.RecordingLine.{RecordedLine, RoundBegins, RoundEnds}
 use Rattle.plan_differences.specs.declared.excess.Excess.{Excess}
 use Rattle.plan_differences.specs.declared.round_watch.RoundExcess.{RoundExcess}
 use Rattle.plan_differences.specs.declared.round_watch.KindRounds.{KindRounds}
 use Rattle.plan_differences.specs.declared.round_watch.RoundWatch.{RoundWatch}
 use Rattle.plan_differences.specs.Rounds.{Rounds, excess_of}
-use Rattle.plan_differences.specs.RoundExcesses.{rounds_of, has_exceeded, excess_at}
+use Rattle.plan_differences.specs.RoundExcesses.{kind_of, is_kind, rounds_of, has_exceeded, excess_at}
 
 abbrev pub kept_of : Plan → List (Option ℕ) → List RecordedLine → ℕ → KindRounds
 kept_of plan kinds lines kind = record { rounds = rounds_of plan kinds lines kind; has_exceeded = has_exceeded plan kinds lines kind }
@@ -37,3 +37,20 @@ with_ended rounds = record rounds { ended = rounds.ended + 1 }
 -- where a round is open
 abbrev pub after_end : KindRounds → KindRounds
 after_end kept = record kept { rounds = if nat_lt kept.rounds.ended kept.rounds.begun then with_ended kept.rounds else kept.rounds }
+
+-- ---- what a line changes, and what it tells
+abbrev pub kind_after : List (Option ℕ) → RecordedLine → ℕ → Option KindRounds → Option KindRounds
+kind_after kinds (RoundBegins round name) kind there = if is_kind kind (kind_of kinds round) then option_map after_begin there else there
+kind_after kinds (RoundEnds round) kind there = if is_kind kind (kind_of kinds round) then option_map after_end there else there
+kind_after kinds line kind there = there
+
+pub record IsCounted (kinds : List (Option ℕ)) (old : RoundWatch) (line : RecordedLine) (new : RoundWatch) : Type 0 where
+  pub after : (kind : ℕ) → slice_get new.kinds.items kind ≡ kind_after kinds line kind (slice_get old.kinds.items kind)
+
+abbrev pub told_at : RoundWatch → ℕ → Option ℕ → List RoundExcess
+told_at watch number None = []
+told_at watch number (Some kind) = told_of_kind number kind (slice_get watch.kinds.items kind)
+
+abbrev pub told_by_line : List (Option ℕ) → RoundWatch → ℕ → RecordedLine → List RoundExcess
+told_by_line kinds watch number (RoundBegins round name) = told_at watch number (kind_of kinds round)
+told_by_line kinds watch number line = []

@@ -1,11 +1,10 @@
 //! A watch over the pools of a recording.
 
-ghost use Rattle.std.specs.Prelude.{◌≡◌, ◌||◌, ◌&&◌, not, ℕ, List, [], ◌∷◌, ◌++◌, map, length, ◌<◌, OnOk, IfOk, IfSome};
-ghost use Rattle.std.specs.Str.{bytes_eq};
+ghost use Rattle.std.specs.Prelude.{◌≡◌, List, [], ◌∷◌, ◌++◌, map, length, ◌<◌, OnOk, IfOk, IfSome};
 ghost use Rattle.job_bodies.specs.Plan as plans;
-ghost use Rattle.recording_lines.specs.RecordingLine.{RecordedLine, line_seen};
+ghost use Rattle.recording_lines.specs.RecordingLine.{RecordedLine, Pool, line_seen};
 ghost use Rattle.plan_differences.specs.PoolDeviations as spec;
-ghost use Rattle.plan_differences.specs.PoolWatch.{has_name, IsPoolWatchOf, Adds};
+ghost use Rattle.plan_differences.specs.PoolWatch.{has_name, IsPoolWatchOf, IsNoted, Adds};
 
 use crate::pool_names::PoolNames;
 use crate::{Difference, differences};
@@ -73,14 +72,7 @@ impl PoolWatch {
         ensures taken { (before : List RecordedLine) → IsPoolWatchOf plan.now self.old before → OnOk result (IsPoolWatchOf plan.now self.new (before ++ line_seen line.now ∷ [])) }
         ensures found { (before : List RecordedLine) → IsPoolWatchOf plan.now self.old before → OnOk result (Adds found.old.items (spec.deviations_by_line plan.now before number (line_seen line.now)) found.new.items) }
     {
-        match *line {
-            Line::Pool { name, sizes } => self.take_pool(plan, number, name, &sizes, found),
-            Line::End => {
-                self.closed = true;
-                Ok(())
-            }
-            _ => Ok(()),
-        }
+        self.note(plan, number, line, found)
     }
 
     /// Where the last line was `end`, it finds each of the plan's pools that has no line, in the plan's order.
@@ -97,7 +89,27 @@ impl PoolWatch {
         Ok(())
     }
 
-    fn take_pool(
+    fn note(
+        &mut self,
+        plan: &Plan,
+        number: usize,
+        line: &Line<'_>,
+        found: &mut Vec<PoolDeviation>,
+    ) -> Result<(), AllocError>
+        ensures noted { OnOk result (IsNoted plan.now self.old (line_seen line.now) self.new) }
+        ensures found { OnOk result (Adds found.old.items (spec.told_by_line plan.now (has_name self.old.deviated) number (line_seen line.now)) found.new.items) }
+    {
+        match *line {
+            Line::Pool { name, sizes } => self.note_pool(plan, number, name, &sizes, found),
+            Line::End => {
+                self.closed = true;
+                Ok(())
+            }
+            _ => Ok(()),
+        }
+    }
+
+    fn note_pool(
         &mut self,
         plan: &Plan,
         number: usize,
@@ -105,10 +117,8 @@ impl PoolWatch {
         sizes: &PoolSizes,
         found: &mut Vec<PoolDeviation>,
     ) -> Result<(), AllocError>
-        ensures named { OnOk result ((q : List ℕ) → has_name self.new.named q ≡ (has_name self.old.named q || bytes_eq name.now q)) }
-        ensures deviated { OnOk result ((q : List ℕ) → has_name self.new.deviated q ≡ (has_name self.old.deviated q || (bytes_eq name.now q && not (spec.is_planned plan.now name.now sizes.now)))) }
-        ensures closed { self.new.closed ≡ self.old.closed }
-        ensures found { OnOk result (Adds found.old.items (spec.deviations_unless (has_name self.old.deviated name.now) plan.now number name.now sizes.now) found.new.items) }
+        ensures noted { OnOk result (IsNoted plan.now self.old (Pool name.now sizes.now) self.new) }
+        ensures found { OnOk result (Adds found.old.items (spec.told_by_line plan.now (has_name self.old.deviated) number (Pool name.now sizes.now)) found.new.items) }
     {
         self.named.insert(name)?;
         if !self.deviated.contains(name) {
@@ -121,7 +131,7 @@ impl PoolWatch {
     }
 
     fn push_unrecorded(&self, plan: &Plan, found: &mut Vec<PoolDeviation>) -> Result<(), AllocError>
-        ensures { (lines : List RecordedLine) → IsPoolWatchOf plan.now self.now lines → OnOk result (Adds found.old.items (spec.unrecorded plan.now lines) found.new.items) }
+        ensures { OnOk result (Adds found.old.items (spec.unrecorded_by (has_name self.now.named) plan.now) found.new.items) }
     {
         for (number, pool) in plan.pools().iter().enumerate() {
             if !self.named.contains(&pool.name) {

@@ -7,7 +7,7 @@ ghost use Rattle.recording_lines.specs.RecordingLine.{RecordedLine, line_seen};
 ghost use Rattle.recorded_paths.specs.StandsFor.{KeepsRules};
 ghost use Rattle.plan_differences.specs.Rounds.{no_rounds};
 ghost use Rattle.plan_differences.specs.RoundExcesses as spec;
-ghost use Rattle.plan_differences.specs.RoundWatch.{IsRoundWatchOf, after_begin, after_end, told_by_begin, told_of_kind};
+ghost use Rattle.plan_differences.specs.RoundWatch.{IsRoundWatchOf, after_begin, after_end, told_by_begin, told_of_kind, told_by_line, IsCounted};
 
 use crate::{Excess, RoundCount};
 use job_bodies::{Client, Plan};
@@ -108,6 +108,19 @@ impl RoundWatch {
     ) -> Result<(), AllocError>
         ensures taken { (plan : plans.Plan) (before : List RecordedLine) → KeepsRules (before ++ line_seen line.now ∷ []) → IsRoundWatchOf plan kinds.now self.old before → OnOk result (IsRoundWatchOf plan kinds.now self.new (before ++ line_seen line.now ∷ [])) }
         ensures found { (plan : plans.Plan) (before : List RecordedLine) → KeepsRules (before ++ line_seen line.now ∷ []) → IsRoundWatchOf plan kinds.now self.old before → OnOk result (found.new.items ≡ found.old.items ++ spec.excesses_by_line plan kinds.now before number (line_seen line.now)) }
+    {
+        self.note(kinds, number, line, found)
+    }
+
+    fn note(
+        &mut self,
+        kinds: &[Option<usize>],
+        number: usize,
+        line: &Line<'_>,
+        found: &mut Vec<RoundExcess>,
+    ) -> Result<(), AllocError>
+        ensures counted { OnOk result (IsCounted kinds.now self.old (line_seen line.now) self.new) }
+        ensures found { OnOk result (found.new.items ≡ found.old.items ++ told_by_line kinds.now self.old number (line_seen line.now)) }
     {
         match *line {
             Line::RoundBegins { round, .. } => match kind_of(kinds, round) {
