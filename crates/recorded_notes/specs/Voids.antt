@@ -24,6 +24,7 @@ word_of (what.Unseen jobs) = codes "unseen"
 abbrev pub is_same_word : Voiding → Voiding → Bool
 is_same_word one other = bytes_eq (word_of one) (word_of other)
 
+-- whether the line has the word of this one
 abbrev pub has_word : Voiding → Void → Bool
 has_word what void = is_same_word void.what what
 
@@ -74,7 +75,7 @@ voids_from number (line ∷ behind) = cons_option (void_of number line behind) (
 -- the first of each word alone
 abbrev pub first_of_each : List Void → List Void
 first_of_each [] = []
-first_of_each (void ∷ voids) = void ∷ filter (λ other. not (has_word void.what other)) (first_of_each voids)
+first_of_each (void ∷ voids) = void ∷ filter (λ other. not (has_word other.what void)) (first_of_each voids)
 
 unfoldable pub voids_of : List RecordedLine → List Void
 voids_of lines = first_of_each (voids_from 1 lines)

@@ -15,22 +15,22 @@ use recording_lines::{Line, RecordedActor};
 pub(crate) struct NotedVoid {
     pub(crate) void: Void,
     /// It is the last line of its actor, whose next line may say that it voids nothing.
-    pub(crate) open: bool,
+    pub(crate) pending: bool,
 }
 
 impl NotedVoid {
-    /// Whether it is not open, and has the word of another one.
+    /// Whether it is not pending, and has the word of another one.
     pub(crate) fn is_first_before(self, what: Voiding) -> bool
         ensures { result ≡ noted.is_first_before what self }
     {
-        !self.open && is_same_word(self.void.what, what)
+        !self.pending && is_same_word(self.void.what, what)
     }
 
     /// Whether the line says that it voids nothing.
     pub(crate) fn is_excused_by(self, line: &Line<'_>) -> bool
         ensures { result ≡ noted.is_excused_by (line_seen line.now) self }
     {
-        self.open && excuses(self.void.what, line)
+        self.pending && excuses(self.void.what, line)
     }
 
     /// What it is behind this line.
@@ -39,7 +39,7 @@ impl NotedVoid {
     {
         NotedVoid {
             void: self.void,
-            open: self.open && !closes(self.void.what, line),
+            pending: self.pending && !closes(self.void.what, line),
         }
     }
 }
@@ -65,10 +65,7 @@ pub(crate) fn voiding_of(line: &Line<'_>) -> Option<Voiding>
 pub(crate) fn is_asked(what: Voiding) -> bool
     ensures { result ≡ noted.is_asked what }
 {
-    matches!(
-        what,
-        Voiding::TimedOut { .. } | Voiding::Interrupted { .. }
-    )
+    matches!(what, Voiding::TimedOut { .. } | Voiding::Interrupted { .. })
 }
 
 /// Whether two have the same word.

@@ -42,7 +42,7 @@ impl NotedVoids {
                 &mut self.kept,
                 NotedVoid {
                     void: Void { line: number, what },
-                    open: is_asked(what),
+                    pending: is_asked(what),
                 },
             ),
             None => Ok(()),
@@ -55,15 +55,9 @@ impl NotedVoids {
     ///
     /// `AllocError` where there is no memory for the answer.
     pub(crate) fn firsts(&self, alloc: Global) -> Result<Vec<Void>, AllocError>
-        ensures { IfOk result (λ firsts. firsts.items ≡ spec.first_of_each (map (λ one. one.void) self.now.kept.items)) }
+        ensures { IfOk result (λ firsts. firsts.items ≡ spec.first_of_each (noted.voids_in self.now.kept.items)) }
     {
-        let mut firsts = Vec::new(alloc);
-        for noted in &self.kept {
-            if !has_word(&firsts, noted.void.what) {
-                firsts.push(noted.void)?;
-            }
-        }
-        Ok(firsts)
+        firsts_of(alloc, &self.kept)
     }
 }
 
@@ -97,6 +91,26 @@ fn has_first(kept: &[NotedVoid], what: Voiding) -> bool
     ensures { result ≡ list_any (noted.is_first_before what) kept.now }
 {
     kept.iter().any(|one| one.is_first_before(what))
+}
+
+fn firsts_of(alloc: Global, kept: &[NotedVoid]) -> Result<Vec<Void>, AllocError>
+    ensures { IfOk result (λ firsts. firsts.items ≡ spec.first_of_each (noted.voids_in kept.now)) }
+{
+    let mut firsts = Vec::new(alloc);
+    for one in kept {
+        push_word(&mut firsts, one.void)?;
+    }
+    Ok(firsts)
+}
+
+/// Puts it behind the others, unless one of them has its word.
+fn push_word(voids: &mut Vec<Void>, void: Void) -> Result<(), AllocError>
+    ensures { OnOk result (voids.new.items ≡ noted.with_word void voids.old.items) }
+{
+    if !has_word(voids, void.what) {
+        voids.push(void)?;
+    }
+    Ok(())
 }
 
 fn has_word(voids: &[Void], what: Voiding) -> bool

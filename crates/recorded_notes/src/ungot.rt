@@ -2,8 +2,7 @@
 
 ghost use Rattle.std.specs.Prelude.{◌≡◌, ℕ, ◌==◌, OnOk, None, Some, if◌then◌else◌};
 ghost use Rattle.recording_lines.specs.RecordingLine.{line_seen};
-ghost use Rattle.recorded_notes.specs.Ungot.{submitter_in, table_behind};
-ghost use Rattle.recorded_rules.specs.LineParts as parts;
+ghost use Rattle.recorded_notes.specs.Ungot.{submitter_in, table_behind, ungot_by};
 ghost use Rattle.recorded_notes.specs.ForeignGets as spec;
 
 use crate::line_void::is_same_actor;
@@ -60,7 +59,7 @@ impl Ungot {
 
     // The actor got the job.
     fn got(&mut self, actor: RecordedActor, job: usize)
-        ensures { (one : ℕ) → submitter_in self.new one ≡ (if job == one then spec.ungot_by actor (submitter_in self.old one) else submitter_in self.old one) }
+        ensures { (one : ℕ) → submitter_in self.new one ≡ (if job == one then ungot_by actor (submitter_in self.old one) else submitter_in self.old one) }
     {
         if let Some(submitter) = self.submitters.get(&job) {
             if is_same_actor(*submitter, actor) {
