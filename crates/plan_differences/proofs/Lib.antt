@@ -6,3 +6,5 @@ pub mod OpenRounds
 pub mod RoundsAfter
 pub mod RoundsFound
 pub mod WatchAfter
+pub mod Unrecorded
+pub mod KindSet

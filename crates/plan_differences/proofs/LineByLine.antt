@@ -1,7 +1,10 @@
 -- Lists that are made line by line, with one more line behind.
-use Rattle.std.proofs.Common.{◌≡◌, ℕ, ◌+◌, ◌||◌, Bool, false, if◌then◌else◌, List, [], ◌∷◌, ◌++◌, map, count_by, refl, ap, sym, subst, ◌∙◌, append-nil, append_assoc, arith}
-use Rattle.std.specs.List.{list_any, flat_map}
+use Rattle.std.proofs.Common.{◌≡◌, ◌+◌, ◌||◌, Bool, cond, if◌then◌else◌, List, [], ◌∷◌, ◌++◌, map, count_by, refl, ap, sym, subst, ◌∙◌, append-nil, append_assoc, arith}
+use Rattle.std.specs.List.{list_any, flat_map, filter_map, cons_option}
+use Rattle.std.specs.Option.{option_to_list}
+use Rattle.std.specs.Prelude.{Option, Some, None}
 use Rattle.std.proofs.lemmas.List.{map-append}
+use Rattle.std.proofs.lemmas.List.Sums.{sum_by_push}
 use Rattle.recording_lines.specs.RecordingLine.{RecordedLine}
 use Rattle.recorded_paths.specs.LineDeeds.{with_lines_before}
 
@@ -19,12 +22,23 @@ any_more p [] one = grind arith
 any_more p (first ∷ before) one = grind (arith, any_more p before one)
 
 pub count_more : {X : Type 0} (p : X → Bool) (before : List X) (one : X) → count_by p (before ++ one ∷ []) ≡ count_by p before + (if p one then 1 else 0)
-count_more p [] one = grind arith
-count_more p (first ∷ before) one = grind (arith, count_more p before one)
+count_more p before one = sum_by_push (λ x. cond (p x) 1 0) before one
 
 flat_map_more : {X Y : Type 0} (f : X → List Y) (before : List X) (one : X) → flat_map f (before ++ one ∷ []) ≡ flat_map f before ++ f one
 flat_map_more f [] one = append-nil (f one)
 flat_map_more f (first ∷ before) one = ap (λ ys. f first ++ ys) (flat_map_more f before one) ∙ sym (append_assoc (f first) (flat_map f before) (f one))
+
+cons_none : {X : Type 0} (o : Option X) → cons_option o [] ≡ option_to_list o
+cons_none None = refl
+cons_none (Some x) = refl
+
+cons_append : {X : Type 0} (o : Option X) (xs ys : List X) → cons_option o (xs ++ ys) ≡ cons_option o xs ++ ys
+cons_append None xs ys = refl
+cons_append (Some x) xs ys = refl
+
+pub filter_map_more : {X Y : Type 0} (h : X → Option Y) (xs : List X) (x : X) → filter_map h (xs ++ x ∷ []) ≡ filter_map h xs ++ option_to_list (h x)
+filter_map_more h [] x = cons_none (h x)
+filter_map_more h (y ∷ ys) x = ap (cons_option (h y)) (filter_map_more h ys x) ∙ cons_append (h y) (filter_map h ys) (option_to_list (h x))
 
 -- ---- each line, with those before it
 lines_before_more : (before : List RecordedLine) (line : RecordedLine) → with_lines_before (before ++ line ∷ []) ≡ with_lines_before before ++ (before, line) ∷ []

@@ -6,7 +6,7 @@ use Rattle.recorded_rules.specs.declared.rule.Rule.{Rule}
 use Rattle.recorded_rules.specs.declared.rule.Rule.TheVariants.{Frame, Pools, Numbers, Rounds}
 use Rattle.recorded_rules.specs.LineParts.{is_begin, begins_round, ends_round}
 use Rattle.recorded_rules.specs.Before.{begins, is_begun, is_ended}
-use Rattle.recorded_rules.specs.Rules.{broken_of, keeps_frame, keeps_pools, keeps_numbers, keeps_rounds, has_next_number}
+use Rattle.recorded_rules.specs.Rules.{broken_of, keeps_frame, keeps_pools, keeps_numbers, keeps_rounds}
 use Rattle.recorded_paths.specs.StandsFor.{KeepsRules}
 use Rattle.plan_differences.specs.RoundExcesses.{kind_of, is_kind, begins_kind, ends_kind}
 use Rattle.plan_differences.proofs.LineByLine.{by_last, any_more, count_more}

@@ -1,20 +1,20 @@
 -- What is known of the pools where nothing is found.
-use Rattle.std.proofs.Common.{◌≡◌, ℕ, zero, suc, ◌+◌, ◌<◌, ◌==◌, nat_lt, ◌&&◌, ◌||◌, not, Bool, true, false, cond, if◌then◌else◌, List, [], ◌∷◌, ◌++◌, length, map, get_or, slice_index_or, IsTrue, Option, Some, None, refl, ap, sym, subst, ◌∙◌, arith}
-use Rattle.std.specs.List.{list_any, filter_map, cons_option, enumerate_from, position_or_len, Contains}
+use Rattle.std.proofs.Common.{◌≡◌, ℕ, zero, suc, ◌+◌, ◌<◌, ◌==◌, nat_lt, ◌&&◌, ◌||◌, not, Bool, true, false, if◌then◌else◌, List, [], ◌∷◌, ◌++◌, length, map, slice_index_or, Option, Some, None, refl, ap, sym, subst, ◌∙◌, arith}
+use Rattle.std.specs.List.{list_any, filter_map, cons_option, enumerate_from, position_or_len}
 use Rattle.std.specs.Str.{bytes_eq}
 use Rattle.std.proofs.lemmas.Bool.{ltb-true, eqb-true, not-true}
 use Rattle.std.proofs.lemmas.List.Sums.{passes_at_first}
 use Rattle.std.proofs.lemmas.Option.{cond_some}
 use Rattle.std.proofs.lemmas.Slice.Eq.{bytes_eq-Decides}
 use Rattle.job_bodies.specs.Plan as plans
-use Rattle.job_bodies.specs.Plan.{Plan, pool_at, no_pool}
+use Rattle.job_bodies.specs.Plan.{Plan, pool_at, no_pool, first_workers}
 use Rattle.recording_lines.specs.declared.pool_sizes.PoolSizes.{PoolSizes}
 use Rattle.recording_lines.specs.RecordingLine.{RecordedLine, Pool}
 use Rattle.recorded_rules.specs.Before.{has_pool, is_closed}
 use Rattle.plan_differences.specs.declared.difference.Difference.{Difference}
 use Rattle.plan_differences.specs.declared.difference.Difference.TheVariants.{Core, Max, KindOfQueue, Capacity, CoreTimeout, Prestarted}
 use Rattle.plan_differences.specs.Sizes.{differences, unless, is_array_or_linked, IsAsPlanned}
-use Rattle.plan_differences.specs.PoolDeviations.{Deviation, NotPlanned, Differs, NotRecorded, pool_named, deviations_of_pool, are_none, is_planned_pool, is_planned, deviates, has_deviated, deviations_unless, deviations_by_line, deviations_by_lines, unrecorded_by, unrecorded, deviations_at_end}
+use Rattle.plan_differences.specs.PoolDeviations.{Deviation, Differs, NotRecorded, pool_named, deviations_of_pool, are_none, is_planned_pool, is_planned, deviates, has_deviated, deviations_unless, deviations_by_line, deviations_by_lines, unrecorded_at, unrecorded_by, unrecorded}
 use Rattle.plan_differences.specs.WatchLaws.{DeviationsAddUp, PoolsAreAsPlanned, PoolsAreRecorded, IsPlannedPool}
 use Rattle.plan_differences.proofs.LineByLine.{by_last, any_more, all_more, nothing_first, nothing_last}
 
@@ -93,18 +93,18 @@ agrees false difference h = cc
 
 as_planned : (sizes : PoolSizes) (pool : plans.Pool) → differences sizes pool ≡ [] → IsAsPlanned sizes pool
 as_planned sizes pool none =
-    let rest1 = nothing_last (unless (sizes.core == pool.core) (Core sizes.core pool.core)) _ none in
-    let rest2 = nothing_last (unless (sizes.max == pool.max) (Max sizes.max pool.max)) _ rest1 in
-    let rest3 = nothing_last (unless (is_array_or_linked sizes.queue) (KindOfQueue sizes.queue)) _ rest2 in
-    let rest4 = nothing_last (unless (sizes.capacity == pool.queue) (Capacity sizes.capacity pool.queue)) _ rest3 in
-    let rest5 = nothing_last (unless (not sizes.timeout) CoreTimeout) _ rest4 in
+    let five = nothing_first _ (unless (sizes.prestarted == first_workers pool) (Prestarted sizes.prestarted (first_workers pool))) none in
+    let four = nothing_first _ (unless (not sizes.timeout) CoreTimeout) five in
+    let three = nothing_first _ (unless (sizes.capacity == pool.queue) (Capacity sizes.capacity pool.queue)) four in
+    let two = nothing_first _ (unless (is_array_or_linked sizes.queue) (KindOfQueue sizes.queue)) three in
+    let one = nothing_first _ (unless (sizes.max == pool.max) (Max sizes.max pool.max)) two in
     record {
-      core = eqb-true _ _ (agrees _ _ (nothing_first (unless (sizes.core == pool.core) (Core sizes.core pool.core)) _ none));
-      max = eqb-true _ _ (agrees _ _ (nothing_first (unless (sizes.max == pool.max) (Max sizes.max pool.max)) _ rest1));
-      array_or_linked = agrees _ _ (nothing_first (unless (is_array_or_linked sizes.queue) (KindOfQueue sizes.queue)) _ rest2);
-      capacity = eqb-true _ _ (agrees _ _ (nothing_first (unless (sizes.capacity == pool.queue) (Capacity sizes.capacity pool.queue)) _ rest3));
-      core_stays = not-true _ (agrees _ _ (nothing_first (unless (not sizes.timeout) CoreTimeout) _ rest4));
-      prestarted = eqb-true _ _ (agrees _ _ rest5);
+      core = eqb-true _ _ (agrees (sizes.core == pool.core) _ one);
+      max = eqb-true _ _ (agrees (sizes.max == pool.max) _ (nothing_last (unless (sizes.core == pool.core) (Core sizes.core pool.core)) _ two));
+      array_or_linked = agrees (is_array_or_linked sizes.queue) _ (nothing_last _ (unless (is_array_or_linked sizes.queue) (KindOfQueue sizes.queue)) three);
+      capacity = eqb-true _ _ (agrees (sizes.capacity == pool.queue) _ (nothing_last _ (unless (sizes.capacity == pool.queue) (Capacity sizes.capacity pool.queue)) four));
+      core_stays = not-true _ (agrees (not sizes.timeout) _ (nothing_last _ (unless (not sizes.timeout) CoreTimeout) five));
+      prestarted = eqb-true _ _ (agrees (sizes.prestarted == first_workers pool) _ (nothing_last _ (unless (sizes.prestarted == first_workers pool) (Prestarted sizes.prestarted (first_workers pool))) none));
     }
 
 planned_pool : (plan : Plan) (name : List ℕ) (sizes : PoolSizes) (there : Option ℕ) → pool_named plan name ≡ there → is_planned_pool plan sizes there ≡ true → IsPlannedPool plan name sizes

@@ -1,11 +1,10 @@
 -- The rounds of a kind, once one more line stands behind the others.
-use Rattle.std.proofs.Common.{◌≡◌, ℕ, ◌+◌, ◌&&◌, ◌||◌, Bool, true, false, if◌then◌else◌, List, [], ◌∷◌, ◌++◌, length, is_some, Option, Some, None, ◌<◌, count_by, refl, ap, ap₂, sym, ◌∙◌, arith}
+use Rattle.std.proofs.Common.{◌≡◌, ℕ, ◌+◌, ◌&&◌, ◌||◌, Bool, true, false, if◌then◌else◌, List, [], ◌∷◌, ◌++◌, length, is_some, Option, ◌<◌, count_by, refl, ap, ap₂, sym, ◌∙◌, arith}
 use Rattle.std.proofs.lemmas.Bool.{lt-ltb}
 use Rattle.job_bodies.specs.Plan.{Plan, client_at}
 use Rattle.recording_lines.specs.RecordingLine.{RecordedLine, RoundEnds}
 use Rattle.recorded_paths.specs.StandsFor.{KeepsRules}
 use Rattle.plan_differences.specs.declared.round_watch.KindRounds.{KindRounds}
-use Rattle.plan_differences.specs.declared.round_watch.RoundExcess.{RoundExcess}
 use Rattle.plan_differences.specs.Rounds.{Rounds, excess_of, IsWithinPlan}
 use Rattle.plan_differences.specs.RoundExcesses.{kind_of, is_kind, begins_kind, ends_kind, rounds_of, exceeds, has_exceeded, excesses_by_line, excesses_by_lines}
 use Rattle.plan_differences.specs.RoundWatch.{kept_of, with_begun, with_ended, after_begin, after_end}
@@ -87,16 +86,16 @@ pub kept_begun : (plan : Plan) (kinds : List (Option ℕ)) (before : List Record
 kept_begun plan kinds before line kind begins ends =
     let rounds = rounds_begun plan kinds before line kind begins ends in
     let told =
-        exceeded_more plan kinds before line kind
-        ∙ (ap (λ b. has_exceeded plan kinds before kind || (b && is_some (excess_of (rounds_of plan kinds (before ++ line ∷ []) kind)))) begins
-        ∙ ap (λ r. has_exceeded plan kinds before kind || is_some (excess_of r)) rounds) in
+    exceeded_more plan kinds before line kind
+    ∙ (ap (λ b. has_exceeded plan kinds before kind || (b && is_some (excess_of (rounds_of plan kinds (before ++ line ∷ []) kind)))) begins
+    ∙ ap (λ r. has_exceeded plan kinds before kind || is_some (excess_of r)) rounds) in
     ap₂ kept rounds told
 
 pub kept_ended : (plan : Plan) (kinds : List (Option ℕ)) (before : List RecordedLine) (line : RecordedLine) (kind : ℕ) → begins_kind kinds kind line ≡ false → ends_kind kinds kind line ≡ true
     → (rounds_of plan kinds before kind).ended < (rounds_of plan kinds before kind).begun
     → kept_of plan kinds (before ++ line ∷ []) kind ≡ after_end (kept_of plan kinds before kind)
-kept_ended plan kinds before line kind begins ends open =
-    ap₂ kept (rounds_ended plan kinds before line kind begins ends ∙ sym (end_if_open (rounds_of plan kinds before kind) _ (lt-ltb _ _ open))) (exceeded_same plan kinds before line kind begins)
+kept_ended plan kinds before line kind begins ends still =
+    ap₂ kept (rounds_ended plan kinds before line kind begins ends ∙ sym (end_if_open (rounds_of plan kinds before kind) _ (lt-ltb _ _ still))) (exceeded_same plan kinds before line kind begins)
 
 pub kept_same : (plan : Plan) (kinds : List (Option ℕ)) (before : List RecordedLine) (line : RecordedLine) (kind : ℕ) → begins_kind kinds kind line ≡ false → ends_kind kinds kind line ≡ false
     → kept_of plan kinds (before ++ line ∷ []) kind ≡ kept_of plan kinds before kind

@@ -1,13 +1,12 @@
 -- Where nothing is found, there are never more rounds of a kind than the plan says.
-use Rattle.std.proofs.Common.{◌≡◌, ℕ, ◌+◌, ◌-◌, ◌<◌, ◌≤◌, ◌&&◌, ◌||◌, not, nat_lt, Bool, true, false, if◌then◌else◌, List, [], ◌∷◌, ◌++◌, length, is_some, Option, Some, None, refl, ap, sym, subst, ◌∙◌, append-nil, append_assoc, arith}
+use Rattle.std.proofs.Common.{◌≡◌, ℕ, ◌+◌, ◌<◌, ◌≤◌, ◌&&◌, ◌||◌, not, nat_lt, Bool, true, false, if◌then◌else◌, List, [], ◌∷◌, ◌++◌, length, is_some, Option, Some, None, refl, ap, sym, subst, ◌∙◌, append-nil, append_assoc, arith}
 use Rattle.std.specs.Option.{option_map, option_to_list}
 use Rattle.std.proofs.lemmas.Bool.{eqb-true, lt-ltb}
 use Rattle.job_bodies.specs.Plan.{Plan}
 use Rattle.recording_lines.specs.RecordingLine.{RecordedLine, RoundBegins, RoundEnds}
 use Rattle.plan_differences.specs.declared.excess.Excess.{Excess}
-use Rattle.plan_differences.specs.declared.round_watch.RoundExcess.{RoundExcess}
-use Rattle.plan_differences.specs.Rounds.{Rounds, no_rounds, open_rounds, excess_of, IsWithinPlan}
-use Rattle.plan_differences.specs.RoundExcesses.{kind_of, is_kind, begins_kind, ends_kind, rounds_of, exceeds, has_exceeded, first_excess, excess_at, excesses_of_kind, excesses_by_line, excesses_by_lines}
+use Rattle.plan_differences.specs.Rounds.{Rounds, open_rounds, excess_of, IsWithinPlan}
+use Rattle.plan_differences.specs.RoundExcesses.{kind_of, is_kind, rounds_of, exceeds, has_exceeded, excess_at, excesses_of_kind, excesses_by_line, excesses_by_lines}
 use Rattle.plan_differences.specs.RoundWatch.{with_ended}
 use Rattle.plan_differences.specs.WatchLaws.{RoundsAreWithinPlan}
 use Rattle.plan_differences.proofs.LineByLine.{by_last, nothing_first, nothing_last}
@@ -22,8 +21,8 @@ not_above : (a b : ℕ) → nat_lt a b ≡ false → b ≤ a
 not_above a b h = grind (arith, h)
 
 in_all_within : (repeat : Bool) (a b : ℕ) → (not repeat && nat_lt a b) ≡ false → repeat ≡ false → b ≤ a
-in_all_within true a b h no = cc
-in_all_within false a b h no = not_above a b h
+in_all_within true a b _ once = cc
+in_all_within false a b h _ = not_above a b h
 
 within_if_none : (rounds : Rounds) → excess_of rounds ≡ None → IsWithinPlan rounds
 within_if_none rounds h =

@@ -1,20 +1,21 @@
 -- What the watches keep stands for the lines with one more behind them.
-use Rattle.std.proofs.Common.{◌≡◌, ℕ, ◌+◌, ◌<◌, ◌||◌, nat_lt, Bool, true, false, if◌then◌else◌, List, [], ◌∷◌, ◌++◌, length, slice_get, is_some, Option, Some, None, refl, ap, sym, subst, ◌∙◌, arith}
+use Rattle.std.proofs.Common.{◌≡◌, ℕ, ◌≤◌, map, ◌||◌, nat_lt, Bool, true, false, if◌then◌else◌, List, [], ◌∷◌, ◌++◌, length, slice_get, Option, Some, None, refl, ap, sym, ◌∙◌, arith}
 use Rattle.std.specs.Option.{option_map, option_to_list}
-use Rattle.job_bodies.specs.Plan.{Plan}
+use Rattle.std.proofs.lemmas.Bool.{ltb-true}
+use Rattle.std.proofs.lemmas.Option.{slice_get-get_or, slice_get_past, slice_get-map}
+use Rattle.job_bodies.specs.Plan.{Plan, Client, client_at, no_client}
 use Rattle.recording_lines.specs.RecordingLine.{RecordedLine, RoundBegins, RoundEnds, Pool}
 use Rattle.recorded_rules.specs.LineParts.{is_end, declares}
 use Rattle.recorded_rules.specs.Before.{has_pool, is_closed}
 use Rattle.recorded_paths.specs.StandsFor.{KeepsRules}
 use Rattle.plan_differences.specs.declared.pool_watch.PoolWatch.{PoolWatch}
 use Rattle.plan_differences.specs.declared.round_watch.KindRounds.{KindRounds}
-use Rattle.plan_differences.specs.declared.round_watch.RoundExcess.{RoundExcess}
 use Rattle.plan_differences.specs.declared.round_watch.RoundWatch.{RoundWatch}
-use Rattle.plan_differences.specs.Rounds.{excess_of}
+use Rattle.plan_differences.specs.Rounds.{no_rounds, excess_of}
 use Rattle.plan_differences.specs.PoolDeviations.{deviates, has_deviated, deviations_unless, told_by_line as pool_told, deviations_by_line}
 use Rattle.plan_differences.specs.PoolWatch.{has_name, IsPoolWatchOf, IsNoted}
-use Rattle.plan_differences.specs.RoundExcesses.{kind_of, is_kind, begins_kind, ends_kind, rounds_of, has_exceeded, excess_at, first_excess, excesses_of_kind, excesses_by_line}
-use Rattle.plan_differences.specs.RoundWatch.{kept_of, IsRoundWatchOf, with_begun, after_begin, after_end, kind_after, IsCounted, told_by_begin, told_of_kind, told_at, told_by_line}
+use Rattle.plan_differences.specs.RoundExcesses.{kind_of, is_kind, rounds_of, has_exceeded, excess_at, first_excess, excesses_of_kind, excesses_by_line}
+use Rattle.plan_differences.specs.RoundWatch.{kept_of, IsRoundWatchOf, after_begin, after_end, kind_after, IsCounted, told_of_kind, told_at, told_by_line}
 use Rattle.plan_differences.proofs.LineByLine.{any_more}
 use Rattle.plan_differences.proofs.PoolsFound.{deviated_more}
 use Rattle.plan_differences.proofs.RoundsAfter.{rounds_begun, kept_begun, kept_ended, kept_same, open_here}
@@ -28,6 +29,10 @@ closed_more : (before : List RecordedLine) (line : RecordedLine) → is_closed (
 unfolding is_closed
 closed_more before line = any_more is_end before line
 
+pub pools_none : (plan : Plan) (watch : PoolWatch) → ((pool : List ℕ) → has_name watch.named pool ≡ false) → ((pool : List ℕ) → has_name watch.deviated pool ≡ false) → watch.closed ≡ false → IsPoolWatchOf plan watch []
+unfolding has_pool is_closed has_deviated
+pools_none plan watch named deviated closed = record { named = named; deviated = deviated; closed = closed }
+
 pub pools_after : (plan : Plan) (old new : PoolWatch) (before : List RecordedLine) (line : RecordedLine) → IsPoolWatchOf plan old before → IsNoted plan old line new → IsPoolWatchOf plan new (before ++ line ∷ [])
 pools_after plan old new before line s n = record {
   named = λ pool. n.named pool ∙ (ap (λ b. b || declares pool line) (s.named pool) ∙ sym (has_pool_more before line pool));
@@ -40,6 +45,25 @@ pools_told plan watch before number (Pool name sizes) s = ap (λ b. deviations_u
 pools_told plan watch before number line s = refl
 
 -- ---- rounds
+not_below : (a b : ℕ) → nat_lt a b ≡ false → b ≤ a
+not_below a b h = grind (arith, h)
+
+abbrev pub first_kept : Client → KindRounds
+first_kept client = record { rounds = no_rounds client; has_exceeded = false }
+
+first_of : (plan : Plan) (kinds : List (Option ℕ)) (kind : ℕ) → first_kept (client_at plan kind) ≡ kept_of plan kinds [] kind
+unfolding rounds_of has_exceeded
+first_of plan kinds kind = refl
+
+known_first : (plan : Plan) (kinds : List (Option ℕ)) (kind : ℕ) (known : Bool) → nat_lt kind (length plan.clients) ≡ known → option_map first_kept (slice_get plan.clients kind) ≡ (if known then Some (kept_of plan kinds [] kind) else None)
+known_first plan kinds kind true is = ap (option_map first_kept) (slice_get-get_or plan.clients kind no_client (ltb-true _ _ is)) ∙ ap Some (first_of plan kinds kind)
+known_first plan kinds kind false is = ap (option_map first_kept) (slice_get_past plan.clients kind (not_below kind (length plan.clients) is))
+
+pub rounds_none : (plan : Plan) (kinds : List (Option ℕ)) (watch : RoundWatch) → watch.kinds.items ≡ map first_kept plan.clients → IsRoundWatchOf plan kinds watch []
+rounds_none plan kinds watch is = record {
+  kept = λ kind. ap (λ (kept : List KindRounds). slice_get kept kind) is ∙ (slice_get-map first_kept plan.clients kind ∙ known_first plan kinds kind _ refl);
+}
+
 -- the rounds of a kind that the plan has change as they are kept
 mapped : (f : KindRounds → KindRounds) (known : Bool) (a b : KindRounds) → b ≡ f a → option_map f (if known then Some a else None) ≡ (if known then Some b else None)
 mapped f true a b h = ap Some (sym h)

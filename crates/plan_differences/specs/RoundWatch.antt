@@ -27,9 +27,12 @@ after_begin kept = record { rounds = with_begun kept.rounds; has_exceeded = kept
 abbrev pub told_by_begin : KindRounds → Option Excess
 told_by_begin kept = if kept.has_exceeded then None else excess_of (with_begun kept.rounds)
 
+abbrev pub told_of_begin : ℕ → ℕ → KindRounds → List RoundExcess
+told_of_begin number kind kept = option_to_list (option_map (excess_at number kind) (told_by_begin kept))
+
 abbrev pub told_of_kind : ℕ → ℕ → Option KindRounds → List RoundExcess
 told_of_kind number kind None = []
-told_of_kind number kind (Some kept) = option_to_list (option_map (excess_at number kind) (told_by_begin kept))
+told_of_kind number kind (Some kept) = told_of_begin number kind kept
 
 abbrev pub with_ended : Rounds → Rounds
 with_ended rounds = record rounds { ended = rounds.ended + 1 }

@@ -1,14 +1,16 @@
 //! A watch over the pools of a recording.
 
 ghost use Rattle.std.specs.Prelude.{◌≡◌, List, [], ◌∷◌, ◌++◌, map, length, ◌<◌, OnOk, IfOk, IfSome};
+ghost use Rattle.std.specs.Option.{option_to_list};
 ghost use Rattle.job_bodies.specs.Plan as plans;
-ghost use Rattle.recording_lines.specs.RecordingLine.{RecordedLine, Pool, line_seen};
+ghost use Rattle.recording_lines.specs.RecordingLine.{RecordedLine, line_seen};
+ghost use Rattle.recording_lines.specs.RecordingLine as lines;
 ghost use Rattle.plan_differences.specs.PoolDeviations as spec;
 ghost use Rattle.plan_differences.specs.PoolWatch.{has_name, IsPoolWatchOf, IsNoted, Adds};
 
 use crate::pool_names::PoolNames;
 use crate::{Difference, differences};
-use job_bodies::Plan;
+use job_bodies::{Plan, Pool};
 use recording_lines::{Line, PoolSizes};
 use std::alloc::{AllocError, Global};
 
@@ -117,8 +119,8 @@ impl PoolWatch {
         sizes: &PoolSizes,
         found: &mut Vec<PoolDeviation>,
     ) -> Result<(), AllocError>
-        ensures noted { OnOk result (IsNoted plan.now self.old (Pool name.now sizes.now) self.new) }
-        ensures found { OnOk result (Adds found.old.items (spec.told_by_line plan.now (has_name self.old.deviated) number (Pool name.now sizes.now)) found.new.items) }
+        ensures noted { OnOk result (IsNoted plan.now self.old (lines.Pool name.now sizes.now) self.new) }
+        ensures found { OnOk result (Adds found.old.items (spec.told_by_line plan.now (has_name self.old.deviated) number (lines.Pool name.now sizes.now)) found.new.items) }
     {
         self.named.insert(name)?;
         if !self.deviated.contains(name) {
@@ -134,9 +136,21 @@ impl PoolWatch {
         ensures { OnOk result (Adds found.old.items (spec.unrecorded_by (has_name self.now.named) plan.now) found.new.items) }
     {
         for (number, pool) in plan.pools().iter().enumerate() {
-            if !self.named.contains(&pool.name) {
-                found.push(PoolDeviation::NotRecorded { pool: number })?;
-            }
+            self.push_unless_named(number, pool, found)?;
+        }
+        Ok(())
+    }
+
+    fn push_unless_named(
+        &self,
+        number: usize,
+        pool: &Pool,
+        found: &mut Vec<PoolDeviation>,
+    ) -> Result<(), AllocError>
+        ensures { OnOk result (Adds found.old.items (option_to_list (spec.unrecorded_at (has_name self.now.named) (number, pool.now))) found.new.items) }
+    {
+        if !self.named.contains(&pool.name) {
+            found.push(PoolDeviation::NotRecorded { pool: number })?;
         }
         Ok(())
     }

@@ -7,7 +7,7 @@ ghost use Rattle.recording_lines.specs.RecordingLine.{RecordedLine, line_seen};
 ghost use Rattle.recorded_paths.specs.StandsFor.{KeepsRules};
 ghost use Rattle.plan_differences.specs.Rounds.{no_rounds};
 ghost use Rattle.plan_differences.specs.RoundExcesses as spec;
-ghost use Rattle.plan_differences.specs.RoundWatch.{IsRoundWatchOf, after_begin, after_end, told_by_begin, told_of_kind, told_by_line, IsCounted};
+ghost use Rattle.plan_differences.specs.RoundWatch.{IsRoundWatchOf, after_begin, after_end, told_by_begin, told_of_begin, told_of_kind, told_by_line, IsCounted};
 
 use crate::{Excess, RoundCount};
 use job_bodies::{Client, Plan};
@@ -55,6 +55,25 @@ impl KindRounds {
         }
         self.has_exceeded = excess.is_some();
         Ok(excess)
+    }
+
+    // A round begins with this line, of the kind of this number.
+    fn note_begin(
+        &mut self,
+        line: usize,
+        kind: usize,
+        found: &mut Vec<RoundExcess>,
+    ) -> Result<(), AllocError>
+        ensures begun { OnOk result (self.new ≡ after_begin self.old) }
+        ensures found { OnOk result (found.new.items ≡ found.old.items ++ told_of_begin line kind self.old) }
+    {
+        match self.begin()? {
+            Some(excess) => {
+                found.push(RoundExcess { line, kind, excess })?;
+                Ok(())
+            }
+            None => Ok(()),
+        }
     }
 
     // A round ends, where one is open.
@@ -107,7 +126,7 @@ impl RoundWatch {
         found: &mut Vec<RoundExcess>,
     ) -> Result<(), AllocError>
         ensures taken { (plan : plans.Plan) (before : List RecordedLine) → KeepsRules (before ++ line_seen line.now ∷ []) → IsRoundWatchOf plan kinds.now self.old before → OnOk result (IsRoundWatchOf plan kinds.now self.new (before ++ line_seen line.now ∷ [])) }
-        ensures found { (plan : plans.Plan) (before : List RecordedLine) → KeepsRules (before ++ line_seen line.now ∷ []) → IsRoundWatchOf plan kinds.now self.old before → OnOk result (found.new.items ≡ found.old.items ++ spec.excesses_by_line plan kinds.now before number (line_seen line.now)) }
+        ensures found { (plan : plans.Plan) (before : List RecordedLine) → IsRoundWatchOf plan kinds.now self.old before → OnOk result (found.new.items ≡ found.old.items ++ spec.excesses_by_line plan kinds.now before number (line_seen line.now)) }
     {
         self.note(kinds, number, line, found)
     }
@@ -147,16 +166,10 @@ impl RoundWatch {
         ensures begun { OnOk result ((k : ℕ) → slice_get self.new.kinds.items k ≡ (if kind == k then option_map after_begin (slice_get self.old.kinds.items k) else slice_get self.old.kinds.items k)) }
         ensures found { OnOk result (found.new.items ≡ found.old.items ++ told_of_kind number kind (slice_get self.old.kinds.items kind)) }
     {
-        if let Some(rounds) = self.kinds.get_mut(kind) {
-            if let Some(excess) = rounds.begin()? {
-                found.push(RoundExcess {
-                    line: number,
-                    kind,
-                    excess,
-                })?;
-            }
+        match self.kinds.get_mut(kind) {
+            Some(rounds) => rounds.note_begin(number, kind, found),
+            None => Ok(()),
         }
-        Ok(())
     }
 
     // A round of this kind ends.
