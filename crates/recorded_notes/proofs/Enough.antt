@@ -1,5 +1,5 @@
 -- What is kept is enough: its first void of each word is the first one of all, and it stays so behind a line.
-use Rattle.std.proofs.Common.{◌≡◌, ℕ, ◌&&◌, ◌||◌, not, Bool, true, false, if◌then◌else◌, List, [], ◌∷◌, ◌++◌, map, Option, Some, None, refl, ap, sym, subst, ◌∙◌, append-nil, arith}
+use Rattle.std.proofs.Common.{◌≡◌, ℕ, ◌&&◌, ◌||◌, not, Bool, true, false, if◌then◌else◌, List, [], ◌∷◌, ◌++◌, map, Option, Some, None, refl, ap, sym, subst, ◌∙◌, append-nil}
 use Rattle.std.specs.Str.{bytes_eq}
 use Rattle.std.specs.Option.{option_to_list}
 use Rattle.std.specs.List.{list_any, filter}
@@ -8,7 +8,7 @@ use Rattle.recorded_paths.proofs.Tests.{filter_filter}
 use Rattle.recorded_notes.specs.declared.line_void.NotedVoid.{NotedVoid}
 use Rattle.recorded_notes.specs.declared.voiding.Void.{Void}
 use Rattle.recorded_notes.specs.Voids.{word_of, has_word, first_of_each}
-use Rattle.recorded_notes.specs.Noted.{voids_in, closed_with, IsEnough, none, keep, leave, is_first_before, with_first, kept_with, closes, is_excused_by, stays_behind, closed_by, settled_by}
+use Rattle.recorded_notes.specs.Noted.{voids_in, closed_with, IsEnough, none, keep, leave, is_first_before, kept_with, closes, stays_behind, closed_by, settled_by}
 use Rattle.recorded_notes.proofs.Firsts.{same_text, unlike}
 
 -- ---- some go

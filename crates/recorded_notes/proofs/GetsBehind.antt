@@ -1,11 +1,11 @@
 -- Who submitted which job, and who got it, by the lines with one more behind them.
-use Rattle.std.proofs.Common.{◌≡◌, ◌≤◌, ℕ, ◌+◌, ◌==◌, ◌&&◌, ◌||◌, not, Bool, true, false, if◌then◌else◌, List, [], ◌∷◌, ◌++◌, length, map, Option, Some, None, slice_get, refl, ap, sym, subst, ◌∙◌, arith}
+use Rattle.std.proofs.Common.{◌≡◌, ◌≤◌, ℕ, ◌+◌, ◌==◌, ◌&&◌, ◌||◌, not, Bool, true, false, if◌then◌else◌, List, [], ◌∷◌, ◌++◌, length, map, Option, Some, None, slice_get, refl, ap, sym, ◌∙◌, arith}
 use Rattle.std.specs.Option.{option_to_list}
 use Rattle.std.specs.List.{list_any, filter_map}
 use Rattle.std.proofs.lemmas.List.{map-append}
 use Rattle.recording_lines.specs.declared.recording_line.RecordedActor.{RecordedActor}
 use Rattle.recording_lines.specs.RecordingLine.{RecordedLine, Submits, Got}
-use Rattle.recorded_rules.specs.LineParts.{is_same_actor, is_actor, is_submit, submits_job}
+use Rattle.recorded_rules.specs.LineParts.{is_same_actor, is_actor, is_submit}
 use Rattle.recorded_rules.specs.Before.{submits}
 use Rattle.recorded_rules.specs.Rules.{has_next_number}
 use Rattle.recorded_rules.proofs.Appended.{submits_more}

@@ -1,12 +1,12 @@
 -- What is noted stands for the lines with one more behind them, or with none.
-use Rattle.std.proofs.Common.{◌≡◌, ℕ, ◌+◌, false, if◌then◌else◌, List, [], ◌∷◌, ◌++◌, length, None, refl, ap, sym, subst, ◌∙◌, arith}
+use Rattle.std.proofs.Common.{◌≡◌, ℕ, ◌+◌, List, [], ◌∷◌, ◌++◌, length, None, ap, sym, subst, ◌∙◌, arith}
 use Rattle.recording_lines.specs.RecordingLine.{RecordedLine}
 use Rattle.recorded_paths.specs.StandsFor.{KeepsRules}
 use Rattle.recorded_paths.proofs.ByLast.{keeps_before, keeps_last}
 use Rattle.recorded_notes.specs.declared.line_void.NotedVoid.{NotedVoid}
 use Rattle.recorded_notes.specs.declared.notes.RecordedNotes.{RecordedNotes}
 use Rattle.recorded_notes.specs.Voids.{first_of_each, voids_of}
-use Rattle.recorded_notes.specs.ForeignGets.{submitter_of, is_got_by_own, first_foreign_get}
+use Rattle.recorded_notes.specs.ForeignGets.{submitter_of}
 use Rattle.recorded_notes.specs.Noted.{voids_in, noted_from, noted_of, IsEnough, none, kept_with, settled_by}
 use Rattle.recorded_notes.specs.Ungot.{submitter_in, table_behind, with_foreign}
 use Rattle.recorded_notes.specs.StandsFor.{IsNotesOf}

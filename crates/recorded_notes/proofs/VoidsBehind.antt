@@ -1,13 +1,12 @@
 -- The voids of the lines with one more behind them.
-use Rattle.std.proofs.Common.{◌≡◌, ℕ, ◌+◌, suc, ◌&&◌, not, Bool, true, false, if◌then◌else◌, List, [], ◌∷◌, ◌++◌, length, map, is_none, Option, Some, None, slice_get, refl, ap, sym, subst, ◌∙◌, arith}
+use Rattle.std.proofs.Common.{◌≡◌, ℕ, ◌+◌, suc, not, Bool, true, false, if◌then◌else◌, List, [], ◌∷◌, ◌++◌, length, map, is_none, Option, Some, None, slice_get, refl, ap, sym, ◌∙◌, arith}
 use Rattle.std.specs.Option.{option_to_list, option_map, option_and_then}
 use Rattle.std.specs.List.{filter, cons_option}
 use Rattle.recording_lines.specs.declared.recording_line.RecordedActor.{RecordedActor}
 use Rattle.recording_lines.specs.RecordingLine.{RecordedLine, Got, TimedOut, Interrupted}
-use Rattle.recorded_rules.specs.LineParts.{is_same_actor, is_of}
+use Rattle.recorded_rules.specs.LineParts.{is_of}
 use Rattle.recorded_paths.proofs.Tests.{and_first, filter_more, not_weaker}
 use Rattle.recorded_notes.specs.declared.line_void.NotedVoid.{NotedVoid}
-use Rattle.recorded_notes.specs.declared.voiding.Void.{Void}
 use Rattle.recorded_notes.specs.declared.voiding.Voiding.{Voiding}
 use Rattle.recorded_notes.specs.declared.voiding.Voiding.TheVariants as what
 use Rattle.recorded_notes.specs.Voids.{asks_for, next_of, asks_next, voiding_of, is_excused, void_of, voids_from}

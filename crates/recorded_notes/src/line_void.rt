@@ -1,7 +1,6 @@
 //! What one line says of a yes.
 
-ghost use Rattle.std.specs.Prelude.{◌≡◌, ◌&&◌, not};
-ghost use Rattle.std.specs.Str.{bytes_eq};
+ghost use Rattle.std.specs.Prelude.{◌≡◌};
 ghost use Rattle.recording_lines.specs.RecordingLine.{line_seen};
 ghost use Rattle.recorded_rules.specs.LineParts.{is_same_actor, is_of};
 ghost use Rattle.recorded_notes.specs.Voids as spec;

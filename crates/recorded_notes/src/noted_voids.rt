@@ -1,8 +1,8 @@
 //! The lines that void a yes, by the lines so far.
 
-ghost use Rattle.std.specs.Prelude.{◌≡◌, ◌+◌, [], List, OnOk, IfOk, length, map};
+ghost use Rattle.std.specs.Prelude.{◌≡◌, [], OnOk, IfOk, map};
 ghost use Rattle.std.specs.List.{list_any, filter};
-ghost use Rattle.recording_lines.specs.RecordingLine.{RecordedLine, line_seen};
+ghost use Rattle.recording_lines.specs.RecordingLine.{line_seen};
 ghost use Rattle.recorded_notes.specs.Voids as spec;
 ghost use Rattle.recorded_notes.specs.Noted as noted;
 

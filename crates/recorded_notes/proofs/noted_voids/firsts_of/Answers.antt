@@ -1,4 +1,4 @@
-use Rattle.std.proofs.Common.{◌≡◌, ap, ◌∙◌}
+use Rattle.std.proofs.Common.{ap, ◌∙◌}
 use Rattle.recorded_notes.specs.Noted.{with_word}
 use Rattle.recorded_notes.proofs.Firsts.{firsts_next}
 use Rattle.recorded_notes.proofs.noted_voids.firsts_of.Goals as goal
