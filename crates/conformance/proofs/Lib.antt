@@ -1,0 +1,5 @@
+pub mod Steps
+pub mod Among
+pub mod FormLines
+pub mod Kept
+pub mod UnplannedAfter

@@ -57,4 +57,4 @@ pub record AreGathered (text lines : List RecordedLine) (survey : Survey) (exces
   pub strays_so : AreStrays text survey.judged.verdicts.classless survey.judged.verdicts.strays.actors.items strays
   pub foreign_so : AreForeign text (first_foreign_get lines) foreign
   pub all : found ≡ map finding.Pool survey.watched.deviations.items ++ map finding.NotPlanned survey.watched.unplanned.found.items ++ strays
-      ++ map not_decided survey.judged.verdicts.open.actors.items ++ map finding.TooMany excesses ++ foreign ++ map finding.Void (filter is_lasting (voids_of lines))
+      ++ map not_decided survey.judged.verdicts.undecided.actors.items ++ map finding.TooMany excesses ++ foreign ++ map finding.Void (filter is_lasting (voids_of lines))

@@ -1,8 +1,8 @@
 -- What a comparison comes to.
 use Rattle.std.specs.Prelude.{◌≤◌, ℕ, List, ⊤, AllPairs, Option, Some, None}
 use Rattle.recorded_rules.specs.declared.fault.RecordingFault.{RecordingFault}
-use Rattle.conformance.specs.declared.conform.Conformance.{Conformance}
-use Rattle.conformance.specs.declared.conform.Conformance.TheVariants.{Bad, Compared}
+use Rattle.conformance.specs.declared.comparison.Conformance.{Conformance}
+use Rattle.conformance.specs.declared.comparison.Conformance.TheVariants.{Bad, Compared}
 use Rattle.conformance.specs.declared.finding.Finding.{Finding}
 use Rattle.conformance.specs.Finding.{place_of}
 

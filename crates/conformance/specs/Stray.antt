@@ -13,6 +13,9 @@ abbrev pub actor_text : RecordedActor → List ℕ → List ℕ
 actor_text (Job job) label = codes "job " ++ decimal job ++ codes " of class " ++ label
 actor_text (Round round) label = codes "round " ++ decimal round ++ codes " of kind " ++ label
 
+abbrev pub end_text : List ℕ
+end_text = codes " ended; its body has a get before its end"
+
 abbrev pub cause_text : ℕ → List ℕ → List ℕ
 cause_text job class = codes " submitted " ++ class ++ codes ", which is job " ++ decimal job ++ codes " and of no class of the plan"
 
@@ -27,7 +30,7 @@ behind_text (Some (Gets class)) = codes " behind get " ++ string_bytes class
 
 -- what it did that no body says
 abbrev pub stray_deed_text : StrayDeed → Option NamedDeed → List ℕ
-stray_deed_text Ends behind = codes " ended; its body has a get before its end"
+stray_deed_text Ends behind = end_text
 stray_deed_text (SubmitsStray job class) behind = cause_text job (string_bytes class)
 stray_deed_text (Deed deed) behind = deed_text deed ++ behind_text behind
 

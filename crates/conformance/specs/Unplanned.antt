@@ -2,6 +2,8 @@
 use Rattle.std.specs.Prelude.{◌≡◌, ◌+◌, ◌||◌, ◌⊎◌, ℕ, Bool, true, false, List, [], ◌∷◌, ◌++◌, length, map, All, Any, Contains, Option, Some, None, string_bytes}
 use Rattle.std.specs.List.{list_any}
 use Rattle.std.specs.Str.{bytes_eq}
+use Rattle.std.specs.declared.alloc.Global.{Global}
+use Rattle.std.specs.declared.string.String.{String}
 use Rattle.job_bodies.specs.Plan.{Plan}
 use Rattle.recording_lines.specs.declared.recording_line.RecordedActor.{RecordedActor}
 use Rattle.recording_lines.specs.RecordingLine.{RecordedLine, Submits, RoundBegins}
@@ -53,3 +55,22 @@ pub record IsUnplannedOf (plan : Plan) (lines : List RecordedLine) (unplanned : 
       → list_any (tells_kind kind) unplanned.found.items ≡ true
   pub kept_classes : (class pool : List ℕ) → has_label unplanned.classes (pair_text class pool) ≡ list_any (tells_class class pool) unplanned.found.items
   pub kept_kinds : (kind : List ℕ) → has_label unplanned.kinds kind ≡ list_any (tells_kind kind) unplanned.found.items
+
+-- ---- one more line
+-- The label of a submit is told of where the plan has no such class there, unless it was told of before.
+pub data TakesClass (plan : Plan) (number : ℕ) (class pool : List ℕ) (old new : Unplanned) : Type 0 where
+  stays : (has_label old.classes (pair_text class pool) ≡ true) ⊎ (¬ (class_family plan class pool ≡ [])) → new ≡ old → TakesClass plan number class pool old new
+  tells : (c p : String Global) → string_bytes c ≡ class → string_bytes p ≡ pool → class_family plan class pool ≡ []
+      → new.found.items ≡ old.found.items ++ code.Class number c p ∷ []
+      → ((q : List ℕ) → has_label new.classes q ≡ (has_label old.classes q || bytes_eq (pair_text class pool) q))
+      → new.kinds ≡ old.kinds
+      → TakesClass plan number class pool old new
+
+-- the same of the label of a begin
+pub data TakesKind (plan : Plan) (number : ℕ) (kind : List ℕ) (old new : Unplanned) : Type 0 where
+  stays : (has_label old.kinds kind ≡ true) ⊎ (¬ (client_family plan kind ≡ [])) → new ≡ old → TakesKind plan number kind old new
+  tells : (k : String Global) → string_bytes k ≡ kind → client_family plan kind ≡ []
+      → new.found.items ≡ old.found.items ++ code.Kind number k ∷ []
+      → ((q : List ℕ) → has_label new.kinds q ≡ (has_label old.kinds q || bytes_eq kind q))
+      → new.classes ≡ old.classes
+      → TakesKind plan number kind old new

@@ -8,10 +8,7 @@ use Rattle.job_bodies.specs.Plan.{Plan}
 use Rattle.plan_families.specs.Family.{class_family, client_family}
 use Rattle.recorded_classes.specs.declared.settled.Settled.{Settled}
 use Rattle.conformance.specs.declared.verdicts.Verdicts.{Verdicts}
-use Rattle.conformance.specs.Firsts as firsts
-
-abbrev pub AreFirsts : List Settled → List Settled → Type 0
-AreFirsts all firsts = firsts.AreFirsts all firsts
+use Rattle.conformance.specs.Firsts.{AreFirsts}
 
 -- ---- of one
 abbrev pub is_empty : List ℕ → Bool
@@ -35,8 +32,8 @@ abbrev pub is_stray : Plan → Settled → Bool
 is_stray plan told = is_classless told && is_planned plan told
 
 -- that is not decided
-abbrev pub is_open : Plan → Settled → Bool
-is_open plan told = not told.family.is_decided && is_planned plan told
+abbrev pub is_undecided : Plan → Settled → Bool
+is_undecided plan told = not told.family.is_decided && is_planned plan told
 
 abbrev pub is_job : ℕ → RecordedActor → Bool
 is_job job (Job one) = one == job
@@ -48,7 +45,7 @@ is_classless_job job told = is_job job told.actor && is_classless told
 -- ---- of all
 pub record IsVerdictsOf (plan : Plan) (told : List Settled) (verdicts : Verdicts) : Type 0 where
   pub strays : AreFirsts (filter (is_stray plan) told) verdicts.strays.actors.items
-  pub open : AreFirsts (filter (is_open plan) told) verdicts.open.actors.items
+  pub undecided : AreFirsts (filter (is_undecided plan) told) verdicts.undecided.actors.items
   pub classless : (job : ℕ) → has_job verdicts.classless job ≡ list_any (is_classless_job job) told
 
 -- behind the others, where the plan has its label

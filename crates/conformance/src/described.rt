@@ -1,7 +1,7 @@
 //! What an actor did that is of no body, looked up in the text of the recording.
 
 ghost use Rattle.std.specs.Prelude.{◌≡◌, IfOk};
-ghost use Rattle.recording_lines.specs.declared.recording_line.RecordedActor as actors;
+ghost use Rattle.recording_lines.specs.declared.recording_line.RecordedActor.TheVariants as actors;
 ghost use Rattle.conformance.specs.Lines.{lines_of};
 ghost use Rattle.conformance.specs.Described as spec;
 
@@ -127,7 +127,7 @@ fn named(
 
 /// The class that the job's submit names.
 fn class_of(alloc: Global, recording: &[u8], job: usize) -> Result<String, AllocError>
-    ensures { IfOk result (spec.IsLabelOf (lines_of recording.now) (actors.TheVariants.Job job)) }
+    ensures { IfOk result (spec.IsLabelOf (lines_of recording.now) (actors.Job job)) }
 {
     label_of(alloc, recording, RecordedActor::Job(job))
 }

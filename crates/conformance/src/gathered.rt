@@ -7,13 +7,14 @@ ghost use Rattle.recorded_notes.specs.ForeignGets.{first_foreign_get};
 ghost use Rattle.recorded_notes.specs.Voids.{voids_of};
 ghost use Rattle.conformance.specs.Lines.{lines_of};
 ghost use Rattle.conformance.specs.Gathered as spec;
-ghost use Rattle.conformance.specs.declared.finding.Finding.TheVariants as findings;
+ghost use Rattle.conformance.specs.declared.finding.Finding.TheVariants as kinds;
 
 use crate::described::{described, label_of};
 use crate::finding::Finding;
 use crate::job_set::JobSet;
-use crate::survey::Survey;
-use crate::unplanned::NotPlanned;
+use crate::survey::{Judged, Survey, Watched};
+use crate::unplanned::{NotPlanned, Unplanned};
+use crate::verdicts::Verdicts;
 use plan_differences::{PoolDeviation, RoundExcess};
 use recorded_classes::Settled;
 use recorded_notes::{RecordedNotes, Void, Voiding};
@@ -33,20 +34,28 @@ pub(crate) fn gathered(
     ensures { (lines : List RecordedLine) → IsNotesOf survey.watched.notes lines → IfOk result (λ found. spec.AreGathered (lines_of recording.now) lines survey excesses.items found.items) }
 {
     let Survey { watched, judged } = survey;
+    let Watched {
+        deviations,
+        notes,
+        unplanned,
+        ..
+    } = watched;
+    let Unplanned { found: labels, .. } = unplanned;
+    let Judged { verdicts, .. } = judged;
+    let Verdicts {
+        strays,
+        undecided,
+        classless,
+        ..
+    } = verdicts;
     let mut findings = Vec::new(alloc);
-    push_pools(&mut findings, watched.deviations)?;
-    push_labels(&mut findings, watched.unplanned.found)?;
-    push_strays(
-        &mut findings,
-        alloc,
-        recording,
-        &judged.verdicts.classless,
-        &judged.verdicts.strays.actors,
-    )?;
-    push_open(&mut findings, judged.verdicts.open.actors)?;
+    push_pools(&mut findings, deviations)?;
+    push_labels(&mut findings, labels)?;
+    push_strays(&mut findings, alloc, recording, &classless, &strays.actors)?;
+    push_undecided(&mut findings, undecided.actors)?;
     push_excesses(&mut findings, &excesses)?;
-    push_foreign_get(&mut findings, alloc, recording, &watched.notes)?;
-    push_voids(&mut findings, alloc, &watched.notes)?;
+    push_foreign_get(&mut findings, alloc, recording, &notes)?;
+    push_voids(&mut findings, alloc, &notes)?;
     Ok(findings)
 }
 
@@ -54,7 +63,7 @@ fn push_pools(
     findings: &mut Vec<Finding>,
     deviations: Vec<PoolDeviation>,
 ) -> Result<(), AllocError>
-    ensures { OnOk result (findings.new.items ≡ findings.old.items ++ map findings.Pool deviations.items) }
+    ensures { OnOk result (findings.new.items ≡ findings.old.items ++ map kinds.Pool deviations.items) }
 {
     for deviation in deviations {
         findings.push(Finding::Pool(deviation))?;
@@ -63,7 +72,7 @@ fn push_pools(
 }
 
 fn push_labels(findings: &mut Vec<Finding>, labels: Vec<NotPlanned>) -> Result<(), AllocError>
-    ensures { OnOk result (findings.new.items ≡ findings.old.items ++ map findings.NotPlanned labels.items) }
+    ensures { OnOk result (findings.new.items ≡ findings.old.items ++ map kinds.NotPlanned labels.items) }
 {
     for label in labels {
         findings.push(Finding::NotPlanned(label))?;
@@ -87,10 +96,10 @@ fn push_strays(
     Ok(())
 }
 
-fn push_open(findings: &mut Vec<Finding>, open: Vec<Settled>) -> Result<(), AllocError>
-    ensures { OnOk result (findings.new.items ≡ findings.old.items ++ map spec.not_decided open.items) }
+fn push_undecided(findings: &mut Vec<Finding>, undecided: Vec<Settled>) -> Result<(), AllocError>
+    ensures { OnOk result (findings.new.items ≡ findings.old.items ++ map spec.not_decided undecided.items) }
 {
-    for told in open {
+    for told in undecided {
         let Settled { actor, label, .. } = told;
         findings.push(Finding::NotDecided { actor, label })?;
     }
@@ -98,7 +107,7 @@ fn push_open(findings: &mut Vec<Finding>, open: Vec<Settled>) -> Result<(), Allo
 }
 
 fn push_excesses(findings: &mut Vec<Finding>, excesses: &[RoundExcess]) -> Result<(), AllocError>
-    ensures { OnOk result (findings.new.items ≡ findings.old.items ++ map findings.TooMany excesses.now) }
+    ensures { OnOk result (findings.new.items ≡ findings.old.items ++ map kinds.TooMany excesses.now) }
 {
     for excess in excesses {
         findings.push(Finding::TooMany(*excess))?;
@@ -126,14 +135,14 @@ fn push_voids(
     alloc: Global,
     notes: &RecordedNotes,
 ) -> Result<(), AllocError>
-    ensures { (lines : List RecordedLine) → IsNotesOf notes.now lines → OnOk result (findings.new.items ≡ findings.old.items ++ map findings.Void (filter spec.is_lasting (voids_of lines))) }
+    ensures { (lines : List RecordedLine) → IsNotesOf notes.now lines → OnOk result (findings.new.items ≡ findings.old.items ++ map kinds.Void (filter spec.is_lasting (voids_of lines))) }
 {
     let voids = notes.voids(alloc)?;
     push_lasting(findings, &voids)
 }
 
 fn push_lasting(findings: &mut Vec<Finding>, voids: &[Void]) -> Result<(), AllocError>
-    ensures { OnOk result (findings.new.items ≡ findings.old.items ++ map findings.Void (filter spec.is_lasting voids.now)) }
+    ensures { OnOk result (findings.new.items ≡ findings.old.items ++ map kinds.Void (filter spec.is_lasting voids.now)) }
 {
     for void in voids {
         if is_lasting(*void) {

@@ -51,5 +51,7 @@ impl Labels {
 pub(crate) fn pair(alloc: Global, class: &str, pool: &str) -> Result<String, AllocError>
     ensures { IfOk result (λ text. string_bytes text ≡ pair_text class.now pool.now) }
 {
-    format!(in alloc; "{class} {pool}")
+    let mut text = String::new(alloc);
+    write!(text, "{class} {pool}")?;
+    Ok(text)
 }

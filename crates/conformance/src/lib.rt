@@ -1,7 +1,7 @@
 //! Whether a service still is its plan (`docs/RECORDING.md`), from the plan and the bytes of a recording.
 #![tactic(auto)]
 
-mod conform;
+mod comparison;
 mod counted;
 mod described;
 mod finding;
@@ -18,7 +18,7 @@ mod unplanned;
 mod verdicts;
 mod wanted;
 
-pub use conform::{Conformance, conform};
+pub use comparison::{Conformance, conform};
 pub use finding::Finding;
 pub use finding_lines::push_findings;
 pub use stray::{NamedDeed, Stray, StrayDeed};

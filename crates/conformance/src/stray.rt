@@ -45,7 +45,7 @@ pub(crate) fn push_stray(text: &mut String, stray: &Stray) -> Result<(), AllocEr
 {
     push_actor(text, stray.actor, &stray.label)?;
     match &stray.deed {
-        StrayDeed::Ends => text.push_str(" ended; its body has a get before its end"),
+        StrayDeed::Ends => push_end(text),
         StrayDeed::SubmitsStray { job, class } => push_cause(text, *job, class),
         StrayDeed::Deed(deed) => {
             push_deed(text, deed)?;
@@ -66,6 +66,12 @@ pub(crate) fn push_actor(
         RecordedActor::Job(job) => write!(text, "job {job} of class {label}"),
         RecordedActor::Round(round) => write!(text, "round {round} of kind {label}"),
     }
+}
+
+fn push_end(text: &mut String) -> Result<(), AllocError>
+    ensures { Pushes result text.old text.new spec.end_text }
+{
+    write!(text, " ended; its body has a get before its end")
 }
 
 fn push_cause(text: &mut String, job: usize, class: &str) -> Result<(), AllocError>

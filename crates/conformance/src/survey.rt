@@ -123,7 +123,7 @@ pub(crate) struct Survey {
 /// # Errors
 ///
 /// `AllocError` where there is no memory for what its lines say.
-pub(crate) fn survey(
+pub(crate) fn surveyed(
     alloc: Global,
     plan: &Plan,
     recording: &[u8],

@@ -3,6 +3,7 @@
 ghost use Rattle.std.specs.Prelude.{◌≡◌, ◌++◌, ◌∷◌, [], ℕ, List, OnOk, IfOk};
 ghost use Rattle.job_bodies.specs.Plan as plans;
 ghost use Rattle.recorded_classes.specs.declared.settled.Settled as settleds;
+ghost use Rattle.conformance.specs.Firsts.{AreFirsts};
 ghost use Rattle.conformance.specs.JobSet.{has_job};
 ghost use Rattle.conformance.specs.Verdicts as spec;
 
@@ -19,7 +20,7 @@ use std::alloc::{AllocError, Global};
 #[derive(Debug, Drop)]
 pub(crate) struct Verdicts {
     pub(crate) strays: Firsts,
-    pub(crate) open: Firsts,
+    pub(crate) undecided: Firsts,
     /// The jobs that are of no class of the plan.
     pub(crate) classless: JobSet,
     alloc: Global,
@@ -32,7 +33,7 @@ impl Verdicts {
     {
         Verdicts {
             strays: Firsts::new(alloc),
-            open: Firsts::new(alloc),
+            undecided: Firsts::new(alloc),
             classless: JobSet::new(alloc),
             alloc,
         }
@@ -47,7 +48,7 @@ impl Verdicts {
         ensures { (told : List settleds.Settled) → spec.IsVerdictsOf plan.now told self.old → OnOk result (spec.IsVerdictsOf plan.now (told ++ settled ∷ []) self.new) }
     {
         if !settled.family.is_decided {
-            return self.note_open(plan, settled);
+            return self.note_undecided(plan, settled);
         }
         if settled.family.members.is_empty() {
             return self.note_stray(plan, settled);
@@ -55,20 +56,20 @@ impl Verdicts {
         Ok(())
     }
 
-    fn note_open(&mut self, plan: &Plan, settled: Settled) -> Result<(), AllocError>
-        ensures open { OnOk result ((told : List settleds.Settled) → spec.AreFirsts told self.old.open.actors.items → spec.AreFirsts (spec.with_planned plan.now settled told) self.new.open.actors.items) }
+    fn note_undecided(&mut self, plan: &Plan, settled: Settled) -> Result<(), AllocError>
+        ensures undecided { OnOk result ((told : List settleds.Settled) → AreFirsts told self.old.undecided.actors.items → AreFirsts (spec.with_planned plan.now settled told) self.new.undecided.actors.items) }
         ensures strays { self.new.strays ≡ self.old.strays }
         ensures classless { self.new.classless ≡ self.old.classless }
     {
         if is_planned(self.alloc, plan, &settled)? {
-            self.open.note(settled)?;
+            self.undecided.note(settled)?;
         }
         Ok(())
     }
 
     fn note_stray(&mut self, plan: &Plan, settled: Settled) -> Result<(), AllocError>
-        ensures strays { OnOk result ((told : List settleds.Settled) → spec.AreFirsts told self.old.strays.actors.items → spec.AreFirsts (spec.with_planned plan.now settled told) self.new.strays.actors.items) }
-        ensures open { self.new.open ≡ self.old.open }
+        ensures strays { OnOk result ((told : List settleds.Settled) → AreFirsts told self.old.strays.actors.items → AreFirsts (spec.with_planned plan.now settled told) self.new.strays.actors.items) }
+        ensures undecided { self.new.undecided ≡ self.old.undecided }
         ensures classless { OnOk result ((job : ℕ) → has_job self.new.classless job ≡ spec.with_job settled.actor (has_job self.old.classless job) job) }
     {
         if let RecordedActor::Job(job) = settled.actor {

@@ -12,7 +12,7 @@ ghost use Rattle.conformance.specs.Outcome as spec;
 use crate::counted::excesses;
 use crate::finding::Finding;
 use crate::gathered::gathered;
-use crate::survey::survey;
+use crate::survey::surveyed;
 use job_bodies::Plan;
 use recorded_rules::{RecordingFault, first_fault};
 use std::alloc::{AllocError, Global};
@@ -66,7 +66,7 @@ fn compared(
     ensures sound { IfOk result (λ findings. KeepsRules (lines_of recording.now) → All (found.IsFinding plan.now budget (lines_of recording.now)) findings.items) }
     ensures ascending { IfOk result (λ findings. spec.AreInOrder findings.items) }
 {
-    let survey = survey(alloc, plan, recording, budget)?;
+    let survey = surveyed(alloc, plan, recording, budget)?;
     let excesses = excesses(
         alloc,
         plan,

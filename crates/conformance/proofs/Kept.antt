@@ -1,0 +1,55 @@
+-- Recordings that keep the rules.
+use Rattle.std.proofs.Common.{◌≡◌, ℕ, zero, suc, ◌+◌, ◌<◌, List, [], ◌∷◌, ◌++◌, length, take, filter_map, map, slice_get, Option, Some, None, refl, ap, sym, ◌∙◌, append_assoc, arith}
+use Rattle.std.specs.Option.{option_map, option_and_then}
+use Rattle.recording_lines.specs.RecordingLine.{RecordedLine, lines_read}
+use Rattle.recorded_rules.specs.declared.fault.Breach.TheVariants as breach
+use Rattle.recorded_rules.specs.Faults.{IsFirstFault, breach_of, lines_before, breach_behind}
+use Rattle.recorded_rules.specs.Rules.{broken_of}
+use Rattle.recorded_paths.specs.StandsFor.{KeepsRules}
+use Rattle.conformance.specs.Lines.{with_form, lines_of}
+
+-- ---- the first of the lines
+pub keeps_front : (front behind lines : List RecordedLine) → lines ≡ front ++ behind → KeepsRules lines → KeepsRules front
+keeps_front front behind lines is keeps = record {
+    unbroken = λ before line more h. keeps.unbroken before line (more ++ behind) (is ∙ (ap (λ (xs : List RecordedLine). xs ++ behind) h ∙ append_assoc before (line ∷ more) behind));
+  }
+
+-- ---- a text without a bad line
+-- one line of a list is the first of the others behind some
+with_none : (lines : List (Option RecordedLine)) → ((i : ℕ) → slice_get lines i ≡ Some None → ⊥) → lines ≡ map Some (with_form lines)
+with_none [] good = refl
+with_none (None ∷ lines) good = absurd (good 0 refl)
+with_none (Some line ∷ lines) good = ap (λ (more : List (Option RecordedLine)). Some line ∷ more) (with_none lines (λ i. good (suc i)))
+
+behind_is : (lines : List (Option RecordedLine)) (i : ℕ) (line : Option RecordedLine) → slice_get lines i ≡ Some line → breach_behind lines i ≡ breach_of (lines_before lines i) line
+unfolding breach_behind
+behind_is [] i line h = grind (arith, h)
+behind_is (first ∷ lines) i line h = ap (option_and_then (breach_of (lines_before (first ∷ lines) i))) h
+
+all_good : (lines : List (Option RecordedLine)) → IsFirstFault lines None → (i : ℕ) → slice_get lines i ≡ Some None → ⊥
+all_good lines none i h =
+    let bad : Some breach.Form ≡ None = sym (behind_is lines i None h) ∙ none i in
+    cc
+
+at_line : (before behind : List RecordedLine) (line : RecordedLine) → slice_get (map Some (before ++ line ∷ behind)) (length before) ≡ Some (Some line)
+at_line [] behind line = refl
+at_line (one ∷ before) behind line = at_line before behind line
+
+front_is : (before behind : List RecordedLine) (line : RecordedLine) → lines_before (map Some (before ++ line ∷ behind)) (length before) ≡ before
+front_is [] behind line = refl
+front_is (one ∷ before) behind line = ap (λ (more : List RecordedLine). one ∷ more) (front_is before behind line)
+
+no_rule : (before : List RecordedLine) (line : RecordedLine) → option_map breach.Rule (broken_of before line) ≡ None → broken_of before line ≡ None
+no_rule before line h = grind (arith, h)
+
+pub keeps_rules : (text : List ℕ) → IsFirstFault (lines_read text) None → KeepsRules (lines_of text)
+keeps_rules text none =
+    let lines = lines_read text in
+    let same : lines ≡ map Some (with_form lines) = with_none lines (all_good lines none) in
+    record {
+      unbroken = λ before line behind h.
+        let all : lines ≡ map Some (before ++ line ∷ behind) = same ∙ ap (λ (xs : List RecordedLine). map Some xs) h in
+        let here : slice_get lines (length before) ≡ Some (Some line) = ap (λ (xs : List (Option RecordedLine)). slice_get xs (length before)) all ∙ at_line before behind line in
+        let front : lines_before lines (length before) ≡ before = ap (λ (xs : List (Option RecordedLine)). lines_before xs (length before)) all ∙ front_is before behind line in
+        no_rule before line (sym (ap (λ (xs : List RecordedLine). breach_of xs (Some line)) front) ∙ (sym (behind_is lines (length before) (Some line) here) ∙ none (length before)));
+    }

@@ -1,0 +1,202 @@
+-- The labels that the plan has not, behind one more line.
+use Rattle.std.proofs.Common.{◌≡◌, ◌+◌, ℕ, zero, suc, Bool, true, false, ◌||◌, List, [], ◌∷◌, ◌++◌, length, map, All, Contains, Option, Some, None, refl, ap, sym, subst, ◌∙◌, inl, inr, string_bytes, slice_get, arith}
+use Rattle.std.specs.Prelude.{◌⊎◌}
+use Rattle.std.specs.List.{list_any}
+use Rattle.std.specs.Str.{bytes_eq}
+use Rattle.std.specs.declared.alloc.Global.{Global}
+use Rattle.std.specs.declared.string.String.{String}
+use Rattle.std.proofs.lemmas.List.Elements.{All-push, All-weaker, Contains-push_cases}
+use Rattle.job_bodies.specs.Plan.{Plan}
+use Rattle.recording_lines.specs.declared.recording_line.RecordedActor.{RecordedActor}
+use Rattle.recording_lines.specs.RecordingLine.{RecordedLine, Submits, RoundBegins}
+use Rattle.plan_families.specs.Family.{class_family, client_family}
+use Rattle.conformance.specs.declared.unplanned.NotPlanned.{NotPlanned}
+use Rattle.conformance.specs.declared.unplanned.NotPlanned.TheVariants as code
+use Rattle.conformance.specs.declared.unplanned.Unplanned.{Unplanned}
+use Rattle.conformance.specs.Labels.{has_label, pair_text}
+use Rattle.conformance.specs.Wanted.{IsLine}
+use Rattle.conformance.specs.Unplanned.{IsNext, IsNotPlanned, IsUnplannedOf, TakesClass, TakesKind, tells_class, tells_kind}
+use Rattle.conformance.specs.Unplanned.TakesClass as takes_class
+use Rattle.conformance.specs.Unplanned.TakesKind as takes_kind
+
+-- ---- lines
+there_before : {X : Type 0} (xs ys : List X) (i : ℕ) (x : X) → slice_get xs i ≡ Some x → slice_get (xs ++ ys) i ≡ Some x
+there_before [] ys i x h = absurd (grind (arith, h))
+there_before (y ∷ xs) ys zero x h = h
+there_before (y ∷ xs) ys (suc i) x h = there_before xs ys i x h
+
+there_last : {X : Type 0} (xs : List X) (x : X) → slice_get (xs ++ x ∷ []) (length xs) ≡ Some x
+there_last [] x = refl
+there_last (y ∷ xs) x = there_last xs x
+
+line_stays : (before more : List RecordedLine) (number : ℕ) (line : RecordedLine) → IsLine before number line → IsLine (before ++ more) number line
+line_stays before more number line (i, is, there) = (i, is, there_before before more i line there)
+
+last_line : (before : List RecordedLine) (number : ℕ) (line : RecordedLine) → IsNext number before → IsLine (before ++ line ∷ []) number line
+last_line before number line next = (length before, next, there_last before line)
+
+label_stays : (plan : Plan) (before more : List RecordedLine) (label : NotPlanned) → IsNotPlanned plan before label → IsNotPlanned plan (before ++ more) label
+label_stays plan before more (code.Class line class pool) so = record { actor = so.actor; job = so.job; line = line_stays before more line _ so.line; none = so.none }
+label_stays plan before more (code.Kind line kind) so = record { round = so.round; line = line_stays before more line _ so.line; none = so.none }
+
+-- ---- what is told
+any_push : {X : Type 0} (test : X → Bool) (xs : List X) (x : X) → list_any test (xs ++ x ∷ []) ≡ (list_any test xs || test x)
+any_push test [] x = or_false (test x)
+  where
+    or_false : (a : Bool) → (a || false) ≡ a
+    or_false true = refl
+    or_false false = refl
+any_push test (y ∷ xs) x = ap (λ (b : Bool). test y || b) (any_push test xs x) ∙ sym (or_or (test y) (list_any test xs) (test x))
+  where
+    or_or : (a b c : Bool) → ((a || b) || c) ≡ (a || (b || c))
+    or_or true b c = refl
+    or_or false b c = refl
+
+or_left : (a b : Bool) → a ≡ true → (a || b) ≡ true
+or_left a b h = ap (λ (x : Bool). x || b) h
+
+or_right : (a b : Bool) → b ≡ true → (a || b) ≡ true
+or_right true b h = refl
+or_right false b h = h
+
+or_none : (a b : Bool) → b ≡ false → (a || b) ≡ a
+or_none true b h = refl
+or_none false b h = h
+
+same_bytes : (bytes : List ℕ) → bytes_eq bytes bytes ≡ true
+same_bytes bytes = grind (arith)
+
+-- ---- lines that name no label, or one that is known
+-- what is kept is the same, and nothing new has to be told
+pub record NothingNew (plan : Plan) (line : RecordedLine) (old : Unplanned) : Type 0 where
+  pub classes : (actor : RecordedActor) (job : ℕ) (class pool : List ℕ) → line ≡ Submits actor job class pool → class_family plan class pool ≡ [] → list_any (tells_class class pool) old.found.items ≡ true
+  pub kinds : (round : ℕ) (kind : List ℕ) → line ≡ RoundBegins round kind → client_family plan kind ≡ [] → list_any (tells_kind kind) old.found.items ≡ true
+
+pub stays_behind : (plan : Plan) (before : List RecordedLine) (line : RecordedLine) (old : Unplanned) → IsUnplannedOf plan before old → NothingNew plan line old → IsUnplannedOf plan (before ++ line ∷ []) old
+stays_behind plan before line old so none = record {
+    sound = All-weaker (IsNotPlanned plan before) (IsNotPlanned plan (before ++ line ∷ [])) (label_stays plan before (line ∷ [])) _ so.sound;
+    classes = λ actor job class pool among empty. elim (Contains-push_cases before line _ among) [ inl earlier ↦ so.classes actor job class pool earlier empty | inr is ↦ none.classes actor job class pool is empty ];
+    kinds = λ round kind among empty. elim (Contains-push_cases before line _ among) [ inl earlier ↦ so.kinds round kind earlier empty | inr is ↦ none.kinds round kind is empty ];
+    kept_classes = so.kept_classes;
+    kept_kinds = so.kept_kinds;
+  }
+
+-- ---- a submit
+known_class : (plan : Plan) (before : List RecordedLine) (actor : RecordedActor) (job : ℕ) (class pool : List ℕ) (old : Unplanned) → IsUnplannedOf plan before old
+    → (has_label old.classes (pair_text class pool) ≡ true) ⊎ (¬ (class_family plan class pool ≡ [])) → NothingNew plan (Submits actor job class pool) old
+known_class plan before actor job class pool old so why = record {
+    classes = λ who one c p is empty.
+        let same_class : class ≡ c = cc in
+        let same_pool : pool ≡ p = cc in
+        elim why [
+          inl known ↦ sym (so.kept_classes c p) ∙ (ap (λ (text : List ℕ). has_label old.classes text) (ap (λ (x : List ℕ). pair_text x p) (sym same_class) ∙ ap (λ (x : List ℕ). pair_text class x) (sym same_pool)) ∙ known)
+        | inr there ↦ absurd (there (ap (λ (x : List ℕ). class_family plan x pool) same_class ∙ (ap (λ (x : List ℕ). class_family plan c x) same_pool ∙ empty))) ];
+    kinds = λ round kind is empty. absurd (cc);
+  }
+
+told_class : (plan : Plan) (before : List RecordedLine) (number : ℕ) (actor : RecordedActor) (job : ℕ) (class pool : List ℕ) (old new : Unplanned) → IsNext number before → IsUnplannedOf plan before old
+    → (c p : String Global) → string_bytes c ≡ class → string_bytes p ≡ pool → class_family plan class pool ≡ []
+    → new.found.items ≡ old.found.items ++ code.Class number c p ∷ []
+    → ((q : List ℕ) → has_label new.classes q ≡ (has_label old.classes q || bytes_eq (pair_text class pool) q))
+    → new.kinds ≡ old.kinds
+    → IsUnplannedOf plan (before ++ Submits actor job class pool ∷ []) new
+told_class plan before number actor job class pool old new next so c p c_is p_is empty found_is kept_is kinds_is =
+    let line = Submits actor job class pool in
+    let one = code.Class number c p in
+    let any_class : (x y : List ℕ) → list_any (tells_class x y) new.found.items ≡ (list_any (tells_class x y) old.found.items || tells_class x y one)
+          = λ x y. ap (list_any (tells_class x y)) found_is ∙ any_push (tells_class x y) old.found.items one in
+    let any_kind : (x : List ℕ) → list_any (tells_kind x) new.found.items ≡ list_any (tells_kind x) old.found.items
+          = λ x. ap (list_any (tells_kind x)) found_is ∙ (any_push (tells_kind x) old.found.items one ∙ or_none _ _ refl) in
+    let text : pair_text (string_bytes c) (string_bytes p) ≡ pair_text class pool = ap (λ (x : List ℕ). pair_text x (string_bytes p)) c_is ∙ ap (λ (x : List ℕ). pair_text class x) p_is in
+    let tells : (x y : List ℕ) → tells_class x y one ≡ bytes_eq (pair_text class pool) (pair_text x y) = λ x y. ap (λ (t : List ℕ). bytes_eq t (pair_text x y)) text in
+    let new_one : IsNotPlanned plan (before ++ line ∷ []) one = record {
+          actor = actor; job = job;
+          line = subst (λ (x : List ℕ). IsLine (before ++ line ∷ []) number (Submits actor job x (string_bytes p))) (sym c_is) (subst (λ (y : List ℕ). IsLine (before ++ line ∷ []) number (Submits actor job class y)) (sym p_is) (last_line before number line next));
+          none = ap (λ (x : List ℕ). class_family plan x (string_bytes p)) c_is ∙ (ap (λ (y : List ℕ). class_family plan class y) p_is ∙ empty);
+        } in
+    record {
+      sound = subst (λ (xs : List NotPlanned). All (IsNotPlanned plan (before ++ line ∷ [])) xs) (sym found_is)
+          (All-push (IsNotPlanned plan (before ++ line ∷ [])) old.found.items one (All-weaker (IsNotPlanned plan before) (IsNotPlanned plan (before ++ line ∷ [])) (label_stays plan before (line ∷ [])) _ so.sound) new_one);
+      classes = λ who n x y among none. elim (Contains-push_cases before line _ among) [
+          inl earlier ↦ any_class x y ∙ or_left _ _ (so.classes who n x y earlier none)
+        | inr is ↦
+            let same_class : class ≡ x = cc in
+            let same_pool : pool ≡ y = cc in
+            let same : bytes_eq (pair_text class pool) (pair_text x y) ≡ true = ap (λ (t : List ℕ). bytes_eq (pair_text class pool) t) (sym (ap (λ (z : List ℕ). pair_text z pool) same_class ∙ ap (λ (z : List ℕ). pair_text x z) same_pool)) ∙ same_bytes (pair_text class pool) in
+            any_class x y ∙ or_right _ _ (tells x y ∙ same) ];
+      kinds = λ round kind among none. elim (Contains-push_cases before line _ among) [ inl earlier ↦ any_kind kind ∙ so.kinds round kind earlier none | inr is ↦ absurd (cc) ];
+      kept_classes = λ x y. kept_is (pair_text x y) ∙ (ap (λ (b : Bool). b || bytes_eq (pair_text class pool) (pair_text x y)) (so.kept_classes x y) ∙ (ap (λ (b : Bool). list_any (tells_class x y) old.found.items || b) (sym (tells x y)) ∙ sym (any_class x y)));
+      kept_kinds = λ x. ap (λ (k : _). has_label k x) kinds_is ∙ (so.kept_kinds x ∙ sym (any_kind x));
+    }
+
+pub behind_submit : (plan : Plan) (before : List RecordedLine) (number : ℕ) (actor : RecordedActor) (job : ℕ) (class pool : List ℕ) (old new : Unplanned) → IsNext number before → IsUnplannedOf plan before old
+    → TakesClass plan number class pool old new → IsUnplannedOf plan (before ++ Submits actor job class pool ∷ []) new
+behind_submit plan before number actor job class pool old new next so (takes_class.stays why is) =
+    subst (IsUnplannedOf plan (before ++ Submits actor job class pool ∷ [])) (sym is) (stays_behind plan before _ old so (known_class plan before actor job class pool old so why))
+behind_submit plan before number actor job class pool old new next so (takes_class.tells c p c_is p_is empty found_is kept_is kinds_is) =
+    told_class plan before number actor job class pool old new next so c p c_is p_is empty found_is kept_is kinds_is
+
+-- ---- a begin
+known_kind : (plan : Plan) (before : List RecordedLine) (round : ℕ) (kind : List ℕ) (old : Unplanned) → IsUnplannedOf plan before old
+    → (has_label old.kinds kind ≡ true) ⊎ (¬ (client_family plan kind ≡ [])) → NothingNew plan (RoundBegins round kind) old
+known_kind plan before round kind old so why = record {
+    classes = λ who one c p is empty. absurd (cc);
+    kinds = λ one k is empty.
+        let same : kind ≡ k = cc in
+        elim why [
+          inl known ↦ sym (so.kept_kinds k) ∙ (ap (λ (x : List ℕ). has_label old.kinds x) (sym same) ∙ known)
+        | inr there ↦ absurd (there (ap (λ (x : List ℕ). client_family plan x) same ∙ empty)) ];
+  }
+
+told_kind : (plan : Plan) (before : List RecordedLine) (number round : ℕ) (kind : List ℕ) (old new : Unplanned) → IsNext number before → IsUnplannedOf plan before old
+    → (k : String Global) → string_bytes k ≡ kind → client_family plan kind ≡ []
+    → new.found.items ≡ old.found.items ++ code.Kind number k ∷ []
+    → ((q : List ℕ) → has_label new.kinds q ≡ (has_label old.kinds q || bytes_eq kind q))
+    → new.classes ≡ old.classes
+    → IsUnplannedOf plan (before ++ RoundBegins round kind ∷ []) new
+told_kind plan before number round kind old new next so k k_is empty found_is kept_is classes_is =
+    let line = RoundBegins round kind in
+    let one = code.Kind number k in
+    let any_class : (x y : List ℕ) → list_any (tells_class x y) new.found.items ≡ list_any (tells_class x y) old.found.items
+          = λ x y. ap (list_any (tells_class x y)) found_is ∙ (any_push (tells_class x y) old.found.items one ∙ or_none _ _ refl) in
+    let any_kind : (x : List ℕ) → list_any (tells_kind x) new.found.items ≡ (list_any (tells_kind x) old.found.items || bytes_eq kind x)
+          = λ x. ap (list_any (tells_kind x)) found_is ∙ (any_push (tells_kind x) old.found.items one ∙ ap (λ (t : List ℕ). list_any (tells_kind x) old.found.items || bytes_eq t x) k_is) in
+    let new_one : IsNotPlanned plan (before ++ line ∷ []) one = record {
+          round = round;
+          line = subst (λ (x : List ℕ). IsLine (before ++ line ∷ []) number (RoundBegins round x)) (sym k_is) (last_line before number line next);
+          none = ap (λ (x : List ℕ). client_family plan x) k_is ∙ empty;
+        } in
+    record {
+      sound = subst (λ (xs : List NotPlanned). All (IsNotPlanned plan (before ++ line ∷ [])) xs) (sym found_is)
+          (All-push (IsNotPlanned plan (before ++ line ∷ [])) old.found.items one (All-weaker (IsNotPlanned plan before) (IsNotPlanned plan (before ++ line ∷ [])) (label_stays plan before (line ∷ [])) _ so.sound) new_one);
+      classes = λ who n x y among none. elim (Contains-push_cases before line _ among) [ inl earlier ↦ any_class x y ∙ so.classes who n x y earlier none | inr is ↦ absurd (cc) ];
+      kinds = λ r x among none. elim (Contains-push_cases before line _ among) [
+          inl earlier ↦ any_kind x ∙ or_left _ _ (so.kinds r x earlier none)
+        | inr is ↦
+            let same : kind ≡ x = cc in
+            any_kind x ∙ or_right _ _ (ap (λ (t : List ℕ). bytes_eq kind t) (sym same) ∙ same_bytes kind) ];
+      kept_classes = λ x y. ap (λ (l : _). has_label l (pair_text x y)) classes_is ∙ (so.kept_classes x y ∙ sym (any_class x y));
+      kept_kinds = λ x. kept_is x ∙ (ap (λ (b : Bool). b || bytes_eq kind x) (so.kept_kinds x) ∙ sym (any_kind x));
+    }
+
+pub behind_begin : (plan : Plan) (before : List RecordedLine) (number round : ℕ) (kind : List ℕ) (old new : Unplanned) → IsNext number before → IsUnplannedOf plan before old
+    → TakesKind plan number kind old new → IsUnplannedOf plan (before ++ RoundBegins round kind ∷ []) new
+behind_begin plan before number round kind old new next so (takes_kind.stays why is) =
+    subst (IsUnplannedOf plan (before ++ RoundBegins round kind ∷ [])) (sym is) (stays_behind plan before _ old so (known_kind plan before round kind old so why))
+behind_begin plan before number round kind old new next so (takes_kind.tells k k_is empty found_is kept_is classes_is) =
+    told_kind plan before number round kind old new next so k k_is empty found_is kept_is classes_is
+
+-- ---- another line
+abbrev pub is_label_line : RecordedLine → Bool
+is_label_line (Submits actor job class pool) = true
+is_label_line (RoundBegins round kind) = true
+is_label_line line = false
+
+pub behind_other : (plan : Plan) (before : List RecordedLine) (line : RecordedLine) (old : Unplanned) → IsUnplannedOf plan before old → is_label_line line ≡ false → IsUnplannedOf plan (before ++ line ∷ []) old
+behind_other plan before line old so other = stays_behind plan before line old so (record {
+    classes = λ actor job class pool is empty. absurd (contra (sym (ap is_label_line is) ∙ other));
+    kinds = λ round kind is empty. absurd (contra (sym (ap is_label_line is) ∙ other));
+  })
+  where
+    contra : true ≡ false → ⊥
+    contra h = cc

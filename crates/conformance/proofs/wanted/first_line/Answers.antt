@@ -1,0 +1,35 @@
+use Rattle.std.proofs.Common.{◌≡◌, ◌+◌, false, true, ◌∷◌, [], ◌++◌, drop, take, slice_get, Some, refl, ap, sym, subst, ◌∙◌, arith}
+use Rattle.std.proofs.lemmas.Grind.{common_steps}
+use Rattle.std.specs.List.{list_any}
+use Rattle.recording_lines.specs.RecordingLine.{line_seen}
+use Rattle.conformance.specs.Lines.{lines_of}
+use Rattle.conformance.specs.Wanted.{is_wanted}
+use Rattle.conformance.proofs.Steps.{next_is, rest_next, within_next, front_next, all_taken}
+use Rattle.conformance.proofs.Among.{any_more}
+use Rattle.conformance.proofs.wanted.first_line.Goals as goal
+
+pub returns-then-is : goal.returns-then-is
+returns-then-is c =
+    let lines = lines_of c.args.text.now in
+    let n = c.loop-line.number in
+    let next : drop n lines ≡ line_seen c.in-Some.line ∷ c.next.new.self = sym c.loop-line.invariant.rest ∙ c.in-Some.ensures in
+    ((n, refl, next_is lines _ n _ next), sym c.is.ensures ∙ c.if-is.true)
+
+pub loop-line-preserved : goal.loop-line-preserved
+loop-line-preserved c =
+    let lines = lines_of c.args.text.now in
+    let n = c.loop-line.number in
+    let next : drop n lines ≡ line_seen c.in-Some.line ∷ c.next.new.self = sym c.loop-line.invariant.rest ∙ c.in-Some.ensures in
+    record {
+      rest = rest_next lines _ n _ next;
+      within = within_next lines _ n _ next;
+      few = c.loop-line.invariant.few;
+      none = any_more (is_wanted c.args.wanted) lines _ n _ next c.loop-line.invariant.none (sym c.is.ensures ∙ c.if-is.false);
+    }
+
+pub returns : goal.returns
+returns c =
+    let lines = lines_of c.args.text.now in
+    let n = c.loop-line.number in
+    let rest : drop n lines ≡ [] = sym c.loop-line.invariant.rest ∙ c.in_default.ensures.0 in
+    sym (ap (list_any (is_wanted c.args.wanted)) (all_taken lines n rest)) ∙ c.loop-line.invariant.none
