@@ -1,0 +1,119 @@
+-- What the watches keep stands for the lines with one more behind them.
+use Rattle.std.proofs.Common.{◌≡◌, ℕ, ◌≤◌, map, ◌||◌, nat_lt, Bool, true, false, if◌then◌else◌, List, [], ◌∷◌, ◌++◌, length, slice_get, Option, Some, None, refl, ap, sym, ◌∙◌, arith}
+use Rattle.std.specs.Option.{option_map, option_to_list}
+use Rattle.std.proofs.lemmas.Bool.{ltb-true}
+use Rattle.std.proofs.lemmas.Option.{slice_get-get_or, slice_get_past, slice_get-map}
+use Rattle.job_bodies.specs.Plan.{Plan, Client, client_at, no_client}
+use Rattle.recording_lines.specs.RecordingLine.{RecordedLine, RoundBegins, RoundEnds, Pool}
+use Rattle.recorded_rules.specs.LineParts.{is_end, declares}
+use Rattle.recorded_rules.specs.Before.{has_pool, is_closed}
+use Rattle.recorded_paths.specs.StandsFor.{KeepsRules}
+use Rattle.plan_differences.specs.declared.pool_watch.PoolWatch.{PoolWatch}
+use Rattle.plan_differences.specs.declared.round_watch.KindRounds.{KindRounds}
+use Rattle.plan_differences.specs.declared.round_watch.RoundWatch.{RoundWatch}
+use Rattle.plan_differences.specs.Rounds.{no_rounds, excess_of}
+use Rattle.plan_differences.specs.PoolDeviations.{deviates, has_deviated, deviations_unless, told_by_line as pool_told, deviations_by_line}
+use Rattle.plan_differences.specs.PoolWatch.{has_name, IsPoolWatchOf, IsNoted}
+use Rattle.plan_differences.specs.RoundExcesses.{kind_of, is_kind, rounds_of, has_exceeded, excess_at, first_excess, excesses_of_kind, excesses_by_line}
+use Rattle.plan_differences.specs.RoundWatch.{kept_of, IsRoundWatchOf, after_begin, after_end, kind_after, IsCounted, told_of_kind, told_at, told_by_line}
+use Rattle.plan_differences.proofs.LineByLine.{any_more}
+use Rattle.plan_differences.proofs.PoolsFound.{deviated_more}
+use Rattle.plan_differences.proofs.RoundsAfter.{rounds_begun, kept_begun, kept_ended, kept_same, open_here}
+
+-- ---- pools
+has_pool_more : (before : List RecordedLine) (line : RecordedLine) (pool : List ℕ) → has_pool (before ++ line ∷ []) pool ≡ (has_pool before pool || declares pool line)
+unfolding has_pool
+has_pool_more before line pool = any_more (declares pool) before line
+
+closed_more : (before : List RecordedLine) (line : RecordedLine) → is_closed (before ++ line ∷ []) ≡ (is_closed before || is_end line)
+unfolding is_closed
+closed_more before line = any_more is_end before line
+
+pub pools_none : (plan : Plan) (watch : PoolWatch) → ((pool : List ℕ) → has_name watch.named pool ≡ false) → ((pool : List ℕ) → has_name watch.deviated pool ≡ false) → watch.closed ≡ false → IsPoolWatchOf plan watch []
+unfolding has_pool is_closed has_deviated
+pools_none plan watch named deviated closed = record { named = named; deviated = deviated; closed = closed }
+
+pub pools_after : (plan : Plan) (old new : PoolWatch) (before : List RecordedLine) (line : RecordedLine) → IsPoolWatchOf plan old before → IsNoted plan old line new → IsPoolWatchOf plan new (before ++ line ∷ [])
+pools_after plan old new before line s n = record {
+  named = λ pool. n.named pool ∙ (ap (λ b. b || declares pool line) (s.named pool) ∙ sym (has_pool_more before line pool));
+  deviated = λ pool. n.deviated pool ∙ (ap (λ b. b || deviates plan pool line) (s.deviated pool) ∙ sym (deviated_more plan before line pool));
+  closed = n.closed ∙ (ap (λ b. b || is_end line) s.closed ∙ sym (closed_more before line));
+}
+
+pub pools_told : (plan : Plan) (watch : PoolWatch) (before : List RecordedLine) (number : ℕ) (line : RecordedLine) → IsPoolWatchOf plan watch before → pool_told plan (has_name watch.deviated) number line ≡ deviations_by_line plan before number line
+pools_told plan watch before number (Pool name sizes) s = ap (λ b. deviations_unless b plan number name sizes) (s.deviated name)
+pools_told plan watch before number line s = refl
+
+-- ---- rounds
+not_below : (a b : ℕ) → nat_lt a b ≡ false → b ≤ a
+not_below a b h = grind (arith, h)
+
+abbrev pub first_kept : Client → KindRounds
+first_kept client = record { rounds = no_rounds client; has_exceeded = false }
+
+first_of : (plan : Plan) (kinds : List (Option ℕ)) (kind : ℕ) → first_kept (client_at plan kind) ≡ kept_of plan kinds [] kind
+unfolding rounds_of has_exceeded
+first_of plan kinds kind = refl
+
+known_first : (plan : Plan) (kinds : List (Option ℕ)) (kind : ℕ) (known : Bool) → nat_lt kind (length plan.clients) ≡ known → option_map first_kept (slice_get plan.clients kind) ≡ (if known then Some (kept_of plan kinds [] kind) else None)
+known_first plan kinds kind true is = ap (option_map first_kept) (slice_get-get_or plan.clients kind no_client (ltb-true _ _ is)) ∙ ap Some (first_of plan kinds kind)
+known_first plan kinds kind false is = ap (option_map first_kept) (slice_get_past plan.clients kind (not_below kind (length plan.clients) is))
+
+pub rounds_none : (plan : Plan) (kinds : List (Option ℕ)) (watch : RoundWatch) → watch.kinds.items ≡ map first_kept plan.clients → IsRoundWatchOf plan kinds watch []
+rounds_none plan kinds watch is = record {
+  kept = λ kind. ap (λ (kept : List KindRounds). slice_get kept kind) is ∙ (slice_get-map first_kept plan.clients kind ∙ known_first plan kinds kind _ refl);
+}
+
+-- the rounds of a kind that the plan has change as they are kept
+mapped : (f : KindRounds → KindRounds) (known : Bool) (a b : KindRounds) → b ≡ f a → option_map f (if known then Some a else None) ≡ (if known then Some b else None)
+mapped f true a b h = ap Some (sym h)
+mapped f false a b h = refl
+
+same_kept : (known : Bool) (a b : KindRounds) → b ≡ a → (if known then Some a else None) ≡ (if known then Some b else None)
+same_kept known a b h = ap (λ kept. if known then Some kept else None) (sym h)
+
+begin_kept : (plan : Plan) (kinds : List (Option ℕ)) (before : List RecordedLine) (round : ℕ) (name : List ℕ) (kind : ℕ) (known here : Bool) → is_kind kind (kind_of kinds round) ≡ here
+    → (if here then option_map after_begin (if known then Some (kept_of plan kinds before kind) else None) else (if known then Some (kept_of plan kinds before kind) else None))
+    ≡ (if known then Some (kept_of plan kinds (before ++ RoundBegins round name ∷ []) kind) else None)
+begin_kept plan kinds before round name kind known true is = mapped after_begin known _ _ (kept_begun plan kinds before (RoundBegins round name) kind is refl)
+begin_kept plan kinds before round name kind known false is = same_kept known _ _ (kept_same plan kinds before (RoundBegins round name) kind is refl)
+
+end_kept : (plan : Plan) (kinds : List (Option ℕ)) (before : List RecordedLine) (round : ℕ) (kind : ℕ) (known here : Bool) → KeepsRules (before ++ RoundEnds round ∷ []) → is_kind kind (kind_of kinds round) ≡ here
+    → (if here then option_map after_end (if known then Some (kept_of plan kinds before kind) else None) else (if known then Some (kept_of plan kinds before kind) else None))
+    ≡ (if known then Some (kept_of plan kinds (before ++ RoundEnds round ∷ []) kind) else None)
+end_kept plan kinds before round kind known true kept is = mapped after_end known _ _ (kept_ended plan kinds before (RoundEnds round) kind refl is (open_here plan kinds before round kind kept is))
+end_kept plan kinds before round kind known false kept is = same_kept known _ _ (kept_same plan kinds before (RoundEnds round) kind refl is)
+
+after : (plan : Plan) (kinds : List (Option ℕ)) (before : List RecordedLine) (line : RecordedLine) (kind : ℕ) (known : Bool) → KeepsRules (before ++ line ∷ [])
+    → kind_after kinds line kind (if known then Some (kept_of plan kinds before kind) else None) ≡ (if known then Some (kept_of plan kinds (before ++ line ∷ []) kind) else None)
+after plan kinds before (RoundBegins round name) kind known kept = begin_kept plan kinds before round name kind known _ refl
+after plan kinds before (RoundEnds round) kind known kept = end_kept plan kinds before round kind known _ kept refl
+after plan kinds before line kind known kept = same_kept known _ _ (kept_same plan kinds before line kind refl refl)
+
+pub rounds_after : (plan : Plan) (kinds : List (Option ℕ)) (old new : RoundWatch) (before : List RecordedLine) (line : RecordedLine) → KeepsRules (before ++ line ∷ []) → IsRoundWatchOf plan kinds old before → IsCounted kinds old line new
+    → IsRoundWatchOf plan kinds new (before ++ line ∷ [])
+rounds_after plan kinds old new before line kept s counted = record {
+  kept = λ kind. counted.after kind ∙ (ap (kind_after kinds line kind) (s.kept kind) ∙ after plan kinds before line kind (nat_lt kind (length plan.clients)) kept);
+}
+
+-- ---- what of them is told
+told_known : (plan : Plan) (kinds : List (Option ℕ)) (before : List RecordedLine) (number round : ℕ) (name : List ℕ) (kind : ℕ) (known : Bool) → is_kind kind (kind_of kinds round) ≡ true
+    → told_of_kind number kind (if known then Some (kept_of plan kinds before kind) else None)
+    ≡ (if known then option_to_list (option_map (excess_at number kind) (first_excess plan kinds before (RoundBegins round name) kind)) else [])
+told_known plan kinds before number round name kind true is =
+    ap (λ rounds. option_to_list (option_map (excess_at number kind) (if has_exceeded plan kinds before kind then None else excess_of rounds))) (sym (rounds_begun plan kinds before (RoundBegins round name) kind is refl))
+told_known plan kinds before number round name kind false is = refl
+
+same_kind : (kind : ℕ) (there : Option ℕ) → there ≡ Some kind → is_kind kind there ≡ true
+same_kind kind None h = cc
+same_kind kind (Some one) h = grind (arith, h)
+
+told_kind : (plan : Plan) (kinds : List (Option ℕ)) (watch : RoundWatch) (before : List RecordedLine) (number round : ℕ) (name : List ℕ) (there : Option ℕ) → kind_of kinds round ≡ there → IsRoundWatchOf plan kinds watch before
+    → told_at watch number there ≡ excesses_of_kind plan kinds before number (RoundBegins round name) there
+told_kind plan kinds watch before number round name None is s = refl
+told_kind plan kinds watch before number round name (Some kind) is s =
+    ap (told_of_kind number kind) (s.kept kind) ∙ told_known plan kinds before number round name kind (nat_lt kind (length plan.clients)) (same_kind kind (kind_of kinds round) is)
+
+pub rounds_told : (plan : Plan) (kinds : List (Option ℕ)) (watch : RoundWatch) (before : List RecordedLine) (number : ℕ) (line : RecordedLine) → IsRoundWatchOf plan kinds watch before → told_by_line kinds watch number line ≡ excesses_by_line plan kinds before number line
+rounds_told plan kinds watch before number (RoundBegins round name) s = told_kind plan kinds watch before number round name (kind_of kinds round) refl s
+rounds_told plan kinds watch before number line s = refl

@@ -1,0 +1,59 @@
+-- What a watch of the rounds keeps, and how it stands for the lines so far.
+use Rattle.std.specs.Prelude.{◌≡◌, ℕ, ◌+◌, ◌||◌, nat_lt, if◌then◌else◌, List, length, slice_get, is_some, Option, Some, None, []}
+use Rattle.std.specs.Option.{option_map, option_to_list}
+use Rattle.job_bodies.specs.Plan.{Plan}
+use Rattle.recording_lines.specs.RecordingLine.{RecordedLine, RoundBegins, RoundEnds}
+use Rattle.plan_differences.specs.declared.excess.Excess.{Excess}
+use Rattle.plan_differences.specs.declared.round_watch.RoundExcess.{RoundExcess}
+use Rattle.plan_differences.specs.declared.round_watch.KindRounds.{KindRounds}
+use Rattle.plan_differences.specs.declared.round_watch.RoundWatch.{RoundWatch}
+use Rattle.plan_differences.specs.Rounds.{Rounds, excess_of}
+use Rattle.plan_differences.specs.RoundExcesses.{kind_of, is_kind, rounds_of, has_exceeded, excess_at}
+
+abbrev pub kept_of : Plan → List (Option ℕ) → List RecordedLine → ℕ → KindRounds
+kept_of plan kinds lines kind = record { rounds = rounds_of plan kinds lines kind; has_exceeded = has_exceeded plan kinds lines kind }
+
+-- of each kind of the plan its rounds are kept, and whether there were more than the plan says
+pub record IsRoundWatchOf (plan : Plan) (kinds : List (Option ℕ)) (watch : RoundWatch) (lines : List RecordedLine) : Type 0 where
+  pub kept : (kind : ℕ) → slice_get watch.kinds.items kind ≡ (if nat_lt kind (length plan.clients) then Some (kept_of plan kinds lines kind) else None)
+
+-- ---- what a line changes in the rounds of one kind
+abbrev pub with_begun : Rounds → Rounds
+with_begun rounds = record rounds { begun = rounds.begun + 1 }
+
+abbrev pub after_begin : KindRounds → KindRounds
+after_begin kept = record { rounds = with_begun kept.rounds; has_exceeded = kept.has_exceeded || is_some (excess_of (with_begun kept.rounds)) }
+
+abbrev pub told_by_begin : KindRounds → Option Excess
+told_by_begin kept = if kept.has_exceeded then None else excess_of (with_begun kept.rounds)
+
+abbrev pub told_of_begin : ℕ → ℕ → KindRounds → List RoundExcess
+told_of_begin number kind kept = option_to_list (option_map (excess_at number kind) (told_by_begin kept))
+
+abbrev pub told_of_kind : ℕ → ℕ → Option KindRounds → List RoundExcess
+told_of_kind number kind None = []
+told_of_kind number kind (Some kept) = told_of_begin number kind kept
+
+abbrev pub with_ended : Rounds → Rounds
+with_ended rounds = record rounds { ended = rounds.ended + 1 }
+
+-- where a round is open
+abbrev pub after_end : KindRounds → KindRounds
+after_end kept = record kept { rounds = if nat_lt kept.rounds.ended kept.rounds.begun then with_ended kept.rounds else kept.rounds }
+
+-- ---- what a line changes, and what it tells
+abbrev pub kind_after : List (Option ℕ) → RecordedLine → ℕ → Option KindRounds → Option KindRounds
+kind_after kinds (RoundBegins round name) kind there = if is_kind kind (kind_of kinds round) then option_map after_begin there else there
+kind_after kinds (RoundEnds round) kind there = if is_kind kind (kind_of kinds round) then option_map after_end there else there
+kind_after kinds line kind there = there
+
+pub record IsCounted (kinds : List (Option ℕ)) (old : RoundWatch) (line : RecordedLine) (new : RoundWatch) : Type 0 where
+  pub after : (kind : ℕ) → slice_get new.kinds.items kind ≡ kind_after kinds line kind (slice_get old.kinds.items kind)
+
+abbrev pub told_at : RoundWatch → ℕ → Option ℕ → List RoundExcess
+told_at watch number None = []
+told_at watch number (Some kind) = told_of_kind number kind (slice_get watch.kinds.items kind)
+
+abbrev pub told_by_line : List (Option ℕ) → RoundWatch → ℕ → RecordedLine → List RoundExcess
+told_by_line kinds watch number (RoundBegins round name) = told_at watch number (kind_of kinds round)
+told_by_line kinds watch number line = []

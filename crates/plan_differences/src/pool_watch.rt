@@ -1,0 +1,211 @@
+//! A watch over the pools of a recording.
+
+ghost use Rattle.std.specs.Prelude.{◌≡◌, List, [], ◌∷◌, ◌++◌, map, length, ◌<◌, OnOk, IfOk, IfSome};
+ghost use Rattle.std.specs.Option.{option_to_list};
+ghost use Rattle.job_bodies.specs.Plan as plans;
+ghost use Rattle.recording_lines.specs.RecordingLine.{RecordedLine, line_seen};
+ghost use Rattle.recording_lines.specs.RecordingLine as lines;
+ghost use Rattle.plan_differences.specs.PoolDeviations as spec;
+ghost use Rattle.plan_differences.specs.PoolWatch.{has_name, IsPoolWatchOf, IsNoted, Adds};
+
+use crate::pool_names::PoolNames;
+use crate::{Difference, differences};
+use job_bodies::{Plan, Pool};
+use recording_lines::{Line, PoolSizes};
+use std::alloc::{AllocError, Global};
+
+/// One thing in which the pools of a recording are not those of the plan. Lines are numbered from 1.
+#[derive(Debug, Drop)]
+pub enum PoolDeviation {
+    /// A pool of this name has a line, and the plan has no such pool.
+    NotPlanned {
+        line: usize,
+        pool: String,
+    },
+    /// The plan's pool of this number is another one in this line.
+    Differs {
+        line: usize,
+        pool: usize,
+        difference: Difference,
+    },
+    /// The recording is whole and has no line of the plan's pool of this number.
+    NotRecorded {
+        pool: usize,
+    },
+}
+
+/// The pools of a recording, watched line by line beside those of a plan.
+///
+/// It keeps the names of the pools that have a line, each once.
+#[derive(Debug, Drop)]
+pub struct PoolWatch {
+    named: PoolNames,
+    deviated: PoolNames,
+    closed: bool,
+    alloc: Global,
+}
+
+impl PoolWatch {
+    /// No lines so far.
+    pub fn new(alloc: Global) -> PoolWatch
+        ensures { (plan : plans.Plan) → IsPoolWatchOf plan result [] }
+    {
+        PoolWatch {
+            named: PoolNames::new(alloc),
+            deviated: PoolNames::new(alloc),
+            closed: false,
+            alloc,
+        }
+    }
+
+    /// Takes the next line, which has this number. It finds a pool that the plan has not at its first line, and all in which
+    /// a pool is not as the plan says at the first of its lines that is not; no later line of that pool has any more.
+    ///
+    /// # Errors
+    ///
+    /// `AllocError` where there is no memory for a name or for what is found. The watch is then of no use any more.
+    pub fn take(
+        &mut self,
+        plan: &Plan,
+        number: usize,
+        line: &Line<'_>,
+        found: &mut Vec<PoolDeviation>,
+    ) -> Result<(), AllocError>
+        ensures taken { (before : List RecordedLine) → IsPoolWatchOf plan.now self.old before → OnOk result (IsPoolWatchOf plan.now self.new (before ++ line_seen line.now ∷ [])) }
+        ensures found { (before : List RecordedLine) → IsPoolWatchOf plan.now self.old before → OnOk result (Adds found.old.items (spec.deviations_by_line plan.now before number (line_seen line.now)) found.new.items) }
+    {
+        self.note(plan, number, line, found)
+    }
+
+    /// Where the last line was `end`, it finds each of the plan's pools that has no line, in the plan's order.
+    ///
+    /// # Errors
+    ///
+    /// `AllocError` where there is no memory for what is found.
+    pub fn finish(&self, plan: &Plan, found: &mut Vec<PoolDeviation>) -> Result<(), AllocError>
+        ensures { (lines : List RecordedLine) → IsPoolWatchOf plan.now self.now lines → OnOk result (Adds found.old.items (spec.deviations_at_end plan.now lines) found.new.items) }
+    {
+        if self.closed {
+            self.push_unrecorded(plan, found)?;
+        }
+        Ok(())
+    }
+
+    fn note(
+        &mut self,
+        plan: &Plan,
+        number: usize,
+        line: &Line<'_>,
+        found: &mut Vec<PoolDeviation>,
+    ) -> Result<(), AllocError>
+        ensures noted { OnOk result (IsNoted plan.now self.old (line_seen line.now) self.new) }
+        ensures found { OnOk result (Adds found.old.items (spec.told_by_line plan.now (has_name self.old.deviated) number (line_seen line.now)) found.new.items) }
+    {
+        match *line {
+            Line::Pool { name, sizes } => self.note_pool(plan, number, name, &sizes, found),
+            Line::End => {
+                self.closed = true;
+                Ok(())
+            }
+            _ => Ok(()),
+        }
+    }
+
+    fn note_pool(
+        &mut self,
+        plan: &Plan,
+        number: usize,
+        name: &str,
+        sizes: &PoolSizes,
+        found: &mut Vec<PoolDeviation>,
+    ) -> Result<(), AllocError>
+        ensures noted { OnOk result (IsNoted plan.now self.old (lines.Pool name.now sizes.now) self.new) }
+        ensures found { OnOk result (Adds found.old.items (spec.told_by_line plan.now (has_name self.old.deviated) number (lines.Pool name.now sizes.now)) found.new.items) }
+    {
+        self.named.insert(name)?;
+        if !self.deviated.contains(name) {
+            let planned = push_deviations(self.alloc, plan, number, name, sizes, found)?;
+            if !planned {
+                self.deviated.insert(name)?;
+            }
+        }
+        Ok(())
+    }
+
+    fn push_unrecorded(&self, plan: &Plan, found: &mut Vec<PoolDeviation>) -> Result<(), AllocError>
+        ensures { OnOk result (Adds found.old.items (spec.unrecorded_by (has_name self.now.named) plan.now) found.new.items) }
+    {
+        for (number, pool) in plan.pools().iter().enumerate() {
+            self.push_unless_named(number, pool, found)?;
+        }
+        Ok(())
+    }
+
+    fn push_unless_named(
+        &self,
+        number: usize,
+        pool: &Pool,
+        found: &mut Vec<PoolDeviation>,
+    ) -> Result<(), AllocError>
+        ensures { OnOk result (Adds found.old.items (option_to_list (spec.unrecorded_at (has_name self.now.named) (number, pool.now))) found.new.items) }
+    {
+        if !self.named.contains(&pool.name) {
+            found.push(PoolDeviation::NotRecorded { pool: number })?;
+        }
+        Ok(())
+    }
+}
+
+/// The number of the plan's pool of this name.
+fn pool_named(plan: &Plan, name: &str) -> Option<usize>
+    ensures is { result ≡ spec.pool_named plan.now name.now }
+    ensures within { IfSome result (λ pool. pool < length plan.now.pools) }
+{
+    plan.pools()
+        .iter()
+        .position(|pool| pool.name.as_str() == name)
+}
+
+// Answers whether the pool is as planned, so that nothing was pushed.
+fn push_deviations(
+    alloc: Global,
+    plan: &Plan,
+    number: usize,
+    name: &str,
+    sizes: &PoolSizes,
+    found: &mut Vec<PoolDeviation>,
+) -> Result<bool, AllocError>
+    ensures planned { IfOk result (λ planned. planned ≡ spec.is_planned plan.now name.now sizes.now) }
+    ensures found { OnOk result (Adds found.old.items (spec.deviations_of_pool plan.now number name.now sizes.now (spec.pool_named plan.now name.now)) found.new.items) }
+{
+    match pool_named(plan, name) {
+        Some(pool) => {
+            let differences = differences(alloc, sizes, &plan.pools()[pool])?;
+            push_differences(number, pool, &differences, found)?;
+            Ok(differences.is_empty())
+        }
+        None => {
+            let pool = String::from_str(alloc, name)?;
+            found.push(PoolDeviation::NotPlanned { line: number, pool })?;
+            Ok(false)
+        }
+    }
+}
+
+fn push_differences(
+    line: usize,
+    pool: usize,
+    differences: &[Difference],
+    found: &mut Vec<PoolDeviation>,
+) -> Result<(), AllocError>
+    ensures { OnOk result (Adds found.old.items (map (spec.Differs line pool) differences.now) found.new.items) }
+{
+    for difference in differences {
+        found.push(PoolDeviation::Differs {
+            line,
+            pool,
+            difference: *difference,
+        })?;
+    }
+    Ok(())
+}
