@@ -1,0 +1,5 @@
+pub mod Firsts
+pub mod Enough
+pub mod VoidsBehind
+pub mod GetsBehind
+pub mod NotesBehind

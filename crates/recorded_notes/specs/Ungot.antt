@@ -1,0 +1,32 @@
+-- The jobs that their submitters have not got, as they are kept while lines come.
+use Rattle.std.specs.Prelude.{ℕ, nat_eq, ◌==◌, if◌then◌else◌, Option, Some, None}
+use Rattle.std.specs.HashMap.{get}
+use Rattle.recording_lines.specs.declared.recording_line.RecordedActor.{RecordedActor}
+use Rattle.recording_lines.specs.RecordingLine.{RecordedLine, Submits, Got}
+use Rattle.recorded_rules.specs.LineParts.{is_same_actor}
+use Rattle.recorded_notes.specs.declared.foreign_get.ForeignGet.{ForeignGet}
+use Rattle.recorded_notes.specs.declared.ungot.Ungot.{Ungot}
+use Rattle.recorded_notes.specs.ForeignGets.{is_another}
+
+abbrev pub submitter_in : Ungot → ℕ → Option RecordedActor
+submitter_in ungot job = get nat_eq ungot.submitters job
+
+-- the actor got the job: nothing is left where it is the one that submitted it
+abbrev pub ungot_by : RecordedActor → Option RecordedActor → Option RecordedActor
+ungot_by actor None = None
+ungot_by actor (Some submitter) = if is_same_actor submitter actor then None else Some submitter
+
+-- what the line makes of what is there of the job
+abbrev pub table_behind : RecordedLine → ℕ → Option RecordedActor → Option RecordedActor
+table_behind (Submits actor job class pool) one there = if job == one then Some actor else there
+table_behind (Got actor job) one there = if job == one then ungot_by actor there else there
+table_behind line one there = there
+
+-- the first foreign get, with a line of this number
+abbrev pub foreign_by : Ungot → ℕ → RecordedLine → Option ForeignGet
+foreign_by ungot number (Got actor job) = if is_another (submitter_in ungot job) actor then Some (record { line = number; actor = actor; job = job }) else None
+foreign_by ungot number line = None
+
+abbrev pub with_foreign : Ungot → ℕ → RecordedLine → Option ForeignGet → Option ForeignGet
+with_foreign ungot number line (Some foreign) = Some foreign
+with_foreign ungot number line None = foreign_by ungot number line

@@ -1,0 +1,88 @@
+//! What is noted of the lines of a recording so far.
+
+ghost use Rattle.std.specs.Prelude.{◌≡◌, ◌+◌, ◌++◌, ◌∷◌, [], List, OnOk, IfOk, length};
+ghost use Rattle.recording_lines.specs.RecordingLine.{RecordedLine, line_seen};
+ghost use Rattle.recorded_paths.specs.StandsFor.{KeepsRules};
+ghost use Rattle.recorded_notes.specs.Voids.{voids_of};
+ghost use Rattle.recorded_notes.specs.ForeignGets.{first_foreign_get};
+ghost use Rattle.recorded_notes.specs.Ungot.{with_foreign};
+ghost use Rattle.recorded_notes.specs.StandsFor.{IsNotesOf};
+
+use crate::foreign_get::ForeignGet;
+use crate::noted_voids::NotedVoids;
+use crate::ungot::Ungot;
+use crate::voiding::Void;
+use recording_lines::Line;
+use std::alloc::{AllocError, Global};
+
+/// What voids a yes by the lines so far, and the first get of a job by an actor that did not submit it.
+#[derive(Debug, Drop)]
+pub struct RecordedNotes {
+    pub(crate) voids: NotedVoids,
+    pub(crate) ungot: Ungot,
+    pub(crate) foreign: Option<ForeignGet>,
+}
+
+impl RecordedNotes {
+    /// No lines so far.
+    pub fn new(alloc: Global) -> RecordedNotes
+        ensures { IsNotesOf result [] }
+    {
+        RecordedNotes {
+            voids: NotedVoids::new(alloc),
+            ungot: Ungot::new(alloc),
+            foreign: None,
+        }
+    }
+
+    /// Takes the next line of a recording that keeps the rules. Lines are numbered from 1.
+    ///
+    /// # Errors
+    ///
+    /// `AllocError` where there is no memory for what the line says. What is noted is then of no use any more.
+    pub fn take(&mut self, number: usize, line: &Line<'_>) -> Result<(), AllocError>
+        ensures { (before : List RecordedLine) → KeepsRules (before ++ line_seen line.now ∷ []) → number ≡ length before + 1 → IsNotesOf self.old before → OnOk result (IsNotesOf self.new (before ++ line_seen line.now ∷ [])) }
+    {
+        self.voids.take(number, line)?;
+        self.note_foreign_get(number, line);
+        self.ungot.take(line)
+    }
+
+    /// The first line of each word that voids a yes, in the order of the lines. A `timeout` or `interrupted` is among them
+    /// where it is the last line of its actor so far, or where the next one is no `timeout`, `interrupted` or `got` of
+    /// the same job.
+    ///
+    /// # Errors
+    ///
+    /// `AllocError` where there is no memory for the answer.
+    pub fn voids(&self, alloc: Global) -> Result<Vec<Void>, AllocError>
+        ensures { (lines : List RecordedLine) → IsNotesOf self.now lines → IfOk result (λ voids. voids.items ≡ voids_of lines) }
+    {
+        self.voids.firsts(alloc)
+    }
+
+    /// The first get of a job by an actor that did not submit it, while the one that did had not got it.
+    pub fn foreign_get(&self) -> Option<ForeignGet>
+        ensures { (lines : List RecordedLine) → IsNotesOf self.now lines → result ≡ first_foreign_get lines }
+    {
+        self.foreign
+    }
+
+    fn note_foreign_get(&mut self, number: usize, line: &Line<'_>)
+        ensures foreign { self.new.foreign ≡ with_foreign self.old.ungot number (line_seen line.now) self.old.foreign }
+        ensures voids { self.new.voids ≡ self.old.voids }
+        ensures ungot { self.new.ungot ≡ self.old.ungot }
+    {
+        if self.foreign.is_none() {
+            if let Line::Got { actor, job } = *line {
+                if self.ungot.is_anothers(job, actor) {
+                    self.foreign = Some(ForeignGet {
+                        line: number,
+                        actor,
+                        job,
+                    });
+                }
+            }
+        }
+    }
+}

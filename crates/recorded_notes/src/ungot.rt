@@ -1,0 +1,70 @@
+//! The jobs that were submitted, and that their submitters have not got.
+
+ghost use Rattle.std.specs.Prelude.{◌≡◌, ℕ, ◌==◌, OnOk, None, Some, if◌then◌else◌};
+ghost use Rattle.recording_lines.specs.RecordingLine.{line_seen};
+ghost use Rattle.recorded_notes.specs.Ungot.{submitter_in, table_behind, ungot_by};
+ghost use Rattle.recorded_notes.specs.ForeignGets as spec;
+
+use crate::line_void::is_same_actor;
+use recording_lines::{Line, RecordedActor};
+use std::alloc::{AllocError, Global};
+use std::collections::HashMap;
+
+/// Who submitted each job that this actor has not got.
+#[derive(Debug, Drop)]
+pub(crate) struct Ungot {
+    submitters: HashMap<usize, RecordedActor>,
+}
+
+impl Ungot {
+    /// None so far.
+    pub(crate) fn new(alloc: Global) -> Ungot
+        ensures { (job : ℕ) → submitter_in result job ≡ None }
+    {
+        Ungot {
+            submitters: HashMap::new(alloc),
+        }
+    }
+
+    /// Whether another actor submitted the job, and has not got it.
+    pub(crate) fn is_anothers(&self, job: usize, actor: RecordedActor) -> bool
+        ensures { result ≡ spec.is_another (submitter_in self.now job) actor }
+    {
+        match self.submitters.get(&job) {
+            Some(submitter) => !is_same_actor(*submitter, actor),
+            None => false,
+        }
+    }
+
+    /// Takes the next line.
+    ///
+    /// # Errors
+    ///
+    /// `AllocError` where there is no memory for it.
+    pub(crate) fn take(&mut self, line: &Line<'_>) -> Result<(), AllocError>
+        ensures { OnOk result ((job : ℕ) → submitter_in self.new job ≡ table_behind (line_seen line.now) job (submitter_in self.old job)) }
+    {
+        match *line {
+            Line::Submits { actor, job, .. } => {
+                self.submitters.insert(job, actor)?;
+                Ok(())
+            }
+            Line::Got { actor, job } => {
+                self.got(actor, job);
+                Ok(())
+            }
+            _ => Ok(()),
+        }
+    }
+
+    // The actor got the job.
+    fn got(&mut self, actor: RecordedActor, job: usize)
+        ensures { (one : ℕ) → submitter_in self.new one ≡ (if job == one then ungot_by actor (submitter_in self.old one) else submitter_in self.old one) }
+    {
+        if let Some(submitter) = self.submitters.get(&job) {
+            if is_same_actor(*submitter, actor) {
+                self.submitters.remove(&job);
+            }
+        }
+    }
+}

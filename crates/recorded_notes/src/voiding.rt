@@ -1,0 +1,74 @@
+//! What voids a yes, and its words.
+
+ghost use Rattle.std.specs.Prelude.{◌≡◌, Some};
+ghost use Rattle.recorded_notes.specs.VoidText as spec;
+ghost use Rattle.recorded_notes.specs.Voids.{word_of};
+
+use recording_lines::RecordedActor;
+use std::fmt;
+
+/// What voids a yes from its line on.
+///
+/// It prints as a few words without the line's number and without a newline, as `job 4 was refused`.
+#[derive(Clone, Copy, Debug, PartialEq, Eq)]
+pub enum Voiding {
+    /// A pool had no room for the job that this actor submitted.
+    Refused { actor: RecordedActor, job: usize },
+    /// A get of the job by this actor ended because its time was over.
+    TimedOut { actor: RecordedActor, job: usize },
+    /// A get of the job by this actor ended because its thread was interrupted.
+    Interrupted { actor: RecordedActor, job: usize },
+    /// The actor cancelled the job.
+    Cancelled { actor: RecordedActor, job: usize },
+    /// The actor called `invokeAny`.
+    AnyInvoked { actor: RecordedActor },
+    /// `shutdownNow` took the job out of its queue.
+    Removed { job: usize },
+    /// The job's exception ended its thread.
+    Threw { job: usize },
+    /// So many jobs were run of which no line tells.
+    Unseen { jobs: usize },
+}
+
+/// A line that voids a yes.
+#[derive(Clone, Copy, Debug, PartialEq, Eq)]
+pub struct Void {
+    /// The line's number, from 1.
+    pub line: usize,
+    pub what: Voiding,
+}
+
+impl Voiding {
+    /// The word of its line.
+    pub fn word(self) -> &'static str
+        ensures { result.now ≡ word_of self }
+    {
+        match self {
+            Voiding::Refused { .. } => "refused",
+            Voiding::TimedOut { .. } => "timeout",
+            Voiding::Interrupted { .. } => "interrupted",
+            Voiding::Cancelled { .. } => "cancel",
+            Voiding::AnyInvoked { .. } => "any",
+            Voiding::Removed { .. } => "removed",
+            Voiding::Threw { .. } => "threw",
+            Voiding::Unseen { .. } => "unseen",
+        }
+    }
+}
+
+impl fmt::Display for Voiding {
+    ghost output = { λ what. Some (spec.void_text what) };
+
+    fn fmt<W: fmt::Write>(&self, f: &mut fmt::Formatter<W>) -> fmt::Result {
+        match *self {
+            Voiding::Refused { job, .. } => write!(f, "job {job} was refused"),
+            Voiding::TimedOut { job, .. } => write!(f, "a get of job {job} timed out"),
+            Voiding::Interrupted { job, .. } => write!(f, "a get of job {job} was interrupted"),
+            Voiding::Cancelled { job, .. } => write!(f, "job {job} was cancelled"),
+            Voiding::AnyInvoked { .. } => write!(f, "invokeAny was called"),
+            Voiding::Removed { job } => write!(f, "job {job} was taken out of its queue"),
+            Voiding::Threw { job } => write!(f, "job {job} ended its thread by an exception"),
+            Voiding::Unseen { jobs } => write!(f, "{jobs} jobs were run of which no line tells"),
+        }
+    }
+}
