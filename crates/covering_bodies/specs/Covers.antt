@@ -1,0 +1,37 @@
+-- Bodies that explain all that another one does.
+use Rattle.std.specs.Prelude.{◌≡◌, ◌≤◌, ◌+◌, ◌*◌, ◌^◌, Bool, true, false, List, length, filter}
+use Rattle.job_bodies.specs.declared.action.Action.{Action}
+use Rattle.job_bodies.specs.declared.action.Action.TheVariants.{Work, Submit, Get}
+use Rattle.job_bodies.specs.declared.limits.TheConstants.{MAX_ACTIONS}
+use Rattle.body_paths.specs.declared.deed.Deed.{Deed}
+use Rattle.body_paths.specs.declared.deed.Course.{Course}
+use Rattle.body_paths.specs.declared.deed.Course.TheVariants.{Whole}
+use Rattle.body_paths.specs.Path.{IsPathOf}
+use Rattle.body_paths.specs.Budget.{submit_count}
+use Rattle.covering_bodies.specs.declared.cover.TheConstants.{BUDGET}
+use Rattle.covering_bodies.specs.Lawful.{HasLawfulGets}
+
+-- each path of the body is one of the other body too
+abbrev pub Covers : List Action → List Action → Type 0
+Covers body other = (course : Course) (path : List Deed) → IsPathOf course body path → IsPathOf course other path
+
+abbrev pub is_work : Action → Bool
+is_work (Work units) = true
+is_work (Submit class) = false
+is_work (Get submit) = false
+
+-- the work of a body, in order
+abbrev pub work_of : List Action → List Action
+work_of body = filter is_work body
+
+-- the other body covers the body, and has the same work
+pub record Grows (body other : List Action) : Type 0 where
+  pub covers : Covers body other
+  pub work : work_of other ≡ work_of body
+
+-- The path is of the body, which is one that a plan may have, and has so few submits that each way through it is tried.
+pub record IsSurelyOf (body : List Action) (path : List Deed) : Type 0 where
+  pub of : IsPathOf Whole body path
+  pub short : length body ≤ MAX_ACTIONS
+  pub lawful : HasLawfulGets body
+  pub few : (length body + 1) * 2 ^ submit_count body ≤ BUDGET

@@ -1,0 +1,5 @@
+pub mod Covers
+pub mod Lawful
+pub mod PathBody
+pub mod Insertion
+pub mod Stands
