@@ -88,10 +88,15 @@ ask_shape =
 abbrev pub conform_shape : Shape
 conform_shape = (of_both (codes "conform")).top
 
+-- its one file is a recording
+abbrev pub learn_shape : Shape
+learn_shape = (of_plan (codes "learn")).top
+
 -- the program, with a subcommand for each command
 abbrev pub sizing : App
 sizing =
     with_subcommand
+    (with_subcommand
     (with_subcommand
     (with_subcommand
     (with_subcommand
@@ -103,4 +108,5 @@ sizing =
     run_shape)
     refute_shape)
     ask_shape)
-    conform_shape
+    conform_shape)
+    learn_shape

@@ -14,7 +14,7 @@ use Rattle.command_line.specs.declared.command.Asked.{Asked}
 use Rattle.command_line.specs.declared.command.Command.{Command}
 use Rattle.command_line.specs.declared.command.Command.TheVariants.{Alone, OnRecording, OnThreads}
 use Rattle.command_line.specs.declared.command.Review.TheVariants.{Replay, Check, Explain}
-use Rattle.command_line.specs.declared.command.Reading.TheVariants.{Conform}
+use Rattle.command_line.specs.declared.command.Reading.TheVariants.{Conform, Learn}
 use Rattle.command_line.specs.declared.command.Task.{Task}
 use Rattle.command_line.specs.declared.command.Task.TheVariants.{Certify, Fit, Run, Refute, Ask}
 use Rattle.command_line.specs.declared.command.SizesForm.TheVariants.{Sizes, Bundle}
@@ -83,7 +83,8 @@ command_named (name, rows) =
     if bytes_eq name (codes "replay") then Some (Alone Replay)
     else (if bytes_eq name (codes "check") then Some (Alone Check)
     else (if bytes_eq name (codes "explain") then Some (Alone Explain)
-    else (if bytes_eq name (codes "conform") then Some (OnRecording Conform) else option_map (λ task. OnThreads task) (task_of name rows))))
+    else (if bytes_eq name (codes "conform") then Some (OnRecording Conform)
+    else (if bytes_eq name (codes "learn") then Some (OnRecording Learn) else option_map (λ task. OnThreads task) (task_of name rows)))))
 
 -- the command of the subcommand that was entered, if one was
 abbrev pub command_among : Option (Text × List Row) → Option Command

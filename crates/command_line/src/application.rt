@@ -2,7 +2,7 @@
 ghost use Rattle.std.specs.Prelude.{◌≡◌, IfOk, false, codes};
 ghost use Rattle.clap.specs.Words.{app_of, new_app, rule_of, shape_of};
 ghost use Rattle.clap.specs.declared.builder.command.Command.TheViews.{out-Command as fields_of};
-ghost use Rattle.command_line.specs.Application.{ask_shape, bundle_option, certificate_option, certify_shape, check_shape, conform_shape, dot_option, explain_shape, file_argument, fit_shape, json_option, number_option, of_both, refute_shape, replay_shape, rounds_option, run_shape, sizing, states_option, strict_option, workers_option};
+ghost use Rattle.command_line.specs.Application.{ask_shape, bundle_option, certificate_option, certify_shape, check_shape, conform_shape, dot_option, explain_shape, file_argument, fit_shape, json_option, learn_shape, number_option, of_both, refute_shape, replay_shape, rounds_option, run_shape, sizing, states_option, strict_option, workers_option};
 
 use crate::command::{MAX_ROUNDS, MAX_STATES, MAX_WORKERS};
 use crate::{ask_help, help, recording_help, search_help};
@@ -23,7 +23,8 @@ pub(crate) fn application<'a>(alloc: Global) -> Result<Command<'a>, AllocError>
         .subcommand(run(alloc)?)?
         .subcommand(refute(alloc)?)?
         .subcommand(ask(alloc)?)?
-        .subcommand(conform(alloc)?)
+        .subcommand(conform(alloc)?)?
+        .subcommand(learn(alloc)?)
 }
 
 // The program, with no subcommand yet.
@@ -253,6 +254,31 @@ fn conform<'a>(alloc: Global) -> Result<Command<'a>, AllocError>
     )
     .arg(plan(alloc))?
     .arg(second(alloc))
+}
+
+fn learn<'a>(alloc: Global) -> Result<Command<'a>, AllocError>
+    ensures shape { IfOk result (λ made. shape_of made ≡ learn_shape) }
+    ensures local { IfOk result (λ made. (fields_of made).has_globals ≡ false) }
+{
+    subcommand(
+        alloc,
+        "learn",
+        recording_help::LEARN_ABOUT,
+        recording_help::LEARN_USAGE,
+        recording_help::LEARN_NOTES,
+    )
+    .arg(recording(alloc))
+}
+
+// The file of a recording, in the place of a plan's.
+fn recording<'a>(alloc: Global) -> Arg<'a>
+    ensures rule { rule_of result ≡ file_argument (codes "PLAN") }
+    ensures local { result.global ≡ false }
+{
+    Arg::new(alloc, "PLAN")
+        .value_name("RECORDING")
+        .action(ArgAction::Set)
+        .help("The file of the recording; `-` is standard input")
 }
 
 // The option that makes a warning a no.

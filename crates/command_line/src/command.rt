@@ -49,6 +49,8 @@ pub enum Review {
 pub enum Reading {
     /// Says whether the service still is the plan in front of the recording.
     Conform,
+    /// Tells the plan that the recording shows.
+    Learn,
 }
 
 /// What is looked for or run.
@@ -213,6 +215,7 @@ fn command_among(matches: &ArgMatches<'_>) -> Option<Command>
         ("check", _) => Some(Command::Alone(Review::Check)),
         ("explain", _) => Some(Command::Alone(Review::Explain)),
         ("conform", _) => Some(Command::OnRecording(Reading::Conform)),
+        ("learn", _) => Some(Command::OnRecording(Reading::Learn)),
         (name, options) => Some(Command::OnThreads(task_of(name, options)?)),
     }
 }

@@ -11,10 +11,11 @@ pub(crate) const SIZING_USAGE: &str = "sizing <COMMAND>";
 /// What the program reads, where to begin, and what the exit status says.
 pub(crate) const SIZING_NOTES: &str = "\
 sizing reads files, or standard input where none is named and where the name is `-`. For `ask`,
-`certify`, `fit` and `refute` it reads a plan. For the others it reads a plan and a second text:
+`certify`, `fit` and `refute` it reads a plan, and for `learn` a recording of what a service did. For
+the others it reads a plan and a second text:
   for `replay`                      one event a line
   for `check`, `explain` and `run`  a certificate
-  for `conform`                     a recording of what a service did
+  for `conform`                     a recording
 A file may hold both, with a line between them that is exactly `%%`, and standard input has them so.
 `ask` takes a kept certificate too, as a file of its own. Answers go to standard output. To begin,
 paste the example of `sizing ask --help` into a shell.

@@ -65,3 +65,48 @@ It answers, with status 1:
 
 line 2: pool pages: queue 3, plan 2
 line 7: round 0 of kind browser ended; its body has a get before its end";
+
+/// What `learn` does, in the list of commands and at the top of its own help.
+pub(crate) const LEARN_ABOUT: &str = "Tells the plan that a recording of a service shows";
+
+/// How `learn` is called.
+pub(crate) const LEARN_USAGE: &str = "\
+sizing learn RECORDING
+       sizing learn < RECORDING";
+
+/// What `learn` reads and answers, with an example.
+pub(crate) const LEARN_NOTES: &str = "\
+RECORDING is what a service did with its pools, a line for each event, as the recorder in `java/`
+writes it (docs/RECORDING.md).
+
+The answer is a plan in TOML: the pools with their recorded sizes; a class for each label of jobs,
+with a body that covers what its jobs did where leaving out submits does, each with its get, and
+else NAME, NAME_2 and so on; and a kind of client for each label of rounds. `count` is the most
+rounds of it that were about at once, and it repeats where more began in all. `sizing conform` says
+`conforms` to the plan and the recording, unless a comment at the head of the plan says what of the
+recording no plan says, or what voids a yes for it.
+
+A path that was not taken is not in the plan, nor is a pool or a class that was not used, and
+`count` is what was seen: look each over before you ask about the plan.
+
+Exit status:
+  0  the plan was written
+  1  none was found, and why
+  2  bad text in RECORDING, or bad arguments
+  3  memory ran out, or reading or writing failed
+
+To size what was seen: sizing learn shop.recording | sizing ask
+
+Example, to be pasted into a shell:
+
+sizing learn <<'END'
+recording 1
+pool pages core 1 max 1 queue array 2 timeout no prestarted 0 handler abort
+round 0 begin browser
+round 0 submit 0 render pages
+job 0 start
+job 0 end
+round 0 got 0
+round 0 end
+round 1 begin browser
+END";

@@ -1,7 +1,7 @@
 use Rattle.std.proofs.Common.{◌≡◌, ◌∙◌, ap₂, codes}
 use Rattle.std.proofs.lemmas.Result.{IfOk-weaker}
 use Rattle.clap.specs.Words.{app_of, new_app, with_subcommand}
-use Rattle.command_line.specs.Application.{replay_shape, check_shape, explain_shape, certify_shape, fit_shape, run_shape, refute_shape, ask_shape}
+use Rattle.command_line.specs.Application.{replay_shape, check_shape, explain_shape, certify_shape, fit_shape, run_shape, refute_shape, ask_shape, conform_shape}
 use Rattle.command_line.proofs.application.application.Goals as goal
 
 pub returns : goal.returns
@@ -23,4 +23,6 @@ returns c =
     c.in_ok-subcommand-7.ensures.shape c.in_ok-refute.ensures.local ∙ ap₂ with_subcommand six c.in_ok-refute.ensures.shape in
     let eight : app_of c.in_ok-subcommand-8.field-0 ≡ with_subcommand (with_subcommand (with_subcommand (with_subcommand (with_subcommand (with_subcommand (with_subcommand (with_subcommand (new_app (codes "sizing")) replay_shape) check_shape) explain_shape) certify_shape) fit_shape) run_shape) refute_shape) ask_shape =
     c.in_ok-subcommand-8.ensures.shape c.in_ok-ask.ensures.local ∙ ap₂ with_subcommand seven c.in_ok-ask.ensures.shape in
-    IfOk-weaker c.subcommand-9.result _ _ (λ made adds. adds.shape c.in_ok-conform.ensures.local ∙ ap₂ with_subcommand eight c.in_ok-conform.ensures.shape) c.subcommand-9.ensures
+    let nine : app_of c.in_ok-subcommand-9.field-0 ≡ with_subcommand (with_subcommand (with_subcommand (with_subcommand (with_subcommand (with_subcommand (with_subcommand (with_subcommand (with_subcommand (new_app (codes "sizing")) replay_shape) check_shape) explain_shape) certify_shape) fit_shape) run_shape) refute_shape) ask_shape) conform_shape =
+    c.in_ok-subcommand-9.ensures.shape c.in_ok-conform.ensures.local ∙ ap₂ with_subcommand eight c.in_ok-conform.ensures.shape in
+    IfOk-weaker c.subcommand-10.result _ _ (λ made adds. adds.shape c.in_ok-learn.ensures.local ∙ ap₂ with_subcommand nine c.in_ok-learn.ensures.shape) c.subcommand-10.ensures
