@@ -15,7 +15,7 @@ use std::alloc::{AllocError, Global};
 
 /// What the program is given.
 ///
-/// - `replay`, `check`, `explain` and `conform` are the whole input of the command. Its answer is what is written, with the status on a
+/// - `replay`, `check`, `explain`, `conform` and `learn` are the whole input of the command. Its answer is what is written, with the status on a
 ///   last line. An input that is short is also read and answered where a call of the source or of the sink fails.
 /// - `check and explain` is an input of both commands. Its answer is that of the first, and behind it that of the second
 ///   where that is another.
@@ -41,6 +41,7 @@ impl Suite for Served {
             "fronts of a check" => fronts(alloc, Query::Review(Review::Check), input),
             "fronts of an explain" => fronts(alloc, Query::Review(Review::Explain), input),
             "conform" => answered(alloc, Query::Reading(Reading::Conform), input),
+            "learn" => answered(alloc, Query::Reading(Reading::Learn), input),
             "words" => asked(alloc, input),
             _ => String::from_str(alloc, "no such kind of input"),
         }

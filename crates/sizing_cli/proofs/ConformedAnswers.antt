@@ -5,8 +5,8 @@ use Rattle.std.specs.List.{list_all}
 use Rattle.job_bodies.specs.Plan.{Plan}
 use Rattle.job_bodies.specs.declared.fault.PlanFault.{PlanFault}
 use Rattle.plan_text.specs.PlanOf.{plan_of}
-use Rattle.conformance.specs.declared.conform.Conformance.{Conformance}
-use Rattle.conformance.specs.declared.conform.Conformance.TheVariants.{Bad, Compared}
+use Rattle.conformance.specs.declared.comparison.Conformance.{Conformance}
+use Rattle.conformance.specs.declared.comparison.Conformance.TheVariants.{Bad, Compared}
 use Rattle.conformance.specs.declared.finding.Finding.{Finding}
 use Rattle.sizing_cli.specs.declared.limits.TheConstants.{MAX_RECORDED_BYTES}
 use Rattle.sizing_cli.specs.declared.status.Status.TheVariants.{Done, Refused, BadText, Undecided}

@@ -9,6 +9,7 @@ pub mod FittedAnswers
 pub mod AsDeclared
 pub mod RefutedAnswers
 mod ConformedAnswers
+mod LearnedAnswers
 pub mod ServedAnswers
 mod Runs
 mod AskedAnswers

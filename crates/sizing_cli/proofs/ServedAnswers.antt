@@ -11,7 +11,7 @@ use Rattle.plan_text.specs.PlanOf.{plan_of}
 use Rattle.command_line.specs.declared.command.Command.{Command}
 use Rattle.command_line.specs.declared.command.Command.TheVariants.{Alone, OnRecording, OnThreads}
 use Rattle.command_line.specs.declared.command.Reading.{Reading}
-use Rattle.command_line.specs.declared.command.Reading.TheVariants.{Conform}
+use Rattle.command_line.specs.declared.command.Reading.TheVariants.{Conform, Learn}
 use Rattle.command_line.specs.declared.command.Review.TheVariants.{Replay, Check, Explain}
 use Rattle.command_line.specs.declared.command.Task.{Task}
 use Rattle.command_line.specs.declared.command.Task.TheVariants.{Certify, Fit, Run, Refute, Ask}
@@ -29,6 +29,7 @@ use Rattle.sizing_cli.specs.Fit as fit
 use Rattle.sizing_cli.specs.Refute as refute
 use Rattle.sizing_cli.specs.Bundle.{bundle_of}
 use Rattle.sizing_cli.specs.Conform.{AnswersBundle, IsConformAnswer}
+use Rattle.sizing_cli.specs.Learn.{AnswersLines, IsLearnAnswer}
 use Rattle.sizing_cli.specs.Served.{IsAnswer, IsLeftBy, IsReadingAnswer, IsTaskAnswer, WritesAnswer, WritesFront, WritesLeaving, MeansSafe}
 use Rattle.sizing_cli.proofs.PastTheLimit.{answered_whole}
 use Rattle.sizing_cli.proofs.SafeInputs.{yes_means_safe, run_means_safe}
@@ -37,6 +38,7 @@ use Rattle.sizing_cli.proofs.RefutedAnswers.{refuted_means_safe, bundle_means_wi
 use Rattle.sizing_cli.specs.Ask.{AnswersInput, IsAskAnswer}
 use Rattle.sizing_cli.proofs.AskedAnswers.{asked_means_safe}
 use Rattle.sizing_cli.proofs.ConformedAnswers.{conformed}
+use Rattle.sizing_cli.proofs.LearnedAnswers.{learned}
 
 -- ---- an answer to what was read is one to the whole input
 
@@ -71,6 +73,8 @@ pub recorded_by_front : (remaining : Option (List ℕ)) (items slice : List ℕ)
     → IsReadingAnswer reading slice answer → IfSome remaining (λ input. IsReadingAnswer reading input answer)
 recorded_by_front remaining items slice Conform answer front same is =
     answered_within MAX_RECORDED_BYTES (answer ≡ input_too_long) (λ bytes. AnswersBundle (bundle_of bytes) answer) remaining items front (subst (λ (bytes : List ℕ). IsConformAnswer bytes answer) same is)
+recorded_by_front remaining items slice Learn answer front same is =
+    answered_within MAX_RECORDED_BYTES (answer ≡ input_too_long) (λ bytes. AnswersLines bytes answer) remaining items front (subst (λ (bytes : List ℕ). IsLearnAnswer bytes answer) same is)
 
 asked_by_front : (remaining : Option (List ℕ)) (items : List ℕ) (given : Given) (manner : Manner) (left : Option (List ℕ)) (answer : Answer)
     → IfSome remaining (λ input. items ≡ take (MAX_INPUT_BYTES + 1) input) → IsAskAnswer given manner items left answer → IfSome remaining (λ input. IsAskAnswer given manner input left answer)
@@ -159,6 +163,8 @@ means_safe (Alone Replay) input status old new writes done = tt
 means_safe (Alone Check) input status old new writes done = yes_means_safe input (sym (ap (λ (a : Answer). a.status) writes.is_answer) ∙ (sym writes.status_is ∙ done))
 means_safe (Alone Explain) input status old new writes done = tt
 means_safe (OnRecording Conform) input status old new writes done = conformed input writes.answer writes.is_answer (sym writes.status_is ∙ done)
+means_safe (OnRecording Learn) input status old new writes done =
+    record { text = writes.answer.text; learned = learned input writes.answer writes.is_answer (sym writes.status_is ∙ done); written = writes.written }
 means_safe (OnThreads (Fit Sizes)) input status old new writes done = sizes_mean_safe input writes.answer writes.is_answer (sym writes.status_is ∙ done)
 means_safe (OnThreads (Fit Bundle)) input status old new writes done =
     let fitted = bundle_means_fitted input writes.answer writes.is_answer (sym writes.status_is ∙ done) in

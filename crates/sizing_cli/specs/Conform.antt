@@ -11,8 +11,8 @@ use Rattle.recording_lines.specs.RecordingLine.{lines_read}
 use Rattle.recorded_rules.specs.Faults.{IsFirstFault}
 use Rattle.recorded_rules.specs.FaultText.{fault_text}
 use Rattle.recorded_rules.specs.declared.fault.RecordingFault.{RecordingFault}
-use Rattle.conformance.specs.declared.conform.Conformance.{Conformance}
-use Rattle.conformance.specs.declared.conform.Conformance.TheVariants.{Bad, Compared}
+use Rattle.conformance.specs.declared.comparison.Conformance.{Conformance}
+use Rattle.conformance.specs.declared.comparison.Conformance.TheVariants.{Bad, Compared}
 use Rattle.conformance.specs.declared.finding.Finding.{Finding}
 use Rattle.conformance.specs.declared.finding.Finding.TheVariants as finding
 use Rattle.conformance.specs.Conforms.{Conforms, IsNotVoid}

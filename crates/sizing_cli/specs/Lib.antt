@@ -9,6 +9,7 @@ pub mod Refute
 pub mod Ask
 pub mod Limits
 pub mod Conform
+pub mod Learn
 pub mod SplitAt
 pub mod Served
 pub mod ServeFault

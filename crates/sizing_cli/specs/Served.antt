@@ -9,7 +9,7 @@ use Rattle.plan_text.specs.PlanOf.{plan_of}
 use Rattle.command_line.specs.declared.command.Command.{Command}
 use Rattle.command_line.specs.declared.command.Command.TheVariants.{Alone, OnRecording, OnThreads}
 use Rattle.command_line.specs.declared.command.Reading.{Reading}
-use Rattle.command_line.specs.declared.command.Reading.TheVariants.{Conform}
+use Rattle.command_line.specs.declared.command.Reading.TheVariants.{Conform, Learn}
 use Rattle.command_line.specs.declared.command.Review.TheVariants.{Replay, Check, Explain}
 use Rattle.command_line.specs.declared.command.Task.{Task}
 use Rattle.command_line.specs.declared.command.Task.TheVariants.{Certify, Fit, Run, Refute, Ask}
@@ -28,6 +28,7 @@ use Rattle.sizing_cli.specs.Fit.{IsFitAnswer, IsFittedBundle}
 use Rattle.sizing_cli.specs.Refute.{IsRefuteAnswer, IsWitnessBundle}
 use Rattle.sizing_cli.specs.Ask.{IsAskAnswer, IsSafeAsked}
 use Rattle.sizing_cli.specs.Conform.{IsConformAnswer, IsConformingInput}
+use Rattle.sizing_cli.specs.Learn.{IsLearnAnswer, IsLearnedText}
 
 -- the answer is one that the task may come to
 abbrev pub IsTaskAnswer : Task → List ℕ → Answer → Type 0
@@ -40,6 +41,7 @@ IsTaskAnswer (Ask given manner) input answer = (left : Option (List ℕ)) × IsA
 -- the answer is one to an input with a recording
 abbrev pub IsReadingAnswer : Reading → List ℕ → Answer → Type 0
 IsReadingAnswer Conform input answer = IsConformAnswer input answer
+IsReadingAnswer Learn input answer = IsLearnAnswer input answer
 
 -- the answer is one that the command may give to the input
 abbrev pub IsAnswer : Command → List ℕ → Answer → Type 0
@@ -81,14 +83,21 @@ pub record WritesWitness (input : List ℕ) (old new : Option (List ℕ)) : Type
   pub shows : IsWitnessBundle input text
   pub written : Appends old new text
 
+-- a plan was written to which the recording conforms, but for what comments at its head say
+pub record WritesLearned (input : List ℕ) (old new : Option (List ℕ)) : Type 0 where
+  pub text : List ℕ
+  pub learned : IsLearnedText input text
+  pub written : Appends old new text
+
 -- what status 0 means: of `check`, `run`, `ask`, the sizes of `fit` and the story of `refute`, that the input's plan is safe; of `certify`
 -- and the bundle of `fit`, that what was written is a plan that is; of the bundle of `refute`, that what was written has a witness; of
--- `conform`, that the recording is one of the plan
+-- `conform`, that the recording is one of the plan; of `learn`, that what was written is a plan to which the recording conforms
 abbrev pub MeansSafe : Command → List ℕ → Option (List ℕ) → Option (List ℕ) → Type 0
 MeansSafe (Alone Replay) input old new = Unit {0}
 MeansSafe (Alone Check) input old new = IsSafeInput input
 MeansSafe (Alone Explain) input old new = Unit {0}
 MeansSafe (OnRecording Conform) input old new = IsConformingInput input
+MeansSafe (OnRecording Learn) input old new = WritesLearned input old new
 MeansSafe (OnThreads (Certify workers)) input old new = WritesCertified input old new
 MeansSafe (OnThreads (Fit Sizes)) input old new = IsSafePlan input
 MeansSafe (OnThreads (Fit Bundle)) input old new = WritesFitted input old new

@@ -17,6 +17,7 @@ mod found_answer;
 mod input;
 mod judging;
 mod laws;
+mod learning;
 mod limits;
 mod output;
 mod recorded;

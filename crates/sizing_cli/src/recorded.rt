@@ -6,6 +6,7 @@ ghost use Rattle.sizing_cli.specs.Served.{IsReadingAnswer, Serves, passage};
 
 use crate::answer::Answer;
 use crate::conforming::conform_report;
+use crate::learning::learn_report;
 use crate::limits::MAX_RECORDED_BYTES;
 use crate::status::{ServeFault, Status};
 use byte_streams::{Sink, Source, read_up_to, write_all};
@@ -40,5 +41,6 @@ fn report(alloc: Global, reading: Reading, input: &[u8]) -> Result<Answer, Alloc
 {
     match reading {
         Reading::Conform => conform_report(alloc, input),
+        Reading::Learn => learn_report(alloc, input),
     }
 }

@@ -1,0 +1,83 @@
+-- What `learn` may answer to a recording: a relation, since nothing is said of which bodies are found.
+use Rattle.std.specs.Prelude.{◌≡◌, ◌⊎◌, ℕ, Bool, true, false, nat_lt, List, [], ◌∷◌, ◌++◌, length, flat_map, codes, decimal, All, None, Some, Ok, IsTrue, MatchBool}
+use Rattle.std.specs.List.{list_all}
+use Rattle.job_bodies.specs.Plan.{Plan}
+use Rattle.plan_text.specs.PlanOf.{plan_of}
+use Rattle.recording_lines.specs.RecordingLine.{lines_read}
+use Rattle.recorded_rules.specs.Before.{begins, submits}
+use Rattle.recorded_rules.specs.Faults.{IsFirstFault}
+use Rattle.recorded_rules.specs.declared.fault.RecordingFault.{RecordingFault}
+use Rattle.conformance.specs.declared.finding.Finding.{Finding}
+use Rattle.conformance.specs.declared.finding.Finding.TheVariants as finding
+use Rattle.conformance.specs.FindingText.{finding_line}
+use Rattle.conformance.specs.Found.{IsFinding}
+use Rattle.conformance.specs.Lines.{lines_of}
+use Rattle.learned_plans.specs.TooMuch.{too_much_text}
+use Rattle.learned_plans.specs.declared.too_much.TooMuch.{TooMuch}
+use Rattle.sizing_cli.specs.declared.limits.TheConstants.{MAX_RECORDED_BYTES, MAX_PATH_STEPS}
+use Rattle.sizing_cli.specs.declared.status.Status.TheVariants.{Done, Refused}
+use Rattle.sizing_cli.specs.Answer.{Answer, input_too_long}
+use Rattle.sizing_cli.specs.Conform.{AreAllFindings, bad_recording}
+
+-- ---- the comments at the head of a plan
+-- of how much it was seen, and what no recording shows
+abbrev pub head_comment : ℕ → ℕ → List ℕ
+head_comment rounds jobs =
+    codes "# Seen in " ++ decimal rounds ++ codes " rounds and " ++ decimal jobs ++ codes " jobs of a recording. What was not taken is not here:" ++ 10
+    ∷ codes "# no other path, class, kind or pool. Each count is the most rounds that were seen at once." ++ 10 ∷ []
+
+-- a thing that the recording has and no plan says
+abbrev pub comment_line : Plan → Finding → List ℕ
+comment_line plan found = codes "# " ++ finding_line plan found
+
+abbrev pub comments : Plan → List Finding → List ℕ
+comments plan findings = flat_map (comment_line plan) findings
+
+-- it is about a pool, or about what voids a yes, and not about what a job or a round did by itself
+abbrev pub is_comment : Finding → Bool
+is_comment (finding.Pool deviation) = true
+is_comment (finding.ForeignGet get name) = true
+is_comment (finding.Void void) = true
+is_comment (finding.NotPlanned name) = false
+is_comment (finding.Strays line stray) = false
+is_comment (finding.NotDecided actor name) = false
+is_comment (finding.TooMany excess) = false
+
+-- ---- what is answered
+-- The text is a plan's. What was found of the recording stands at its head, each thing in a comment; where nothing was, the
+-- recording conforms to the plan.
+pub record IsLearnedText (recording text : List ℕ) : Type 0 where
+  pub plan : Plan
+  pub is_plan : plan_of text ≡ Ok plan
+  pub findings : List Finding
+  pub all : AreAllFindings plan recording findings
+  pub sound : All (IsFinding plan MAX_PATH_STEPS (lines_of recording)) findings
+  pub comments_alone : IsTrue (list_all is_comment findings)
+  pub rest : List ℕ
+  pub text_is : text ≡ head_comment (begins (lines_of recording)) (submits (lines_of recording)) ++ (comments plan findings ++ rest)
+
+pub record IsLearned (recording : List ℕ) (answer : Answer) : Type 0 where
+  pub no_fault : IsFirstFault (lines_read recording) None
+  pub learned : IsLearnedText recording answer.text
+  pub status : answer.status ≡ Done
+
+abbrev pub not_learned : TooMuch → Answer
+not_learned reason = record { text = codes "no plan was learned: " ++ too_much_text reason ++ 10 ∷ []; status = Refused }
+
+-- no plan was found that the recording conforms to
+pub record IsNotLearned (recording : List ℕ) (answer : Answer) : Type 0 where
+  pub no_fault : IsFirstFault (lines_read recording) None
+  pub reason : TooMuch
+  pub answer_is : answer ≡ not_learned reason
+
+pub record IsBadRecording (recording : List ℕ) (answer : Answer) : Type 0 where
+  pub found : RecordingFault
+  pub is_first : IsFirstFault (lines_read recording) (Some found)
+  pub answer_is : answer ≡ bad_recording found
+
+abbrev pub AnswersLines : List ℕ → Answer → Type 0
+AnswersLines recording answer = IsBadRecording recording answer ⊎ (IsNotLearned recording answer ⊎ IsLearned recording answer)
+
+-- to an input, which is a recording
+abbrev pub IsLearnAnswer : List ℕ → Answer → Type 0
+IsLearnAnswer input answer = MatchBool (nat_lt MAX_RECORDED_BYTES (length input)) (answer ≡ input_too_long) (AnswersLines input answer)
