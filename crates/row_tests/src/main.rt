@@ -37,7 +37,7 @@ const WORLDS: [&str; 6] = [
     "world_stuck",
 ];
 
-const SERVED: [&str; 11] = [
+const SERVED: [&str; 12] = [
     "served_replays",
     "served_examples",
     "served_faults",
@@ -49,6 +49,7 @@ const SERVED: [&str; 11] = [
     "served_certificates",
     "served_words",
     "recorded_conforms",
+    "recorded_learns",
 ];
 
 const ON_THREADS: [&str; 8] = [

@@ -111,7 +111,10 @@ fn head_of(
 fn head_comment(alloc: Global, rounds: usize, jobs: usize) -> Result<String, AllocError>
     ensures { IfOk result (λ text. string_bytes text ≡ spec.head_comment rounds jobs) }
 {
-    format!(in alloc; "# Seen in {rounds} rounds and {jobs} jobs of a recording. What was not taken is not here:\n# no other path, class, kind or pool. Each count is the most rounds that were seen at once.\n")
+    format!(
+        in alloc;
+        "# Learned from a recording. Rounds: {rounds}. Jobs: {jobs}.\n# What was not taken is not here: another path, class, kind or pool. Each count is what was seen at once.\n"
+    )
 }
 
 fn push_comments(
