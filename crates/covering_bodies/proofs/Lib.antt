@@ -1,0 +1,6 @@
+mod Moved
+mod PutIn
+mod Grown
+mod Found
+mod LawfulGets
+mod OwnBody

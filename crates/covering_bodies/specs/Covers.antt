@@ -1,0 +1,25 @@
+-- Bodies that explain all that another one does.
+use Rattle.std.specs.Prelude.{◌≡◌, Bool, true, false, List, filter}
+use Rattle.job_bodies.specs.declared.action.Action.{Action}
+use Rattle.job_bodies.specs.declared.action.Action.TheVariants.{Work, Submit, Get}
+use Rattle.body_paths.specs.declared.deed.Deed.{Deed}
+use Rattle.body_paths.specs.declared.deed.Course.{Course}
+use Rattle.body_paths.specs.Path.{IsPathOf}
+
+-- each path of the body is one of the other body too
+abbrev pub Covers : List Action → List Action → Type 0
+Covers body other = (course : Course) (path : List Deed) → IsPathOf course body path → IsPathOf course other path
+
+abbrev pub is_work : Action → Bool
+is_work (Work units) = true
+is_work (Submit class) = false
+is_work (Get submit) = false
+
+-- the work of a body, in order
+abbrev pub work_of : List Action → List Action
+work_of body = filter is_work body
+
+-- the other body covers the body, and has the same work
+pub record Grows (body other : List Action) : Type 0 where
+  pub covers : Covers body other
+  pub work : work_of other ≡ work_of body

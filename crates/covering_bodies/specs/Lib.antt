@@ -1,0 +1,4 @@
+pub mod Covers
+pub mod Lawful
+pub mod PathBody
+pub mod Insertion
