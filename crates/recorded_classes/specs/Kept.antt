@@ -50,10 +50,22 @@ is_job (Job job) = 1
 is_job (Round round) = 0
 
 -- ---- settled jobs
--- each of these jobs is settled, and its classes are those that it can be of, where they are decided
+-- the classes of each of these jobs are those that it can be of, where they are decided
+abbrev pub AreClassesIn : Plan → List RecordedLine → ClassTable → Type 0
+AreClassesIn plan lines table = (job : ℕ) (known : JobClasses) → classes_in table job ≡ Some known → IsTrue known.is_decided → AreClassesOf plan lines job known.classes.items
+
+-- each of these jobs is settled, and its classes are those that it can be of
 pub record AreKnown (plan : Plan) (lines : List RecordedLine) (table : ClassTable) : Type 0 where
   pub settled : (job : ℕ) (known : JobClasses) → classes_in table job ≡ Some known → IsSettled lines (Job job)
-  pub classes : (job : ℕ) (known : JobClasses) → classes_in table job ≡ Some known → IsTrue known.is_decided → AreClassesOf plan lines job known.classes.items
+  pub classes : AreClassesIn plan lines table
+
+-- the classes of each of these jobs are decided
+abbrev pub AreDecidedIn : ClassTable → Type 0
+AreDecidedIn table = (job : ℕ) (known : JobClasses) → classes_in table job ≡ Some known → IsTrue known.is_decided
+
+-- each job that the path submits is there
+abbrev pub AreAllIn : ClassTable → List RecordedDeed → Type 0
+AreAllIn table path = (job : ℕ) → list_any (submits job) path ≡ true → is_some (classes_in table job) ≡ true
 
 -- the jobs that the path submits before this place are there
 abbrev pub AreSettledBefore : ClassTable → List RecordedDeed → ℕ → Type 0
@@ -72,8 +84,14 @@ is_unsettled table (Some deed) = not (is_settled_deed table deed)
 abbrev pub IsUnsettledAt : ClassTable → List RecordedDeed → ℕ → Type 0
 IsUnsettledAt table path place = is_unsettled table (slice_get path place) ≡ true
 
--- the actor is settled, with these classes, which are kept of a job that was submitted by one
+-- the actor has these classes, which are kept of a job that was submitted by one
 pub record Keeps (old : ClassTable) (actor : RecordedActor) (submitter : Option RecordedActor) (classes : List ℕ) (is_decided : Bool) (new : ClassTable) : Type 0 where
   pub known : (job : ℕ) (known : JobClasses) → classes_in new job ≡ Some known → (classes_in old job ≡ Some known) ⊎ ((actor ≡ Job job) × (known.classes.items ≡ classes) × (known.is_decided ≡ is_decided))
   pub there : (job : ℕ) (by : RecordedActor) → actor ≡ Job job → submitter ≡ Some by → is_some (classes_in new job) ≡ true
   pub stay : (job : ℕ) → is_some (classes_in old job) ≡ true → is_some (classes_in new job) ≡ true
+
+-- the same, where what its path submits is kept no more
+pub record Replaces (old : ClassTable) (path : List RecordedDeed) (actor : RecordedActor) (submitter : Option RecordedActor) (classes : List ℕ) (is_decided : Bool) (new : ClassTable) : Type 0 where
+  pub known : (job : ℕ) (known : JobClasses) → classes_in new job ≡ Some known → (classes_in old job ≡ Some known) ⊎ ((actor ≡ Job job) × (known.classes.items ≡ classes) × (known.is_decided ≡ is_decided))
+  pub there : (job : ℕ) (by : RecordedActor) → actor ≡ Job job → submitter ≡ Some by → is_some (classes_in new job) ≡ true
+  pub stay : (job : ℕ) → is_some (classes_in old job) ≡ true → list_any (submits job) path ≡ false → is_some (classes_in new job) ≡ true

@@ -1,6 +1,8 @@
 -- What the lines call a job or a round.
-use Rattle.std.specs.Prelude.{ℕ, ◌==◌, if◌then◌else◌, List, Option, Some, None, slice_get}
+use Rattle.std.specs.Prelude.{◌≡◌, ℕ, ◌==◌, if◌then◌else◌, List, [], Option, Some, None, slice_get}
 use Rattle.std.specs.List.{filter_map}
+use Rattle.recording_lines.specs.declared.recording_line.RecordedActor.{RecordedActor}
+use Rattle.recording_lines.specs.declared.recording_line.RecordedActor.TheVariants.{Job, Round}
 use Rattle.recording_lines.specs.RecordingLine.{RecordedLine, RoundBegins, Submits}
 
 -- the class and the pool that the line names, where it submits the job
@@ -20,3 +22,8 @@ kind_in round line = None
 -- that of its begin
 unfoldable pub kind_of : List RecordedLine → ℕ → Option (List ℕ)
 kind_of lines round = slice_get (filter_map (kind_in round) lines) 0
+
+-- the lines call the actor so; a round has no pool
+abbrev pub HasLabel : List RecordedLine → RecordedActor → List ℕ → List ℕ → Type 0
+HasLabel lines (Job job) label pool = label_of lines job ≡ Some (label, pool)
+HasLabel lines (Round round) label pool = (kind_of lines round ≡ Some label) × (pool ≡ [])

@@ -1,5 +1,5 @@
--- What stays of an actor that is through, whatever lines come.
-use Rattle.std.specs.Prelude.{◌≡◌, ◌<◌, ℕ, true, List, ◌++◌}
+-- What stays of an actor that is through, whatever lines come; and that what it can be is determined.
+use Rattle.std.specs.Prelude.{◌≡◌, ◌<◌, ◌↔◌, ℕ, true, List, ◌++◌, Contains}
 use Rattle.std.specs.List.{list_any}
 use Rattle.recording_lines.specs.declared.recording_line.RecordedActor.{RecordedActor}
 use Rattle.recording_lines.specs.declared.recording_line.RecordedActor.TheVariants.{Job, Round}
@@ -25,3 +25,10 @@ ClassesStay = (plan : Plan) (before more : List RecordedLine) (job : ℕ) (class
 
 abbrev pub KindsStay : Type 0
 KindsStay = (plan : Plan) (before more : List RecordedLine) (round : ℕ) (kinds : List ℕ) → KeepsRules (before ++ more) → IsSettled before (Round round) → AreKindsOf plan before round kinds → AreKindsOf plan (before ++ more) round kinds
+
+-- the lines say of what classes a job can be, and of what kinds a round
+abbrev pub ClassesAreDetermined : Type 0
+ClassesAreDetermined = (plan : Plan) (lines : List RecordedLine) (job : ℕ) (one other : List ℕ) → AreClassesOf plan lines job one → AreClassesOf plan lines job other → (class : ℕ) → Contains one class ↔ Contains other class
+
+abbrev pub KindsAreDetermined : Type 0
+KindsAreDetermined = (plan : Plan) (lines : List RecordedLine) (round : ℕ) (one other : List ℕ) → AreKindsOf plan lines round one → AreKindsOf plan lines round other → (kind : ℕ) → Contains one kind ↔ Contains other kind

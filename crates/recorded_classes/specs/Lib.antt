@@ -1,8 +1,11 @@
 pub mod Course
 pub mod Label
+pub mod Budget
 pub mod Classes
+pub mod Settled
 pub mod Laws
 pub mod Kept
 pub mod Changes
 pub mod StandsFor
 pub mod Told
+pub mod Left

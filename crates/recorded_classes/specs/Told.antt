@@ -1,24 +1,42 @@
--- When an actor is told of.
-use Rattle.std.specs.Prelude.{◌≡◌, ◌≤◌, ◌<◌, ℕ, Bool, true, false, List, length, is_some, Option, Some, None}
+-- When an actor is told of, and what is told of one after another.
+use Rattle.std.specs.Prelude.{◌≡◌, ◌≤◌, ◌<◌, ◌⊎◌, ℕ, Bool, true, false, List, [], ◌∷◌, ◌++◌, length, is_some, string_bytes, IsTrue, All, Option, Some, None}
 use Rattle.std.specs.Option.{option_and_then}
 use Rattle.std.specs.List.{list_any}
+use Rattle.std.specs.List.Sorted.{IsStrictlyIncreasing}
+use Rattle.std.specs.declared.alloc.Global.{Global}
+use Rattle.std.specs.declared.string.String.{String}
 use Rattle.recording_lines.specs.declared.recording_line.RecordedActor.{RecordedActor}
 use Rattle.recording_lines.specs.declared.recording_line.RecordedActor.TheVariants.{Job, Round}
+use Rattle.recording_lines.specs.RecordingLine.{RecordedLine}
 use Rattle.recorded_paths.specs.Act.{submits}
 use Rattle.job_bodies.specs.Plan.{Plan}
 use Rattle.body_paths.specs.declared.deed.Deed.{Deed}
-use Rattle.body_paths.specs.declared.deed.Course.TheVariants.{Whole}
-use Rattle.plan_families.specs.PathFamily.{IsClassOf, IsKindOf, AreExactly}
+use Rattle.body_paths.specs.declared.deed.Course.{Course}
+use Rattle.plan_families.specs.declared.path_family.PathFamily.{PathFamily}
+use Rattle.plan_families.specs.PathFamily.{IsClassOf, IsKindOf, AreExactly, IsMostExplained}
 use Rattle.recorded_classes.specs.declared.actor_table.ActorTable.{ActorTable}
 use Rattle.recorded_classes.specs.declared.actor_table.KeptActor.{KeptActor}
 use Rattle.recorded_classes.specs.declared.actor_table.Waiting.{Waiting}
 use Rattle.recorded_classes.specs.declared.job_classes.ClassTable.{ClassTable}
-use Rattle.recorded_classes.specs.Kept.{in_table, classes_in, AreSettledBefore, IsUnsettledAt}
+use Rattle.recorded_classes.specs.declared.settled.Settled.{Settled}
+use Rattle.recorded_classes.specs.declared.done.Done.{Done}
+use Rattle.recorded_classes.specs.Budget.{IsEnoughForPlan}
+use Rattle.recorded_classes.specs.Classes.{StandFor, IsSettled}
+use Rattle.recorded_classes.specs.StandsFor.{IsKept}
+use Rattle.recorded_classes.specs.Settled.{IsTold, IsOnceEach, bodies_of, is_told}
+use Rattle.recorded_classes.specs.Kept.{in_table, classes_in, AreClassesIn, AreDecidedIn, AreAllIn, Replaces, AreSettledBefore, IsUnsettledAt}
 
 -- the classes of a job, or the kinds of a round, with this label and these deeds
-abbrev pub AreMembersOf : Plan → RecordedActor → List ℕ → List ℕ → List Deed → List ℕ → Type 0
-AreMembersOf plan (Job job) label pool deeds members = AreExactly (IsClassOf plan label pool Whole deeds) members
-AreMembersOf plan (Round round) label pool deeds members = AreExactly (IsKindOf plan label Whole deeds) members
+abbrev pub AreMembersOf : Plan → RecordedActor → List ℕ → List ℕ → Course → List Deed → List ℕ → Type 0
+AreMembersOf plan (Job job) label pool course deeds members = AreExactly (IsClassOf plan label pool course deeds) members
+AreMembersOf plan (Round round) label pool course deeds members = AreExactly (IsKindOf plan label course deeds) members
+
+-- what the family says of the deeds
+pub record IsFamilyOf (plan : Plan) (budget : ℕ) (actor : RecordedActor) (label pool : List ℕ) (course : Course) (deeds : List Deed) (family : PathFamily) : Type 0 where
+  pub members : IsTrue family.is_decided → AreMembersOf plan actor label pool course deeds family.members.items
+  pub explained : IsTrue family.is_decided → IsMostExplained (bodies_of plan actor label pool) deeds family.explained
+  pub decided : IsEnoughForPlan budget plan → IsTrue family.is_decided
+  pub ascending : IsStrictlyIncreasing family.members.items
 
 -- who may be settled next
 abbrev pub submitter_of : RecordedActor → Option RecordedActor → Option RecordedActor
@@ -45,3 +63,47 @@ pub record IsReady (actors : ActorTable) (table : ClassTable) (actor : RecordedA
   pub there : in_table actors actor ≡ Some kept
   pub waits : kept.waiting ≡ Some waiting
   pub settled : (job : ℕ) → list_any (submits job) waiting.path.items ≡ true → is_some (classes_in table job) ≡ true
+
+-- ---- what is told of one
+-- the members, and how much is explained, of what the actor did, where the classes of its jobs are these
+pub record IsFamilyBy (plan : Plan) (lines : List RecordedLine) (actor : RecordedActor) (label pool : List ℕ) (done : Done) (family : PathFamily) : Type 0 where
+  pub deeds : List Deed
+  pub path : StandFor plan lines done.path.items deeds
+  pub members : AreMembersOf plan actor label pool done.course deeds family.members.items
+  pub explained : IsMostExplained (bodies_of plan actor label pool) deeds family.explained
+
+-- behind what was told before, it is told of this actor, which did this, and the table is as it is then
+pub record TellsOne (plan : Plan) (budget : ℕ) (actor : RecordedActor) (submitter : Option RecordedActor) (label pool : String Global) (done : Done) (before after : ClassTable) (old new : List Settled) : Type 0 where
+  pub one : Settled
+  pub behind : new ≡ old ++ one ∷ []
+  pub actor_is : one.actor ≡ actor
+  pub label_is : one.label ≡ label
+  pub pool_is : one.pool ≡ pool
+  pub path_is : one.path ≡ done.path
+  pub table : Replaces before done.path.items actor submitter one.family.members.items one.family.is_decided after
+  pub family : (lines : List RecordedLine) → AreClassesIn plan lines before → IsTrue one.family.is_decided → IsFamilyBy plan lines actor (string_bytes label) (string_bytes pool) done one.family
+  pub decided : IsEnoughForPlan budget plan → AreDecidedIn before → AreAllIn before done.path.items → IsTrue one.family.is_decided
+  pub ascending : IsStrictlyIncreasing one.family.members.items
+
+-- ---- what is told of many
+-- it is told of what is taken out of the table, and this is so of each that is told
+pub record TellsTaken (IsSo : Settled → Type 0) (before after : ActorTable) (old new : List Settled) : Type 0 where
+  pub more : List Settled
+  pub behind : new ≡ old ++ more
+  pub told : All IsSo more
+  pub kept : All (λ told. is_some (in_table before told.actor) ≡ true) more
+  pub gone : All (λ told. is_some (in_table after told.actor) ≡ false) more
+  pub once : IsOnceEach more
+  pub each : (actor : RecordedActor) → is_some (in_table before actor) ≡ true → (is_some (in_table after actor) ≡ true) ⊎ (list_any (is_told actor) more ≡ true)
+  pub fewer : (actor : RecordedActor) → is_some (in_table after actor) ≡ true → is_some (in_table before actor) ≡ true
+
+-- one that is settled is told of
+pub record IsSettledTold (plan : Plan) (budget : ℕ) (lines : List RecordedLine) (told : Settled) : Type 0 where
+  pub told : IsTold plan budget lines told
+  pub settled : IsSettled lines told.actor
+
+-- it was told of some, and the rest is kept
+pub record IsStep (plan : Plan) (budget : ℕ) (lines : List RecordedLine) (before after : ActorTable) (known : ClassTable) (next : Option RecordedActor) (old new : List Settled) : Type 0 where
+  pub kept : IsKept plan lines after known next
+  pub decided : IsEnoughForPlan budget plan → AreDecidedIn known
+  pub tells : TellsTaken (IsSettledTold plan budget lines) before after old new

@@ -1,11 +1,14 @@
 //! The actors of a recording that are not settled.
 
-ghost use Rattle.std.specs.Prelude.{◌≡◌, ◌+◌, OnOk, None, Some, is_some, if◌then◌else◌};
-ghost use Rattle.std.specs.HashMap.{hash_map_len};
+ghost use Rattle.std.specs.Prelude.{◌≡◌, ◌+◌, ℕ, nat_eq, true, OnOk, IfOk, None, Some, is_some, if◌then◌else◌};
+ghost use Rattle.std.specs.HashMap.{hash_map_len, get};
+ghost use Rattle.std.specs.List.Sorted.{IsNonDecreasing};
+ghost use Rattle.std.specs.Set.{is_member};
 ghost use Rattle.std.specs.Option.{option_map, option_copied, option_and_then};
 ghost use Rattle.recording_lines.specs.declared.recording_line.RecordedActor.{RecordedActor};
 ghost use Rattle.recorded_rules.specs.LineParts.{is_same_actor};
 ghost use Rattle.recorded_classes.specs.Kept.{in_table, Comes, without_submitter, with_waiting, with_known, is_job};
+ghost use Rattle.recorded_classes.specs.Left.{AreJobsAmong, AreRoundsAmong};
 
 use recorded_paths::RecordedDeed;
 use recording_lines::RecordedActor;
@@ -164,4 +167,36 @@ impl ActorTable {
             RecordedActor::Round(round) => self.rounds.remove(&round),
         }
     }
+
+    /// The numbers of the jobs, ascending.
+    ///
+    /// # Errors
+    ///
+    /// `AllocError` where there is no memory for them.
+    pub(crate) fn job_numbers(&self, alloc: Global) -> Result<Vec<usize>, AllocError>
+        ensures all { IfOk result (λ numbers. AreJobsAmong self.now numbers.items) }
+        ensures sorted { IfOk result (λ numbers. IsNonDecreasing numbers.items) }
+    {
+        numbers_of(alloc, &self.jobs)
+    }
+
+    /// The numbers of the rounds, ascending.
+    ///
+    /// # Errors
+    ///
+    /// `AllocError` where there is no memory for them.
+    pub(crate) fn round_numbers(&self, alloc: Global) -> Result<Vec<usize>, AllocError>
+        ensures { IfOk result (λ numbers. AreRoundsAmong self.now numbers.items) }
+    {
+        numbers_of(alloc, &self.rounds)
+    }
+}
+
+fn numbers_of(alloc: Global, actors: &HashMap<usize, KeptActor>) -> Result<Vec<usize>, AllocError>
+    ensures all { IfOk result (λ numbers. (number : ℕ) → is_some (get nat_eq actors.now number) ≡ true → is_member nat_eq numbers.items number ≡ true) }
+    ensures sorted { IfOk result (λ numbers. IsNonDecreasing numbers.items) }
+{
+    let mut numbers: Vec<usize> = actors.keys().copied().collect(alloc)?;
+    numbers.sort_unstable();
+    Ok(numbers)
 }

@@ -1,27 +1,26 @@
 //! The classes that the jobs of a recording can be of, and the kinds that its rounds can be of.
 
-ghost use Rattle.std.specs.Prelude.{◌≡◌, ◌<◌, ◌++◌, ◌∷◌, [], List, Option, None, Some, OnOk, IfOk, IsTrue, is_some, true, MatchOption};
+ghost use Rattle.std.specs.Prelude.{◌≡◌, ◌<◌, ◌++◌, ◌∷◌, [], ℕ, List, None, Some, OnOk, IfOk, is_some, true, MatchOption};
 ghost use Rattle.std.specs.HashMap.{hash_map_len};
 ghost use Rattle.recording_lines.specs.RecordingLine.{RecordedLine, line_seen};
-ghost use Rattle.recorded_paths.specs.StandsFor.{KeepsRules, IsPathsOf};
-ghost use Rattle.recorded_paths.specs.Path.{path_of};
-ghost use Rattle.recorded_paths.specs.StandsFor.{is_about, live_path_of};
-ghost use Rattle.recording_lines.specs.declared.recording_line.RecordedActor as actors;
+ghost use Rattle.recorded_paths.specs.StandsFor.{KeepsRules};
 ghost use Rattle.job_bodies.specs.Plan as plans;
-ghost use Rattle.body_paths.specs.declared.deed.Deed.{Deed};
-ghost use Rattle.recorded_classes.specs.declared.actor_table.Waiting as waits;
+ghost use Rattle.recorded_classes.specs.declared.settled.Settled.{Settled};
+ghost use Rattle.recorded_classes.specs.Budget.{IsEnoughForPlan};
 ghost use Rattle.recorded_classes.specs.Changes.{Changed};
-ghost use Rattle.recorded_classes.specs.StandsFor.{IsClassesOf, IsKept, TellsSettled, TellsTaken};
-ghost use Rattle.recorded_classes.specs.Told.{AreMembersOf, IsProgressOf, IsReady, waiting_of, submitter_of as spec_submitter_of};
+ghost use Rattle.recorded_classes.specs.Kept.{AreDecidedIn};
+ghost use Rattle.recorded_classes.specs.Settled.{AreTold, TellsSettled};
+ghost use Rattle.recorded_classes.specs.StandsFor.{IsClassesOf, IsKept};
+ghost use Rattle.recorded_classes.specs.Told.{IsProgressOf, IsReady, IsStep, waiting_of, submitter_of as spec_submitter_of};
 
 use crate::actor_table::{ActorTable, KeptActor, Waiting};
+use crate::done::Done;
 use crate::ended::ended_by;
-use crate::job_classes::{ClassTable, are_both};
+use crate::job_classes::ClassTable;
 use crate::settled::Settled;
-use body_paths::{Course, Deed};
+use body_paths::Course;
 use job_bodies::Plan;
-use plan_families::{PathFamily, classes_of_path, kinds_of_path};
-use recorded_paths::{Paths, RecordedDeed};
+use recorded_paths::Paths;
 use recording_lines::{Line, RecordedActor};
 use std::alloc::{AllocError, Global};
 
@@ -29,17 +28,18 @@ use std::alloc::{AllocError, Global};
 /// through and waits for a job of it to be settled, and the classes of each job that is settled and whose submitter is not.
 #[derive(Debug, Drop)]
 pub struct Classes {
-    paths: Paths,
-    actors: ActorTable,
-    known: ClassTable,
-    budget: u64,
-    alloc: Global,
+    pub(crate) paths: Paths,
+    pub(crate) actors: ActorTable,
+    pub(crate) known: ClassTable,
+    pub(crate) budget: u64,
+    pub(crate) alloc: Global,
 }
 
 impl Classes {
     /// No lines so far. Each body has so many steps for each path that it is asked of.
     pub fn new(alloc: Global, budget: u64) -> Classes
-        ensures { (plan : plans.Plan) → IsClassesOf plan result [] }
+        ensures stands { (plan : plans.Plan) → IsClassesOf plan budget result [] }
+        ensures told { (plan : plans.Plan) → AreTold plan budget [] [] }
     {
         Classes {
             paths: Paths::new(alloc),
@@ -62,8 +62,23 @@ impl Classes {
         line: &Line<'_>,
         told: &mut Vec<Settled>,
     ) -> Result<(), AllocError>
-        ensures taken { (before : List RecordedLine) → KeepsRules (before ++ line_seen line.now ∷ []) → IsClassesOf plan.now self.old before → OnOk result (IsClassesOf plan.now self.new (before ++ line_seen line.now ∷ [])) }
-        ensures told { (before : List RecordedLine) → KeepsRules (before ++ line_seen line.now ∷ []) → IsClassesOf plan.now self.old before → OnOk result (TellsSettled plan.now before (before ++ line_seen line.now ∷ []) told.old.items told.new.items) }
+        ensures taken { (budget : ℕ) (before : List RecordedLine) → KeepsRules (before ++ line_seen line.now ∷ []) → IsClassesOf plan.now budget self.old before → OnOk result (IsClassesOf plan.now budget self.new (before ++ line_seen line.now ∷ [])) }
+        ensures told { (budget : ℕ) (before : List RecordedLine) → KeepsRules (before ++ line_seen line.now ∷ []) → IsClassesOf plan.now budget self.old before → OnOk result (TellsSettled plan.now budget before (before ++ line_seen line.now ∷ []) told.old.items told.new.items) }
+
+        // what was told earlier may have been taken out of the list
+        ensures all { (budget : ℕ) (before : List RecordedLine) (earlier : List Settled) → KeepsRules (before ++ line_seen line.now ∷ []) → IsClassesOf plan.now budget self.old before → AreTold plan.now budget before (earlier ++ told.old.items) → OnOk result (AreTold plan.now budget (before ++ line_seen line.now ∷ []) (earlier ++ told.new.items)) }
+    {
+        self.take_line(plan, line, told)
+    }
+
+    fn take_line(
+        &mut self,
+        plan: &Plan,
+        line: &Line<'_>,
+        told: &mut Vec<Settled>,
+    ) -> Result<(), AllocError>
+        ensures taken { (budget : ℕ) (before : List RecordedLine) → KeepsRules (before ++ line_seen line.now ∷ []) → IsClassesOf plan.now budget self.old before → OnOk result (IsClassesOf plan.now budget self.new (before ++ line_seen line.now ∷ [])) }
+        ensures told { (budget : ℕ) (before : List RecordedLine) → KeepsRules (before ++ line_seen line.now ∷ []) → IsClassesOf plan.now budget self.old before → OnOk result (TellsSettled plan.now budget before (before ++ line_seen line.now ∷ []) told.old.items told.new.items) }
     {
         let ended = ended_by(line);
         let path = self.path_now(ended)?;
@@ -80,6 +95,7 @@ impl Classes {
         ensures noted { OnOk result (Changed self.old.actors (line_seen line.now) waiting self.new.actors) }
         ensures known { self.new.known ≡ self.old.known }
         ensures paths { self.new.paths ≡ self.old.paths }
+        ensures budget { self.new.budget ≡ self.old.budget }
     {
         let alloc = self.alloc;
         match *line {
@@ -131,9 +147,10 @@ impl Classes {
         actor: RecordedActor,
         told: &mut Vec<Settled>,
     ) -> Result<Option<RecordedActor>, AllocError>
-        ensures told { (lines : List RecordedLine) → IsKept plan.now lines self.old.actors self.old.known (Some actor) → IsReady self.old.actors self.old.known actor → KeepsRules lines → IfOk result (λ next. IsKept plan.now lines self.new.actors self.new.known next × TellsTaken plan.now lines self.old.actors self.new.actors told.old.items told.new.items) }
+        ensures told { (lines : List RecordedLine) → IsKept plan.now lines self.old.actors self.old.known (Some actor) → (IsEnoughForPlan self.old.budget plan.now → AreDecidedIn self.old.known) → IsReady self.old.actors self.old.known actor → KeepsRules lines → IfOk result (λ next. IsStep plan.now self.old.budget lines self.old.actors self.new.actors self.new.known next told.old.items told.new.items) }
         ensures fewer { IfOk result (λ next. is_some next ≡ true → hash_map_len self.new.actors.jobs < hash_map_len self.old.actors.jobs) }
         ensures paths { self.new.paths ≡ self.old.paths }
+        ensures budget { self.new.budget ≡ self.old.budget }
     {
         let Some(kept) = self.actors.remove(actor) else {
             return Ok(None);
@@ -147,20 +164,11 @@ impl Classes {
         let Some(waiting) = waiting else {
             return Ok(None);
         };
-        let known = self.known.known_path(&waiting.path)?;
-        let mut family = members_of(
-            self.alloc,
-            plan,
-            actor,
-            &label,
-            &pool,
-            &known.deeds,
-            self.budget,
-        )?;
-        family.is_decided = are_both(family.is_decided, known.is_decided);
-        self.known.forget(&waiting.path);
-        self.known.keep(actor, submitter, &family)?;
-        told.push(Settled { actor, family })?;
+        let done = Done {
+            path: waiting.path,
+            course: Course::Whole,
+        };
+        self.tell_of(plan, actor, submitter, label, pool, done, told)?;
         Ok(submitter_of(actor, submitter))
     }
 
@@ -171,9 +179,10 @@ impl Classes {
         actor: RecordedActor,
         told: &mut Vec<Settled>,
     ) -> Result<Option<RecordedActor>, AllocError>
-        ensures told { (lines : List RecordedLine) → IsKept plan.now lines self.old.actors self.old.known (Some actor) → KeepsRules lines → IfOk result (λ next. IsKept plan.now lines self.new.actors self.new.known next × TellsTaken plan.now lines self.old.actors self.new.actors told.old.items told.new.items) }
+        ensures told { (lines : List RecordedLine) → IsKept plan.now lines self.old.actors self.old.known (Some actor) → (IsEnoughForPlan self.old.budget plan.now → AreDecidedIn self.old.known) → KeepsRules lines → IfOk result (λ next. IsStep plan.now self.old.budget lines self.old.actors self.new.actors self.new.known next told.old.items told.new.items) }
         ensures fewer { IfOk result (λ next. is_some next ≡ true → hash_map_len self.new.actors.jobs < hash_map_len self.old.actors.jobs) }
         ensures paths { self.new.paths ≡ self.old.paths }
+        ensures budget { self.new.budget ≡ self.old.budget }
     {
         match self.progress(actor) {
             None => Ok(None),
@@ -195,8 +204,9 @@ impl Classes {
         actor: RecordedActor,
         told: &mut Vec<Settled>,
     ) -> Result<(), AllocError>
-        ensures told { (lines : List RecordedLine) → IsKept plan.now lines self.old.actors self.old.known (Some actor) → KeepsRules lines → OnOk result (IsKept plan.now lines self.new.actors self.new.known None × TellsTaken plan.now lines self.old.actors self.new.actors told.old.items told.new.items) }
+        ensures told { (lines : List RecordedLine) → IsKept plan.now lines self.old.actors self.old.known (Some actor) → (IsEnoughForPlan self.old.budget plan.now → AreDecidedIn self.old.known) → KeepsRules lines → OnOk result (IsStep plan.now self.old.budget lines self.old.actors self.new.actors self.new.known None told.old.items told.new.items) }
         ensures paths { self.new.paths ≡ self.old.paths }
+        ensures budget { self.new.budget ≡ self.old.budget }
     {
         let mut one = actor;
         loop {
@@ -204,19 +214,6 @@ impl Classes {
                 Some(next) => one = next,
                 None => return Ok(()),
             }
-        }
-    }
-
-    // The path of one that is about.
-    fn path_now(&self, ended: Option<RecordedActor>) -> Result<Vec<RecordedDeed>, AllocError>
-        ensures { IfOk result (λ path. (before : List RecordedLine) (actor : actors.RecordedActor) → ended ≡ Some actor → IsPathsOf self.now.paths before → is_about before actor ≡ true → path.items ≡ path_of before actor) }
-    {
-        let Some(actor) = ended else {
-            return Ok(Vec::new(self.alloc));
-        };
-        match self.paths.path(actor) {
-            Some(path) => Vec::from_slice(self.alloc, path),
-            None => Ok(Vec::new(self.alloc)),
         }
     }
 }
@@ -234,31 +231,5 @@ fn submitter_of(actor: RecordedActor, submitter: Option<RecordedActor>) -> Optio
     match actor {
         RecordedActor::Job(_) => submitter,
         RecordedActor::Round(_) => None,
-    }
-}
-
-// The classes of a job, or the kinds of a round, that is through.
-fn members_of(
-    alloc: Global,
-    plan: &Plan,
-    actor: RecordedActor,
-    label: &str,
-    pool: &str,
-    deeds: &[Deed],
-    budget: u64,
-) -> Result<PathFamily, AllocError>
-    ensures { IfOk result (λ family. IsTrue family.is_decided → AreMembersOf plan.now actor label.now pool.now deeds.now family.members.items) }
-{
-    match actor {
-        RecordedActor::Job(_) => classes_of_path(
-            alloc,
-            plan,
-            label,
-            pool,
-            deeds,
-            Course::Whole,
-            budget,
-        ),
-        RecordedActor::Round(_) => kinds_of_path(alloc, plan, label, deeds, Course::Whole, budget),
     }
 }

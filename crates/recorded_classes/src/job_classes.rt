@@ -1,13 +1,13 @@
 //! The classes of the jobs that are settled.
 
-ghost use Rattle.std.specs.Prelude.{◌≡◌, ◌≤◌, ◌&&◌, ◌++◌, ◌∷◌, [], ℕ, List, OnOk, IfOk, IsTrue, None, Some, if◌then◌else◌, ◌==◌, length};
+ghost use Rattle.std.specs.Prelude.{◌≡◌, ◌≤◌, ◌&&◌, ◌++◌, ◌∷◌, [], ℕ, List, OnOk, IfOk, IsTrue, None, Some, is_some, if◌then◌else◌, ◌==◌, length};
 ghost use Rattle.std.specs.List.{list_any};
 ghost use Rattle.recording_lines.specs.RecordingLine.{RecordedLine};
 ghost use Rattle.recorded_paths.specs.declared.deed.RecordedDeed.{RecordedDeed};
 ghost use Rattle.recorded_paths.specs.Act.{submits};
 ghost use Rattle.job_bodies.specs.Plan.{Plan};
 ghost use Rattle.recorded_classes.specs.Classes.{AreClassesOf, StandFor};
-ghost use Rattle.recorded_classes.specs.Kept.{Keeps, classes_in, is_settled_deed, AreKnown, AreSettledBefore, IsUnsettledAt};
+ghost use Rattle.recorded_classes.specs.Kept.{Keeps, Replaces, classes_in, is_settled_deed, AreClassesIn, AreDecidedIn, AreAllIn, AreSettledBefore, IsUnsettledAt};
 
 use body_paths::Deed;
 use plan_families::PathFamily;
@@ -57,12 +57,27 @@ impl ClassTable {
         Ok(())
     }
 
-    /// The actor is settled. Where it is a job that somebody submitted, its classes are kept.
+    /// It is told of the actor, which did this: what it submitted is known no more. Where it is a job that somebody
+    /// submitted, its classes are kept.
     ///
     /// # Errors
     ///
     /// `AllocError` where there is no memory for them.
-    pub(crate) fn keep(
+    pub(crate) fn replace(
+        &mut self,
+        path: &[RecordedDeed],
+        actor: RecordedActor,
+        submitter: Option<RecordedActor>,
+        family: &PathFamily,
+    ) -> Result<(), AllocError>
+        ensures { OnOk result (Replaces self.old path.now actor submitter family.now.members.items family.now.is_decided self.new) }
+    {
+        self.forget(path);
+        self.keep(actor, submitter, family)
+    }
+
+    // Where the actor is a job that somebody submitted, its classes are kept.
+    fn keep(
         &mut self,
         actor: RecordedActor,
         submitter: Option<RecordedActor>,
@@ -80,8 +95,8 @@ impl ClassTable {
         Ok(())
     }
 
-    /// The submitter of the jobs of this path is settled.
-    pub(crate) fn forget(&mut self, path: &[RecordedDeed])
+    // The jobs that this path submits go.
+    fn forget(&mut self, path: &[RecordedDeed])
         ensures { (one : ℕ) → classes_in self.new one ≡ (if list_any (submits one) path.now then None else classes_in self.old one) }
     {
         for deed in path {
@@ -120,7 +135,8 @@ impl ClassTable {
     ///
     /// `AllocError` where there is no memory for it.
     pub(crate) fn known_path(&self, path: &[RecordedDeed]) -> Result<KnownPath, AllocError>
-        ensures { (plan : Plan) (lines : List RecordedLine) → AreKnown plan lines self.now → IfOk result (λ known. IsTrue known.is_decided → StandFor plan lines path.now known.deeds.items) }
+        ensures stands { (plan : Plan) (lines : List RecordedLine) → AreClassesIn plan lines self.now → IfOk result (λ known. IsTrue known.is_decided → StandFor plan lines path.now known.deeds.items) }
+        ensures decided { AreDecidedIn self.now → AreAllIn self.now path.now → IfOk result (λ known. IsTrue known.is_decided) }
     {
         let mut known = KnownPath {
             deeds: Vec::new(self.alloc),
@@ -134,7 +150,8 @@ impl ClassTable {
 
     // The deed comes behind the others.
     fn add(&self, deed: RecordedDeed, known: &mut KnownPath) -> Result<(), AllocError>
-        ensures { (plan : Plan) (lines : List RecordedLine) (path : List RecordedDeed) → AreKnown plan lines self.now → (IsTrue known.old.is_decided → StandFor plan lines path known.old.deeds.items) → OnOk result (IsTrue known.new.is_decided → StandFor plan lines (path ++ deed ∷ []) known.new.deeds.items) }
+        ensures stands { (plan : Plan) (lines : List RecordedLine) (path : List RecordedDeed) → AreClassesIn plan lines self.now → (IsTrue known.old.is_decided → StandFor plan lines path known.old.deeds.items) → OnOk result (IsTrue known.new.is_decided → StandFor plan lines (path ++ deed ∷ []) known.new.deeds.items) }
+        ensures decided { AreDecidedIn self.now → IsTrue (is_settled_deed self.now deed) → IsTrue known.old.is_decided → OnOk result (IsTrue known.new.is_decided) }
     {
         match deed {
             RecordedDeed::Gets(place) => known.deeds.push(Deed::Gets(place))?,
@@ -149,7 +166,8 @@ impl ClassTable {
 
     // Of a job that is not settled none are known, nor is anything decided.
     fn classes(&self, job: usize) -> Result<JobClasses, AllocError>
-        ensures { (plan : Plan) (lines : List RecordedLine) → AreKnown plan lines self.now → IfOk result (λ known. IsTrue known.is_decided → AreClassesOf plan lines job known.classes.items) }
+        ensures classes { (plan : Plan) (lines : List RecordedLine) → AreClassesIn plan lines self.now → IfOk result (λ known. IsTrue known.is_decided → AreClassesOf plan lines job known.classes.items) }
+        ensures decided { AreDecidedIn self.now → IsTrue (is_some (classes_in self.now job)) → IfOk result (λ known. IsTrue known.is_decided) }
     {
         match self.jobs.get(&job) {
             Some(known) => Ok(JobClasses {

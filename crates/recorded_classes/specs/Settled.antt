@@ -1,0 +1,81 @@
+-- What is told of the actors of a recording.
+use Rattle.std.specs.Prelude.{◌≡◌, ◌≤◌, ◌↔◌, ◌⊎◌, ℕ, Bool, true, List, ◌++◌, count_by, string_bytes, IsTrue, All}
+use Rattle.std.specs.List.{list_any}
+use Rattle.std.specs.List.Sorted.{IsStrictlyIncreasing}
+use Rattle.recording_lines.specs.declared.recording_line.RecordedActor.{RecordedActor}
+use Rattle.recording_lines.specs.declared.recording_line.RecordedActor.TheVariants.{Job, Round}
+use Rattle.recording_lines.specs.RecordingLine.{RecordedLine}
+use Rattle.recorded_rules.specs.Before.{is_begun}
+use Rattle.recorded_rules.specs.LineParts.{is_same_actor}
+use Rattle.recorded_paths.specs.LineDeeds.{is_submitted}
+use Rattle.recorded_paths.specs.Path.{path_of}
+use Rattle.job_bodies.specs.declared.action.Action.{Action}
+use Rattle.job_bodies.specs.Plan.{Plan}
+use Rattle.body_paths.specs.declared.deed.Deed.{Deed}
+use Rattle.plan_families.specs.PathFamily.{IsMostExplained, class_bodies, client_bodies}
+use Rattle.recorded_classes.specs.declared.settled.Settled.{Settled}
+use Rattle.recorded_classes.specs.Budget.{IsEnoughForPlan}
+use Rattle.recorded_classes.specs.Label.{HasLabel}
+use Rattle.recorded_classes.specs.Classes.{AreClassesOf, StandFor, AreKindsOf, IsSettled}
+
+-- ---- of one actor
+-- the classes that the job can be of, or the kinds that the round can be of
+abbrev pub CanBe : Plan → List RecordedLine → RecordedActor → List ℕ → Type 0
+CanBe plan lines (Job job) classes = AreClassesOf plan lines job classes
+CanBe plan lines (Round round) kinds = AreKindsOf plan lines round kinds
+
+-- the bodies of the family of a job, or of a round
+abbrev pub bodies_of : Plan → RecordedActor → List ℕ → List ℕ → List (List Action)
+bodies_of plan (Job job) label pool = class_bodies plan label pool
+bodies_of plan (Round round) label pool = client_bodies plan label
+
+-- so much of what the actor did is explained, where each job that it submitted may be of any class that that job can be of
+pub record IsExplained (plan : Plan) (lines : List RecordedLine) (told : Settled) : Type 0 where
+  pub deeds : List Deed
+  pub path : StandFor plan lines (path_of lines told.actor) deeds
+  pub most : IsMostExplained (bodies_of plan told.actor (string_bytes told.label) (string_bytes told.pool)) deeds told.family.explained
+
+-- What is told of an actor is so by these lines, whether it is settled or not.
+pub record IsTold (plan : Plan) (budget : ℕ) (lines : List RecordedLine) (told : Settled) : Type 0 where
+  pub label : HasLabel lines told.actor (string_bytes told.label) (string_bytes told.pool)
+  pub path : told.path.items ≡ path_of lines told.actor
+  pub members : IsTrue told.family.is_decided → CanBe plan lines told.actor told.family.members.items
+  pub ascending : IsStrictlyIncreasing told.family.members.items
+  pub explained : IsTrue told.family.is_decided → IsExplained plan lines told
+  pub decided : IsEnoughForPlan budget plan → IsTrue told.family.is_decided
+
+-- ---- of all
+abbrev pub is_told : RecordedActor → Settled → Bool
+is_told actor told = is_same_actor told.actor actor
+
+-- no actor is told of twice
+abbrev pub IsOnceEach : List Settled → Type 0
+IsOnceEach told = (actor : RecordedActor) → count_by (is_told actor) told ≤ 1
+
+-- All that was told by these lines: of each actor that is settled, and of no other one.
+pub record AreTold (plan : Plan) (budget : ℕ) (lines : List RecordedLine) (told : List Settled) : Type 0 where
+  pub told : All (IsTold plan budget lines) told
+  pub once : IsOnceEach told
+  pub settled : (actor : RecordedActor) → (list_any (is_told actor) told ≡ true) ↔ IsSettled lines actor
+
+-- the job was submitted, or the round began
+abbrev pub has_come : List RecordedLine → RecordedActor → Bool
+has_come lines (Job job) = is_submitted lines job
+has_come lines (Round round) = is_begun lines round
+
+-- All that is told where the lines end: of each job that was submitted and each round that began, and of no other one.
+pub record AreAllTold (plan : Plan) (budget : ℕ) (lines : List RecordedLine) (told : List Settled) : Type 0 where
+  pub told : All (IsTold plan budget lines) told
+  pub once : IsOnceEach told
+  pub each : (actor : RecordedActor) → list_any (is_told actor) told ≡ has_come lines actor
+
+-- ---- by one more line
+-- behind what was told before, it is told of each actor that is settled by the lines with this one more, and was not before
+pub record TellsSettled (plan : Plan) (budget : ℕ) (before after : List RecordedLine) (old new : List Settled) : Type 0 where
+  pub more : List Settled
+  pub behind : new ≡ old ++ more
+  pub told : All (IsTold plan budget after) more
+  pub settled : All (λ told. IsSettled after told.actor) more
+  pub unsettled : All (λ told. ¬ IsSettled before told.actor) more
+  pub once : IsOnceEach more
+  pub each : (actor : RecordedActor) → IsSettled after actor → IsSettled before actor ⊎ (list_any (is_told actor) more ≡ true)

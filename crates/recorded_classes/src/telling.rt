@@ -1,0 +1,128 @@
+//! What is told of one actor.
+
+ghost use Rattle.std.specs.Prelude.{◌≡◌, List, Some, OnOk, IfOk};
+ghost use Rattle.recording_lines.specs.RecordingLine.{RecordedLine};
+ghost use Rattle.recorded_paths.specs.StandsFor.{IsPathsOf, is_about};
+ghost use Rattle.recorded_paths.specs.Path.{path_of};
+ghost use Rattle.recording_lines.specs.declared.recording_line.RecordedActor as actors;
+ghost use Rattle.recorded_classes.specs.Left.{IsAt, IsDoneBy};
+ghost use Rattle.recorded_classes.specs.Told.{IsFamilyOf, TellsOne};
+
+use crate::actor_table::Waiting;
+use crate::classes::Classes;
+use crate::done::Done;
+use crate::job_classes::are_both;
+use crate::settled::Settled;
+use body_paths::{Course, Deed};
+use job_bodies::Plan;
+use plan_families::{PathFamily, classes_of_path, kinds_of_path};
+use recorded_paths::RecordedDeed;
+use recording_lines::RecordedActor;
+use std::alloc::{AllocError, Global};
+
+impl Classes {
+    /// It is told of the actor, which did this. What it submitted is known no more.
+    ///
+    /// # Errors
+    ///
+    /// `AllocError` where there is no memory for it.
+    pub(crate) fn tell_of(
+        &mut self,
+        plan: &Plan,
+        actor: RecordedActor,
+        submitter: Option<RecordedActor>,
+        label: String,
+        pool: String,
+        done: Done,
+        told: &mut Vec<Settled>,
+    ) -> Result<(), AllocError>
+        ensures told { OnOk result (TellsOne plan.now self.old.budget actor submitter label pool done self.old.known self.new.known told.old.items told.new.items) }
+        ensures actors { self.new.actors ≡ self.old.actors }
+        ensures paths { self.new.paths ≡ self.old.paths }
+        ensures budget { self.new.budget ≡ self.old.budget }
+    {
+        let known = self.known.known_path(&done.path)?;
+        let mut family = members_of(
+            self.alloc,
+            plan,
+            actor,
+            &label,
+            &pool,
+            &known.deeds,
+            done.course,
+            self.budget,
+        )?;
+        family.is_decided = are_both(family.is_decided, known.is_decided);
+        self.known.replace(&done.path, actor, submitter, &family)?;
+        told.push(Settled {
+            actor,
+            label,
+            pool,
+            path: done.path,
+            family,
+        })
+    }
+
+    /// The path of one that is about.
+    ///
+    /// # Errors
+    ///
+    /// `AllocError` where there is no memory for it.
+    pub(crate) fn path_now(
+        &self,
+        ended: Option<RecordedActor>,
+    ) -> Result<Vec<RecordedDeed>, AllocError>
+        ensures { IfOk result (λ path. (before : List RecordedLine) (actor : actors.RecordedActor) → ended ≡ Some actor → IsPathsOf self.now.paths before → is_about before actor ≡ true → path.items ≡ path_of before actor) }
+    {
+        let Some(actor) = ended else {
+            return Ok(Vec::new(self.alloc));
+        };
+        match self.paths.path(actor) {
+            Some(path) => Vec::from_slice(self.alloc, path),
+            None => Ok(Vec::new(self.alloc)),
+        }
+    }
+
+    /// What the actor did: that for which it waits, or what there is of one that is about.
+    ///
+    /// # Errors
+    ///
+    /// `AllocError` where there is no memory for it.
+    pub(crate) fn done_by(
+        &self,
+        actor: RecordedActor,
+        waiting: Option<Waiting>,
+    ) -> Result<Done, AllocError>
+        ensures { IfOk result (λ done. (lines : List RecordedLine) → IsPathsOf self.now.paths lines → IsAt lines actor waiting → IsDoneBy lines actor done) }
+    {
+        match waiting {
+            Some(waiting) => Ok(Done {
+                path: waiting.path,
+                course: Course::Whole,
+            }),
+            None => Ok(Done {
+                path: self.path_now(Some(actor))?,
+                course: Course::Begun,
+            }),
+        }
+    }
+}
+
+// The classes of a job, or the kinds of a round, that did this.
+fn members_of(
+    alloc: Global,
+    plan: &Plan,
+    actor: RecordedActor,
+    label: &str,
+    pool: &str,
+    deeds: &[Deed],
+    course: Course,
+    budget: u64,
+) -> Result<PathFamily, AllocError>
+    ensures { IfOk result (IsFamilyOf plan.now budget actor label.now pool.now course deeds.now) }
+{
+    match actor {
+        RecordedActor::Job(_) => classes_of_path(alloc, plan, label, pool, deeds, course, budget),
+        RecordedActor::Round(_) => kinds_of_path(alloc, plan, label, deeds, course, budget),
+    }
+}
