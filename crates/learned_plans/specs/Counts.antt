@@ -1,0 +1,2 @@
+--
+use Rattle.std.specs.Prelude.{ℕ}

@@ -1,0 +1,4 @@
+pub mod TooMuch
+pub mod Pools
+pub mod Counts
+pub mod Learned
