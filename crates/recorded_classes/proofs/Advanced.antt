@@ -19,11 +19,12 @@ use Rattle.recorded_classes.specs.declared.actor_table.Waiting.{Waiting}
 use Rattle.recorded_classes.specs.declared.job_classes.ClassTable.{ClassTable}
 use Rattle.recorded_classes.specs.declared.settled.Settled.{Settled}
 use Rattle.recorded_classes.specs.Kept.{in_table, classes_in, AreSettledBefore, with_known}
-use Rattle.recorded_classes.specs.StandsFor.{IsNamed, IsWaiting, IsBlocked, IsKept, TellsTaken}
+use Rattle.recorded_classes.specs.StandsFor.{IsNamed, IsWaiting, IsBlocked, IsKept}
 use Rattle.recorded_classes.specs.Changes.{IsChanged}
-use Rattle.recorded_classes.specs.Told.{waiting_of, IsProgressOf}
+use Rattle.recorded_classes.specs.Told.{waiting_of, IsProgressOf, TellsTaken}
 use Rattle.recorded_classes.proofs.Words.{by_bool, one_of, is_none_of, if_true, if_false}
-use Rattle.recorded_classes.proofs.Progress.{waits_as, tells_none}
+use Rattle.recorded_classes.proofs.Progress.{waits_as}
+use Rattle.recorded_classes.proofs.TellsTaken.{tells_same}
 
 -- the actor was kept, and is what it was, or it is the one of whom it is noted
 record Earlier (reached : ℕ) (old : ActorTable) (actor one : RecordedActor) (kept : KeptActor) : Type 0 where
@@ -65,7 +66,7 @@ submitter_same reached kept earlier (inr is) = ap (λ (k : KeptActor). k.submitt
 
 named_same : (lines : List RecordedLine) (one : RecordedActor) (kept earlier : KeptActor) → kept.label ≡ earlier.label → kept.pool ≡ earlier.pool → IsNamed lines one earlier → IsNamed lines one kept
 named_same lines (Job job) kept earlier label pool named = named ∙ (ap (λ name. Some (string_bytes name, string_bytes earlier.pool)) (sym label) ∙ ap (λ name. Some (string_bytes kept.label, string_bytes name)) (sym pool))
-named_same lines (Round round) kept earlier label pool named = named ∙ ap (λ name. Some (string_bytes name)) (sym label)
+named_same lines (Round round) kept earlier label pool named = (named.0 ∙ ap (λ name. Some (string_bytes name)) (sym label), ap (λ name. string_bytes name) pool ∙ named.1)
 
 abbrev at_known : ℕ → Waiting → Waiting
 at_known reached waiting = record waiting { known = reached }
@@ -140,7 +141,5 @@ kept_advanced plan lines old new table actor reached b k p changed =
       submitter = λ one job kept h submitted unrefused. let e = earlier_of reached old new actor changed (Job job) kept h in submitter_same reached kept e.earlier e.is ∙ k.submitter one job e.earlier e.there submitted unrefused;
     }
 
-pub tells_same : (plan : Plan) (lines : List RecordedLine) (old new : ActorTable) (actor : RecordedActor) (reached : ℕ) → IsChanged old actor (with_known reached) new → (told : List Settled) → TellsTaken plan lines old new told told
-tells_same plan lines old new actor reached changed told =
-    let none = tells_none plan lines old told in
-    record { more = none.more; behind = none.behind; told = none.told; kept = none.kept; each = λ one h. inl (some_same reached old new actor changed one ∙ h); fewer = λ one h. sym (some_same reached old new actor changed one) ∙ h }
+pub tells_advanced : (IsSo : Settled → Type 0) (old new : ActorTable) (actor : RecordedActor) (reached : ℕ) → IsChanged old actor (with_known reached) new → (told : List Settled) → TellsTaken IsSo old new told told
+tells_advanced IsSo old new actor reached changed told = tells_same IsSo old new (some_same reached old new actor changed) told

@@ -30,7 +30,7 @@ pub record WasKept (line : RecordedLine) (waiting : Waiting) (old : ActorTable) 
 
 abbrev pub IsNamedIn : RecordedLine → RecordedActor → KeptActor → Type 0
 IsNamedIn line (Job job) kept = label_in job line ≡ Some (string_bytes kept.label, string_bytes kept.pool)
-IsNamedIn line (Round round) kept = kind_in round line ≡ Some (string_bytes kept.label)
+IsNamedIn line (Round round) kept = (kind_in round line ≡ Some (string_bytes kept.label)) × (string_bytes kept.pool ≡ [])
 
 -- the actor comes
 pub record Came (line : RecordedLine) (one : RecordedActor) (kept : KeptActor) : Type 0 where
@@ -166,8 +166,8 @@ named_job : (actor : RecordedActor) (job : ℕ) (class pool : List ℕ) (kept : 
 named_job actor job class pool kept h g =
     if_true (job == job) (Some (class, pool)) None (same_self job) ∙ (ap (λ (name : List ℕ). Some (name, pool)) (sym h) ∙ ap (λ (name : List ℕ). Some (string_bytes kept.label, name)) (sym g))
 
-named_round : (round : ℕ) (kind : List ℕ) (kept : KeptActor) → string_bytes kept.label ≡ kind → IsNamedIn (RoundBegins round kind) (Round round) kept
-named_round round kind kept h = if_true (round == round) (Some kind) None (same_self round) ∙ ap Some (sym h)
+named_round : (round : ℕ) (kind : List ℕ) (kept : KeptActor) → string_bytes kept.label ≡ kind → string_bytes kept.pool ≡ [] → IsNamedIn (RoundBegins round kind) (Round round) kept
+named_round round kind kept h g = (if_true (round == round) (Some kind) None (same_self round) ∙ ap Some (sym h), g)
 
 by_submitter : (submitter actor : RecordedActor) (job j : ℕ) (class pool : List ℕ) → submits_by actor j (Submits submitter job class pool) ≡ true → Some submitter ≡ Some actor
 by_submitter submitter actor job j class pool h = ap Some (same_actor submitter actor (and_first (is_same_actor submitter actor) (job == j) h))
@@ -183,7 +183,7 @@ follows_end line waiting old new actor unbegun unrefused is changed =
 
 pub follows : (line : RecordedLine) (waiting : Waiting) (old new : ActorTable) → Changed old line waiting new → Follows line waiting old new
 follows (RoundBegins round kind) waiting old new changed =
-    follows_begin (RoundBegins round kind) waiting old new (Round round) kind [] None refl refl changed (λ kept h g. named_round round kind kept h) (λ one job h. apart false h refl)
+    follows_begin (RoundBegins round kind) waiting old new (Round round) kind [] None refl refl changed (λ kept h g. named_round round kind kept h g) (λ one job h. apart false h refl)
 follows (Submits actor job class pool) waiting old new changed =
     follows_begin (Submits actor job class pool) waiting old new (Job job) class pool (Some actor) refl refl changed (named_job actor job class pool) (λ one j h. by_submitter actor one job j class pool h)
 follows (Refused actor job) waiting old new changed =

@@ -34,13 +34,13 @@ use Rattle.recorded_classes.proofs.LineActors.{job_refused, begun_unended, ended
 -- ---- labels
 named_new : (before : List RecordedLine) (line : RecordedLine) (one : RecordedActor) (kept : KeptActor) → KeepsRules (before ++ line ∷ []) → is_actor one (begun_by line) ≡ true → IsNamedIn line one kept → IsNamed (before ++ line ∷ []) one kept
 named_new before line (Job job) kept keeps begun named = label_new before line job (label_fresh before (keeps_before before line keeps) job (job_past before line job (keeps_last before line keeps) begun)) ∙ named
-named_new before line (Round round) kept keeps begun named = kind_new before line round (kind_fresh before (keeps_before before line keeps) round (round_past before line round (keeps_last before line keeps) begun)) ∙ named
+named_new before line (Round round) kept keeps begun named = (kind_new before line round (kind_fresh before (keeps_before before line keeps) round (round_past before line round (keeps_last before line keeps) begun)) ∙ named.0, named.1)
 
 named_still : (before : List RecordedLine) (line : RecordedLine) (one : RecordedActor) (kept earlier : KeptActor) → kept.label ≡ earlier.label → kept.pool ≡ earlier.pool → IsNamed before one earlier → IsNamed (before ++ line ∷ []) one kept
 named_still before line (Job job) kept earlier label pool named =
     label_more before line job (string_bytes earlier.label, string_bytes earlier.pool) named
     ∙ (ap (λ name. Some (string_bytes name, string_bytes earlier.pool)) (sym label) ∙ ap (λ name. Some (string_bytes kept.label, string_bytes name)) (sym pool))
-named_still before line (Round round) kept earlier label pool named = kind_more before line round (string_bytes earlier.label) named ∙ ap (λ name. Some (string_bytes name)) (sym label)
+named_still before line (Round round) kept earlier label pool named = (kind_more before line round (string_bytes earlier.label) named.0 ∙ ap (λ name. Some (string_bytes name)) (sym label), ap (λ name. string_bytes name) pool ∙ named.1)
 
 -- ---- all that is known of a step
 record Step (plan : Plan) (before : List RecordedLine) (line : RecordedLine) (waits : Waiting) (old new : ActorTable) (known : ClassTable) : Type 0 where

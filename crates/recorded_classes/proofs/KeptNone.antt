@@ -21,7 +21,7 @@ use Rattle.recorded_classes.specs.StandsFor.{IsWaiting, IsBlocked, IsKept}
 use Rattle.recorded_classes.proofs.Words.{by_option, apart, none_some, two_of}
 
 -- ---- no lines
-none_through : (one : RecordedActor) → is_through [] one ≡ false
+pub none_through : (one : RecordedActor) → is_through [] one ≡ false
 unfolding is_done is_ended
 none_through (Job job) = refl
 none_through (Round round) = refl

@@ -1,5 +1,5 @@
 -- What stands behind a line that was taken.
-use Rattle.std.proofs.Common.{◌≡◌, true, List, [], ◌∷◌, ◌++◌, Option, Some, None, sym, subst, ◌∙◌}
+use Rattle.std.proofs.Common.{◌≡◌, ℕ, true, List, [], ◌∷◌, ◌++◌, Option, Some, None, sym, subst, ◌∙◌}
 use Rattle.recording_lines.specs.declared.recording_line.RecordedActor.{RecordedActor}
 use Rattle.recording_lines.specs.RecordingLine.{RecordedLine}
 use Rattle.recorded_paths.specs.Path.{path_of}
@@ -11,11 +11,15 @@ use Rattle.recorded_classes.specs.declared.job_classes.ClassTable.{ClassTable}
 use Rattle.recorded_classes.specs.declared.classes.Classes.{Classes}
 use Rattle.recorded_classes.specs.declared.settled.Settled.{Settled}
 use Rattle.recorded_classes.specs.Changes.{ended_by, Changed}
-use Rattle.recorded_classes.specs.StandsFor.{IsKept, IsClassesOf, TellsTaken, TellsSettled}
+use Rattle.recorded_classes.specs.Budget.{IsEnoughForPlan}
+use Rattle.recorded_classes.specs.Kept.{AreDecidedIn}
+use Rattle.recorded_classes.specs.Settled.{TellsSettled}
+use Rattle.recorded_classes.specs.StandsFor.{IsKept, IsClassesOf}
+use Rattle.recorded_classes.specs.Told.{IsStep}
 use Rattle.recorded_classes.proofs.Follows.{follows}
 use Rattle.recorded_classes.proofs.LineActors.{ended_is, ended_about}
 use Rattle.recorded_classes.proofs.KeptAfter.{kept_after}
-use Rattle.recorded_classes.proofs.Telling.{tells_settled}
+use Rattle.recorded_classes.proofs.SettledByLine.{tells_settled}
 
 pub kept_line : (plan : Plan) (before : List RecordedLine) (line : RecordedLine) (waits : Waiting) (old new : ActorTable) (known last : ClassTable) (ended : Option RecordedActor) → KeepsRules (before ++ line ∷ []) → IsKept plan before old known None → Changed old line waits new
     → last ≡ known → ended ≡ ended_by line → ((actor : RecordedActor) → ended ≡ Some actor → is_about before actor ≡ true → waits.path.items ≡ path_of before actor) → waits.known ≡ 0 → IsKept plan (before ++ line ∷ []) new last ended
@@ -24,9 +28,16 @@ kept_line plan before line waits old new known last ended keeps kept changed sam
     (subst (λ (table : ClassTable). IsKept plan (before ++ line ∷ []) new table (ended_by line)) (sym same)
     (kept_after plan before line waits old new known keeps kept (follows line waits old new changed) (λ one ends. path one (is ∙ ended_is one line ends) (ended_about before line one keeps ends)) begins))
 
-pub stands : (plan : Plan) (classes : Classes) (lines : List RecordedLine) (Q : Type 0) → IsPathsOf classes.paths lines → IsKept plan lines classes.actors classes.known None × Q → IsClassesOf plan classes lines
-stands plan classes lines Q paths done = record { paths = paths; kept = done.0 }
+pub stands : (plan : Plan) (budget given : ℕ) (classes : Classes) (lines : List RecordedLine) (before : ActorTable) (old new : List Settled) → classes.budget ≡ budget → given ≡ budget → IsPathsOf classes.paths lines → IsStep plan given lines before classes.actors classes.known None old new → IsClassesOf plan budget classes lines
+stands plan budget given classes lines before old new has is paths step = record {
+  has_budget = has;
+  paths = paths;
+  kept = step.kept;
+  decided = subst (λ (b : ℕ). IsEnoughForPlan b plan → AreDecidedIn classes.known) is step.decided;
+}
 
-pub tells_line : (plan : Plan) (before : List RecordedLine) (line : RecordedLine) (waits : Waiting) (old mid new : ActorTable) (known last : ClassTable) (x y : List Settled) → KeepsRules (before ++ line ∷ []) → IsKept plan before old known None → Changed old line waits mid
-    → IsKept plan (before ++ line ∷ []) new last None × TellsTaken plan (before ++ line ∷ []) mid new x y → TellsSettled plan before (before ++ line ∷ []) x y
-tells_line plan before line waits old mid new known last x y keeps kept changed done = tells_settled plan before line waits old mid new known last x y keeps kept (follows line waits old mid changed) done.0 done.1
+pub tells_line : (plan : Plan) (budget given : ℕ) (before : List RecordedLine) (line : RecordedLine) (waits : Waiting) (old mid new : ActorTable) (known last : ClassTable) (x y : List Settled) → given ≡ budget → KeepsRules (before ++ line ∷ []) → IsKept plan before old known None → Changed old line waits mid
+    → IsStep plan given (before ++ line ∷ []) mid new last None x y → TellsSettled plan budget before (before ++ line ∷ []) x y
+tells_line plan budget given before line waits old mid new known last x y is keeps kept changed step =
+    let its : IsStep plan budget (before ++ line ∷ []) mid new last None x y = subst (λ (b : ℕ). IsStep plan b (before ++ line ∷ []) mid new last None x y) is step in
+    tells_settled plan budget before line waits old mid new known last x y keeps kept (follows line waits old mid changed) its.kept its.tells

@@ -1,6 +1,5 @@
 -- How far an actor has come that is through.
-use Rattle.std.proofs.Common.{◌≡◌, ◌≤◌, ◌<◌, ◌⊎◌, ℕ, zero, suc, not, nat_le, Bool, true, false, List, [], ◌∷◌, length, slice_get, is_some, Option, Some, None, refl, ap, sym, subst, ◌∙◌, inl, inr, append-nil, arith}
-use Rattle.std.specs.Prelude.{string_bytes}
+use Rattle.std.proofs.Common.{◌≡◌, ◌≤◌, ◌<◌, ◌⊎◌, ℕ, zero, suc, not, nat_le, Bool, true, false, List, [], ◌∷◌, length, slice_get, is_some, Option, Some, None, refl, ap, sym, subst, ◌∙◌, inl, inr, arith}
 use Rattle.std.specs.Option.{option_and_then}
 use Rattle.std.proofs.lemmas.List.{take_all}
 use Rattle.recorded_paths.specs.LineDeeds.{is_refused, has_submitted}
@@ -8,7 +7,6 @@ use Rattle.recorded_paths.proofs.Places.{same_self}
 use Rattle.recorded_paths.proofs.Tests.{and_first, and_second}
 use Rattle.recorded_classes.proofs.Later.{path_submits}
 use Rattle.std.specs.List.{list_any}
-use Rattle.std.proofs.lemmas.List.Elements.{All-nil}
 use Rattle.recording_lines.specs.declared.recording_line.RecordedActor.{RecordedActor}
 use Rattle.recording_lines.specs.declared.recording_line.RecordedActor.TheVariants.{Job, Round}
 use Rattle.recording_lines.specs.RecordingLine.{RecordedLine}
@@ -17,21 +15,14 @@ use Rattle.recorded_paths.specs.declared.deed.RecordedDeed.TheVariants as record
 use Rattle.recorded_paths.specs.Act.{submits}
 use Rattle.recorded_paths.specs.Path.{path_of}
 use Rattle.job_bodies.specs.Plan.{Plan}
-use Rattle.body_paths.specs.declared.deed.Deed.{Deed}
-use Rattle.body_paths.specs.declared.deed.Course.{Course}
-use Rattle.body_paths.specs.declared.deed.Course.TheVariants.{Whole, Begun}
-use Rattle.plan_families.specs.PathFamily.{IsClassOf, IsKindOf, AreExactly}
 use Rattle.recorded_classes.specs.declared.actor_table.ActorTable.{ActorTable}
 use Rattle.recorded_classes.specs.declared.actor_table.KeptActor.{KeptActor}
 use Rattle.recorded_classes.specs.declared.actor_table.Waiting.{Waiting}
 use Rattle.recorded_classes.specs.declared.job_classes.ClassTable.{ClassTable}
-use Rattle.recorded_classes.specs.declared.settled.Settled.{Settled}
-use Rattle.recorded_classes.specs.Course.{is_through}
-use Rattle.recorded_classes.specs.Classes.{by_path, StandFor}
 use Rattle.recorded_classes.specs.Kept.{in_table, classes_in, AreSettledBefore, IsUnsettledAt, is_unsettled, is_settled_deed, is_job}
-use Rattle.recorded_classes.specs.StandsFor.{IsNamed, IsBlocked, IsKept, CanBe, IsTold, TellsTaken}
-use Rattle.recorded_classes.specs.Told.{AreMembersOf, waiting_of, submitter_of, IsProgressOf, IsReady}
-use Rattle.recorded_classes.proofs.Words.{apart, two_of, one_of, none_some, some_of, some_at, any_at, if_true}
+use Rattle.recorded_classes.specs.StandsFor.{IsBlocked, IsKept}
+use Rattle.recorded_classes.specs.Told.{waiting_of, submitter_of, IsProgressOf, IsReady}
+use Rattle.recorded_classes.proofs.Words.{apart, two_of, one_of, none_some, some_of, some_at, any_at}
 
 pub progress_of : (actors : ActorTable) (table : ClassTable) (actor : RecordedActor) (waiting : Waiting) (known len : ℕ) (path : List RecordedDeed) → path ≡ waiting.path.items → waiting_of actors actor ≡ Some waiting
     → (waiting.known ≤ length path → known ≤ length path) → (AreSettledBefore table path waiting.known → AreSettledBefore table path known) → IsUnsettledAt table path known → len ≡ length path → IsProgressOf actors table actor known (nat_le len known)
@@ -51,19 +42,6 @@ settled_jobs actors table actor r kept waiting there waits =
     let same : r.kept ≡ kept = one_of (in_table actors actor) r.kept kept r.there there in
     let is : r.waiting ≡ waiting = one_of kept.waiting r.waiting waiting (subst (λ (k : KeptActor). k.waiting ≡ Some r.waiting) same r.waits) waits in
     subst (λ (w : Waiting). (job : ℕ) → list_any (submits job) w.path.items ≡ true → is_some (classes_in table job) ≡ true) is r.settled
-
-pub can_be : (plan : Plan) (lines : List RecordedLine) (actor : RecordedActor) (kept : KeptActor) (path : List RecordedDeed) (deeds : List Deed) (members : List ℕ) → IsNamed lines actor kept → is_through lines actor ≡ true → path ≡ path_of lines actor
-    → StandFor plan lines path deeds → AreMembersOf plan actor (string_bytes kept.label) (string_bytes kept.pool) deeds members → CanBe plan lines actor members
-can_be plan lines (Job job) kept path deeds members named through same stand are =
-    by_path job (string_bytes kept.label) (string_bytes kept.pool) deeds members named (subst (λ (p : List RecordedDeed). StandFor plan lines p deeds) same stand)
-    (subst (λ (course : Course). AreExactly (IsClassOf plan (string_bytes kept.label) (string_bytes kept.pool) course deeds) members) (sym (if_true (is_through lines (Job job)) Whole Begun through)) are)
-can_be plan lines (Round round) kept path deeds members named through same stand are = record {
-  kind = string_bytes kept.label;
-  deeds = deeds;
-  named = named;
-  path = subst (λ (p : List RecordedDeed). StandFor plan lines p deeds) same stand;
-  exact = subst (λ (course : Course). AreExactly (IsKindOf plan (string_bytes kept.label) course deeds) members) (sym (if_true (is_through lines (Round round)) Whole Begun through)) are;
-}
 
 two_of_some : {P : Type 0} (next : Option RecordedActor) → next ≡ None → is_some next ≡ true → P
 two_of_some next is h = none_some next is h
@@ -153,14 +131,3 @@ ready_of plan lines actors table actor reached k p =
       waits = t.2;
       settled = λ job h. p.front w.front job (subst (λ (path : List RecordedDeed). list_any (submits job) path ≡ true) (sym (take_all reached p.waiting.path.items (p.ready refl))) h);
     }
-
--- ---- what is told
-pub tells_none : (plan : Plan) (lines : List RecordedLine) (actors : ActorTable) (told : List Settled) → TellsTaken plan lines actors actors told told
-tells_none plan lines actors told = record {
-  more = [];
-  behind = sym (append-nil told);
-  told = All-nil (IsTold plan lines);
-  kept = All-nil (λ (t : Settled). is_some (in_table actors t.actor) ≡ true);
-  each = λ who h. inl h;
-  fewer = λ who h. h;
-}

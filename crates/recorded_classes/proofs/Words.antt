@@ -1,6 +1,9 @@
 -- Small facts.
-use Rattle.std.proofs.Common.{◌≡◌, ℕ, ◌||◌, Bool, true, false, if◌then◌else◌, List, is_some, Option, Some, None, refl, ap, sym, ◌∙◌, slice_get}
+use Rattle.std.proofs.Common.{◌≡◌, ℕ, ◌&&◌, ◌||◌, Bool, true, false, if◌then◌else◌, List, is_some, Option, Some, None, refl, ap, sym, ◌∙◌, slice_get}
 use Rattle.std.specs.List.{list_any}
+use Rattle.std.specs.Result.{OnOk}
+use Rattle.std.specs.declared.result.Result.{Result}
+use Rattle.std.specs.declared.result.Result.TheVariants.{Ok, Err}
 use Rattle.recorded_paths.proofs.Tests.{passes, passes_nowhere}
 
 pub by_bool : (b : Bool) {P : Type 0} → (b ≡ true → P) → (b ≡ false → P) → P
@@ -53,3 +56,11 @@ if_false b x y h = ap (λ (c : Bool). if c then x else y) h
 
 pub any_at : {X : Type 0} (p : X → Bool) (xs : List X) (i : ℕ) (x : X) → slice_get xs i ≡ Some x → p x ≡ true → list_any p xs ≡ true
 any_at p xs i x h holds = by_bool (list_any p xs) (λ g. g) (λ g. apart (passes p (slice_get xs i)) (ap (passes p) h ∙ holds) (passes_nowhere p xs i g))
+
+pub both_true : (a b : Bool) → a ≡ true → b ≡ true → (a && b) ≡ true
+both_true true b h g = g
+both_true false b h g = apart false h refl
+
+pub on_ok_both : {X E : Type 0} (P Q : Type 0) (r : Result X E) → OnOk r P → OnOk r Q → OnOk r (P × Q)
+on_ok_both P Q (Ok x) p q = (p, q)
+on_ok_both P Q (Err e) p q = tt

@@ -1,5 +1,5 @@
 -- What is kept of the actors that are not settled, and of the jobs that are and whose submitters are not.
-use Rattle.std.specs.Prelude.{◌≡◌, ◌⊎◌, ℕ, nat_eq, not, Bool, true, List, take, slice_get, string_bytes, if◌then◌else◌, is_some, IsTrue, Option, Some, None}
+use Rattle.std.specs.Prelude.{◌≡◌, ◌⊎◌, ℕ, nat_eq, not, Bool, true, false, List, take, slice_get, string_bytes, if◌then◌else◌, is_some, IsTrue, Option, Some, None}
 use Rattle.std.specs.List.{list_any}
 use Rattle.std.specs.HashMap.{get}
 use Rattle.std.specs.Option.{option_map}

@@ -53,10 +53,10 @@ abbrev pub IsOnceEach : List Settled → Type 0
 IsOnceEach told = (actor : RecordedActor) → count_by (is_told actor) told ≤ 1
 
 -- All that was told by these lines: of each actor that is settled, and of no other one.
-pub record AreTold (plan : Plan) (budget : ℕ) (lines : List RecordedLine) (told : List Settled) : Type 0 where
-  pub told : All (IsTold plan budget lines) told
-  pub once : IsOnceEach told
-  pub settled : (actor : RecordedActor) → (list_any (is_told actor) told ≡ true) ↔ IsSettled lines actor
+pub record AreTold (plan : Plan) (budget : ℕ) (lines : List RecordedLine) (all : List Settled) : Type 0 where
+  pub told : All (IsTold plan budget lines) all
+  pub once : IsOnceEach all
+  pub settled : (actor : RecordedActor) → (list_any (is_told actor) all ≡ true) ↔ IsSettled lines actor
 
 -- the job was submitted, or the round began
 abbrev pub has_come : List RecordedLine → RecordedActor → Bool
@@ -64,10 +64,10 @@ has_come lines (Job job) = is_submitted lines job
 has_come lines (Round round) = is_begun lines round
 
 -- All that is told where the lines end: of each job that was submitted and each round that began, and of no other one.
-pub record AreAllTold (plan : Plan) (budget : ℕ) (lines : List RecordedLine) (told : List Settled) : Type 0 where
-  pub told : All (IsTold plan budget lines) told
-  pub once : IsOnceEach told
-  pub each : (actor : RecordedActor) → list_any (is_told actor) told ≡ has_come lines actor
+pub record AreAllTold (plan : Plan) (budget : ℕ) (lines : List RecordedLine) (all : List Settled) : Type 0 where
+  pub told : All (IsTold plan budget lines) all
+  pub once : IsOnceEach all
+  pub each : (actor : RecordedActor) → list_any (is_told actor) all ≡ has_come lines actor
 
 -- ---- by one more line
 -- behind what was told before, it is told of each actor that is settled by the lines with this one more, and was not before

@@ -53,7 +53,7 @@ pub record IsKept (plan : Plan) (lines : List RecordedLine) (actors : ActorTable
 
 -- what is kept stands for the lines so far, where each body has this budget
 pub record IsClassesOf (plan : Plan) (budget : ℕ) (classes : Classes) (lines : List RecordedLine) : Type 0 where
-  pub budget : classes.budget ≡ budget
+  pub has_budget : classes.budget ≡ budget
   pub paths : IsPathsOf classes.paths lines
   pub kept : IsKept plan lines classes.actors classes.known None
   pub decided : IsEnoughForPlan budget plan → AreDecidedIn classes.known

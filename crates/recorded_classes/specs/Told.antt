@@ -72,18 +72,17 @@ pub record IsFamilyBy (plan : Plan) (lines : List RecordedLine) (actor : Recorde
   pub members : AreMembersOf plan actor label pool done.course deeds family.members.items
   pub explained : IsMostExplained (bodies_of plan actor label pool) deeds family.explained
 
+abbrev pub settled_as : RecordedActor → String Global → String Global → Done → PathFamily → Settled
+settled_as actor label pool done family = record { actor = actor; label = label; pool = pool; path = done.path; family = family }
+
 -- behind what was told before, it is told of this actor, which did this, and the table is as it is then
 pub record TellsOne (plan : Plan) (budget : ℕ) (actor : RecordedActor) (submitter : Option RecordedActor) (label pool : String Global) (done : Done) (before after : ClassTable) (old new : List Settled) : Type 0 where
-  pub one : Settled
-  pub behind : new ≡ old ++ one ∷ []
-  pub actor_is : one.actor ≡ actor
-  pub label_is : one.label ≡ label
-  pub pool_is : one.pool ≡ pool
-  pub path_is : one.path ≡ done.path
-  pub table : Replaces before done.path.items actor submitter one.family.members.items one.family.is_decided after
-  pub family : (lines : List RecordedLine) → AreClassesIn plan lines before → IsTrue one.family.is_decided → IsFamilyBy plan lines actor (string_bytes label) (string_bytes pool) done one.family
-  pub decided : IsEnoughForPlan budget plan → AreDecidedIn before → AreAllIn before done.path.items → IsTrue one.family.is_decided
-  pub ascending : IsStrictlyIncreasing one.family.members.items
+  pub family : PathFamily
+  pub behind : new ≡ old ++ settled_as actor label pool done family ∷ []
+  pub table : Replaces before done.path.items actor submitter family.members.items family.is_decided after
+  pub right : (lines : List RecordedLine) → AreClassesIn plan lines before → IsTrue family.is_decided → IsFamilyBy plan lines actor (string_bytes label) (string_bytes pool) done family
+  pub decided : IsEnoughForPlan budget plan → AreDecidedIn before → AreAllIn before done.path.items → IsTrue family.is_decided
+  pub ascending : IsStrictlyIncreasing family.members.items
 
 -- ---- what is told of many
 -- it is told of what is taken out of the table, and this is so of each that is told
@@ -98,9 +97,9 @@ pub record TellsTaken (IsSo : Settled → Type 0) (before after : ActorTable) (o
   pub fewer : (actor : RecordedActor) → is_some (in_table after actor) ≡ true → is_some (in_table before actor) ≡ true
 
 -- one that is settled is told of
-pub record IsSettledTold (plan : Plan) (budget : ℕ) (lines : List RecordedLine) (told : Settled) : Type 0 where
-  pub told : IsTold plan budget lines told
-  pub settled : IsSettled lines told.actor
+pub record IsSettledTold (plan : Plan) (budget : ℕ) (lines : List RecordedLine) (one : Settled) : Type 0 where
+  pub told : IsTold plan budget lines one
+  pub settled : IsSettled lines one.actor
 
 -- it was told of some, and the rest is kept
 pub record IsStep (plan : Plan) (budget : ℕ) (lines : List RecordedLine) (before after : ActorTable) (known : ClassTable) (next : Option RecordedActor) (old new : List Settled) : Type 0 where

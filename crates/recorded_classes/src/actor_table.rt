@@ -196,7 +196,16 @@ fn numbers_of(alloc: Global, actors: &HashMap<usize, KeptActor>) -> Result<Vec<u
     ensures all { IfOk result (λ numbers. (number : ℕ) → is_some (get nat_eq actors.now number) ≡ true → is_member nat_eq numbers.items number ≡ true) }
     ensures sorted { IfOk result (λ numbers. IsNonDecreasing numbers.items) }
 {
-    let mut numbers: Vec<usize> = actors.keys().copied().collect(alloc)?;
+    let mut numbers = unsorted_numbers_of(alloc, actors)?;
     numbers.sort_unstable();
     Ok(numbers)
+}
+
+fn unsorted_numbers_of(
+    alloc: Global,
+    actors: &HashMap<usize, KeptActor>,
+) -> Result<Vec<usize>, AllocError>
+    ensures { IfOk result (λ numbers. (number : ℕ) → is_member nat_eq numbers.items number ≡ is_some (get nat_eq actors.now number)) }
+{
+    actors.keys().copied().collect(alloc)
 }

@@ -47,7 +47,7 @@ impl Classes {
     fn leave_jobs(
         &mut self,
         plan: &Plan,
-        jobs: Vec<usize>,
+        mut jobs: Vec<usize>,
         told: &mut Vec<Settled>,
     ) -> Result<(), AllocError>
         ensures left { (lines : List RecordedLine) → KeepsRules lines → IsPathsOf self.old.paths lines → IsLeft plan.now self.old.budget lines self.old.actors self.old.known → AreJobsAmong self.old.actors jobs.items → IsNonDecreasing jobs.items → OnOk result (IsLeft plan.now self.old.budget lines self.new.actors self.new.known × TellsTaken (IsTold plan.now self.old.budget lines) self.old.actors self.new.actors told.old.items told.new.items) }
@@ -55,7 +55,6 @@ impl Classes {
         ensures paths { self.new.paths ≡ self.old.paths }
         ensures budget { self.new.budget ≡ self.old.budget }
     {
-        let mut jobs = jobs;
         while let Some(job) = jobs.pop() {
             self.leave(plan, RecordedActor::Job(job), told)?;
         }
@@ -66,14 +65,13 @@ impl Classes {
     fn leave_rounds(
         &mut self,
         plan: &Plan,
-        rounds: Vec<usize>,
+        mut rounds: Vec<usize>,
         told: &mut Vec<Settled>,
     ) -> Result<(), AllocError>
         ensures left { (lines : List RecordedLine) → KeepsRules lines → IsPathsOf self.old.paths lines → IsLeft plan.now self.old.budget lines self.old.actors self.old.known → HasNoJobs self.old.actors → OnOk result (IsLeft plan.now self.old.budget lines self.new.actors self.new.known × TellsTaken (IsTold plan.now self.old.budget lines) self.old.actors self.new.actors told.old.items told.new.items) }
         ensures none { AreRoundsAmong self.old.actors rounds.items → OnOk result (HasNoRounds self.new.actors) }
         ensures jobs { HasNoJobs self.old.actors → HasNoJobs self.new.actors }
     {
-        let mut rounds = rounds;
         while let Some(round) = rounds.pop() {
             self.leave(plan, RecordedActor::Round(round), told)?;
         }

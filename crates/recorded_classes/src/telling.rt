@@ -1,6 +1,6 @@
 //! What is told of one actor.
 
-ghost use Rattle.std.specs.Prelude.{◌≡◌, List, Some, OnOk, IfOk};
+ghost use Rattle.std.specs.Prelude.{◌≡◌, true, List, Some, OnOk, IfOk};
 ghost use Rattle.recording_lines.specs.RecordingLine.{RecordedLine};
 ghost use Rattle.recorded_paths.specs.StandsFor.{IsPathsOf, is_about};
 ghost use Rattle.recorded_paths.specs.Path.{path_of};
@@ -60,7 +60,8 @@ impl Classes {
             pool,
             path: done.path,
             family,
-        })
+        })?;
+        Ok(())
     }
 
     /// The path of one that is about.

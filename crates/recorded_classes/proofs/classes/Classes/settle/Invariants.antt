@@ -2,14 +2,18 @@ use Rattle.std.proofs.Common.{◌≡◌, List, Some}
 use Rattle.std.specs.HashMap.{hash_map_len}
 use Rattle.recording_lines.specs.RecordingLine.{RecordedLine}
 use Rattle.recorded_paths.specs.StandsFor.{KeepsRules}
-use Rattle.recorded_classes.specs.StandsFor.{IsKept, TellsTaken}
+use Rattle.recorded_classes.specs.Budget.{IsEnoughForPlan}
+use Rattle.recorded_classes.specs.Kept.{AreDecidedIn}
+use Rattle.recorded_classes.specs.StandsFor.{IsKept}
+use Rattle.recorded_classes.specs.Told.{IsStep}
 use Rattle.recorded_classes.proofs.classes.Classes.settle.Given as goal
 
 -- it was told of those that were taken out, and this one is next
 abbrev pub invariant-loop-next : goal.invariant-loop-next
 invariant-loop-next l = record {
-  told : (lines : List RecordedLine) → IsKept l.plan lines l.initial.self.actors l.initial.self.known (Some l.fn.actor) → KeepsRules lines → IsKept l.plan lines l.self.actors l.self.known (Some l.one) × TellsTaken l.plan lines l.initial.self.actors l.self.actors l.initial.told.items l.told.items;
+  told : (lines : List RecordedLine) → IsKept l.plan lines l.initial.self.actors l.initial.self.known (Some l.fn.actor) → (IsEnoughForPlan l.initial.self.budget l.plan → AreDecidedIn l.initial.self.known) → KeepsRules lines → IsStep l.plan l.initial.self.budget lines l.initial.self.actors l.self.actors l.self.known (Some l.one) l.initial.told.items l.told.items;
   paths : l.self.paths ≡ l.initial.self.paths;
+  budget : l.self.budget ≡ l.initial.self.budget;
 }
 
 abbrev pub decreases-loop-next : goal.decreases-loop-next

@@ -1,0 +1,56 @@
+-- What is told of one actor is so by the lines.
+use Rattle.std.proofs.Common.{◌≡◌, ℕ, true, List, Option, subst}
+use Rattle.std.specs.Prelude.{string_bytes}
+use Rattle.std.specs.declared.alloc.Global.{Global}
+use Rattle.std.specs.declared.string.String.{String}
+use Rattle.recording_lines.specs.declared.recording_line.RecordedActor.{RecordedActor}
+use Rattle.recording_lines.specs.declared.recording_line.RecordedActor.TheVariants.{Job, Round}
+use Rattle.recording_lines.specs.RecordingLine.{RecordedLine}
+use Rattle.recorded_paths.specs.declared.deed.RecordedDeed.{RecordedDeed}
+use Rattle.recorded_paths.specs.Path.{path_of}
+use Rattle.job_bodies.specs.Plan.{Plan}
+use Rattle.body_paths.specs.declared.deed.Deed.{Deed}
+use Rattle.body_paths.specs.declared.deed.Course.{Course}
+use Rattle.plan_families.specs.PathFamily.{IsClassOf, IsKindOf, AreExactly}
+use Rattle.recorded_classes.specs.declared.done.Done.{Done}
+use Rattle.recorded_classes.specs.declared.job_classes.ClassTable.{ClassTable}
+use Rattle.recorded_classes.specs.declared.settled.Settled.{Settled}
+use Rattle.recorded_classes.specs.Budget.{IsEnoughForPlan}
+use Rattle.recorded_classes.specs.Course.{course_of}
+use Rattle.recorded_classes.specs.Label.{HasLabel}
+use Rattle.recorded_classes.specs.Classes.{by_path, StandFor}
+use Rattle.recorded_classes.specs.Kept.{AreClassesIn, AreDecidedIn, AreAllIn}
+use Rattle.recorded_classes.specs.Left.{IsDoneBy}
+use Rattle.recorded_classes.specs.Settled.{CanBe, IsTold}
+use Rattle.recorded_classes.specs.Told.{AreMembersOf, TellsOne, settled_as}
+
+can_be_by : (plan : Plan) (lines : List RecordedLine) (actor : RecordedActor) (label pool : List ℕ) (course : Course) (deeds : List Deed) (members : List ℕ) → HasLabel lines actor label pool → course ≡ course_of lines actor
+    → StandFor plan lines (path_of lines actor) deeds → AreMembersOf plan actor label pool course deeds members → CanBe plan lines actor members
+can_be_by plan lines (Job job) label pool course deeds members named is stand are =
+    by_path job label pool deeds members named stand (subst (λ (c : Course). AreExactly (IsClassOf plan label pool c deeds) members) is are)
+can_be_by plan lines (Round round) label pool course deeds members named is stand are = record {
+  kind = label;
+  deeds = deeds;
+  named = named.0;
+  path = stand;
+  exact = subst (λ (c : Course). AreExactly (IsKindOf plan label c deeds) members) is are;
+}
+
+module _ (plan : Plan) (budget : ℕ) (lines : List RecordedLine) (actor : RecordedActor) (submitter : Option RecordedActor) (label pool : String Global) (done : Done) (before after : ClassTable) (old new : List Settled)
+    (t : TellsOne plan budget actor submitter label pool done before after old new) (d : IsDoneBy lines actor done) (named : HasLabel lines actor (string_bytes label) (string_bytes pool)) (classes : AreClassesIn plan lines before) where
+  pub can_be_told : t.family.is_decided ≡ true → CanBe plan lines actor t.family.members.items
+  can_be_told decided =
+      let f = t.right lines classes decided in
+      can_be_by plan lines actor (string_bytes label) (string_bytes pool) done.course f.deeds t.family.members.items named d.course (subst (λ (path : List RecordedDeed). StandFor plan lines path f.deeds) d.path f.path) f.members
+
+  pub told_one : (IsEnoughForPlan budget plan → AreDecidedIn before) → AreAllIn before done.path.items → IsTold plan budget lines (settled_as actor label pool done t.family)
+  told_one decided all = record {
+    label = named;
+    path = d.path;
+    members = can_be_told;
+    ascending = t.ascending;
+    explained = λ is.
+        let f = t.right lines classes is in
+        record { deeds = f.deeds; path = subst (λ (path : List RecordedDeed). StandFor plan lines path f.deeds) d.path f.path; most = f.explained };
+    decided = λ enough. t.decided enough (decided enough) all;
+  }
