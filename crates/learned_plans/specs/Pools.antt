@@ -1,6 +1,6 @@
 -- The pools of a recording, as a plan has them.
-use Rattle.std.specs.Prelude.{ℕ, Bool, not, ◌&&◌, ◌==◌, List, [], ◌∷◌, map, filter, Option, Some, None, min, max}
-use Rattle.std.specs.List.{filter_map}
+use Rattle.std.specs.Prelude.{ℕ, Bool, not, ◌&&◌, ◌==◌, List, [], ◌∷◌, map, filter, Option, Some, None, if◌then◌else◌, ◌++◌, min, max}
+use Rattle.std.specs.List.{filter_map, list_any}
 use Rattle.std.specs.Str.{bytes_eq}
 use Rattle.job_bodies.specs.Plan.{Pool}
 use Rattle.job_bodies.specs.declared.limits.TheConstants.{MAX_SIZE}
@@ -39,3 +39,11 @@ firsts (pool ∷ pools) = pool ∷ filter (has_other_name pool) (firsts pools)
 -- the pool of the first line of each name, in the order of these lines
 unfoldable pub pools_seen : List RecordedLine → List Pool
 pools_seen lines = firsts (filter_map pool_of_line lines)
+
+-- ---- one more pool
+abbrev pub has_name : List ℕ → List Pool → Bool
+has_name name pools = list_any (λ pool. bytes_eq pool.name name) pools
+
+-- behind the others, where none has its name
+abbrev pub with_first : List Pool → Pool → List Pool
+with_first pools pool = if has_name pool.name pools then pools else pools ++ pool ∷ []

@@ -1,8 +1,13 @@
 //! The plan that a recording shows.
 
-ghost use Rattle.std.specs.Prelude.{◌≡◌, IfOk};
-ghost use Rattle.recording_lines.specs.RecordingLine.{lines_read};
-ghost use Rattle.learned_plans.specs.Learned.{IsLearned, IsSeen};
+ghost use Rattle.std.specs.Prelude.{◌≡◌, ℕ, List, IfOk};
+ghost use Rattle.recording_lines.specs.RecordingLine.{RecordedLine, lines_read};
+ghost use Rattle.recorded_rules.specs.Faults.{IsFirstFault};
+ghost use Rattle.recorded_rules.specs.Before.{begins, submits};
+ghost use Rattle.learned_plans.specs.Counts.{AreCounted, Kinds, IsCounted};
+ghost use Rattle.learned_plans.specs.Kept.{IsCountOf};
+ghost use Rattle.learned_plans.specs.Learned.{lines_of, fault_of, IfSeen};
+ghost use Rattle.learned_plans.specs.Pools.{pools_seen};
 
 use crate::counts::{KindCount, kind_counts};
 use crate::covering::cover_all;
@@ -21,7 +26,13 @@ use std::alloc::{AllocError, Global};
 /// # Errors
 ///
 /// `AllocError` where there is no memory for what the lines say.
-pub fn learn(alloc: Global, recording: &[u8], budget: u64) -> Result<Learned, AllocError> {
+pub fn learn(alloc: Global, recording: &[u8], budget: u64) -> Result<Learned, AllocError>
+    ensures bad { IfOk result (λ told. IsFirstFault (lines_read recording.now) (fault_of told)) }
+    ensures pools { IfOk result (IfSeen (λ seen. seen.plan.pools ≡ pools_seen (lines_of recording.now))) }
+    ensures counts { IfOk result (IfSeen (λ seen. AreCounted (lines_of recording.now) seen.plan.clients)) }
+    ensures rounds { IfOk result (IfSeen (λ seen. seen.rounds ≡ begins (lines_of recording.now))) }
+    ensures jobs { IfOk result (IfSeen (λ seen. seen.jobs ≡ submits (lines_of recording.now))) }
+{
     if let Some(fault) = first_fault(alloc, recording)? {
         return Ok(Learned::Bad(fault));
     }
@@ -32,7 +43,12 @@ pub fn learn(alloc: Global, recording: &[u8], budget: u64) -> Result<Learned, Al
     }
 }
 
-fn seen_plan(alloc: Global, recording: &[u8], budget: u64) -> Result<SeenPlan, Stop> {
+fn seen_plan(alloc: Global, recording: &[u8], budget: u64) -> Result<SeenPlan, Stop>
+    ensures pools { IfOk result (λ seen. seen.plan.pools ≡ pools_seen (lines_of recording.now)) }
+    ensures counts { IfOk result (λ seen. AreCounted (lines_of recording.now) seen.plan.clients) }
+    ensures rounds { IfOk result (λ seen. seen.rounds ≡ begins (lines_of recording.now)) }
+    ensures jobs { IfOk result (λ seen. seen.jobs ≡ submits (lines_of recording.now)) }
+{
     let mut names = seen_names(alloc, recording)?;
     let kinds = cover_all(alloc, recording, &names.pools, budget, &mut names.working)?;
     let classes = names.working.copied_classes()?;
@@ -52,7 +68,9 @@ fn counted_clients(
     recording: &[u8],
     kinds: &[Option<usize>],
     working: &Working,
-) -> Result<Vec<Client>, Stop> {
+) -> Result<Vec<Client>, Stop>
+    ensures { IfOk result (λ clients. AreCounted (lines_of recording.now) clients.items) }
+{
     let entries = &working.kinds.entries;
     let counts = kind_counts(alloc, recording, kinds, entries.len())?;
     let mut clients = Vec::new(alloc);
@@ -64,7 +82,9 @@ fn counted_clients(
     Ok(clients)
 }
 
-fn counted_client(alloc: Global, entry: &Entry, count: KindCount) -> Result<Client, Stop> {
+fn counted_client(alloc: Global, entry: &Entry, count: KindCount) -> Result<Client, Stop>
+    ensures { (kinds : Kinds) (lines : List RecordedLine) (kind : ℕ) → IsCountOf kinds lines kind count → IfOk result (IsCounted kinds lines kind) }
+{
     if count.most > MAX_SIZE {
         return Err(Stop::TooMuch(TooMuch::Rounds));
     }

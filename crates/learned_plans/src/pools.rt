@@ -1,6 +1,6 @@
 //! The pools of a recording, as a plan has them.
 
-ghost use Rattle.std.specs.Prelude.{◌≡◌, IfOk, IfSome, ℕ, List, ◌++◌, ◌∷◌, []};
+ghost use Rattle.std.specs.Prelude.{◌≡◌, is_some, IfOk, OnOk};
 ghost use Rattle.learned_plans.specs.Pools as spec;
 
 use crate::stop::Stop;
@@ -50,7 +50,9 @@ pub(crate) fn note_pool(
     pools: &mut Vec<Pool>,
     name: &str,
     sizes: PoolSizes,
-) -> Result<(), Stop> {
+) -> Result<(), Stop>
+    ensures { OnOk result (pools.new.items ≡ spec.with_first pools.old.items (spec.pool_seen name.now sizes)) }
+{
     if pool_number(pools, name).is_some() {
         return Ok(());
     }
@@ -64,6 +66,8 @@ pub(crate) fn note_pool(
 }
 
 /// The number of the pool of this name.
-pub(crate) fn pool_number(pools: &[Pool], name: &str) -> Option<usize> {
+pub(crate) fn pool_number(pools: &[Pool], name: &str) -> Option<usize>
+    ensures { is_some result ≡ spec.has_name name.now pools.now }
+{
     pools.iter().position(|pool| pool.name.as_str() == name)
 }

@@ -1,5 +1,10 @@
 //! What the lines of a recording name.
 
+ghost use Rattle.std.specs.Prelude.{◌≡◌, ◌++◌, ◌∷◌, [], List, OnOk, IfOk};
+ghost use Rattle.recording_lines.specs.RecordingLine.{RecordedLine, line_seen};
+ghost use Rattle.learned_plans.specs.Learned.{lines_of};
+ghost use Rattle.learned_plans.specs.Kept.{AreNamesOf};
+
 use crate::pools::{note_pool, pool_number};
 use crate::stop::Stop;
 use crate::working::Working;
@@ -22,7 +27,9 @@ pub(crate) struct SeenNames {
 /// # Errors
 ///
 /// [`Stop::TooMuch`] where that is more than a plan may have; [`Stop::Memory`] where there is no memory for it.
-pub(crate) fn seen_names(alloc: Global, recording: &[u8]) -> Result<SeenNames, Stop> {
+pub(crate) fn seen_names(alloc: Global, recording: &[u8]) -> Result<SeenNames, Stop>
+    ensures { IfOk result (λ names. AreNamesOf names (lines_of recording.now)) }
+{
     let mut names = SeenNames {
         pools: Vec::new(alloc),
         working: Working::new(alloc),
@@ -40,7 +47,9 @@ pub(crate) fn seen_names(alloc: Global, recording: &[u8]) -> Result<SeenNames, S
 }
 
 impl SeenNames {
-    fn note(&mut self, line: &Line<'_>) -> Result<(), Stop> {
+    fn note(&mut self, line: &Line<'_>) -> Result<(), Stop>
+        ensures { (before : List RecordedLine) → AreNamesOf self.old before → OnOk result (AreNamesOf self.new (before ++ line_seen line.now ∷ [])) }
+    {
         match *line {
             Line::Pool { name, sizes } => note_pool(self.alloc, &mut self.pools, name, sizes),
             Line::RoundBegins { kind, .. } => {
