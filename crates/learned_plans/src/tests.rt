@@ -59,9 +59,16 @@ fn learned_text(alloc: Global, lines: &str) -> Result<String, AllocError> {
     }
 }
 
+fn sees(rt: &HostRuntime, lines: &str, wanted: &str) {
+    let text = learned_text(rt.alloc(), lines).expect(rt, "memory");
+    assert_eq!(rt; text.as_str(), wanted);
+}
+
 #[test]
 fn parts_that_are_left_out_make_one_body(rt: HostRuntime) {
-    let lines = "round 0 begin visitor
+    sees(
+        &rt,
+        "round 0 begin visitor
 round 0 submit 0 request web
 job 0 start
 job 0 submit 1 query data
@@ -85,42 +92,206 @@ job 3 got 4
 job 3 end
 round 1 got 3
 round 1 end
-";
-    let text = learned_text(rt.alloc(), lines).expect(&rt, "no memory");
-    println!(rt; "{text}").expect(&rt, "print");
+",
+        "2 rounds 5 jobs
+pool web 2 4 3 true
+pool data 1 1 1000000 false
+class request 0: submit 1 get 0 submit 2 get 2
+class query 1:
+class audit 1:
+client visitor 1 true: submit 0 get 0
+",
+    );
 }
 
 #[test]
-fn another_order_of_gets(rt: HostRuntime) {
-    let lines = "round 0 begin visitor
+fn another_order_is_put_in_between(rt: HostRuntime) {
+    sees(
+        &rt,
+        "round 0 begin visitor
+round 0 submit 0 query data
+round 0 submit 1 audit data
+job 0 start
+job 0 end
+job 1 start
+job 1 end
+round 0 got 0
+round 0 got 1
+round 0 end
+round 1 begin visitor
+round 1 submit 2 query data
+round 1 submit 3 audit data
+job 2 start
+job 2 end
+job 3 start
+job 3 end
+round 1 got 3
+round 1 got 2
+round 1 end
+",
+        "2 rounds 4 jobs
+pool web 2 4 3 true
+pool data 1 1 1000000 false
+class query 1:
+class audit 1:
+client visitor 1 true: submit 0 submit 1 get 1 submit 1 get 0 get 3
+",
+    );
+}
+
+// A class that would submit jobs of its own class has no end, so the outer one is another class.
+#[test]
+fn jobs_within_jobs_of_one_label_are_several_classes(rt: HostRuntime) {
+    sees(
+        &rt,
+        "round 0 begin sorter
+round 0 submit 0 sort web
+job 0 start
+job 0 submit 1 sort web
+job 1 start
+job 1 submit 2 sort web
+job 2 start
+job 2 end
+job 1 got 2
+job 1 end
+job 0 got 1
+job 0 end
+round 0 got 0
+round 0 end
+round 1 begin sorter
+round 1 submit 3 sort web
+job 3 start
+job 3 end
+round 1 got 3
+round 1 end
+",
+        "2 rounds 4 jobs
+pool web 2 4 3 true
+pool data 1 1 1000000 false
+class sort 0:
+class sort_2 0: submit 0 get 0
+class sort_3 0: submit 1 get 0
+client sorter 1 true: submit 2 get 0 submit 0 get 2
+",
+    );
+}
+
+#[test]
+fn one_label_in_two_pools_is_two_classes(rt: HostRuntime) {
+    sees(
+        &rt,
+        "round 0 begin visitor
+round 0 submit 0 task web
+job 0 start
+job 0 submit 1 task data
+job 1 start
+job 1 end
+job 0 got 1
+job 0 end
+round 0 got 0
+round 0 end
+",
+        "1 rounds 2 jobs
+pool web 2 4 3 true
+pool data 1 1 1000000 false
+class task 0: submit 1 get 0
+class task_2 1:
+client visitor 1 false: submit 0 get 0
+",
+    );
+}
+
+// Nobody gets the job that goes back to the pool of its submitter.
+#[test]
+fn a_callback_is_a_submit_alone(rt: HostRuntime) {
+    sees(
+        &rt,
+        "round 0 begin visitor
 round 0 submit 0 request web
 job 0 start
 job 0 submit 1 query data
-job 0 submit 2 audit data
+job 0 end
 job 1 start
+job 1 submit 2 callback web
 job 1 end
 job 2 start
 job 2 end
-job 0 got 1
+round 0 end
+",
+        "1 rounds 3 jobs
+pool web 2 4 3 true
+pool data 1 1 1000000 false
+class request 0: submit 1
+class query 1: submit 2
+class callback 0:
+client visitor 1 false: submit 0
+",
+    );
+}
+
+#[test]
+fn rounds_are_counted_at_once_and_in_all(rt: HostRuntime) {
+    sees(
+        &rt,
+        "round 0 begin visitor
+round 1 begin crawler
+round 2 begin visitor
+round 1 end
+round 0 end
+round 3 begin visitor
+round 4 begin visitor
+round 2 end
+round 3 end
+round 4 end
+round 5 begin crawler
+",
+        "6 rounds 0 jobs
+pool web 2 4 3 true
+pool data 1 1 1000000 false
+client visitor 3 true:
+client crawler 1 true:
+",
+    );
+}
+
+// The second visitor has not got its request yet, which is queued; that is the first part of the one body.
+#[test]
+fn what_is_cut_off_may_go_on(rt: HostRuntime) {
+    sees(
+        &rt,
+        "round 0 begin visitor
+round 0 submit 0 request web
+round 1 begin visitor
+round 1 submit 1 request web
+job 0 start
+job 0 submit 2 query data
+job 2 start
+job 2 end
 job 0 got 2
 job 0 end
 round 0 got 0
 round 0 end
-round 1 begin visitor
-round 1 submit 3 request web
-job 3 start
-job 3 submit 4 query data
-job 3 submit 5 audit data
-job 4 start
-job 4 end
-job 5 start
-job 5 end
-job 3 got 5
-job 3 got 4
-job 3 end
-round 1 got 3
-round 1 end
-";
-    let text = learned_text(rt.alloc(), lines).expect(&rt, "no memory");
-    println!(rt; "{text}").expect(&rt, "print");
+round 2 begin crawler
+round 2 submit 3 audit data
+job 3 st",
+        "3 rounds 4 jobs
+pool web 2 4 3 true
+pool data 1 1 1000000 false
+class request 0: submit 1 get 0
+class query 1:
+class audit 1:
+client visitor 2 false: submit 0 get 0
+client crawler 1 false: submit 2
+",
+    );
+}
+
+#[test]
+fn a_bad_line_is_told(rt: HostRuntime) {
+    sees(
+        &rt,
+        "round 1 begin visitor
+",
+        "line 4: O3: the `submit` lines have the numbers 0, 1, 2, and so on, and so have the `begin` lines; a job that a line names has its `submit` line before it",
+    );
 }
