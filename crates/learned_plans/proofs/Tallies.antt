@@ -40,36 +40,42 @@ open_now kinds kind most before m = subst (λ lines. open_of kinds kind lines �
 up_to : (kinds : Kinds) (kind most new : ℕ) (before : List RecordedLine) (line : RecordedLine) → IsMostAtOnce kinds kind before most → most ≤ new → open_of kinds kind (before ++ line ∷ []) ≤ new
     → (n : ℕ) → open_of kinds kind (take n (before ++ line ∷ [])) ≤ new
 up_to kinds kind most new before line m less now n = elim (cases_lt (length before) n) [
-    inl past ↦ omega (arith, open_past kinds kind n before line past, now)
-  | inr within ↦ omega (arith, open_before kinds kind n before line within, m.never_more n, less) ]
+  | inl past ↦ omega (arith, open_past kinds kind n before line past, now)
+  | inr within ↦ omega (arith, open_before kinds kind n before line within, m.never_more n, less)
+]
 
 stays_once : (kinds : Kinds) (kind most n : ℕ) (before : List RecordedLine) (line : RecordedLine) → open_of kinds kind (take n before) ≡ most → (n : ℕ) × (open_of kinds kind (take n (before ++ line ∷ [])) ≡ most)
 stays_once kinds kind most n before line once = elim (cases_lt (length before) n) [
-    inl past ↦ (length before, open_before kinds kind (length before) before line (omega arith)
-      ∙ ap (open_of kinds kind) (take_all (length before) before (omega arith) ∙ sym (take_all n before (omega arith))) ∙ once)
-  | inr within ↦ (n, open_before kinds kind n before line within ∙ once) ]
+  | inl past ↦ (
+    length before,
+    open_before kinds kind (length before) before line (omega arith)
+        ∙ ap (open_of kinds kind) (take_all (length before) before (omega arith) ∙ sym (take_all n before (omega arith))) ∙ once,
+  )
+  | inr within ↦ (n, open_before kinds kind n before line within ∙ once)
+]
 
 pub stays : (kinds : Kinds) (kind most : ℕ) (before : List RecordedLine) (line : RecordedLine) → open_of kinds kind (before ++ line ∷ []) ≤ most → IsMostAtOnce kinds kind before most → IsMostAtOnce kinds kind (before ++ line ∷ []) most
 stays kinds kind most before line now m = record {
-    never_more = up_to kinds kind most most before line m (omega arith) now;
-    once = stays_once kinds kind most m.once.0 before line m.once.1;
-  }
+  never_more = up_to kinds kind most most before line m (omega arith) now;
+  once = stays_once kinds kind most m.once.0 before line m.once.1;
+}
 
 pub rises : (kinds : Kinds) (kind most : ℕ) (before : List RecordedLine) (line : RecordedLine) → most ≤ open_of kinds kind (before ++ line ∷ []) → IsMostAtOnce kinds kind before most
     → IsMostAtOnce kinds kind (before ++ line ∷ []) (open_of kinds kind (before ++ line ∷ []))
 rises kinds kind most before line now m = record {
-    never_more = up_to kinds kind most (open_of kinds kind (before ++ line ∷ [])) before line m now (omega arith);
-    once = (length before + 1, open_past kinds kind (length before + 1) before line (omega arith));
-  }
+  never_more = up_to kinds kind most (open_of kinds kind (before ++ line ∷ [])) before line m now (omega arith);
+  once = (length before + 1, open_past kinds kind (length before + 1) before line (omega arith));
+}
 
 greater : (kinds : Kinds) (kind most now : ℕ) (before : List RecordedLine) (line : RecordedLine) → open_of kinds kind (before ++ line ∷ []) ≡ now → IsMostAtOnce kinds kind before most → IsMostAtOnce kinds kind (before ++ line ∷ []) (max most now)
 greater kinds kind most now before line same m = elim (cases_lt now most) [
-    inl less ↦ subst (IsMostAtOnce kinds kind (before ++ line ∷ [])) (grind (arith, less)) (stays kinds kind most before line (omega (arith, same, less)) m)
-  | inr more ↦ subst (IsMostAtOnce kinds kind (before ++ line ∷ [])) (grind (arith, more, same)) (rises kinds kind most before line (omega (arith, same, more)) m) ]
+  | inl less ↦ subst (IsMostAtOnce kinds kind (before ++ line ∷ [])) (grind (arith, less)) (stays kinds kind most before line (omega (arith, same, less)) m)
+  | inr more ↦ subst (IsMostAtOnce kinds kind (before ++ line ∷ [])) (grind (arith, more, same)) (rises kinds kind most before line (omega (arith, same, more)) m)
+]
 
 -- ---- one count
 pub none_counted : (kinds : Kinds) (kind : ℕ) → IsCountOf kinds [] kind (record { begun = 0; ended = 0; most = 0 })
-unfolding begun_of, ended_of
+unfolding begun_of ended_of
 none_counted kinds kind = record { begun = refl; ended = refl; most = record { never_more = λ n. grind (arith, take_none n); once = (0, refl) } }
 
 pub begin_counted : (kinds : Kinds) (kind : ℕ) (before : List RecordedLine) (line : RecordedLine) (count : KindCount) → begins_one kinds kind line ≡ true → ends_one kinds kind line ≡ false → IsCountOf kinds before kind count

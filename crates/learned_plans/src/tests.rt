@@ -3,6 +3,7 @@
 use crate::{Learned, learn};
 use job_bodies::{Action, Plan};
 use std::alloc::{AllocError, Global};
+use std::process::Abort;
 
 const POOLS: &str = "recording 1
 pool web core 2 max 4 queue array 3 timeout no prestarted 2 handler abort
@@ -59,8 +60,8 @@ fn learned_text(alloc: Global, lines: &str) -> Result<String, AllocError> {
     }
 }
 
-fn sees(rt: &HostRuntime, lines: &str, wanted: &str) {
-    let text = learned_text(rt.alloc(), lines).expect(rt, "memory");
+fn sees(rt: &impl Abort, alloc: Global, lines: &str, wanted: &str) {
+    let text = learned_text(alloc, lines).expect(rt, "memory");
     assert_eq!(rt; text.as_str(), wanted);
 }
 
@@ -68,6 +69,7 @@ fn sees(rt: &HostRuntime, lines: &str, wanted: &str) {
 fn parts_that_are_left_out_make_one_body(rt: HostRuntime) {
     sees(
         &rt,
+        rt.alloc(),
         "round 0 begin visitor
 round 0 submit 0 request web
 job 0 start
@@ -108,6 +110,7 @@ client visitor 1 true: submit 0 get 0
 fn another_order_is_put_in_between(rt: HostRuntime) {
     sees(
         &rt,
+        rt.alloc(),
         "round 0 begin visitor
 round 0 submit 0 query data
 round 0 submit 1 audit data
@@ -144,6 +147,7 @@ client visitor 1 true: submit 0 submit 1 get 1 submit 1 get 0 get 3
 fn jobs_within_jobs_of_one_label_are_several_classes(rt: HostRuntime) {
     sees(
         &rt,
+        rt.alloc(),
         "round 0 begin sorter
 round 0 submit 0 sort web
 job 0 start
@@ -180,6 +184,7 @@ client sorter 1 true: submit 2 get 0 submit 0 get 2
 fn one_label_in_two_pools_is_two_classes(rt: HostRuntime) {
     sees(
         &rt,
+        rt.alloc(),
         "round 0 begin visitor
 round 0 submit 0 task web
 job 0 start
@@ -206,6 +211,7 @@ client visitor 1 false: submit 0 get 0
 fn a_callback_is_a_submit_alone(rt: HostRuntime) {
     sees(
         &rt,
+        rt.alloc(),
         "round 0 begin visitor
 round 0 submit 0 request web
 job 0 start
@@ -233,6 +239,7 @@ client visitor 1 false: submit 0
 fn rounds_are_counted_at_once_and_in_all(rt: HostRuntime) {
     sees(
         &rt,
+        rt.alloc(),
         "round 0 begin visitor
 round 1 begin crawler
 round 2 begin visitor
@@ -259,6 +266,7 @@ client crawler 1 true:
 fn what_is_cut_off_may_go_on(rt: HostRuntime) {
     sees(
         &rt,
+        rt.alloc(),
         "round 0 begin visitor
 round 0 submit 0 request web
 round 1 begin visitor
@@ -290,6 +298,7 @@ client crawler 1 false: submit 2
 fn a_bad_line_is_told(rt: HostRuntime) {
     sees(
         &rt,
+        rt.alloc(),
         "round 1 begin visitor
 ",
         "line 4: O3: the `submit` lines have the numbers 0, 1, 2, and so on, and so have the `begin` lines; a job that a line names has its `submit` line before it",
