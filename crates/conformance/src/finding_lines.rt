@@ -31,7 +31,16 @@ pub fn push_findings(
     Ok(())
 }
 
-fn push_finding(text: &mut String, plan: &Plan, finding: &Finding) -> Result<(), AllocError>
+/// Tells one finding, without a newline.
+///
+/// # Errors
+///
+/// [`AllocError`] where memory runs out.
+pub fn push_finding(
+    text: &mut String,
+    plan: &Plan,
+    finding: &Finding,
+) -> Result<(), AllocError>
     ensures { Pushes result text.old text.new (spec.finding_text plan.now finding.now) }
 {
     push_line_number(text, finding.line())?;

@@ -20,6 +20,6 @@ mod wanted;
 
 pub use comparison::{Conformance, conform};
 pub use finding::Finding;
-pub use finding_lines::push_findings;
+pub use finding_lines::{push_finding, push_findings};
 pub use stray::{NamedDeed, Stray, StrayDeed};
 pub use unplanned::NotPlanned;

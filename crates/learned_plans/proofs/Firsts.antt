@@ -1,0 +1,45 @@
+-- The first pool of each name, where one more pool comes.
+use Rattle.std.proofs.Common.{◌≡◌, ℕ, Bool, true, false, ◌||◌, not, if◌then◌else◌, List, [], ◌∷◌, ◌++◌, refl, ap, sym, ◌∙◌, arith}
+use Rattle.std.specs.List.{list_any, filter, filter_map}
+use Rattle.std.specs.Str.{bytes_eq}
+use Rattle.std.proofs.lemmas.List.Elements.{filter-append, filter_map-append}
+use Rattle.std.proofs.lemmas.Slice.Eq.{bytes_eq-Decides}
+use Rattle.job_bodies.specs.Plan.{Pool}
+use Rattle.recording_lines.specs.RecordingLine as line
+use Rattle.recording_lines.specs.RecordingLine.{RecordedLine}
+use Rattle.recording_lines.specs.declared.pool_sizes.PoolSizes.{PoolSizes}
+use Rattle.learned_plans.specs.Pools.{pool_seen, pool_of_line, has_other_name, firsts, pools_seen, has_name, with_first}
+
+-- of two names, the second of which is a third one, the first is the third one or not as it is the second one
+same_other : (x f p : List ℕ) → bytes_eq f p ≡ true → bytes_eq x f ≡ bytes_eq x p
+same_other x f p same = ap (bytes_eq x) ((bytes_eq-Decides f p).0 same)
+
+name_left : (x p : Pool) (pools : List Pool) → bytes_eq x.name p.name ≡ false → has_name p.name (filter (has_other_name x) pools) ≡ has_name p.name pools
+name_left x p [] other = refl
+name_left x p (f ∷ pools) other = grind (arith, same_other x.name f.name p.name, other, name_left x p pools other)
+
+filter_one : (x : Pool) (pools : List Pool) (p : Pool) → filter (has_other_name x) (pools ++ p ∷ []) ≡ (if has_other_name x p then filter (has_other_name x) pools ++ p ∷ [] else filter (has_other_name x) pools)
+filter_one x [] p = refl
+filter_one x (f ∷ pools) p = grind (arith, filter_one x pools p)
+
+step : (same has : Bool) (x : Pool) (pools : List Pool) (p : Pool) → bytes_eq x.name p.name ≡ same → has_name p.name pools ≡ has
+    → filter (has_other_name x) (with_first pools p) ≡ (if same then filter (has_other_name x) pools else with_first (filter (has_other_name x) pools) p)
+step true true x pools p same has = grind (arith, same, has)
+step true false x pools p same has = grind (arith, same, has, filter_one x pools p)
+step false true x pools p same has = grind (arith, same, has, name_left x p pools same)
+step false false x pools p same has = grind (arith, same, has, name_left x p pools same, filter_one x pools p)
+
+with_behind : (same : Bool) (x : Pool) (pools : List Pool) (p : Pool) → bytes_eq x.name p.name ≡ same → x ∷ (if same then pools else with_first pools p) ≡ with_first (x ∷ pools) p
+with_behind true x pools p same = grind (arith, same)
+with_behind false x pools p same = grind (arith, same)
+
+pub firsts_more : (pools : List Pool) (p : Pool) → firsts (pools ++ p ∷ []) ≡ with_first (firsts pools) p
+firsts_more [] p = refl
+firsts_more (x ∷ pools) p =
+    ap (λ rest. x ∷ filter (has_other_name x) rest) (firsts_more pools p)
+    ∙ ap (λ rest. x ∷ rest) (step _ _ x (firsts pools) p refl refl)
+    ∙ with_behind _ x (filter (has_other_name x) (firsts pools)) p refl
+
+pub pools_more : (before : List RecordedLine) (name : List ℕ) (sizes : PoolSizes) → pools_seen (before ++ line.Pool name sizes ∷ []) ≡ with_first (pools_seen before) (pool_seen name sizes)
+unfolding pools_seen
+pools_more before name sizes = ap firsts (filter_map-append pool_of_line before (line.Pool name sizes ∷ [])) ∙ firsts_more (filter_map pool_of_line before) (pool_seen name sizes)

@@ -1,0 +1,3 @@
+pub mod Rest
+pub mod Firsts
+pub mod Tallies

@@ -1,0 +1,31 @@
+-- What holds of the lines so far, while one line after another is taken.
+use Rattle.std.proofs.Common.{◌≡◌, List, [], ◌∷◌, ◌++◌, Option, Some, None, refl, ap, sym, subst, ◌∙◌, arith}
+use Rattle.std.specs.List.{filter_map}
+use Rattle.std.proofs.lemmas.List.{append-nil, append_assoc}
+use Rattle.recording_lines.specs.RecordingLine.{RecordedLine}
+
+-- the good ones of some lines
+abbrev pub good : List (Option RecordedLine) → List RecordedLine
+good lines = filter_map (λ line. line) lines
+
+-- it holds of those before the rest
+pub record Rest (P : List RecordedLine → Type 0) (all : List RecordedLine) (rest : List (Option RecordedLine)) : Type 0 where
+  pub before : List RecordedLine
+  pub lines : all ≡ before ++ good rest
+  pub holds : P before
+
+pub at_first : (P : List RecordedLine → Type 0) (lines : List (Option RecordedLine)) → P [] → Rest P (good lines) lines
+at_first P lines p = record { before = []; lines = refl; holds = p }
+
+pub next_good : (P Q : List RecordedLine → Type 0) (all : List RecordedLine) (old new : List (Option RecordedLine)) (line : RecordedLine) → old ≡ Some line ∷ new → (r : Rest P all old) → Q (r.before ++ line ∷ []) → Rest Q all new
+next_good P Q all old new line there r q = record {
+  before = r.before ++ line ∷ [];
+  lines = r.lines ∙ ap (λ rest. r.before ++ good rest) there ∙ sym (append_assoc r.before (line ∷ []) (good new));
+  holds = q;
+}
+
+pub next_bad : (P : List RecordedLine → Type 0) (all : List RecordedLine) (old new : List (Option RecordedLine)) → old ≡ None ∷ new → Rest P all old → Rest P all new
+next_bad P all old new there r = record { before = r.before; lines = r.lines ∙ ap (λ rest. r.before ++ good rest) there; holds = r.holds }
+
+pub at_last : (P : List RecordedLine → Type 0) (all : List RecordedLine) (rest : List (Option RecordedLine)) → rest ≡ [] → Rest P all rest → P all
+at_last P all rest none r = subst P (sym (r.lines ∙ ap (λ rest. r.before ++ good rest) none ∙ append-nil r.before)) r.holds

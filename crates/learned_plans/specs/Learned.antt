@@ -1,0 +1,24 @@
+-- What is learned of a recording.
+use Rattle.std.specs.Prelude.{ℕ, List, Option, Some, None, ⊤}
+use Rattle.std.specs.List.{filter_map}
+use Rattle.recording_lines.specs.RecordingLine.{RecordedLine, lines_read}
+use Rattle.recorded_rules.specs.declared.fault.RecordingFault.{RecordingFault}
+use Rattle.learned_plans.specs.declared.learned.Learned.{Learned}
+use Rattle.learned_plans.specs.declared.learned.Learned.TheVariants.{Bad, Seen, TooMuch}
+use Rattle.learned_plans.specs.declared.learned.SeenPlan.{SeenPlan}
+
+-- the lines of a recording, those that have none of the forms left out
+abbrev pub lines_of : List ℕ → List RecordedLine
+lines_of text = filter_map (λ line. line) (lines_read text)
+
+-- the bad line that is told of
+abbrev pub fault_of : Learned → Option RecordingFault
+fault_of (Bad fault) = Some fault
+fault_of (Seen seen) = None
+fault_of (TooMuch reason) = None
+
+-- where a plan is told, this holds of it
+abbrev pub IfSeen : (SeenPlan → Type 0) → Learned → Type 0
+IfSeen P (Seen seen) = P seen
+IfSeen P (Bad fault) = ⊤
+IfSeen P (TooMuch reason) = ⊤

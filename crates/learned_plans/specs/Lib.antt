@@ -1,0 +1,5 @@
+pub mod TooMuch
+pub mod Pools
+pub mod Counts
+pub mod Kept
+pub mod Learned

@@ -1,0 +1,49 @@
+-- The pools of a recording, as a plan has them.
+use Rattle.std.specs.Prelude.{ℕ, Bool, not, ◌&&◌, ◌==◌, List, [], ◌∷◌, map, filter, Option, Some, None, if◌then◌else◌, ◌++◌, min, max}
+use Rattle.std.specs.List.{filter_map, list_any}
+use Rattle.std.specs.Str.{bytes_eq}
+use Rattle.job_bodies.specs.Plan.{Pool}
+use Rattle.job_bodies.specs.declared.limits.TheConstants.{MAX_SIZE}
+use Rattle.recording_lines.specs.declared.pool_sizes.PoolSizes.{PoolSizes}
+use Rattle.recording_lines.specs.RecordingLine as line
+use Rattle.recording_lines.specs.RecordingLine.{RecordedLine}
+
+-- ---- one pool
+-- the number, or the end of the range from low to 1,000,000 that it is beyond
+abbrev pub into_range : ℕ → ℕ → ℕ
+into_range low number = max (min number MAX_SIZE) low
+
+-- it had all its core threads, and some, when its recording began
+abbrev pub has_core_threads : PoolSizes → Bool
+has_core_threads sizes = not (sizes.prestarted == 0) && (sizes.prestarted == sizes.core)
+
+-- the pool of this name that a line tells of, with sizes that a plan can have
+abbrev pub pool_seen : List ℕ → PoolSizes → Pool
+pool_seen name sizes = let core = into_range 1 sizes.core in
+    record { name = name; core = core; max = into_range core sizes.max; queue = into_range 1 sizes.capacity; prestart = has_core_threads sizes }
+
+-- ---- all pools
+-- the pool that a line tells of, if it tells of one
+abbrev pub pool_of_line : RecordedLine → Option Pool
+pool_of_line (line.Pool name sizes) = Some (pool_seen name sizes)
+pool_of_line other = None
+
+abbrev pub has_other_name : Pool → Pool → Bool
+has_other_name pool other = not (bytes_eq pool.name other.name)
+
+-- without those of which an earlier one has the name
+abbrev pub firsts : List Pool → List Pool
+firsts [] = []
+firsts (pool ∷ pools) = pool ∷ filter (has_other_name pool) (firsts pools)
+
+-- the pool of the first line of each name, in the order of these lines
+unfoldable pub pools_seen : List RecordedLine → List Pool
+pools_seen lines = firsts (filter_map pool_of_line lines)
+
+-- ---- one more pool
+abbrev pub has_name : List ℕ → List Pool → Bool
+has_name name pools = list_any (λ pool. bytes_eq pool.name name) pools
+
+-- behind the others, where none has its name
+abbrev pub with_first : List Pool → Pool → List Pool
+with_first pools pool = if has_name pool.name pools then pools else pools ++ pool ∷ []

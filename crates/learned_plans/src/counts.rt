@@ -1,0 +1,113 @@
+//! How many clients there are of each kind.
+
+ghost use Rattle.std.specs.Prelude.{◌≡◌, ◌++◌, ◌∷◌, [], ℕ, List, length, OnOk, IfOk};
+ghost use Rattle.recording_lines.specs.RecordingLine.{RecordedLine, line_seen};
+ghost use Rattle.learned_plans.specs.Counts.{Kinds};
+ghost use Rattle.learned_plans.specs.Kept.{IsCountOf, AreCountsOf, ChangesOne, kinds_in, with_begin, with_end};
+ghost use Rattle.learned_plans.specs.Learned.{lines_of};
+
+use recording_lines::{Line, RecordingLines};
+use std::alloc::{AllocError, Global};
+
+/// The rounds of a kind, as they begin and end.
+#[derive(Clone, Copy, Debug)]
+pub(crate) struct KindCount {
+    pub(crate) begun: u64,
+    pub(crate) ended: u64,
+    /// The most that were between their begin and their end at once.
+    pub(crate) most: u64,
+}
+
+impl KindCount {
+    /// None so far.
+    fn new() -> KindCount
+        ensures { (kinds : Kinds) (kind : ℕ) → IsCountOf kinds [] kind result }
+    {
+        KindCount {
+            begun: 0,
+            ended: 0,
+            most: 0,
+        }
+    }
+
+    fn begin(&mut self) -> Result<(), AllocError>
+        ensures { OnOk result (self.new ≡ with_begin self.old) }
+    {
+        self.begun = self.begun.checked_add(1).ok_or(AllocError)?;
+        self.most = self.most.max(self.begun.saturating_sub(self.ended));
+        Ok(())
+    }
+
+    fn end(&mut self) -> Result<(), AllocError>
+        ensures { OnOk result (self.new ≡ with_end self.old) }
+    {
+        self.ended = self.ended.checked_add(1).ok_or(AllocError)?;
+        Ok(())
+    }
+}
+
+/// The rounds of each kind, where each round is of the kind that stands at its number.
+///
+/// # Errors
+///
+/// `AllocError` where there is no memory for them.
+pub(crate) fn kind_counts(
+    alloc: Global,
+    recording: &[u8],
+    kinds: &[Option<usize>],
+    count: usize,
+) -> Result<Vec<KindCount>, AllocError>
+    ensures count { IfOk result (λ counts. length counts.items ≡ count) }
+    ensures all { IfOk result (λ counts. AreCountsOf (kinds_in kinds.now) (lines_of recording.now) counts.items) }
+{
+    let mut counts = Vec::from_elem(alloc, KindCount::new(), count)?;
+    let mut lines = RecordingLines::new(recording);
+    while let Some(line) = lines.next() {
+        if let Ok(line) = line {
+            note(&mut counts, kinds, &line)?;
+        }
+    }
+    Ok(counts)
+}
+
+// What the line changes.
+fn note(
+    counts: &mut [KindCount],
+    kinds: &[Option<usize>],
+    line: &Line<'_>,
+) -> Result<(), AllocError>
+    ensures count { length counts.new ≡ length counts.old }
+    ensures all { (before : List RecordedLine) → AreCountsOf (kinds_in kinds.now) before counts.old → OnOk result (AreCountsOf (kinds_in kinds.now) (before ++ line_seen line.now ∷ []) counts.new) }
+{
+    match *line {
+        Line::RoundBegins { round, .. } => begin_one(counts, kind_of(kinds, round)),
+        Line::RoundEnds { round } => end_one(counts, kind_of(kinds, round)),
+        _ => Ok(()),
+    }
+}
+
+fn kind_of(kinds: &[Option<usize>], round: usize) -> Option<usize>
+    ensures { result ≡ kinds_in kinds.now round }
+{
+    *kinds.get(round)?
+}
+
+fn begin_one(counts: &mut [KindCount], kind: Option<usize>) -> Result<(), AllocError>
+    ensures count { length counts.new ≡ length counts.old }
+    ensures one { OnOk result (ChangesOne kind with_begin counts.old counts.new) }
+{
+    match kind {
+        Some(kind) if kind < counts.len() => counts[kind].begin(),
+        _ => Ok(()),
+    }
+}
+
+fn end_one(counts: &mut [KindCount], kind: Option<usize>) -> Result<(), AllocError>
+    ensures count { length counts.new ≡ length counts.old }
+    ensures one { OnOk result (ChangesOne kind with_end counts.old counts.new) }
+{
+    match kind {
+        Some(kind) if kind < counts.len() => counts[kind].end(),
+        _ => Ok(()),
+    }
+}

@@ -1,0 +1,36 @@
+//! Passes over a recording, until each of its actors is of a class or a kind of the plan.
+
+use crate::pass::pass_over;
+use crate::stop::Stop;
+use crate::too_much::TooMuch;
+use crate::working::Working;
+use job_bodies::Pool;
+use std::alloc::Global;
+
+/// How many passes there are at most. Jobs that submit jobs that submit jobs, so many levels deep, take one pass for each.
+const MAX_PASSES: usize = 600;
+
+/// Makes bodies grow until each actor is of one. The answer is the kind of each round, by its number.
+///
+/// # Errors
+///
+/// [`Stop::TooMuch`] where that does not come; [`Stop::Memory`] where there is no memory.
+pub(crate) fn cover_all(
+    alloc: Global,
+    recording: &[u8],
+    pools: &[Pool],
+    budget: u64,
+    working: &mut Working,
+) -> Result<Vec<Option<usize>>, Stop> {
+    for _ in 0..MAX_PASSES {
+        let plan = working.plan(pools)?;
+        let pass = pass_over(alloc, recording, pools, &plan, budget, working)?;
+        if pass.is_explained {
+            return Ok(pass.kinds);
+        }
+        if !pass.is_changed {
+            break;
+        }
+    }
+    Err(Stop::TooMuch(TooMuch::Paths))
+}

@@ -1,0 +1,167 @@
+//! A pass over a recording, along which bodies grow.
+
+use crate::ended::Ended;
+use crate::growth::Did;
+use crate::members::Members;
+use crate::pools::pool_number;
+use crate::stop::Stop;
+use crate::working::Working;
+use body_paths::Course;
+use job_bodies::{Plan, Pool};
+use recorded_classes::{Classes, Settled};
+use recording_lines::{Line, RecordedActor, RecordingLines};
+use std::alloc::{AllocError, Global};
+
+/// What a pass has found so far.
+#[derive(Debug, Drop)]
+pub(crate) struct Pass {
+    /// The first kind that each round can be of, by its number.
+    pub(crate) kinds: Vec<Option<usize>>,
+    /// Whether a body has changed.
+    pub(crate) is_changed: bool,
+    /// Whether each actor was of a class or a kind of the plan.
+    pub(crate) is_explained: bool,
+    members: Members,
+    ended: Ended,
+    alloc: Global,
+}
+
+/// A pass over the recording. Each actor that is of no class or kind of the plan, while all jobs that it submitted are,
+/// makes a body of the working copy grow. Where an actor has not come to its end, more of it may come: so it makes one grow
+/// only where no other one did.
+///
+/// # Errors
+///
+/// [`Stop::TooMuch`] where a plan may not have what the actors need; [`Stop::Memory`] where there is no memory.
+pub(crate) fn pass_over(
+    alloc: Global,
+    recording: &[u8],
+    pools: &[Pool],
+    plan: &Plan,
+    budget: u64,
+    working: &mut Working,
+) -> Result<Pass, Stop> {
+    let mut pass = Pass::new(alloc);
+    let mut classes = Classes::new(alloc, budget);
+    let mut told = Vec::new(alloc);
+    let mut lines = RecordingLines::new(recording);
+    while let Some(line) = lines.next() {
+        if let Ok(line) = line {
+            pass.note(&line)?;
+            classes.take(plan, &line, &mut told)?;
+            pass.hear_all(pools, &told, working)?;
+            told.clear();
+        }
+    }
+    classes.finish(plan, &mut told)?;
+    pass.hear_last(pools, &told, working)?;
+    Ok(pass)
+}
+
+impl Pass {
+    fn new(alloc: Global) -> Pass {
+        Pass {
+            kinds: Vec::new(alloc),
+            is_changed: false,
+            is_explained: true,
+            members: Members::new(alloc),
+            ended: Ended::new(alloc),
+            alloc,
+        }
+    }
+
+    fn note(&mut self, line: &Line<'_>) -> Result<(), AllocError> {
+        match *line {
+            Line::RoundBegins { .. } => self.kinds.push(None)?,
+            Line::Refused { job, .. } => self.members.refuse(job)?,
+            _ => {}
+        }
+        self.ended.note(line)
+    }
+
+    // It is told of these, which came to their ends.
+    fn hear_all(
+        &mut self,
+        pools: &[Pool],
+        told: &[Settled],
+        working: &mut Working,
+    ) -> Result<(), Stop> {
+        for one in told {
+            self.ended.remove(one.actor);
+            self.learn(pools, one, Course::Whole, working)?;
+            self.members.forget(&one.path);
+            self.remember(one)?;
+        }
+        Ok(())
+    }
+
+    // It is told of these where the lines end.
+    fn hear_last(
+        &mut self,
+        pools: &[Pool],
+        told: &[Settled],
+        working: &mut Working,
+    ) -> Result<(), Stop> {
+        for one in told {
+            if self.ended.contains(one.actor) {
+                self.learn(pools, one, Course::Whole, working)?;
+            }
+            self.remember(one)?;
+        }
+        if self.is_changed {
+            return Ok(());
+        }
+        for one in told {
+            if !self.ended.contains(one.actor) {
+                self.learn(pools, one, Course::Begun, working)?;
+            }
+        }
+        Ok(())
+    }
+
+    fn remember(&mut self, one: &Settled) -> Result<(), AllocError> {
+        let member = one.family.members.first().copied();
+        if member.is_none() {
+            self.is_explained = false;
+        }
+        match one.actor {
+            RecordedActor::Job(job) => self.members.insert(job, member),
+            RecordedActor::Round(round) => {
+                if let Some(slot) = self.kinds.get_mut(round) {
+                    *slot = member;
+                }
+                Ok(())
+            }
+        }
+    }
+
+    // A body grows where the actor is of none, and all jobs that it submitted are.
+    fn learn(
+        &mut self,
+        pools: &[Pool],
+        one: &Settled,
+        course: Course,
+        working: &mut Working,
+    ) -> Result<(), Stop> {
+        if !one.family.is_decided || !one.family.members.is_empty() {
+            return Ok(());
+        }
+        if let Some(deeds) = self.members.deeds(self.alloc, &one.path)? {
+            let did = Did { deeds, course };
+            if learn_of(pools, one, &did, working)? {
+                self.is_changed = true;
+            }
+        }
+        Ok(())
+    }
+}
+
+fn learn_of(pools: &[Pool], one: &Settled, did: &Did, working: &mut Working) -> Result<bool, Stop> {
+    match one.actor {
+        RecordedActor::Round(_) => working.learn_round(&one.label, did),
+        RecordedActor::Job(_) => match pool_number(pools, &one.pool) {
+            Some(pool) => working.learn_job(&one.label, pool, did),
+            None => Ok(false),
+        },
+    }
+}

@@ -1,0 +1,73 @@
+//! The pools of a recording, as a plan has them.
+
+ghost use Rattle.std.specs.Prelude.{◌≡◌, is_some, IfOk, OnOk};
+ghost use Rattle.learned_plans.specs.Pools as spec;
+
+use crate::stop::Stop;
+use crate::too_much::TooMuch;
+use job_bodies::{MAX_POOLS, MAX_SIZE, Pool};
+use recording_lines::PoolSizes;
+use std::alloc::{AllocError, Global};
+
+/// The pool of this name that the line tells of, each size brought into the range that it has in a plan.
+///
+/// # Errors
+///
+/// `AllocError` where there is no memory for the name.
+pub(crate) fn pool_seen(alloc: Global, name: &str, sizes: PoolSizes) -> Result<Pool, AllocError>
+    ensures { IfOk result (λ pool. pool ≡ spec.pool_seen name.now sizes) }
+{
+    let core = into_range(1, sizes.core as u64);
+    Ok(Pool {
+        name: String::from_str(alloc, name)?,
+        core,
+        max: into_range(core, sizes.max as u64),
+        queue: into_range(1, sizes.capacity as u64),
+        prestart: has_core_threads(sizes),
+    })
+}
+
+// The number, or the end of the range that it is beyond.
+fn into_range(low: u64, number: u64) -> u64
+    ensures { result ≡ spec.into_range low number }
+{
+    number.min(MAX_SIZE).max(low)
+}
+
+fn has_core_threads(sizes: PoolSizes) -> bool
+    ensures { result ≡ spec.has_core_threads sizes }
+{
+    sizes.prestarted != 0 && sizes.prestarted == sizes.core
+}
+
+/// The pool of this name is there from here on: as the line tells, where there was none.
+///
+/// # Errors
+///
+/// [`Stop::TooMuch`] where a plan may not have one more; [`Stop::Memory`] where there is no memory for it.
+pub(crate) fn note_pool(
+    alloc: Global,
+    pools: &mut Vec<Pool>,
+    name: &str,
+    sizes: PoolSizes,
+) -> Result<(), Stop>
+    ensures { OnOk result (pools.new.items ≡ spec.with_first pools.old.items (spec.pool_seen name.now sizes)) }
+{
+    if pool_number(pools, name).is_some() {
+        return Ok(());
+    }
+    if pools.len() >= MAX_POOLS {
+        return Err(Stop::TooMuch(TooMuch::Pools));
+    }
+    pools
+        .push(pool_seen(alloc, name, sizes)?)
+        .map_err(AllocError::from)?;
+    Ok(())
+}
+
+/// The number of the pool of this name.
+pub(crate) fn pool_number(pools: &[Pool], name: &str) -> Option<usize>
+    ensures { is_some result ≡ spec.has_name name.now pools.now }
+{
+    pools.iter().position(|pool| pool.name.as_str() == name)
+}

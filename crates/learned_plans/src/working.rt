@@ -1,0 +1,118 @@
+//! The plan, while its bodies are learned.
+
+use crate::entries::{Entries, Entry};
+use crate::growth::{Did, reached_from};
+use crate::stop::Stop;
+use crate::too_much::TooMuch;
+use job_bodies::{Class, Client, MAX_CLASSES, MAX_CLIENT_KINDS, Plan, Pool};
+use std::alloc::{AllocError, Global};
+
+/// The classes and the kinds of clients, with the bodies that they have so far.
+#[derive(Debug, Drop)]
+pub(crate) struct Working {
+    pub(crate) classes: Entries,
+    pub(crate) kinds: Entries,
+    alloc: Global,
+}
+
+impl Working {
+    /// None so far.
+    pub(crate) fn new(alloc: Global) -> Working {
+        Working {
+            classes: Entries::new(alloc, MAX_CLASSES, TooMuch::Classes),
+            kinds: Entries::new(alloc, MAX_CLIENT_KINDS, TooMuch::Kinds),
+            alloc,
+        }
+    }
+
+    /// The plan so far: each kind has one client, which does not repeat.
+    ///
+    /// # Errors
+    ///
+    /// [`Stop::TooMuch`] where that is no plan; [`Stop::Memory`] where there is no memory for it.
+    pub(crate) fn plan(&self, pools: &[Pool]) -> Result<Plan, Stop> {
+        let pools = copied_pools(self.alloc, pools)?;
+        let classes = self.copied_classes()?;
+        let clients = self.copied_clients()?;
+        match Plan::build(self.alloc, pools, classes, clients) {
+            Ok(plan) => Ok(plan),
+            Err(_) => Err(Stop::TooMuch(TooMuch::Paths)),
+        }
+    }
+
+    pub(crate) fn copied_classes(&self) -> Result<Vec<Class>, AllocError> {
+        let mut classes = Vec::new(self.alloc);
+        for entry in &self.classes.entries {
+            classes.push(class_of(self.alloc, entry)?)?;
+        }
+        Ok(classes)
+    }
+
+    fn copied_clients(&self) -> Result<Vec<Client>, AllocError> {
+        let mut clients = Vec::new(self.alloc);
+        for entry in &self.kinds.entries {
+            clients.push(client_of(self.alloc, entry, 1, false)?)?;
+        }
+        Ok(clients)
+    }
+
+    /// A job of this label, in this pool, did this. The answer is whether a body has changed by that.
+    ///
+    /// # Errors
+    ///
+    /// [`Stop::TooMuch`] where a plan may not have one more class; [`Stop::Memory`] where there is no memory for it.
+    pub(crate) fn learn_job(&mut self, label: &str, pool: usize, did: &Did) -> Result<bool, Stop> {
+        if self.classes.explains(label, pool, did) {
+            return Ok(false);
+        }
+        let reached = reached_from(self.alloc, &self.classes, &did.deeds)?;
+        self.classes.grow(label, pool, did, &reached)
+    }
+
+    /// A round of this label did this. The answer is whether a body has changed by that.
+    ///
+    /// # Errors
+    ///
+    /// [`Stop::TooMuch`] where a plan may not have one more kind; [`Stop::Memory`] where there is no memory for it.
+    pub(crate) fn learn_round(&mut self, label: &str, did: &Did) -> Result<bool, Stop> {
+        if self.kinds.explains(label, 0, did) {
+            return Ok(false);
+        }
+        self.kinds.grow(label, 0, did, &[])
+    }
+}
+
+fn copied_pools(alloc: Global, pools: &[Pool]) -> Result<Vec<Pool>, AllocError> {
+    let mut copies = Vec::new(alloc);
+    for pool in pools {
+        copies.push(pool.copied(alloc)?)?;
+    }
+    Ok(copies)
+}
+
+fn class_of(alloc: Global, entry: &Entry) -> Result<Class, AllocError> {
+    Ok(Class {
+        name: String::from_str(alloc, &entry.name)?,
+        pool: entry.pool,
+        body: Vec::from_slice(alloc, &entry.body)?,
+    })
+}
+
+/// The kind of clients, with this count.
+///
+/// # Errors
+///
+/// `AllocError` where there is no memory for it.
+pub(crate) fn client_of(
+    alloc: Global,
+    entry: &Entry,
+    count: u64,
+    repeat: bool,
+) -> Result<Client, AllocError> {
+    Ok(Client {
+        name: String::from_str(alloc, &entry.name)?,
+        count,
+        repeat,
+        body: Vec::from_slice(alloc, &entry.body)?,
+    })
+}
