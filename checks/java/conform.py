@@ -2,8 +2,8 @@
 
     python3 checks/java/conform.py PLAN RECORDING
 
-It prints `conforms`, or a line for the first deviation of each pool, class and kind, and then a line for each line of the
-recording that voids a yes. The exit status is 0 where it conforms and nothing is void, else 1.
+It prints `conforms`, or what it found, in the words of `crates/conformance`: in the order of the lines, what has no line
+last. The exit status is 0 where it conforms, else 1.
 """
 
 import re
@@ -40,17 +40,17 @@ class Place(NamedTuple):
 class Comparison:
     def __init__(self, plan, recording):
         self.plan, self.recording = plan, recording
-        self.deviations, self.told = [], set()
-        self.foreign = {}  # gets of a future of another one's, by their lines
+        self.findings, self.told = [], set()
+        self.foreign = []  # gets of a future of another one's, with their lines
         self.paths = {actor: [] for actor in recording.jobs + recording.rounds}
         self.fitting = {}  # the classes of the plan that a job can be of
         self.find_paths()
 
-    def deviates(self, subject, line, text):
-        """Only the first one of a pool, a class or a kind is told."""
+    def finds(self, subject, line, text):
+        """Only the first one of a subject is told."""
         if subject not in self.told:
             self.told.add(subject)
-            self.deviations.append((line, f"line {line}: {text}" if line else text))
+            self.findings.append((line, f"line {line}: {text}" if line else text))
 
     # ---- paths
 
@@ -64,7 +64,7 @@ class Comparison:
                     got.add(act.job)
                     self.paths[actor].append(Step(act.line, "get", act.job))
                 else:
-                    self.foreign[act.line] = (actor, act.job)
+                    self.foreign.append((act.line, actor, act.job))
 
     def family(self, entries, name):
         """The entries of the plan that a label may be: NAME itself, NAME_2, NAME_3, and so on."""
@@ -75,21 +75,20 @@ class Comparison:
         return [number for number in self.family(self.plan.classes, job.name) if self.plan.pools[self.plan.classes[number].pool].name == job.pool]
 
     def walk(self, actor, body):
-        """None where the actor's path is of the body, else the first step that is not, or `end`, and how far the path came."""
+        """None where the actor's path is of the body, else how many of its first steps are explained."""
         gets = {operand: position for position, (what, operand) in enumerate(body) if what == "get"}
-        path, tried, furthest = self.paths[actor], set(), (0, Place(0, frozenset()))
-        left = [furthest]
+        path, tried, most = self.paths[actor], set(), 0
+        left = [(0, Place(0, frozenset()))]
         while left:
             at, place = left.pop()
-            furthest = max(furthest, (at, place), key=lambda one: (one[0], one[1].position))
+            most = max(most, at)
             if at == len(path):
                 if actor.last is None or not place.held:
                     return None
             elif (at, place) not in tried:
                 tried.add((at, place))
                 left += [(at + 1, new) for new in self.stepped(place, path[at], body, gets)][::-1]
-        at, place = furthest
-        return path[at] if at < len(path) else "end", place
+        return (most,)
 
     def stepped(self, place, step, body, gets):
         """The places behind the step, where each submit that is passed is left out with its get."""
@@ -105,29 +104,34 @@ class Comparison:
                 yield Place(position + 1, place.held | held)
 
     def fits(self, job):
-        return self.fitting.get(job) or self.classes_of(job)
+        return self.fitting[job]
 
     # ---- what is compared
 
     def all(self):
+        """What is found, in the order of the lines, what has none last."""
         self.pools()
         self.jobs()
         self.rounds()
-        for line, (actor, job) in self.foreign.items():
-            self.deviates((actor.sort, actor.name), line, f"{described(actor)} got {described(job)}, which it did not submit")
-        return [text for _, text in sorted(self.deviations, key=lambda one: one[0])]
+        for line, actor, job in self.foreign[:1]:
+            self.finds("foreign", line, f"{described(actor)} got {job}, which it did not submit")
+        self.voids()
+        return [text for _, text in sorted(self.findings, key=lambda one: (one[0] == 0, one[0]))]
 
     def pools(self):
         planned = {pool.name: pool for pool in self.plan.pools}
-        for name in sorted(planned.keys() - self.recording.pools.keys()) if self.recording.closed else []:
-            self.deviates(("pool", name), 0, f"pool {name}: in the plan alone")
+        for pool in self.plan.pools if self.recording.closed else []:
+            if pool.name not in self.recording.pools:
+                self.finds(("pool", pool.name), 0, f"pool {pool.name}: in the plan and not in the recording")
         for name, lines in self.recording.pools.items():
             if name not in planned:
-                self.deviates(("pool", name), lines[0].line, f"pool {name}: not in the plan")
+                self.finds(("pool", name), lines[0].line, f"pool {name}: not in the plan")
                 continue
             for sizes in lines:
-                for difference in differences(sizes, planned[name]):
-                    self.deviates(("pool", name), sizes.line, f"pool {name}: {difference}")
+                found = [f"line {sizes.line}: pool {name}: {difference}" for difference in differences(sizes, planned[name])]
+                self.findings += [(sizes.line, text) for text in found]
+                if found:
+                    break
 
     def jobs(self):
         """The last ones first: a job's own jobs are behind it, and what they can be must be known."""
@@ -137,31 +141,26 @@ class Comparison:
             self.fitting[job] = [number for number in candidates if walks[number] is None]
         for job in self.recording.jobs:
             if not self.classes_of(job):
-                self.deviates(("job", job.name), job.first, f"class {job.name} in pool {job.pool}: not in the plan")
+                self.finds(("class", job.name, job.pool), job.first, f"class {job.name} in pool {job.pool}: not in the plan")
             elif not self.fitting[job]:
-                self.path_deviates(job, [self.plan.classes[number].body for number in self.classes_of(job)])
+                self.strays(("job", job.name, job.pool), job, [self.plan.classes[number].body for number in self.classes_of(job)])
 
-    def path_deviates(self, actor, bodies):
-        """Told of the body that the path goes along furthest."""
-        def line(walk):
-            return actor.last if walk[0] == "end" else walk[0].line
-
-        walk, body = max(((self.walk(actor, body), body) for body in bodies), key=lambda one: line(one[0]))
-        step, place = walk
-        behind = f"behind {self.spelled(body, place.position - 1)}" if place.position else "at its begin"
-        if step == "end":
-            did = f"ended; the body gets {sorted(job.name for _, job in place.held)[0]} first"
+    def strays(self, subject, actor, bodies):
+        """Of each label the first actor, by the body that explains most of its path."""
+        path = self.paths[actor]
+        most = max(self.walk(actor, body)[0] for body in bodies)
+        behind = f"behind {path[most - 1].what} {path[most - 1].job.name}" if most else "at its begin"
+        if most == len(path):
+            self.finds(subject, actor.last, f"{described(actor)} ended; its body has a get before its end")
+            return
+        step = path[most]
+        if step.what == "submit" and not self.fitting[step.job]:
+            did = f"submitted {step.job.name}, which is {step.job} and of no class of the plan"
         elif step.what == "submit":
-            did = f"submitted {step.job.name}; the body has no such submit {behind}"
+            did = f"submitted {step.job.name}; its body has no such submit {behind}"
         else:
-            did = f"got {step.job.name}; the body has no such get {behind}"
-        self.deviates((actor.sort, actor.name), line(walk), f"{described(actor)} {did}")
-
-    def spelled(self, body, position):
-        what, operand = body[position]
-        if what == "work":
-            return f"work {operand}"
-        return f"{what} {self.plan.classes[operand if what == 'submit' else body[operand][1]].name}"
+            did = f"got {step.job.name}; its body has no such get {behind}"
+        self.finds(subject, step.line, f"{described(actor)} {did}")
 
     def rounds(self):
         """Each round is of the first kind of its family whose body has its path."""
@@ -176,9 +175,9 @@ class Comparison:
             family = self.family(self.plan.clients, one.name)
             fitting = [kind for kind in family if self.walk(one, self.plan.clients[kind].body) is None]
             if not family:
-                self.deviates(("round", one.name), one.first, f"kind {one.name}: not in the plan")
+                self.finds(("kind", one.name), one.first, f"kind {one.name}: not in the plan")
             elif not fitting:
-                self.path_deviates(one, [self.plan.clients[kind].body for kind in family])
+                self.strays(("round", one.name), one, [self.plan.clients[kind].body for kind in family])
             for kind in (fitting or family)[:1]:
                 kinds[one] = kind
                 within[kind] = within.get(kind, 0) + 1
@@ -187,29 +186,24 @@ class Comparison:
 
     def count(self, one, client, within, begun):
         if within > client.count:
-            self.deviates(("count", one.name), one.first, f"{within} actors of kind {client.name} at once, count is {client.count}")
+            self.finds(("count", client.name), one.first, f"kind {client.name}: {within} at once, count is {client.count}")
         elif not client.repeat and begun > client.count:
-            self.deviates(("count", one.name), one.first, f"{begun} actors of kind {client.name} in all, count is {client.count} and it does not repeat")
+            self.finds(("count", client.name), one.first, f"kind {client.name}: {begun} in all, count is {client.count} and it does not repeat")
 
-    # ---- what voids a yes
+    # ---- what voids a yes, whatever the paths are
 
     def voids(self):
-        """The lines from which on a yes is void, though the paths may be those of the plan."""
-        found = [(line, f"{word} {what}") for line, word, what in self.recording.notes if word != "shutdown"]
+        """The first line of each word. Of a get that was not done the path tells whether it voids a yes."""
+        found = [(line, word, what) for line, word, what in self.recording.notes if word != "shutdown"]
         for actor in self.paths:
-            for at, act in enumerate(actor.acts):
-                if act.word in ("refused", "cancel", "any", "threw") or act.word in ("timeout", "interrupted") and not self.is_excused(actor, at):
-                    found.append((act.line, f"{act.word} of {described(actor)}"))
-        return [f"line {line}: void, {text}" for line, text in sorted(found)]
+            found += [(act.line, act.word, act.job) for act in actor.acts if act.word in ("refused", "cancel", "any", "threw")]
+        for line, word, what in sorted(found, key=lambda one: one[0]):
+            self.finds(("void", word), line, f"a yes is void from here on: {void_text(word, what, self.recording.unseen.get(line))}")
 
-    def is_excused(self, actor, at):
-        """To ask again is one get; and the path without the get may be one of the plan."""
-        again = actor.acts[at + 1:at + 2]
-        if again and again[0].job is actor.acts[at].job and again[0].word in ("timeout", "interrupted", "got"):
-            return True
-        entries = self.plan.classes if actor.sort == "job" else self.plan.clients
-        numbers = self.classes_of(actor) if actor.sort == "job" else self.family(entries, actor.name)
-        return any(self.walk(actor, entries[number].body) is None for number in numbers)
+
+def void_text(word, what, jobs):
+    return {"refused": f"{what} was refused", "cancel": f"{what} was cancelled", "any": "invokeAny was called", "removed": f"{what} was taken out of its queue",
+            "threw": f"{what} ended its thread by an exception", "unseen": f"{jobs} jobs were run of which no line tells"}[word]
 
 
 def described(actor):
@@ -232,16 +226,15 @@ def differences(sizes, pool):
 
 
 def compared(plan_text, recording_text):
-    """The deviations, and what voids a yes."""
-    comparison = Comparison(read_plan(plan_text), read(recording_text))
-    return comparison.all(), comparison.voids()
+    """What is found."""
+    return Comparison(read_plan(plan_text), read(recording_text)).all()
 
 
 def main():
     plan, recording = (Path(word).read_text() for word in sys.argv[1:3])
-    deviations, voids = compared(plan, recording)
-    print("\n".join((deviations or ["conforms"]) + voids))
-    return 1 if deviations or voids else 0
+    found = compared(plan, recording)
+    print("\n".join(found or ["conforms"]))
+    return 1 if found else 0
 
 
 if __name__ == "__main__":

@@ -65,6 +65,7 @@ class Recording:
     jobs: list = field(default_factory=list)
     rounds: list = field(default_factory=list)
     notes: list = field(default_factory=list)  # lines of no actor: (line, word, what it names)
+    unseen: dict = field(default_factory=dict)  # by their lines, how many jobs were run of which no line tells
     closed: bool = False
 
 
@@ -110,6 +111,8 @@ class Reader:
     def shutdown(self, pool, *count):
         self.hold(pool in self.recording.pools, "O2")
         self.recording.notes.append((self.number, "unseen" if count else "shutdown", pool))
+        for jobs in count:
+            self.recording.unseen[self.number] = jobs
 
     unseen = shutdown
 

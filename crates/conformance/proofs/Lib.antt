@@ -3,3 +3,11 @@ pub mod Among
 pub mod FormLines
 pub mod Kept
 pub mod UnplannedAfter
+pub mod NotVoid
+pub mod Yes
+pub mod Conforming
+pub mod FirstsAfter
+pub mod KindsAfter
+pub mod VerdictsAfter
+pub mod ToldKinds
+pub mod WatchedAfter

@@ -6,6 +6,7 @@ use Rattle.std.specs.Str.{bytes_eq}
 use Rattle.std.specs.declared.alloc.Global.{Global}
 use Rattle.std.specs.declared.string.String.{String}
 use Rattle.std.proofs.lemmas.List.Elements.{All-push, All-weaker, Contains-push_cases}
+use Rattle.std.proofs.lemmas.Slice.Eq.{bytes_eq-Decides}
 use Rattle.job_bodies.specs.Plan.{Plan}
 use Rattle.recording_lines.specs.declared.recording_line.RecordedActor.{RecordedActor}
 use Rattle.recording_lines.specs.RecordingLine.{RecordedLine, Submits, RoundBegins}
@@ -15,9 +16,7 @@ use Rattle.conformance.specs.declared.unplanned.NotPlanned.TheVariants as code
 use Rattle.conformance.specs.declared.unplanned.Unplanned.{Unplanned}
 use Rattle.conformance.specs.Labels.{has_label, pair_text}
 use Rattle.conformance.specs.Wanted.{IsLine}
-use Rattle.conformance.specs.Unplanned.{IsNext, IsNotPlanned, IsUnplannedOf, TakesClass, TakesKind, tells_class, tells_kind}
-use Rattle.conformance.specs.Unplanned.TakesClass as takes_class
-use Rattle.conformance.specs.Unplanned.TakesKind as takes_kind
+use Rattle.conformance.specs.Unplanned.{IsNext, IsNotPlanned, IsUnplannedOf, TakesClass, TakesKind, class_stays, class_tells, kind_stays, kind_tells, tells_class, tells_kind}
 
 -- ---- lines
 there_before : {X : Type 0} (xs ys : List X) (i : ℕ) (x : X) → slice_get xs i ≡ Some x → slice_get (xs ++ ys) i ≡ Some x
@@ -64,7 +63,7 @@ or_none true b h = refl
 or_none false b h = h
 
 same_bytes : (bytes : List ℕ) → bytes_eq bytes bytes ≡ true
-same_bytes bytes = grind (arith)
+same_bytes bytes = (bytes_eq-Decides bytes bytes).1 refl
 
 -- ---- lines that name no label, or one that is known
 -- what is kept is the same, and nothing new has to be told
@@ -131,9 +130,9 @@ told_class plan before number actor job class pool old new next so c p c_is p_is
 
 pub behind_submit : (plan : Plan) (before : List RecordedLine) (number : ℕ) (actor : RecordedActor) (job : ℕ) (class pool : List ℕ) (old new : Unplanned) → IsNext number before → IsUnplannedOf plan before old
     → TakesClass plan number class pool old new → IsUnplannedOf plan (before ++ Submits actor job class pool ∷ []) new
-behind_submit plan before number actor job class pool old new next so (takes_class.stays why is) =
+behind_submit plan before number actor job class pool old new next so (class_stays why is) =
     subst (IsUnplannedOf plan (before ++ Submits actor job class pool ∷ [])) (sym is) (stays_behind plan before _ old so (known_class plan before actor job class pool old so why))
-behind_submit plan before number actor job class pool old new next so (takes_class.tells c p c_is p_is empty found_is kept_is kinds_is) =
+behind_submit plan before number actor job class pool old new next so (class_tells c p c_is p_is empty found_is kept_is kinds_is) =
     told_class plan before number actor job class pool old new next so c p c_is p_is empty found_is kept_is kinds_is
 
 -- ---- a begin
@@ -181,9 +180,9 @@ told_kind plan before number round kind old new next so k k_is empty found_is ke
 
 pub behind_begin : (plan : Plan) (before : List RecordedLine) (number round : ℕ) (kind : List ℕ) (old new : Unplanned) → IsNext number before → IsUnplannedOf plan before old
     → TakesKind plan number kind old new → IsUnplannedOf plan (before ++ RoundBegins round kind ∷ []) new
-behind_begin plan before number round kind old new next so (takes_kind.stays why is) =
+behind_begin plan before number round kind old new next so (kind_stays why is) =
     subst (IsUnplannedOf plan (before ++ RoundBegins round kind ∷ [])) (sym is) (stays_behind plan before _ old so (known_kind plan before round kind old so why))
-behind_begin plan before number round kind old new next so (takes_kind.tells k k_is empty found_is kept_is classes_is) =
+behind_begin plan before number round kind old new next so (kind_tells k k_is empty found_is kept_is classes_is) =
     told_kind plan before number round kind old new next so k k_is empty found_is kept_is classes_is
 
 -- ---- another line

@@ -59,8 +59,8 @@ pub record IsUnplannedOf (plan : Plan) (lines : List RecordedLine) (unplanned : 
 -- ---- one more line
 -- The label of a submit is told of where the plan has no such class there, unless it was told of before.
 pub data TakesClass (plan : Plan) (number : ℕ) (class pool : List ℕ) (old new : Unplanned) : Type 0 where
-  stays : (has_label old.classes (pair_text class pool) ≡ true) ⊎ (¬ (class_family plan class pool ≡ [])) → new ≡ old → TakesClass plan number class pool old new
-  tells : (c p : String Global) → string_bytes c ≡ class → string_bytes p ≡ pool → class_family plan class pool ≡ []
+  class_stays : (has_label old.classes (pair_text class pool) ≡ true) ⊎ (¬ (class_family plan class pool ≡ [])) → new ≡ old → TakesClass plan number class pool old new
+  class_tells : (c p : String Global) → string_bytes c ≡ class → string_bytes p ≡ pool → class_family plan class pool ≡ []
       → new.found.items ≡ old.found.items ++ code.Class number c p ∷ []
       → ((q : List ℕ) → has_label new.classes q ≡ (has_label old.classes q || bytes_eq (pair_text class pool) q))
       → new.kinds ≡ old.kinds
@@ -68,8 +68,8 @@ pub data TakesClass (plan : Plan) (number : ℕ) (class pool : List ℕ) (old ne
 
 -- the same of the label of a begin
 pub data TakesKind (plan : Plan) (number : ℕ) (kind : List ℕ) (old new : Unplanned) : Type 0 where
-  stays : (has_label old.kinds kind ≡ true) ⊎ (¬ (client_family plan kind ≡ [])) → new ≡ old → TakesKind plan number kind old new
-  tells : (k : String Global) → string_bytes k ≡ kind → client_family plan kind ≡ []
+  kind_stays : (has_label old.kinds kind ≡ true) ⊎ (¬ (client_family plan kind ≡ [])) → new ≡ old → TakesKind plan number kind old new
+  kind_tells : (k : String Global) → string_bytes k ≡ kind → client_family plan kind ≡ []
       → new.found.items ≡ old.found.items ++ code.Kind number k ∷ []
       → ((q : List ℕ) → has_label new.kinds q ≡ (has_label old.kinds q || bytes_eq kind q))
       → new.classes ≡ old.classes

@@ -1,0 +1,144 @@
+-- Where nothing is found, the recording conforms.
+use Rattle.std.proofs.Common.{◌≡◌, ◌<◌, ℕ, zero, suc, Bool, true, false, List, [], ◌∷◌, ◌++◌, length, map, All, Contains, Option, Some, None, refl, ap, sym, subst, ◌∙◌, slice_get, arith}
+use Rattle.std.specs.Prelude.{filter}
+use Rattle.std.specs.List.{list_any}
+use Rattle.std.specs.Option.{option_and_then}
+use Rattle.std.proofs.lemmas.List.Elements.{All-contains}
+use Rattle.std.proofs.lemmas.Bool.{eqb-true}
+use Rattle.job_bodies.specs.Plan.{Plan}
+use Rattle.recording_lines.specs.declared.recording_line.RecordedActor.{RecordedActor}
+use Rattle.recording_lines.specs.declared.recording_line.RecordedActor.TheVariants.{Job, Round}
+use Rattle.recording_lines.specs.RecordingLine.{RecordedLine}
+use Rattle.recorded_rules.specs.Before.{is_begun}
+use Rattle.recorded_rules.specs.LineParts.{is_same_actor}
+use Rattle.recorded_paths.specs.LineDeeds.{is_submitted}
+use Rattle.plan_differences.specs.declared.round_watch.RoundExcess.{RoundExcess}
+use Rattle.plan_differences.specs.PoolDeviations.{deviation_seen, deviations_by_lines, deviations_at_end}
+use Rattle.plan_differences.specs.RoundExcesses.{excesses_by_lines}
+use Rattle.plan_differences.specs.RoundExcesses as rounds
+use Rattle.plan_differences.specs.WatchLaws.{PoolsAreAsPlanned, PoolsAreRecorded, RoundsAreWithinPlan}
+use Rattle.recorded_notes.specs.ForeignGets.{first_foreign_get}
+use Rattle.recorded_notes.specs.declared.foreign_get.ForeignGet.{ForeignGet}
+use Rattle.recorded_notes.specs.Voids.{voids_of}
+use Rattle.recorded_classes.specs.declared.settled.Settled.{Settled}
+use Rattle.recorded_classes.specs.Settled.{IsTold, AreAllTold, CanBe, is_told, has_come}
+use Rattle.conformance.specs.declared.finding.Finding.{Finding}
+use Rattle.conformance.specs.declared.finding.Finding.TheVariants as finding
+use Rattle.conformance.specs.declared.job_set.JobSet.{JobSet}
+use Rattle.conformance.specs.declared.survey.Survey.{Survey}
+use Rattle.conformance.specs.Conforms.{Conforms, IsNotVoid, IsOfAClass, IsOfAKind, HasItsKind, AreEnoughClients}
+use Rattle.conformance.specs.FirstKinds.{AreFirstKinds, has_kind, round_told}
+use Rattle.conformance.specs.Gathered.{AreGathered, AreStrays, AreForeign, not_decided, is_lasting}
+
+use Rattle.conformance.specs.Gathered as made
+use Rattle.conformance.specs.Survey.{IsSurveyOf}
+use Rattle.conformance.specs.Verdicts.{is_empty}
+use Rattle.conformance.proofs.Among.{here, Passing, passing, both_none, map_none}
+use Rattle.conformance.proofs.NotVoid.{not_void}
+use Rattle.conformance.proofs.Yes.{IsGood, all_good}
+
+-- ---- one actor
+same_job : (actor : RecordedActor) (job : ℕ) → is_same_actor actor (Job job) ≡ true → actor ≡ Job job
+same_job (Job one) job h = ap Job (eqb-true one job h)
+same_job (Round one) job h = absurd (grind (arith, h))
+
+same_round : (actor : RecordedActor) (round : ℕ) → is_same_actor actor (Round round) ≡ true → actor ≡ Round round
+same_round (Job one) round h = absurd (grind (arith, h))
+same_round (Round one) round h = ap Round (eqb-true one round h)
+
+some_class : (plan : Plan) (lines : List RecordedLine) (job : ℕ) (members : List ℕ) → CanBe plan lines (Job job) members → is_empty members ≡ false → IsOfAClass plan lines job
+some_class plan lines job [] can_be some = absurd (grind (arith, some))
+some_class plan lines job (n ∷ more) can_be some = record { classes = n ∷ more; exact = can_be; some = omega arith }
+
+some_kind : (plan : Plan) (lines : List RecordedLine) (round : ℕ) (members : List ℕ) → CanBe plan lines (Round round) members → is_empty members ≡ false → IsOfAKind plan lines round
+some_kind plan lines round [] can_be some = absurd (grind (arith, some))
+some_kind plan lines round (n ∷ more) can_be some = record { kinds = n ∷ more; exact = can_be; some = omega arith }
+
+-- the round is counted as the first kind that it can be of
+counted_so : (plan : Plan) (lines : List RecordedLine) (told : List Settled) (kinds : List (Option ℕ)) (one : Settled) (round : ℕ) (members : List ℕ) → AreFirstKinds plan lines told kinds → Contains told one
+    → one.actor ≡ Round round → one.family.members.items ≡ members → CanBe plan lines (Round round) members → is_empty members ≡ false → HasItsKind plan lines kinds round
+counted_so plan lines told kinds one round [] are among actor_is members_are can_be some = absurd (grind (arith, some))
+counted_so plan lines told kinds one round (kind ∷ more) are among actor_is members_are can_be some =
+    let told_is : round_told one ≡ Some (round, kind) = ap (λ (m : List ℕ). has_kind m one.actor) members_are ∙ ap (λ (a : RecordedActor). has_kind (kind ∷ more) a) actor_is in
+    record {
+      kind = kind; can_be = kind ∷ more; exact = can_be; among = here kind more;
+      is = ap (λ (o : Option (Option ℕ)). option_and_then (λ (k : Option ℕ). k) o) (are.told_of one round kind among told_is);
+    }
+
+-- ---- all actors
+pub record AreGood (plan : Plan) (budget : ℕ) (lines : List RecordedLine) (told : List Settled) : Type 0 where
+  pub all : AreAllTold plan budget lines told
+  pub good : (one : Settled) → Contains told one → IsGood one
+
+job_so : (plan : Plan) (budget : ℕ) (lines : List RecordedLine) (told : List Settled) (job : ℕ) → AreGood plan budget lines told → is_submitted lines job ≡ true → IsOfAClass plan lines job
+job_so plan budget lines told job are come =
+    let one = passing (is_told (Job job)) told (are.all.each (Job job) ∙ come) in
+    let good = are.good one.one one.among in
+    let so = All-contains (IsTold plan budget lines) told one.one are.all.told one.among in
+    let is = same_job one.one.actor job one.passes in
+    some_class plan lines job one.one.family.members.items (subst (λ (a : RecordedActor). CanBe plan lines a one.one.family.members.items) is (so.members good.decided)) good.some
+
+round_so : (plan : Plan) (budget : ℕ) (lines : List RecordedLine) (told : List Settled) (round : ℕ) → AreGood plan budget lines told → is_begun lines round ≡ true → IsOfAKind plan lines round
+round_so plan budget lines told round are come =
+    let one = passing (is_told (Round round)) told (are.all.each (Round round) ∙ come) in
+    let good = are.good one.one one.among in
+    let so = All-contains (IsTold plan budget lines) told one.one are.all.told one.among in
+    let is = same_round one.one.actor round one.passes in
+    some_kind plan lines round one.one.family.members.items (subst (λ (a : RecordedActor). CanBe plan lines a one.one.family.members.items) is (so.members good.decided)) good.some
+
+kind_so : (plan : Plan) (budget : ℕ) (lines : List RecordedLine) (told : List Settled) (kinds : List (Option ℕ)) (round : ℕ) → AreGood plan budget lines told → AreFirstKinds plan lines told kinds
+    → is_begun lines round ≡ true → HasItsKind plan lines kinds round
+kind_so plan budget lines told kinds round are first come =
+    let one = passing (is_told (Round round)) told (are.all.each (Round round) ∙ come) in
+    let good = are.good one.one one.among in
+    let so = All-contains (IsTold plan budget lines) told one.one are.all.told one.among in
+    let is = same_round one.one.actor round one.passes in
+    counted_so plan lines told kinds one.one round one.one.family.members.items first one.among is refl (subst (λ (a : RecordedActor). CanBe plan lines a one.one.family.members.items) is (so.members good.decided)) good.some
+
+-- ---- the notes
+no_foreign : (text : List RecordedLine) (get : Option ForeignGet) (found : List Finding) → AreForeign text get found → found ≡ [] → get ≡ None
+no_foreign text _ _ made.none none = refl
+no_foreign text _ _ (made.one get label is) none = absurd (grind (arith, none))
+
+none_told : (lines : List RecordedLine) (classless : JobSet) (told : List Settled) (found : List Finding) → AreStrays lines classless told found → found ≡ [] → told ≡ []
+none_told lines classless [] found are none = refl
+none_told lines classless (one ∷ told) [] are none = absurd are
+none_told lines classless (one ∷ told) (first ∷ found) are none = absurd (grind (arith, none))
+
+-- ---- all
+pub conforms : (plan : Plan) (budget : ℕ) (lines : List RecordedLine) (survey : Survey) (excesses : List RoundExcess) (found : List Finding)
+    → PoolsAreAsPlanned → PoolsAreRecorded → RoundsAreWithinPlan
+    → IsSurveyOf plan budget lines survey → excesses ≡ excesses_by_lines plan survey.judged.kinds.kinds.items lines → AreGathered lines lines survey excesses found → found ≡ []
+    → Conforms plan lines × IsNotVoid lines
+conforms plan budget lines survey excesses found as_planned are_recorded are_within so counted gathered none =
+    let p6 = both_none _ _ (sym gathered.all ∙ none) in
+    let p5 = both_none _ _ p6.0 in
+    let p4 = both_none _ _ p5.0 in
+    let p3 = both_none _ _ p4.0 in
+    let p2 = both_none _ _ p3.0 in
+    let p1 = both_none _ _ p2.0 in
+    let no_deviations = map_none finding.Pool _ p1.0 in
+    let no_labels = map_none finding.NotPlanned _ p1.1 in
+    let no_undecided = map_none not_decided _ p3.1 in
+    let no_excesses : excesses ≡ [] = map_none finding.TooMany excesses p4.1 in
+    let no_strays = none_told lines survey.judged.verdicts.classless _ _ gathered.strays_so p2.1 in
+    let no_voids : filter is_lasting (voids_of lines) ≡ [] = map_none finding.Void _ p6.1 in
+    let pools = both_none (deviations_by_lines plan lines) (deviations_at_end plan lines) (sym so.watched.deviations ∙ ap (map deviation_seen) no_deviations) in
+    let judged = so.judged in
+    let are : AreGood plan budget lines judged.told = record {
+          all = judged.all;
+          good = λ one among. all_good plan budget lines judged.told survey.judged.verdicts survey.watched.unplanned one judged.all.told judged.verdicts so.watched.unplanned no_strays no_undecided no_labels among;
+        } in
+    let kinds = survey.judged.kinds.kinds.items in
+    (record {
+      pools = as_planned plan lines pools.0;
+      recorded = λ closed. are_recorded plan lines closed pools.1;
+      jobs = λ job. job_so plan budget lines judged.told job are;
+      rounds = λ round. round_so plan budget lines judged.told round are;
+      clients = record {
+        kinds = kinds;
+        each = λ round. kind_so plan budget lines judged.told kinds round are judged.kinds;
+        within = λ before behind is. are_within plan kinds before behind (ap (excesses_by_lines plan kinds) (sym is) ∙ (sym counted ∙ no_excesses));
+      };
+      gets = no_foreign lines _ _ gathered.foreign_so p5.1;
+    }, not_void lines no_voids)

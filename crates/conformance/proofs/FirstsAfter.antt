@@ -1,0 +1,124 @@
+-- Of each label the actor with the smallest number, behind one more.
+use Rattle.std.proofs.Common.{◌≡◌, ◌≤◌, ◌<◌, ℕ, zero, suc, Bool, true, false, ◌&&◌, List, [], ◌∷◌, ◌++◌, length, get_or, set, All, Contains, Option, Some, None, refl, ap, sym, subst, ◌∙◌, inl, inr, string_bytes, slice_get, arith}
+use Rattle.std.specs.Prelude.{◌⊎◌, Any}
+use Rattle.std.specs.Str.{bytes_eq}
+use Rattle.std.specs.List.{list_any}
+use Rattle.std.proofs.lemmas.Slice.Eq.{bytes_eq-Decides}
+use Rattle.std.proofs.lemmas.List.Elements.{All-push, All-weaker, All-set, Contains-push, Contains-append_left}
+use Rattle.std.proofs.lemmas.List.Quantifiers.{any-set, Any-push}
+use Rattle.recording_lines.specs.declared.recording_line.RecordedActor.{RecordedActor}
+use Rattle.recording_lines.specs.declared.recording_line.RecordedActor.TheVariants.{Job, Round}
+use Rattle.recorded_classes.specs.declared.settled.Settled.{Settled}
+use Rattle.conformance.specs.Firsts.{is_same_sort, number_of, is_same_label, StandsFor, AreFirsts}
+
+-- ---- labels
+both_true : (a b : Bool) → (a && b) ≡ true → (a ≡ true) × (b ≡ true)
+both_true true b h = (refl, h)
+both_true false b h = absurd (grind (arith, h))
+
+and_true : (a b : Bool) → a ≡ true → b ≡ true → (a && b) ≡ true
+and_true true b h k = k
+and_true false b h k = h
+
+record AreSame (one other : Settled) : Type 0 where
+  sort : is_same_sort one.actor other.actor ≡ true
+  label : string_bytes one.label ≡ string_bytes other.label
+  pool : string_bytes one.pool ≡ string_bytes other.pool
+
+parts : (one other : Settled) → is_same_label one other ≡ true → AreSame one other
+parts one other h =
+    let front = both_true _ _ h in
+    let first = both_true _ _ front.0 in
+    record { sort = first.0; label = (bytes_eq-Decides _ _).0 first.1; pool = (bytes_eq-Decides _ _).0 front.1 }
+
+whole : (one other : Settled) → AreSame one other → is_same_label one other ≡ true
+whole one other same = and_true _ _ (and_true _ _ same.sort ((bytes_eq-Decides _ _).1 same.label)) ((bytes_eq-Decides _ _).1 same.pool)
+
+sort_itself : (actor : RecordedActor) → is_same_sort actor actor ≡ true
+sort_itself (Job job) = refl
+sort_itself (Round round) = refl
+
+-- the first and the third have the sort that both have with the second
+sort_both : (first second third : RecordedActor) → is_same_sort first second ≡ true → is_same_sort first third ≡ true → is_same_sort second third ≡ true
+sort_both (Job a) (Job b) (Job c) h k = refl
+sort_both (Job a) (Job b) (Round c) h k = k
+sort_both (Job a) (Round b) third h k = absurd (grind (arith, h))
+sort_both (Round a) (Round b) (Round c) h k = refl
+sort_both (Round a) (Round b) (Job c) h k = k
+sort_both (Round a) (Job b) third h k = absurd (grind (arith, h))
+
+itself : (one : Settled) → StandsFor one one
+itself one = record { label = whole one one (record { sort = sort_itself one.actor; label = refl; pool = refl }); before = omega arith }
+
+-- one that is of the same label as the first, and before it, stands for what that stood for
+instead : (one first other : Settled) → is_same_label first one ≡ true → number_of one.actor ≤ number_of first.actor → StandsFor other first → StandsFor other one
+instead one first other same earlier stands =
+    let a = parts first one same in
+    let b = parts first other stands.label in
+    record {
+      label = whole one other (record { sort = sort_both first.actor one.actor other.actor a.sort b.sort; label = sym a.label ∙ b.label; pool = sym a.pool ∙ b.pool });
+      before = omega (arith, earlier, stands.before);
+    }
+
+-- ---- places
+any_append : {X : Type 0} (P : X → Type 0) (xs : List X) (y : X) → Any P xs → Any P (xs ++ y ∷ [])
+any_append P [] y (k, x, below, is, holds) = absurd (omega arith)
+any_append P (z ∷ xs) y (zero, x, below, is, holds) = (zero, x, omega arith, is, holds)
+any_append P (z ∷ xs) y (suc k, x, below, is, holds) =
+    let rest = any_append P xs y (k, x, omega arith, is, holds) in
+    (suc rest.0, rest.1, omega (arith, rest.2), rest.3, rest.4)
+
+-- behind a write the element there has to hold, and each other one stays
+any_write : {X : Type 0} (P : X → Type 0) (xs : List X) (place : ℕ) (first y : X) → slice_get xs place ≡ Some first → (P first → P y) → Any P xs → Any P (set xs place y)
+any_write P [] place first y there more (k, x, below, is, holds) = absurd (omega arith)
+any_write P (z ∷ xs) zero first y there more (zero, x, below, is, holds) =
+    let same : z ≡ first = grind (arith, there) in
+    (zero, y, omega arith, refl, more (subst P (sym is ∙ same) holds))
+any_write P (z ∷ xs) zero first y there more (suc k, x, below, is, holds) = (suc k, x, omega arith, is, holds)
+any_write P (z ∷ xs) (suc place) first y there more (zero, x, below, is, holds) = (zero, x, omega arith, is, holds)
+any_write P (z ∷ xs) (suc place) first y there more (suc k, x, below, is, holds) =
+    let rest = any_write P xs place first y there more (k, x, omega arith, is, holds) in
+    (suc rest.0, rest.1, omega (arith, rest.2), rest.3, rest.4)
+
+any_there : {X : Type 0} (P : X → Type 0) (xs : List X) (place : ℕ) (first : X) → slice_get xs place ≡ Some first → P first → Any P xs
+any_there P [] place first there holds = absurd (grind (arith, there))
+any_there P (z ∷ xs) zero first there holds = (zero, first, omega arith, grind (arith, there), holds)
+any_there P (z ∷ xs) (suc place) first there holds =
+    let rest = any_there P xs place first there holds in
+    (suc rest.0, rest.1, omega (arith, rest.2), rest.3, rest.4)
+
+within : {X : Type 0} (xs : List X) (place : ℕ) (first : X) → slice_get xs place ≡ Some first → place < length xs
+within [] place first there = absurd (grind (arith, there))
+within (z ∷ xs) zero first there = omega arith
+within (z ∷ xs) (suc place) first there = omega (arith, within xs place first there)
+
+-- ---- one more
+among_more : (told : List Settled) (one : Settled) (firsts : List Settled) → All (Contains told) firsts → All (Contains (told ++ one ∷ [])) firsts
+among_more told one firsts among = All-weaker (Contains told) (Contains (told ++ one ∷ [])) (λ x has. Contains-append_left told (one ∷ []) x has) firsts among
+
+pub behind_new : (told firsts : List Settled) (one : Settled) → AreFirsts told firsts → AreFirsts (told ++ one ∷ []) (firsts ++ one ∷ [])
+behind_new told firsts one are = record {
+    among = All-push (Contains (told ++ one ∷ [])) firsts one (among_more told one firsts are.among) (Contains-push told one);
+    each = All-push (λ x. Any (StandsFor x) (firsts ++ one ∷ [])) told one
+        (All-weaker (λ x. Any (StandsFor x) firsts) (λ x. Any (StandsFor x) (firsts ++ one ∷ [])) (λ x any. any_append (StandsFor x) firsts one any) told are.each)
+        (Any-push (StandsFor one) firsts one (itself one));
+  }
+
+pub behind_known : (told firsts : List Settled) (one first : Settled) (place : ℕ) → AreFirsts told firsts → slice_get firsts place ≡ Some first → is_same_label first one ≡ true → number_of first.actor ≤ number_of one.actor
+    → AreFirsts (told ++ one ∷ []) firsts
+behind_known told firsts one first place are there same later = record {
+    among = among_more told one firsts are.among;
+    each = All-push (λ x. Any (StandsFor x) firsts) told one are.each (any_there (StandsFor one) firsts place first there (record { label = same; before = later }));
+  }
+
+pub behind_earlier : (told firsts : List Settled) (one first : Settled) (place : ℕ) → AreFirsts told firsts → slice_get firsts place ≡ Some first → is_same_label first one ≡ true → number_of one.actor ≤ number_of first.actor
+    → AreFirsts (told ++ one ∷ []) (set firsts place one)
+behind_earlier told firsts one first place are there same earlier = record {
+    among = All-set (Contains (told ++ one ∷ [])) firsts place one (Contains-push told one) (among_more told one firsts are.among);
+    each = All-push (λ x. Any (StandsFor x) (set firsts place one)) told one
+        (All-weaker (λ x. Any (StandsFor x) firsts) (λ x. Any (StandsFor x) (set firsts place one)) (λ x any. any_write (StandsFor x) firsts place first one there (instead one first x same earlier) any) told are.each)
+        (any-set (StandsFor one) firsts place one (within firsts place first there) (itself one));
+  }
+
+pub none_yet : AreFirsts [] []
+none_yet = record { among = λ k d below. absurd (omega arith); each = λ k d below. absurd (omega arith) }

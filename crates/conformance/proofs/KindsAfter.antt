@@ -1,0 +1,130 @@
+-- The kind that each round is counted as, behind one more line, and behind one more of which it is told.
+use Rattle.std.proofs.Common.{◌≡◌, ◌≤◌, ◌<◌, ◌+◌, ℕ, zero, suc, Bool, true, false, cond, ◌&&◌, not, ◌==◌, List, [], ◌∷◌, ◌++◌, length, set, All, Contains, Option, Some, None, refl, ap, sym, subst, ◌∙◌, inl, inr, string_bytes, slice_get, count_by, length-append, arith}
+use Rattle.std.specs.Prelude.{◌⊎◌}
+use Rattle.std.specs.List.{list_any, filter_map, cons_option}
+use Rattle.std.proofs.lemmas.Bool.{eqb-true, cases_eq}
+use Rattle.std.proofs.lemmas.List.Sums.{sum_by_push}
+use Rattle.std.proofs.lemmas.List.Elements.{All-contains, Contains-push, Contains-push_cases, Contains-append_left, filter_map-append}
+use Rattle.recording_lines.specs.declared.recording_line.RecordedActor.{RecordedActor}
+use Rattle.recording_lines.specs.declared.recording_line.RecordedActor.TheVariants.{Job, Round}
+use Rattle.recording_lines.specs.RecordingLine.{RecordedLine, RoundBegins}
+use Rattle.recorded_rules.specs.declared.rule.Rule.{Rule}
+use Rattle.recorded_rules.specs.declared.rule.Rule.TheVariants as rule
+use Rattle.recorded_rules.specs.LineParts.{is_begin}
+use Rattle.recorded_rules.specs.Before.{begins}
+use Rattle.recorded_rules.specs.Rules.{broken_of, keeps_frame, keeps_pools, keeps_numbers, has_next_number}
+use Rattle.recorded_paths.specs.StandsFor.{KeepsRules}
+use Rattle.job_bodies.specs.Plan.{Plan}
+use Rattle.plan_families.specs.Family.{client_family}
+use Rattle.recorded_classes.specs.declared.settled.Settled.{Settled}
+use Rattle.recorded_classes.specs.Label.{HasLabel, kind_of, kind_in}
+use Rattle.conformance.specs.FirstKinds.{has_kind, round_told, with_kind, with_round, with_told, with_all, AreFirstKinds}
+
+-- ---- lists
+there_before : {X : Type 0} (xs ys : List X) (i : ℕ) (x : X) → slice_get xs i ≡ Some x → slice_get (xs ++ ys) i ≡ Some x
+there_before [] ys i x h = absurd (grind (arith, h))
+there_before (y ∷ xs) ys zero x h = h
+there_before (y ∷ xs) ys (suc i) x h = there_before xs ys i x h
+
+there_last : {X : Type 0} (xs : List X) (x : X) → slice_get (xs ++ x ∷ []) (length xs) ≡ Some x
+there_last [] x = refl
+there_last (y ∷ xs) x = there_last xs x
+
+pub written : {X : Type 0} (xs : List X) (i : ℕ) (x : X) → i < length xs → slice_get (set xs i x) i ≡ Some x
+written [] i x below = absurd (omega arith)
+written (y ∷ xs) zero x below = refl
+written (y ∷ xs) (suc i) x below = written xs i x (omega arith)
+
+pub elsewhere : {X : Type 0} (xs : List X) (i k : ℕ) (x : X) → (k ≡ i → ⊥) → slice_get (set xs i x) k ≡ slice_get xs k
+elsewhere [] i k x other = refl
+elsewhere (y ∷ xs) zero zero x other = absurd (other refl)
+elsewhere (y ∷ xs) zero (suc k) x other = refl
+elsewhere (y ∷ xs) (suc i) zero x other = refl
+elsewhere (y ∷ xs) (suc i) (suc k) x other = elsewhere xs i k x (λ same. other (ap suc same))
+
+count_push : {X : Type 0} (test : X → Bool) (xs : List X) (x : X) → count_by test (xs ++ x ∷ []) ≡ count_by test xs + cond (test x) 1 0
+count_push {X} test xs x = sum_by_push (λ (y : X). cond (test y) 1 0) xs x
+
+-- ---- a line
+-- a rule that the first tests pass leaves the others
+passes : (holds : Bool) (one : Rule) (rest : Option Rule) → (cond (not holds) (Some one) rest) ≡ None → (holds ≡ true) × (rest ≡ None)
+passes true one rest h = (refl, h)
+passes false one rest h = absurd (grind (arith, h))
+
+both_true : (a b : Bool) → (a && b) ≡ true → (a ≡ true) × (b ≡ true)
+both_true true b h = (refl, h)
+both_true false b h = absurd (grind (arith, h))
+
+next_number : (before : List RecordedLine) (line : RecordedLine) → KeepsRules (before ++ line ∷ []) → has_next_number before line ≡ true
+next_number before line keeps =
+    let unbroken = keeps.unbroken before line [] refl in
+    let p1 = passes (keeps_frame before line) rule.Frame _ unbroken in
+    let p2 = passes (keeps_pools before line) rule.Pools _ p1.1 in
+    let p3 = passes (keeps_numbers before line) rule.Numbers _ p2.1 in
+    (both_true _ _ (both_true _ _ p3.0).0).0
+
+pub round_is : (before : List RecordedLine) (round : ℕ) (label : List ℕ) → KeepsRules (before ++ RoundBegins round label ∷ []) → round ≡ begins before
+round_is before round label keeps = eqb-true round (begins before) (next_number before (RoundBegins round label) keeps)
+
+begins_push : (before : List RecordedLine) (line : RecordedLine) → begins (before ++ line ∷ []) ≡ begins before + cond (is_begin line) 1 0
+unfolding begins
+begins_push before line = count_push is_begin before line
+
+-- the label of a round with one more line
+kinds_push : (before : List RecordedLine) (line : RecordedLine) (round : ℕ) → filter_map (kind_in round) (before ++ line ∷ []) ≡ filter_map (kind_in round) before ++ cons_option (kind_in round line) []
+kinds_push before line round = filter_map-append (kind_in round) before (line ∷ [])
+
+head_of : (xs : List (List ℕ)) (more : Option (List ℕ)) (label : List ℕ) → slice_get (xs ++ cons_option more []) 0 ≡ Some label → (slice_get xs 0 ≡ Some label) ⊎ (more ≡ Some label)
+head_of [] None label h = absurd (grind (arith, h))
+head_of [] (Some one) label h = inr h
+head_of (x ∷ xs) more label h = inl h
+
+kind_cases : (before : List RecordedLine) (line : RecordedLine) (round : ℕ) (label : List ℕ) → kind_of (before ++ line ∷ []) round ≡ Some label → (kind_of before round ≡ Some label) ⊎ (kind_in round line ≡ Some label)
+unfolding kind_of
+kind_cases before line round label h = head_of (filter_map (kind_in round) before) (kind_in round line) label (sym (ap (λ (xs : List (List ℕ)). slice_get xs 0) (kinds_push before line round)) ∙ h)
+
+same_round : (b : Bool) (one round : ℕ) (k label : List ℕ) → (one == round) ≡ b → (cond b (Some k) None) ≡ Some label → (one ≡ round) × (k ≡ label)
+same_round true one round k label same is = (eqb-true one round same, (let x : k ≡ label = cc in x))
+same_round false one round k label same is = absurd (grind (arith, is))
+
+-- ---- behind a begin
+pub behind_begin : (plan : Plan) (before : List RecordedLine) (told : List Settled) (kinds : List (Option ℕ)) (round : ℕ) (label : List ℕ) → KeepsRules (before ++ RoundBegins round label ∷ []) → AreFirstKinds plan before told kinds
+    → AreFirstKinds plan (before ++ RoundBegins round label ∷ []) told (kinds ++ slice_get (client_family plan label) 0 ∷ [])
+behind_begin plan before told kinds round label keeps are =
+    let line = RoundBegins round label in
+    let first = slice_get (client_family plan label) 0 in
+    let here : round ≡ length kinds = round_is before round label keeps ∙ sym are.many in
+    record {
+      many = length-append kinds (first ∷ []) ∙ (ap (λ (n : ℕ). n + 1) are.many ∙ sym (begins_push before line));
+      told_of = λ one r kind among is. there_before kinds (first ∷ []) r (Some kind) (are.told_of one r kind among is);
+      others = λ r name named none. elim (kind_cases before line r name named) [
+          inl earlier ↦ there_before kinds (first ∷ []) r _ (are.others r name earlier none)
+        | inr now ↦
+            let same = same_round (round == r) round r label name refl now in
+            subst (λ (n : ℕ). slice_get (kinds ++ first ∷ []) n ≡ Some (slice_get (client_family plan name) 0)) (sym here ∙ same.0)
+              (subst (λ (x : List ℕ). slice_get (kinds ++ first ∷ []) (length kinds) ≡ Some (slice_get (client_family plan x) 0)) same.1 (there_last kinds first)) ];
+    }
+
+-- ---- behind another line
+abbrev pub begins_none : RecordedLine → Bool
+begins_none line = not (is_begin line)
+
+no_kind : (line : RecordedLine) (round : ℕ) (label : List ℕ) → is_begin line ≡ false → kind_in round line ≡ Some label → ⊥
+no_kind (RoundBegins one k) round label none is = grind (arith, none)
+no_kind _ round label none is = grind (arith, is)
+
+pub behind_other : (plan : Plan) (before : List RecordedLine) (line : RecordedLine) (told : List Settled) (kinds : List (Option ℕ)) → is_begin line ≡ false → AreFirstKinds plan before told kinds → AreFirstKinds plan (before ++ line ∷ []) told kinds
+behind_other plan before line told kinds other are = record {
+    many = are.many ∙ sym (begins_push before line ∙ (ap (λ (b : Bool). begins before + cond b 1 0) other ∙ (let x : begins before + 0 ≡ begins before = omega arith in x)));
+    told_of = are.told_of;
+    others = λ r name named none. elim (kind_cases before line r name named) [ inl earlier ↦ are.others r name earlier none | inr now ↦ absurd (no_kind line r name other now) ];
+  }
+
+pub none_yet : (plan : Plan) → AreFirstKinds plan [] [] []
+unfolding begins kind_of
+none_yet plan = record {
+    many = refl;
+    told_of = λ one r kind among is. absurd (let below : among.0 < 0 = among.1 in omega (arith, below));
+    others = λ r name named none. absurd (grind (arith, named));
+  }
+

@@ -1,0 +1,89 @@
+-- What is kept of the actors of which is told, behind one more.
+use Rattle.std.proofs.Common.{◌≡◌, ℕ, Bool, true, false, cond, ◌&&◌, ◌||◌, not, List, [], ◌∷◌, ◌++◌, refl, ap, sym, subst, ◌∙◌, arith}
+use Rattle.std.specs.Prelude.{filter}
+use Rattle.std.specs.List.{list_any}
+use Rattle.std.proofs.lemmas.List.{append-nil}
+use Rattle.std.proofs.lemmas.List.Elements.{filter-append}
+use Rattle.job_bodies.specs.Plan.{Plan}
+use Rattle.recorded_classes.specs.declared.settled.Settled.{Settled}
+use Rattle.conformance.specs.declared.firsts.Firsts.{Firsts}
+use Rattle.conformance.specs.declared.job_set.JobSet.{JobSet}
+use Rattle.conformance.specs.declared.verdicts.Verdicts.{Verdicts}
+use Rattle.conformance.specs.Firsts.{AreFirsts}
+use Rattle.conformance.specs.JobSet.{has_job}
+use Rattle.conformance.specs.Verdicts.{IsVerdictsOf, is_empty, is_planned, is_classless, is_stray, is_undecided, is_job, is_classless_job, with_planned, with_job}
+
+-- ---- lists
+either_way : {X : Type 0} (b : Bool) (xs : List X) (x : X) → xs ++ cond b (x ∷ []) [] ≡ cond b (xs ++ x ∷ []) xs
+either_way true xs x = refl
+either_way false xs x = append-nil xs
+
+filter_push : {X : Type 0} (test : X → Bool) (xs : List X) (x : X) (b : Bool) → test x ≡ b → filter test (xs ++ x ∷ []) ≡ cond b (filter test xs ++ x ∷ []) (filter test xs)
+filter_push test xs x b is = filter-append test xs (x ∷ []) ∙ (ap (λ (t : Bool). filter test xs ++ cond t (x ∷ []) []) is ∙ either_way b (filter test xs) x)
+
+or_false : (a : Bool) → (a || false) ≡ a
+or_false true = refl
+or_false false = refl
+
+or_or : (a b c : Bool) → ((a || b) || c) ≡ (a || (b || c))
+or_or true b c = refl
+or_or false b c = refl
+
+any_push : {X : Type 0} (test : X → Bool) (xs : List X) (x : X) → list_any test (xs ++ x ∷ []) ≡ (list_any test xs || test x)
+any_push test [] x = or_false (test x)
+any_push test (y ∷ xs) x = ap (λ (b : Bool). test y || b) (any_push test xs x) ∙ sym (or_or (test y) (list_any test xs) (test x))
+
+and_true : (a : Bool) → (a && true) ≡ a
+and_true true = refl
+and_true false = refl
+
+and_false : (a : Bool) → (a && false) ≡ false
+and_false true = refl
+and_false false = refl
+
+-- ---- one more
+same_firsts : (all : List Settled) (first other : Firsts) → other ≡ first → AreFirsts all first.actors.items → AreFirsts all other.actors.items
+same_firsts all first other is are = subst (λ (f : Firsts). AreFirsts all f.actors.items) (sym is) are
+
+-- one that is not decided
+pub behind_undecided : (plan : Plan) (told : List Settled) (one : Settled) (old new : Verdicts) → IsVerdictsOf plan told old → one.family.is_decided ≡ false
+    → ((all : List Settled) → AreFirsts all old.undecided.actors.items → AreFirsts (with_planned plan one all) new.undecided.actors.items)
+    → new.strays ≡ old.strays → new.classless ≡ old.classless → IsVerdictsOf plan (told ++ one ∷ []) new
+behind_undecided plan told one old new so not_decided firsts strays_are classless_are =
+    let no_class : is_classless one ≡ false = ap (λ (b : Bool). b && is_empty one.family.members.items) not_decided in
+    let no_stray : is_stray plan one ≡ false = ap (λ (b : Bool). b && is_planned plan one) no_class in
+    let undecided : is_undecided plan one ≡ is_planned plan one = ap (λ (b : Bool). not b && is_planned plan one) not_decided in
+    let no_job : (job : ℕ) → is_classless_job job one ≡ false = λ job. ap (λ (b : Bool). is_job job one.actor && b) no_class ∙ and_false (is_job job one.actor) in
+    record {
+      strays = subst (λ (all : List Settled). AreFirsts all new.strays.actors.items) (sym (filter_push (is_stray plan) told one false no_stray)) (same_firsts _ old.strays new.strays strays_are so.strays);
+      undecided = subst (λ (all : List Settled). AreFirsts all new.undecided.actors.items) (sym (filter_push (is_undecided plan) told one (is_planned plan one) undecided)) (firsts (filter (is_undecided plan) told) so.undecided);
+      classless = λ job. ap (λ (set : JobSet). has_job set job) classless_are ∙ (so.classless job ∙ sym (any_push (is_classless_job job) told one ∙ (ap (λ (b : Bool). list_any (is_classless_job job) told || b) (no_job job) ∙ or_false _)));
+    }
+
+-- one that is of no body
+pub behind_stray : (plan : Plan) (told : List Settled) (one : Settled) (old new : Verdicts) → IsVerdictsOf plan told old → one.family.is_decided ≡ true → is_empty one.family.members.items ≡ true
+    → ((all : List Settled) → AreFirsts all old.strays.actors.items → AreFirsts (with_planned plan one all) new.strays.actors.items)
+    → new.undecided ≡ old.undecided → ((job : ℕ) → has_job new.classless job ≡ with_job one.actor (has_job old.classless job) job) → IsVerdictsOf plan (told ++ one ∷ []) new
+behind_stray plan told one old new so decided empty firsts undecided_are classless_are =
+    let no_class : is_classless one ≡ true = ap (λ (b : Bool). b && is_empty one.family.members.items) decided ∙ empty in
+    let stray : is_stray plan one ≡ is_planned plan one = ap (λ (b : Bool). b && is_planned plan one) no_class in
+    let undecided : is_undecided plan one ≡ false = ap (λ (b : Bool). not b && is_planned plan one) decided in
+    let job_is : (job : ℕ) → is_classless_job job one ≡ is_job job one.actor = λ job. ap (λ (b : Bool). is_job job one.actor && b) no_class ∙ and_true (is_job job one.actor) in
+    record {
+      strays = subst (λ (all : List Settled). AreFirsts all new.strays.actors.items) (sym (filter_push (is_stray plan) told one (is_planned plan one) stray)) (firsts (filter (is_stray plan) told) so.strays);
+      undecided = subst (λ (all : List Settled). AreFirsts all new.undecided.actors.items) (sym (filter_push (is_undecided plan) told one false undecided)) (same_firsts _ old.undecided new.undecided undecided_are so.undecided);
+      classless = λ job. classless_are job ∙ (ap (λ (b : Bool). b || is_job job one.actor) (so.classless job) ∙ sym (any_push (is_classless_job job) told one ∙ ap (λ (b : Bool). list_any (is_classless_job job) told || b) (job_is job)));
+    }
+
+-- one that is of a body
+pub behind_good : (plan : Plan) (told : List Settled) (one : Settled) (old : Verdicts) → IsVerdictsOf plan told old → one.family.is_decided ≡ true → is_empty one.family.members.items ≡ false → IsVerdictsOf plan (told ++ one ∷ []) old
+behind_good plan told one old so decided some =
+    let no_class : is_classless one ≡ false = ap (λ (b : Bool). b && is_empty one.family.members.items) decided ∙ some in
+    let no_stray : is_stray plan one ≡ false = ap (λ (b : Bool). b && is_planned plan one) no_class in
+    let undecided : is_undecided plan one ≡ false = ap (λ (b : Bool). not b && is_planned plan one) decided in
+    let no_job : (job : ℕ) → is_classless_job job one ≡ false = λ job. ap (λ (b : Bool). is_job job one.actor && b) no_class ∙ and_false (is_job job one.actor) in
+    record {
+      strays = subst (λ (all : List Settled). AreFirsts all old.strays.actors.items) (sym (filter_push (is_stray plan) told one false no_stray)) so.strays;
+      undecided = subst (λ (all : List Settled). AreFirsts all old.undecided.actors.items) (sym (filter_push (is_undecided plan) told one false undecided)) so.undecided;
+      classless = λ job. so.classless job ∙ sym (any_push (is_classless_job job) told one ∙ (ap (λ (b : Bool). list_any (is_classless_job job) told || b) (no_job job) ∙ or_false _));
+    }
