@@ -67,7 +67,7 @@ java:
 
 # Times a replay beside a plain program that only splits and counts the same lines, the reading of a plan beside the
 # reading of its TOML alone, check and explain beside the reading of their two texts alone, certify beside the reading of
-# its plan, fit beside certify on the sizes that it finds, and a run beside a plain program that passes as many events
+# its plan, conform and learn beside such a program on a recording, fit beside certify on the sizes that it finds, and a run beside a plain program that passes as many events
 # through one lock; and last, four of the commands beside a plain Rust program that gives the same answers.
 bench: program plan_reader
 	@command -v valgrind > /dev/null || echo "there is no valgrind: install it (apt-get install valgrind), else no instructions are counted"
@@ -78,6 +78,7 @@ bench: program plan_reader
 	python3 bench/fit.py
 	python3 bench/refute.py
 	python3 bench/run.py
+	python3 bench/recordings.py
 	python3 bench/plain.py
 
 # Proves and builds the program that reads the texts alone.

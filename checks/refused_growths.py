@@ -25,11 +25,11 @@ HERE = Path(__file__).resolve().parent
 BUILT = HERE.parent / "crates" / "sizing" / "out" / "sizing"
 EXAMPLES = HERE.parent / "examples"
 # What stands behind the line `%%`, by its file.
-SECOND_PARTS = {"replay": "events", "check": "json", "explain": "json", "run": "json"}
+SECOND_PARTS = {"replay": "events", "check": "json", "explain": "json", "run": "json", "conform": "recording"}
 # The commands that write a bundle, which no file has.
 BUNDLING = ("certify", "fit --bundle", "refute --bundle")
-# The commands that answer the one question, in forms of which no file has the answer.
-ASKING = ("ask", "ask --json", "ask --dot")
+# The commands of which no file has the answer: those that answer the one question, and those that read a recording.
+ASKING = ("ask", "ask --json", "ask --dot", "conform", "learn")
 # The words behind the command.
 OPTIONS = {"run": ["--rounds", "3"]}
 JUDGED = ["two-clients-queue-of-two", "nested-two-workers", "web-and-database-sized", "cross-pools-two-threads"]
@@ -48,6 +48,8 @@ CASES = [
     *[("ask", name) for name in ["two-clients", "two-clients-queue-of-two", "nested-one-worker"]],
     *[("ask --json", name) for name in ["two-clients", "nested-two-workers"]],
     ("ask --dot", "nested-two-workers"),
+    ("conform", "recordings/web-and-database"),
+    ("learn", "recordings/web-and-database"),
 ]
 SHARED_OBJECT = "refuse_growth.so"
 # The threads of a run share its jobs otherwise each time, and so they ask for memory a few times more or less.
@@ -134,6 +136,8 @@ def sweep(folder, program, command, name):
 
 def given_to(command, name):
     """What a command reads of an example."""
+    if command == "learn":
+        return contents(f"{name}.recording")
     plan = contents(f"{name}.toml")
     return plan + b"%%\n" + contents(f"{name}.{SECOND_PARTS[command]}") if command in SECOND_PARTS else plan
 
