@@ -30,6 +30,8 @@ COMMANDS = [
     (["refute", "--bundle"], ["two-clients.toml"]),
     (["ask"], ["two-clients-queue-of-two.toml"]),
     (["ask", "--dot"], ["two-clients.toml"]),
+    (["conform"], ["recordings/web-and-database.toml", "recordings/web-and-database.recording"]),
+    (["learn"], ["recordings/web-and-database.recording"]),
     (["run", "--rounds", "3"], ["two-clients-queue-of-two.toml", "two-clients-queue-of-two.json"]),
 ]
 BAD_ROUNDS = [[], ["--rounds"], *(["--rounds", word] for word in ("0", "1000001", "-1", "three", "18446744073709551617"))]
