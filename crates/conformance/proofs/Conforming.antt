@@ -5,6 +5,8 @@ use Rattle.std.specs.List.{list_any}
 use Rattle.std.specs.Option.{option_and_then}
 use Rattle.std.proofs.lemmas.List.Elements.{All-contains}
 use Rattle.std.proofs.lemmas.Bool.{eqb-true}
+use Rattle.std.specs.List.Sorted.{IsPermutation}
+use Rattle.std.proofs.lemmas.List.Sorted.{length_permutation}
 use Rattle.job_bodies.specs.Plan.{Plan}
 use Rattle.recording_lines.specs.declared.recording_line.RecordedActor.{RecordedActor}
 use Rattle.recording_lines.specs.declared.recording_line.RecordedActor.TheVariants.{Job, Round}
@@ -104,6 +106,14 @@ none_told : (lines : List RecordedLine) (classless : JobSet) (told : List Settle
 none_told lines classless [] found are none = refl
 none_told lines classless (one ∷ told) [] are none = absurd are
 none_told lines classless (one ∷ told) (first ∷ found) are none = absurd (grind (arith, none))
+
+-- ---- in another order
+empty_if : {X : Type 0} (xs : List X) → length xs ≡ 0 → xs ≡ []
+empty_if [] h = refl
+empty_if (x ∷ xs) h = absurd (omega (arith, h))
+
+pub none_before : {X : Type 0} (xs ys : List X) → IsPermutation xs ys → ys ≡ [] → xs ≡ []
+none_before xs ys moved none = empty_if xs (sym (length_permutation xs ys moved) ∙ ap length none)
 
 -- ---- all
 pub conforms : (plan : Plan) (budget : ℕ) (lines : List RecordedLine) (survey : Survey) (excesses : List RoundExcess) (found : List Finding)

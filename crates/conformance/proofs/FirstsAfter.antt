@@ -122,3 +122,8 @@ behind_earlier told firsts one first place are there same earlier = record {
 
 pub none_yet : AreFirsts [] []
 none_yet = record { among = λ k d below. absurd (omega arith); each = λ k d below. absurd (omega arith) }
+
+pub read_at : {X : Type 0} (xs : List X) (place : ℕ) (x : X) → place < length xs → x ≡ get_or xs place x → slice_get xs place ≡ Some x
+read_at [] place x below is = absurd (omega arith)
+read_at (y ∷ xs) zero x below is = ap Some (sym is)
+read_at (y ∷ xs) (suc place) x below is = read_at xs place x (omega arith) is

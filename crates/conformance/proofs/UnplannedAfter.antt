@@ -9,6 +9,11 @@ use Rattle.std.proofs.lemmas.List.Elements.{All-push, All-weaker, Contains-push_
 use Rattle.std.proofs.lemmas.Slice.Eq.{bytes_eq-Decides}
 use Rattle.job_bodies.specs.Plan.{Plan}
 use Rattle.recording_lines.specs.declared.recording_line.RecordedActor.{RecordedActor}
+use Rattle.recording_lines.specs.declared.recording_line.Line.{Line}
+use Rattle.recording_lines.specs.declared.recording_line.Line.TheVariants as read
+use Rattle.recording_lines.specs.RecordingLine.{line_seen}
+use Rattle.std.proofs.Common.{Bor}
+use Rattle.conformance.specs.Verdicts.{is_empty}
 use Rattle.recording_lines.specs.RecordingLine.{RecordedLine, Submits, RoundBegins}
 use Rattle.plan_families.specs.Family.{class_family, client_family}
 use Rattle.conformance.specs.declared.unplanned.NotPlanned.{NotPlanned}
@@ -199,3 +204,29 @@ behind_other plan before line old so other = stays_behind plan before line old s
   where
     contra : true ≡ false → ⊥
     contra h = cc
+
+-- ---- families
+pub filled : (numbers : List ℕ) → is_empty numbers ≡ false → numbers ≡ [] → ⊥
+filled [] h none = grind (arith, h)
+filled (n ∷ more) h none = grind (arith, none)
+
+pub emptied : (numbers : List ℕ) → is_empty numbers ≡ true → numbers ≡ []
+emptied [] h = refl
+emptied (n ∷ more) h = absurd (grind (arith, h))
+
+-- ---- lines as the program keeps them
+pub submit_seen : (plan : Plan) (before : List RecordedLine) (number : ℕ) (line : Line) (actor : RecordedActor) (job : ℕ) (class pool : Bor (List ℕ)) (old new : Unplanned) → line ≡ read.Submits actor job class pool
+    → IsNext number before → IsUnplannedOf plan before old → TakesClass plan number class.now pool.now old new → IsUnplannedOf plan (before ++ line_seen line ∷ []) new
+submit_seen plan before number line actor job class pool old new is next so takes =
+    subst (λ (l : RecordedLine). IsUnplannedOf plan (before ++ l ∷ []) new) (sym (ap line_seen is)) (behind_submit plan before number actor job class.now pool.now old new next so takes)
+
+pub begin_seen : (plan : Plan) (before : List RecordedLine) (number : ℕ) (line : Line) (round : ℕ) (kind : Bor (List ℕ)) (old new : Unplanned) → line ≡ read.RoundBegins round kind
+    → IsNext number before → IsUnplannedOf plan before old → TakesKind plan number kind.now old new → IsUnplannedOf plan (before ++ line_seen line ∷ []) new
+begin_seen plan before number line round kind old new is next so takes =
+    subst (λ (l : RecordedLine). IsUnplannedOf plan (before ++ l ∷ []) new) (sym (ap line_seen is)) (behind_begin plan before number round kind.now old new next so takes)
+
+pub label_none : (line : Line) → ((actor : RecordedActor) (job : ℕ) (class pool : Bor (List ℕ)) → line ≡ read.Submits actor job class pool → ⊥) → ((round : ℕ) (kind : Bor (List ℕ)) → line ≡ read.RoundBegins round kind → ⊥)
+    → is_label_line (line_seen line) ≡ false
+label_none (read.Submits actor job class pool) no_submit no_begin = absurd (no_submit actor job class pool refl)
+label_none (read.RoundBegins round kind) no_submit no_begin = absurd (no_begin round kind refl)
+label_none _ no_submit no_begin = refl
