@@ -46,7 +46,8 @@ pub fn conform(
     ensures conforms { IfOk result (λ told. spec.IfCompared told (λ findings. findings ≡ [] → Conforms plan.now (lines_of recording.now) × IsNotVoid (lines_of recording.now))) }
     ensures ascending { IfOk result (λ told. spec.IfCompared told spec.AreInOrder) }
 {
-    match first_fault(alloc, recording)? {
+    let fault = first_fault(alloc, recording)?;
+    match fault {
         Some(fault) => Ok(Conformance::Bad(fault)),
         None => Ok(Conformance::Compared(compared(
             alloc, plan, recording, budget,
