@@ -66,7 +66,7 @@ fn push_deviation(
     ensures { Pushes result text.old text.new (spec.deviation_text plan.now deviation.now) }
 {
     match deviation {
-        PoolDeviation::NotPlanned { pool, .. } => write!(text, "pool {pool}: not in the plan"),
+        PoolDeviation::NotPlanned { pool, .. } => push_unplanned(text, "pool", pool),
         PoolDeviation::Differs {
             pool, difference, ..
         } => push_difference(text, plan.pool_name(*pool), *difference),
@@ -94,11 +94,21 @@ fn push_not_planned(text: &mut String, label: &NotPlanned) -> Result<(), AllocEr
     ensures { Pushes result text.old text.new (spec.not_planned_text label.now) }
 {
     match label {
-        NotPlanned::Class { class, pool, .. } => {
-            write!(text, "class {class} in pool {pool}: not in the plan")
-        }
-        NotPlanned::Kind { kind, .. } => write!(text, "kind {kind}: not in the plan"),
+        NotPlanned::Class { class, pool, .. } => push_class(text, class, pool),
+        NotPlanned::Kind { kind, .. } => push_unplanned(text, "kind", kind),
     }
+}
+
+fn push_class(text: &mut String, class: &str, pool: &str) -> Result<(), AllocError>
+    ensures { Pushes result text.old text.new (spec.class_text class.now pool.now) }
+{
+    write!(text, "class {class} in pool {pool}: not in the plan")
+}
+
+fn push_unplanned(text: &mut String, sort: &str, name: &str) -> Result<(), AllocError>
+    ensures { Pushes result text.old text.new (spec.unplanned_text sort.now name.now) }
+{
+    write!(text, "{sort} {name}: not in the plan")
 }
 
 fn push_excess(text: &mut String, plan: &Plan, found: RoundExcess) -> Result<(), AllocError>
