@@ -12,8 +12,8 @@ use Rattle.conformance.proofs.Steps.{both_next}
 -- ---- the first of the lines
 pub keeps_front : (front behind lines : List RecordedLine) → lines ≡ front ++ behind → KeepsRules lines → KeepsRules front
 keeps_front front behind lines is keeps = record {
-    unbroken = λ before line more h. keeps.unbroken before line (more ++ behind) (is ∙ (ap (λ (xs : List RecordedLine). xs ++ behind) h ∙ append_assoc before (line ∷ more) behind));
-  }
+  unbroken = λ before line more h. keeps.unbroken before line (more ++ behind) (is ∙ (ap (λ (xs : List RecordedLine). xs ++ behind) h ∙ append_assoc before (line ∷ more) behind));
+}
 
 -- ---- a text without a bad line
 -- one line of a list is the first of the others behind some
@@ -49,10 +49,10 @@ keeps_rules text none =
     let same : lines ≡ map Some (with_form lines) = with_none lines (all_good lines none) in
     record {
       unbroken = λ before line behind h.
-        let all : lines ≡ map Some (before ++ line ∷ behind) = same ∙ ap (λ (xs : List RecordedLine). map Some xs) h in
-        let here : slice_get lines (length before) ≡ Some (Some line) = ap (λ (xs : List (Option RecordedLine)). slice_get xs (length before)) all ∙ at_line before behind line in
-        let front : lines_before lines (length before) ≡ before = ap (λ (xs : List (Option RecordedLine)). lines_before xs (length before)) all ∙ front_is before behind line in
-        no_rule before line (sym (ap (λ (xs : List RecordedLine). breach_of xs (Some line)) front) ∙ (sym (behind_is lines (length before) (Some line) here) ∙ none (length before)));
+          let all : lines ≡ map Some (before ++ line ∷ behind) = same ∙ ap (λ (xs : List RecordedLine). map Some xs) h in
+          let here : slice_get lines (length before) ≡ Some (Some line) = ap (λ (xs : List (Option RecordedLine)). slice_get xs (length before)) all ∙ at_line before behind line in
+          let front : lines_before lines (length before) ≡ before = ap (λ (xs : List (Option RecordedLine)). lines_before xs (length before)) all ∙ front_is before behind line in
+          no_rule before line (sym (ap (λ (xs : List RecordedLine). breach_of xs (Some line)) front) ∙ (sym (behind_is lines (length before) (Some line) here) ∙ none (length before)));
     }
 
 -- ---- the next line

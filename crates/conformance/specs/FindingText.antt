@@ -32,8 +32,11 @@ not_recorded_text name = codes "pool " ++ name ++ codes ": in the plan and not i
 abbrev pub unplanned_text : List ℕ → List ℕ → List ℕ
 unplanned_text sort name = sort ++ (codes " " ++ (name ++ codes ": not in the plan"))
 
+abbrev pub class_name_text : List ℕ → List ℕ
+class_name_text class = codes "class " ++ class ++ codes " in "
+
 abbrev pub class_text : List ℕ → List ℕ → List ℕ
-class_text class pool = codes "class " ++ class ++ codes " in pool " ++ pool ++ codes ": not in the plan"
+class_text class pool = class_name_text class ++ unplanned_text (codes "pool") pool
 
 abbrev pub deviation_text : Plan → PoolDeviation → List ℕ
 deviation_text plan (pool.NotPlanned line name) = unplanned_text (codes "pool") (string_bytes name)

@@ -49,9 +49,7 @@ pub fn conform(
     let fault = first_fault(alloc, recording)?;
     match fault {
         Some(fault) => Ok(Conformance::Bad(fault)),
-        None => Ok(Conformance::Compared(compared(
-            alloc, plan, recording, budget,
-        )?)),
+        None => Ok(Conformance::Compared(compared(alloc, plan, recording, budget)?)),
     }
 }
 

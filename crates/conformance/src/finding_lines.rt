@@ -17,11 +17,7 @@ use std::alloc::AllocError;
 /// # Errors
 ///
 /// [`AllocError`] where memory runs out.
-pub fn push_findings(
-    text: &mut String,
-    plan: &Plan,
-    findings: &[Finding],
-) -> Result<(), AllocError>
+pub fn push_findings(text: &mut String, plan: &Plan, findings: &[Finding]) -> Result<(), AllocError>
     ensures { Pushes result text.old text.new (spec.findings_text plan.now findings.now) }
 {
     for finding in findings {
@@ -68,17 +64,15 @@ fn push_deviation(
     match deviation {
         PoolDeviation::NotPlanned { pool, .. } => push_unplanned(text, "pool", pool),
         PoolDeviation::Differs {
-            pool, difference, ..
+            pool,
+            difference,
+            ..
         } => push_difference(text, plan.pool_name(*pool), *difference),
         PoolDeviation::NotRecorded { pool } => push_not_recorded(text, plan.pool_name(*pool)),
     }
 }
 
-fn push_difference(
-    text: &mut String,
-    name: &str,
-    difference: Difference,
-) -> Result<(), AllocError>
+fn push_difference(text: &mut String, name: &str, difference: Difference) -> Result<(), AllocError>
     ensures { Pushes result text.old text.new (spec.pool_difference_text name.now difference) }
 {
     write!(text, "pool {name}: {difference}")
@@ -102,7 +96,14 @@ fn push_not_planned(text: &mut String, label: &NotPlanned) -> Result<(), AllocEr
 fn push_class(text: &mut String, class: &str, pool: &str) -> Result<(), AllocError>
     ensures { Pushes result text.old text.new (spec.class_text class.now pool.now) }
 {
-    write!(text, "class {class} in pool {pool}: not in the plan")
+    push_class_name(text, class)?;
+    push_unplanned(text, "pool", pool)
+}
+
+fn push_class_name(text: &mut String, class: &str) -> Result<(), AllocError>
+    ensures { Pushes result text.old text.new (spec.class_name_text class.now) }
+{
+    write!(text, "class {class} in ")
 }
 
 fn push_unplanned(text: &mut String, sort: &str, name: &str) -> Result<(), AllocError>

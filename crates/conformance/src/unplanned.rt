@@ -22,7 +22,10 @@ pub enum NotPlanned {
         pool: String,
     },
     /// A round began, and the plan has no such kind.
-    Kind { line: usize, kind: String },
+    Kind {
+        line: usize,
+        kind: String,
+    },
 }
 
 /// The labels that the plan has not, by the lines so far.

@@ -12,9 +12,9 @@ returns-clause-conforms c = λ keeps none.
     let plan = c.args.plan.now in
     let so = c.in_ok-survey.ensures keeps in
     conforms plan c.args.budget lines c.in_ok-survey.survey c.in_ok-excesses.excesses.items c.in_ok-findings.findings.items
-      c.pools_are_as_planned.ensures.as_planned c.pools_are_as_planned.ensures.recorded c.rounds_are_within_plan.ensures.within
-      so (c.in_ok-excesses.ensures keeps ∙ ap (λ (kinds : List (Option ℕ)). excesses_by_lines plan kinds lines) c.as_slice-kinds.ensures.value) (c.in_ok-findings.ensures lines so.watched.notes)
-      (none_before _ _ c.in_ok-sort_by_key.ensures.permutation none)
+    c.pools_are_as_planned.ensures.as_planned c.pools_are_as_planned.ensures.recorded c.rounds_are_within_plan.ensures.within
+    so (c.in_ok-excesses.ensures keeps ∙ ap (λ (kinds : List (Option ℕ)). excesses_by_lines plan kinds lines) c.as_slice-kinds.ensures.value) (c.in_ok-findings.ensures lines so.watched.notes)
+    (none_before _ _ c.in_ok-sort_by_key.ensures.permutation none)
 
 pub returns-clause-ascending : goal.returns-clause-ascending
 returns-clause-ascending c = IsNonDecreasingBy-from_sort_by_key place_of _ c.in_ok-sort_by_key.ensures.sorted (λ a r q k. search rules)

@@ -11,12 +11,12 @@ use Rattle.conformance.proofs.counted.excesses.Goals as goal
 
 pub loop-line-init : goal.loop-line-init
 loop-line-init c = record {
-    rest = c.new-lines.ensures.lines;
-    within = omega arith;
-    few = subst (λ (n : _). n ≤ length c.args.recording.now) (ap length c.new-lines.ensures.lines) c.new-lines.ensures.few;
-    watch = λ keeps. c.in_ok-watch.ensures c.args.kinds.now;
-    found = λ keeps. c.new-found.ensures.items ∙ no_excesses c.args.plan.now c.args.kinds.now;
-  }
+  rest = c.new-lines.ensures.lines;
+  within = omega arith;
+  few = subst (λ (n : _). n ≤ length c.args.recording.now) (ap length c.new-lines.ensures.lines) c.new-lines.ensures.few;
+  watch = λ keeps. c.in_ok-watch.ensures c.args.kinds.now;
+  found = λ keeps. c.new-found.ensures.items ∙ no_excesses c.args.plan.now c.args.kinds.now;
+}
 
 pub loop-line-preserved : goal.loop-line-preserved
 loop-line-preserved c =
@@ -31,7 +31,7 @@ loop-line-preserved c =
           (c.in_ok-take.ensures.taken c.args.plan.now (take n lines) (keeps_next lines _ n _ next keeps) (c.loop-line.invariant.watch keeps));
       found = λ keeps. subst (λ (ls : _). c.take.new.found.items ≡ excesses_by_lines c.args.plan.now c.args.kinds.now ls) (sym (front_next lines _ n _ next))
           (excesses_after c.args.plan.now c.args.kinds.now (take n lines) (line_seen c.in-Some.line) (n + 1) _ _ c.rounds_are_within_plan.ensures.adds_up (number_next lines _ n _ next) (c.loop-line.invariant.found keeps)
-            (c.in_ok-take.ensures.found c.args.plan.now (take n lines) (keeps_next lines _ n _ next keeps) (c.loop-line.invariant.watch keeps)));
+          (c.in_ok-take.ensures.found c.args.plan.now (take n lines) (c.loop-line.invariant.watch keeps)));
     }
 
 pub returns : goal.returns

@@ -2,7 +2,6 @@ use Rattle.std.proofs.Common.{◌≡◌, ◌++◌, [], List, map, filter, sym, s
 use Rattle.plan_differences.specs.declared.round_watch.RoundExcess.{RoundExcess}
 use Rattle.recorded_notes.specs.Voids.{voids_of}
 use Rattle.recorded_classes.specs.declared.settled.Settled.{Settled}
-use Rattle.conformance.specs.Lines.{lines_of}
 use Rattle.conformance.specs.declared.finding.Finding.{Finding}
 use Rattle.conformance.specs.declared.finding.Finding.TheVariants as finding
 use Rattle.conformance.specs.Gathered as made
@@ -11,7 +10,6 @@ use Rattle.conformance.proofs.gathered.gathered.Goals as goal
 pub returns : goal.returns
 returns c = λ lines so.
     let survey = c.args.survey in
-    let text = lines_of c.args.recording.now in
     let strays = c.in_ok-push_strays.ensures in
     let foreign = c.in_ok-push_foreign_get.ensures lines so in
     let a1 = c.in_ok-push_pools.ensures ∙ ap (λ (xs : List Finding). xs ++ map finding.Pool survey.watched.deviations.items) c.new-findings.ensures.items in
@@ -23,7 +21,7 @@ returns c = λ lines so.
     record {
       strays = strays.more;
       foreign = foreign.more;
-      strays_so = subst (λ (xs : List Settled). made.AreStrays text survey.judged.verdicts.classless xs strays.more) c.deref.ensures.value strays.so;
+      strays_so = subst (λ (xs : List Settled). made.AreStrays xs strays.more) c.deref.ensures.value strays.so;
       foreign_so = foreign.so;
       all = c.in_ok-push_voids.ensures lines so ∙ ap (λ (xs : List Finding). xs ++ map finding.Void (filter made.is_lasting (voids_of lines))) a6;
     }

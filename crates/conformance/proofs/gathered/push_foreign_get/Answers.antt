@@ -2,7 +2,6 @@ use Rattle.std.proofs.Common.{◌≡◌, ◌++◌, ◌∷◌, [], List, Option, 
 use Rattle.std.proofs.lemmas.List.{append-nil}
 use Rattle.recorded_notes.specs.declared.foreign_get.ForeignGet.{ForeignGet}
 use Rattle.recorded_notes.specs.ForeignGets.{first_foreign_get}
-use Rattle.conformance.specs.Lines.{lines_of}
 use Rattle.conformance.specs.declared.finding.Finding.TheVariants as finding
 use Rattle.conformance.specs.Gathered as made
 use Rattle.conformance.proofs.gathered.push_foreign_get.Goals as goal
@@ -14,7 +13,7 @@ returns-in_ok-push c = λ lines so.
     record {
       more = found ∷ [];
       behind = c.in_ok-push.ensures.items;
-      so = subst (λ (get : Option ForeignGet). made.AreForeign (lines_of c.args.recording.now) get (found ∷ [])) is (made.one c.in-Some.get c.in_ok-label.label c.in_ok-label.ensures);
+      so = subst (λ (get : Option ForeignGet). made.AreForeign get (found ∷ [])) is (made.one c.in-Some.get c.in_ok-label.label);
     }
 
 pub returns-in_default : goal.returns-in_default
@@ -23,5 +22,5 @@ returns-in_default c = λ lines so.
     record {
       more = [];
       behind = sym (append-nil c.args.findings.now.items);
-      so = subst (λ (get : Option ForeignGet). made.AreForeign (lines_of c.args.recording.now) get []) is made.none;
+      so = subst (λ (get : Option ForeignGet). made.AreForeign get []) is made.none;
     }
