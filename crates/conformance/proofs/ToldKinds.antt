@@ -169,3 +169,7 @@ told_all plan lines told (one ∷ more) kinds are begun once =
 pub all_push : (told : List Settled) (one : Settled) (kinds : List (Option ℕ)) → with_all (told ++ one ∷ []) kinds ≡ with_told one (with_all told kinds)
 all_push [] one kinds = refl
 all_push (first ∷ told) one kinds = all_push told one (with_told first kinds)
+
+pub all_right : (P : Settled → Type 0) (xs ys : List Settled) → All P (xs ++ ys) → All P ys
+all_right P [] ys all = all
+all_right P (x ∷ xs) ys all = all_right P xs ys (All-tail P x (xs ++ ys) all)

@@ -7,7 +7,7 @@ use Rattle.conformance.proofs.survey.Judged.note_all.Goals as goal
 
 pub loop-settled-preserved : goal.loop-settled-preserved
 loop-settled-preserved c = record {
-    verdicts = λ earlier so. subst (λ (all : List Settled). IsVerdictsOf c.args.plan.now all c.note-2.new.self) (append_assoc earlier c.loop-settled.yielded (c.loop-settled.settled ∷ []))
-        (c.in_ok-note-2.ensures (earlier ++ c.loop-settled.yielded) (c.loop-settled.invariant.verdicts earlier so));
-    kinds = c.note.ensures ∙ (ap (λ (kinds : List (Option ℕ)). with_told c.loop-settled.settled kinds) c.loop-settled.invariant.kinds ∙ sym (all_push c.loop-settled.yielded c.loop-settled.settled _));
+    verdicts = λ earlier so. subst (λ (all : List Settled). IsVerdictsOf c.args.plan.now all c.note-in-loop-settled.new.self) (append_assoc earlier c.loop-settled.yielded (c.in-Some.settled ∷ []))
+        (c.in_ok-note.ensures (earlier ++ c.loop-settled.yielded) (c.loop-settled.invariant.verdicts earlier so));
+    kinds = c.note.ensures ∙ (ap (λ (kinds : List (Option ℕ)). with_told c.in-Some.settled kinds) c.loop-settled.invariant.kinds ∙ sym (all_push c.loop-settled.yielded c.in-Some.settled _));
   }
