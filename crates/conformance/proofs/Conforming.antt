@@ -109,7 +109,7 @@ none_told (one ∷ told) [] are none = absurd are
 none_told (one ∷ told) (first ∷ found) are none = absurd (grind (arith, none))
 
 -- ---- in another order
-empty_if : {X : Type 0} (xs : List X) → length xs ≡ 0 → xs ≡ []
+pub empty_if : {X : Type 0} (xs : List X) → length xs ≡ 0 → xs ≡ []
 empty_if [] h = refl
 empty_if (x ∷ xs) h = absurd (omega (arith, h))
 

@@ -16,6 +16,10 @@ returns c = λ budget lines keeps so.
     let all = c.in_ok-finish.ensures budget lines so.told keeps so.classes_stand (subst (AreTold plan budget lines) (sym none) so.judged_so.told_so) in
     let begun = all_right (HasBegun lines) so.told more (All-weaker (IsTold plan budget lines) (HasBegun lines) (λ one told. has_begun plan budget lines one keeps told) (so.told ++ more) all.told) in
     on_both c.note_all.result
-      (λ verdicts kinds. record { told = so.told ++ more; all = all; verdicts = verdicts;
-        kinds = subst (λ (ks : List (Option ℕ)). AreFirstKinds plan lines (so.told ++ more) ks) (sym kinds) (told_all plan lines so.told more _ so.judged_so.kinds begun all.once) })
-      (c.note_all.ensures.verdicts so.told so.judged_so.verdicts) c.note_all.ensures.kinds
+    (λ verdicts kinds. record {
+      told = so.told ++ more;
+      all = all;
+      verdicts = verdicts;
+      kinds = subst (λ (ks : List (Option ℕ)). AreFirstKinds plan lines (so.told ++ more) ks) (sym kinds) (told_all plan lines so.told more _ so.judged_so.kinds begun all.once);
+    })
+    (c.note_all.ensures.verdicts so.told so.judged_so.verdicts) c.note_all.ensures.kinds

@@ -8,12 +8,12 @@ use Rattle.conformance.proofs.survey.surveyed.Goals as goal
 
 pub loop-line-init : goal.loop-line-init
 loop-line-init c = record {
-    rest = c.new-lines.ensures.lines;
-    within = omega arith;
-    few = subst (λ (n : ℕ). n ≤ length c.args.recording.now) (ap length c.new-lines.ensures.lines) c.new-lines.ensures.few;
-    watched = λ keeps. c.new-watched.ensures c.args.plan.now;
-    judged = λ keeps. record { told = []; classes_stand = c.new-classes.ensures.stands c.args.plan.now; judged_so = c.new-judged.ensures c.args.plan.now c.args.budget (c.new-classes.ensures.told c.args.plan.now) };
-  }
+  rest = c.new-lines.ensures.lines;
+  within = omega arith;
+  few = subst (λ (n : ℕ). n ≤ length c.args.recording.now) (ap length c.new-lines.ensures.lines) c.new-lines.ensures.few;
+  watched = λ keeps. c.new-watched.ensures c.args.plan.now;
+  judged = λ keeps. record { told = []; classes_stand = c.new-classes.ensures.stands c.args.plan.now; judged_so = c.new-judged.ensures c.args.plan.now c.args.budget (c.new-classes.ensures.told c.args.plan.now) };
+}
 
 pub loop-line-preserved : goal.loop-line-preserved
 loop-line-preserved c =

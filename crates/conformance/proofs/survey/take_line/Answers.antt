@@ -20,6 +20,9 @@ returns c = λ budget before keeps so.
     let begun = all_right (HasBegun lines) so.told more (All-weaker (IsTold plan budget lines) (HasBegun lines) (λ one told. has_begun plan budget lines one keeps told) (so.told ++ more) all.told) in
     let first = c.in_ok-take-2.ensures before so.told keeps so.judged_so.kinds in
     on_both c.note_all.result
-      (λ verdicts kinds. record { told = so.told ++ more; classes_stand = c.in_ok-take.ensures.taken budget before keeps so.classes_stand;
-        judged_so = record { told_so = all; verdicts = verdicts; kinds = subst (λ (ks : List (Option ℕ)). AreFirstKinds plan lines (so.told ++ more) ks) (sym kinds) (told_all plan lines so.told more _ first begun all.once) } })
-      (c.note_all.ensures.verdicts so.told so.judged_so.verdicts) c.note_all.ensures.kinds
+    (λ verdicts kinds. record {
+      told = so.told ++ more;
+      classes_stand = c.in_ok-take.ensures.taken budget before keeps so.classes_stand;
+      judged_so = record { told_so = all; verdicts = verdicts; kinds = subst (λ (ks : List (Option ℕ)). AreFirstKinds plan lines (so.told ++ more) ks) (sym kinds) (told_all plan lines so.told more _ first begun all.once) };
+    })
+    (c.note_all.ensures.verdicts so.told so.judged_so.verdicts) c.note_all.ensures.kinds

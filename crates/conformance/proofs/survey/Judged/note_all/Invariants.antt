@@ -7,5 +7,6 @@ use Rattle.conformance.proofs.survey.Judged.note_all.Given as goal
 abbrev pub invariant-loop-settled : goal.invariant-loop-settled
 invariant-loop-settled l = record {
   verdicts : (earlier : List Settled) → IsVerdictsOf l.plan earlier l.initial.self.verdicts → IsVerdictsOf l.plan (earlier ++ l.yielded) l.self.verdicts;
+  rest : l.yielded ++ l.settled-iterator.rest.items ≡ l.fn.told.items;
   kinds : l.self.kinds.kinds.items ≡ with_all l.yielded l.initial.self.kinds.kinds.items;
 }
