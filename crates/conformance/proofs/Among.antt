@@ -37,16 +37,18 @@ pub passing : {X : Type 0} (test : X → Bool) (xs : List X) → list_any test x
 passing test [] h = absurd (grind (arith, h))
 passing test (x ∷ xs) h =
     elim (either (test x) (list_any test xs) h) [
-      inl first ↦ record { one = x; among = here x xs; passes = first }
-    | inr more ↦ let rest = passing test xs more in record { one = rest.one; among = later x rest.one xs rest.among; passes = rest.passes } ]
+      | inl first ↦ record { one = x; among = here x xs; passes = first }
+      | inr more ↦ let rest = passing test xs more in record { one = rest.one; among = later x rest.one xs rest.among; passes = rest.passes }
+    ]
 
 -- and any does where this one does
 pub passed : {X : Type 0} (test : X → Bool) (xs : List X) (x : X) → Contains xs x → test x ≡ true → list_any test xs ≡ true
 passed test [] x among h = absurd (is_among_none x among)
 passed test (y ∷ xs) x among h =
     elim (head_or_later y x xs among) [
-      inl first ↦ ap (λ (b : Bool). b || list_any test xs) (ap test first ∙ h)
-    | inr more ↦ ap (λ (b : Bool). test y || b) (passed test xs x more h) ∙ or_true (test y) ]
+      | inl first ↦ ap (λ (b : Bool). b || list_any test xs) (ap test first ∙ h)
+      | inr more ↦ ap (λ (b : Bool). test y || b) (passed test xs x more h) ∙ or_true (test y)
+    ]
 
 -- ---- filters
 kept_head : {X : Type 0} (test : X → Bool) (x : X) (xs : List X) → test x ≡ true → Contains (filter test (x ∷ xs)) x
@@ -60,8 +62,9 @@ pub stays : {X : Type 0} (test : X → Bool) (xs : List X) (x : X) → Contains 
 stays test [] x among h = absurd (is_among_none x among)
 stays test (y ∷ xs) x among h =
     elim (head_or_later y x xs among) [
-      inl first ↦ subst (λ (z : _). Contains (filter test (y ∷ xs)) z) first (kept_head test y xs (ap test first ∙ h))
-    | inr more ↦ kept_later (test y) y x (filter test xs) (stays test xs x more h) ]
+      | inl first ↦ subst (λ (z : _). Contains (filter test (y ∷ xs)) z) first (kept_head test y xs (ap test first ∙ h))
+      | inr more ↦ kept_later (test y) y x (filter test xs) (stays test xs x more h)
+    ]
 
 passes_head : {X : Type 0} (b : Bool) (y x : X) (xs : List X) → Contains (cond b (y ∷ xs) xs) x → ((b ≡ true) × (y ≡ x)) ⊎ Contains xs x
 passes_head true y x xs among = elim (head_or_later y x xs among) [ inl first ↦ inl (refl, first) | inr more ↦ inr more ]
@@ -72,8 +75,9 @@ pub kept : {X : Type 0} (test : X → Bool) (xs : List X) (x : X) → Contains (
 kept test [] x among = absurd (is_among_none x among)
 kept test (y ∷ xs) x among =
     elim (passes_head (test y) y x (filter test xs) among) [
-      inl first ↦ (subst (λ (z : _). Contains (y ∷ xs) z) first.1 (here y xs), sym (ap test first.1) ∙ first.0)
-    | inr more ↦ let rest = kept test xs x more in (later y x xs rest.0, rest.1) ]
+      | inl first ↦ (subst (λ (z : _). Contains (y ∷ xs) z) first.1 (here y xs), sym (ap test first.1) ∙ first.0)
+      | inr more ↦ let rest = kept test xs x more in (later y x xs rest.0, rest.1)
+    ]
 
 -- ---- places
 pub at_place : {X : Type 0} (xs : List X) (k : ℕ) (x : X) → slice_get xs k ≡ Some x → Contains xs x

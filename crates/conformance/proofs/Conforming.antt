@@ -5,6 +5,8 @@ use Rattle.std.specs.List.{list_any}
 use Rattle.std.specs.Option.{option_and_then}
 use Rattle.std.proofs.lemmas.List.Elements.{All-contains}
 use Rattle.std.proofs.lemmas.Bool.{eqb-true}
+use Rattle.std.specs.List.Sorted.{IsPermutation}
+use Rattle.std.proofs.lemmas.List.Sorted.{length_permutation}
 use Rattle.job_bodies.specs.Plan.{Plan}
 use Rattle.recording_lines.specs.declared.recording_line.RecordedActor.{RecordedActor}
 use Rattle.recording_lines.specs.declared.recording_line.RecordedActor.TheVariants.{Job, Round}
@@ -24,12 +26,10 @@ use Rattle.recorded_classes.specs.declared.settled.Settled.{Settled}
 use Rattle.recorded_classes.specs.Settled.{IsTold, AreAllTold, CanBe, is_told, has_come}
 use Rattle.conformance.specs.declared.finding.Finding.{Finding}
 use Rattle.conformance.specs.declared.finding.Finding.TheVariants as finding
-use Rattle.conformance.specs.declared.job_set.JobSet.{JobSet}
 use Rattle.conformance.specs.declared.survey.Survey.{Survey}
 use Rattle.conformance.specs.Conforms.{Conforms, IsNotVoid, IsOfAClass, IsOfAKind, HasItsKind, AreEnoughClients}
 use Rattle.conformance.specs.FirstKinds.{AreFirstKinds, has_kind, round_told}
 use Rattle.conformance.specs.Gathered.{AreGathered, AreStrays, AreForeign, not_decided, is_lasting}
-
 use Rattle.conformance.specs.Gathered as made
 use Rattle.conformance.specs.Survey.{IsSurveyOf}
 use Rattle.conformance.specs.Verdicts.{is_empty}
@@ -61,7 +61,10 @@ counted_so plan lines told kinds one round [] are among actor_is members_are can
 counted_so plan lines told kinds one round (kind ∷ more) are among actor_is members_are can_be some =
     let told_is : round_told one ≡ Some (round, kind) = ap (λ (m : List ℕ). has_kind m one.actor) members_are ∙ ap (λ (a : RecordedActor). has_kind (kind ∷ more) a) actor_is in
     record {
-      kind = kind; can_be = kind ∷ more; exact = can_be; among = here kind more;
+      kind = kind;
+      can_be = kind ∷ more;
+      exact = can_be;
+      among = here kind more;
       is = ap (λ (o : Option (Option ℕ)). option_and_then (λ (k : Option ℕ). k) o) (are.told_of one round kind among told_is);
     }
 
@@ -96,19 +99,27 @@ kind_so plan budget lines told kinds round are first come =
     counted_so plan lines told kinds one.one round one.one.family.members.items first one.among is refl (subst (λ (a : RecordedActor). CanBe plan lines a one.one.family.members.items) is (so.members good.decided)) good.some
 
 -- ---- the notes
-no_foreign : (text : List RecordedLine) (get : Option ForeignGet) (found : List Finding) → AreForeign text get found → found ≡ [] → get ≡ None
-no_foreign text _ _ made.none none = refl
-no_foreign text _ _ (made.one get label is) none = absurd (grind (arith, none))
+no_foreign : (get : Option ForeignGet) (found : List Finding) → AreForeign get found → found ≡ [] → get ≡ None
+no_foreign _ _ made.none none = refl
+no_foreign _ _ (made.one get label) none = absurd (grind (arith, none))
 
-none_told : (lines : List RecordedLine) (classless : JobSet) (told : List Settled) (found : List Finding) → AreStrays lines classless told found → found ≡ [] → told ≡ []
-none_told lines classless [] found are none = refl
-none_told lines classless (one ∷ told) [] are none = absurd are
-none_told lines classless (one ∷ told) (first ∷ found) are none = absurd (grind (arith, none))
+none_told : (told : List Settled) (found : List Finding) → AreStrays told found → found ≡ [] → told ≡ []
+none_told [] found are none = refl
+none_told (one ∷ told) [] are none = absurd are
+none_told (one ∷ told) (first ∷ found) are none = absurd (grind (arith, none))
+
+-- ---- in another order
+pub empty_if : {X : Type 0} (xs : List X) → length xs ≡ 0 → xs ≡ []
+empty_if [] h = refl
+empty_if (x ∷ xs) h = absurd (omega (arith, h))
+
+pub none_before : {X : Type 0} (xs ys : List X) → IsPermutation xs ys → ys ≡ [] → xs ≡ []
+none_before xs ys moved none = empty_if xs (sym (length_permutation xs ys moved) ∙ ap length none)
 
 -- ---- all
 pub conforms : (plan : Plan) (budget : ℕ) (lines : List RecordedLine) (survey : Survey) (excesses : List RoundExcess) (found : List Finding)
     → PoolsAreAsPlanned → PoolsAreRecorded → RoundsAreWithinPlan
-    → IsSurveyOf plan budget lines survey → excesses ≡ excesses_by_lines plan survey.judged.kinds.kinds.items lines → AreGathered lines lines survey excesses found → found ≡ []
+    → IsSurveyOf plan budget lines survey → excesses ≡ excesses_by_lines plan survey.judged.kinds.kinds.items lines → AreGathered lines survey excesses found → found ≡ []
     → Conforms plan lines × IsNotVoid lines
 conforms plan budget lines survey excesses found as_planned are_recorded are_within so counted gathered none =
     let p6 = both_none _ _ (sym gathered.all ∙ none) in
@@ -121,24 +132,26 @@ conforms plan budget lines survey excesses found as_planned are_recorded are_wit
     let no_labels = map_none finding.NotPlanned _ p1.1 in
     let no_undecided = map_none not_decided _ p3.1 in
     let no_excesses : excesses ≡ [] = map_none finding.TooMany excesses p4.1 in
-    let no_strays = none_told lines survey.judged.verdicts.classless _ _ gathered.strays_so p2.1 in
+    let no_strays = none_told _ _ gathered.strays_so p2.1 in
     let no_voids : filter is_lasting (voids_of lines) ≡ [] = map_none finding.Void _ p6.1 in
     let pools = both_none (deviations_by_lines plan lines) (deviations_at_end plan lines) (sym so.watched.deviations ∙ ap (map deviation_seen) no_deviations) in
     let judged = so.judged in
     let are : AreGood plan budget lines judged.told = record {
-          all = judged.all;
-          good = λ one among. all_good plan budget lines judged.told survey.judged.verdicts survey.watched.unplanned one judged.all.told judged.verdicts so.watched.unplanned no_strays no_undecided no_labels among;
-        } in
-    let kinds = survey.judged.kinds.kinds.items in
-    (record {
-      pools = as_planned plan lines pools.0;
-      recorded = λ closed. are_recorded plan lines closed pools.1;
-      jobs = λ job. job_so plan budget lines judged.told job are;
-      rounds = λ round. round_so plan budget lines judged.told round are;
-      clients = record {
-        kinds = kinds;
-        each = λ round. kind_so plan budget lines judged.told kinds round are judged.kinds;
-        within = λ before behind is. are_within plan kinds before behind (ap (excesses_by_lines plan kinds) (sym is) ∙ (sym counted ∙ no_excesses));
-      };
-      gets = no_foreign lines _ _ gathered.foreign_so p5.1;
-    }, not_void lines no_voids)
+      all = judged.all;
+      good = λ one among. all_good plan budget lines judged.told survey.judged.verdicts survey.watched.unplanned one judged.all.told judged.verdicts so.watched.unplanned no_strays no_undecided no_labels among;
+    } in
+    let kinds = survey.judged.kinds.kinds.items in (
+      record {
+        pools = as_planned plan lines pools.0;
+        recorded = λ closed. are_recorded plan lines closed pools.1;
+        jobs = λ job. job_so plan budget lines judged.told job are;
+        rounds = λ round. round_so plan budget lines judged.told round are;
+        clients = record {
+          kinds = kinds;
+          each = λ round. kind_so plan budget lines judged.told kinds round are judged.kinds;
+          within = λ before behind is. are_within plan kinds before behind (ap (excesses_by_lines plan kinds) (sym is) ∙ (sym counted ∙ no_excesses));
+        };
+        gets = no_foreign _ _ gathered.foreign_so p5.1;
+      },
+      not_void lines no_voids,
+    )

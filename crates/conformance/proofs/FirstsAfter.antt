@@ -98,27 +98,32 @@ among_more told one firsts among = All-weaker (Contains told) (Contains (told ++
 
 pub behind_new : (told firsts : List Settled) (one : Settled) → AreFirsts told firsts → AreFirsts (told ++ one ∷ []) (firsts ++ one ∷ [])
 behind_new told firsts one are = record {
-    among = All-push (Contains (told ++ one ∷ [])) firsts one (among_more told one firsts are.among) (Contains-push told one);
-    each = All-push (λ x. Any (StandsFor x) (firsts ++ one ∷ [])) told one
-        (All-weaker (λ x. Any (StandsFor x) firsts) (λ x. Any (StandsFor x) (firsts ++ one ∷ [])) (λ x any. any_append (StandsFor x) firsts one any) told are.each)
-        (Any-push (StandsFor one) firsts one (itself one));
-  }
+  among = All-push (Contains (told ++ one ∷ [])) firsts one (among_more told one firsts are.among) (Contains-push told one);
+  each = All-push (λ x. Any (StandsFor x) (firsts ++ one ∷ [])) told one
+      (All-weaker (λ x. Any (StandsFor x) firsts) (λ x. Any (StandsFor x) (firsts ++ one ∷ [])) (λ x any. any_append (StandsFor x) firsts one any) told are.each)
+      (Any-push (StandsFor one) firsts one (itself one));
+}
 
 pub behind_known : (told firsts : List Settled) (one first : Settled) (place : ℕ) → AreFirsts told firsts → slice_get firsts place ≡ Some first → is_same_label first one ≡ true → number_of first.actor ≤ number_of one.actor
     → AreFirsts (told ++ one ∷ []) firsts
 behind_known told firsts one first place are there same later = record {
-    among = among_more told one firsts are.among;
-    each = All-push (λ x. Any (StandsFor x) firsts) told one are.each (any_there (StandsFor one) firsts place first there (record { label = same; before = later }));
-  }
+  among = among_more told one firsts are.among;
+  each = All-push (λ x. Any (StandsFor x) firsts) told one are.each (any_there (StandsFor one) firsts place first there (record { label = same; before = later }));
+}
 
 pub behind_earlier : (told firsts : List Settled) (one first : Settled) (place : ℕ) → AreFirsts told firsts → slice_get firsts place ≡ Some first → is_same_label first one ≡ true → number_of one.actor ≤ number_of first.actor
     → AreFirsts (told ++ one ∷ []) (set firsts place one)
 behind_earlier told firsts one first place are there same earlier = record {
-    among = All-set (Contains (told ++ one ∷ [])) firsts place one (Contains-push told one) (among_more told one firsts are.among);
-    each = All-push (λ x. Any (StandsFor x) (set firsts place one)) told one
-        (All-weaker (λ x. Any (StandsFor x) firsts) (λ x. Any (StandsFor x) (set firsts place one)) (λ x any. any_write (StandsFor x) firsts place first one there (instead one first x same earlier) any) told are.each)
-        (any-set (StandsFor one) firsts place one (within firsts place first there) (itself one));
-  }
+  among = All-set (Contains (told ++ one ∷ [])) firsts place one (Contains-push told one) (among_more told one firsts are.among);
+  each = All-push (λ x. Any (StandsFor x) (set firsts place one)) told one
+      (All-weaker (λ x. Any (StandsFor x) firsts) (λ x. Any (StandsFor x) (set firsts place one)) (λ x any. any_write (StandsFor x) firsts place first one there (instead one first x same earlier) any) told are.each)
+      (any-set (StandsFor one) firsts place one (within firsts place first there) (itself one));
+}
 
 pub none_yet : AreFirsts [] []
 none_yet = record { among = λ k d below. absurd (omega arith); each = λ k d below. absurd (omega arith) }
+
+pub read_at : {X : Type 0} (xs : List X) (place : ℕ) (x : X) → place < length xs → x ≡ get_or xs place x → slice_get xs place ≡ Some x
+read_at [] place x below is = absurd (omega arith)
+read_at (y ∷ xs) zero x below is = ap Some (sym is)
+read_at (y ∷ xs) (suc place) x below is = read_at xs place x (omega arith) is

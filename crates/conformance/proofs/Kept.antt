@@ -1,5 +1,5 @@
 -- Recordings that keep the rules.
-use Rattle.std.proofs.Common.{◌≡◌, ℕ, zero, suc, ◌+◌, ◌<◌, List, [], ◌∷◌, ◌++◌, length, take, filter_map, map, slice_get, Option, Some, None, refl, ap, sym, ◌∙◌, append_assoc, arith}
+use Rattle.std.proofs.Common.{◌≡◌, ℕ, zero, suc, ◌+◌, ◌<◌, List, [], ◌∷◌, ◌++◌, length, take, drop, filter_map, map, slice_get, Option, Some, None, refl, ap, sym, ◌∙◌, append_assoc, arith}
 use Rattle.std.specs.Option.{option_map, option_and_then}
 use Rattle.recording_lines.specs.RecordingLine.{RecordedLine, lines_read}
 use Rattle.recorded_rules.specs.declared.fault.Breach.TheVariants as breach
@@ -7,12 +7,13 @@ use Rattle.recorded_rules.specs.Faults.{IsFirstFault, breach_of, lines_before, b
 use Rattle.recorded_rules.specs.Rules.{broken_of}
 use Rattle.recorded_paths.specs.StandsFor.{KeepsRules}
 use Rattle.conformance.specs.Lines.{with_form, lines_of}
+use Rattle.conformance.proofs.Steps.{both_next}
 
 -- ---- the first of the lines
 pub keeps_front : (front behind lines : List RecordedLine) → lines ≡ front ++ behind → KeepsRules lines → KeepsRules front
 keeps_front front behind lines is keeps = record {
-    unbroken = λ before line more h. keeps.unbroken before line (more ++ behind) (is ∙ (ap (λ (xs : List RecordedLine). xs ++ behind) h ∙ append_assoc before (line ∷ more) behind));
-  }
+  unbroken = λ before line more h. keeps.unbroken before line (more ++ behind) (is ∙ (ap (λ (xs : List RecordedLine). xs ++ behind) h ∙ append_assoc before (line ∷ more) behind));
+}
 
 -- ---- a text without a bad line
 -- one line of a list is the first of the others behind some
@@ -48,8 +49,12 @@ keeps_rules text none =
     let same : lines ≡ map Some (with_form lines) = with_none lines (all_good lines none) in
     record {
       unbroken = λ before line behind h.
-        let all : lines ≡ map Some (before ++ line ∷ behind) = same ∙ ap (λ (xs : List RecordedLine). map Some xs) h in
-        let here : slice_get lines (length before) ≡ Some (Some line) = ap (λ (xs : List (Option RecordedLine)). slice_get xs (length before)) all ∙ at_line before behind line in
-        let front : lines_before lines (length before) ≡ before = ap (λ (xs : List (Option RecordedLine)). lines_before xs (length before)) all ∙ front_is before behind line in
-        no_rule before line (sym (ap (λ (xs : List RecordedLine). breach_of xs (Some line)) front) ∙ (sym (behind_is lines (length before) (Some line) here) ∙ none (length before)));
+          let all : lines ≡ map Some (before ++ line ∷ behind) = same ∙ ap (λ (xs : List RecordedLine). map Some xs) h in
+          let here : slice_get lines (length before) ≡ Some (Some line) = ap (λ (xs : List (Option RecordedLine)). slice_get xs (length before)) all ∙ at_line before behind line in
+          let front : lines_before lines (length before) ≡ before = ap (λ (xs : List (Option RecordedLine)). lines_before xs (length before)) all ∙ front_is before behind line in
+          no_rule before line (sym (ap (λ (xs : List RecordedLine). breach_of xs (Some line)) front) ∙ (sym (behind_is lines (length before) (Some line) here) ∙ none (length before)));
     }
+
+-- ---- the next line
+pub keeps_next : (lines rest : List RecordedLine) (n : ℕ) (line : RecordedLine) → drop n lines ≡ line ∷ rest → KeepsRules lines → KeepsRules (take n lines ++ line ∷ [])
+keeps_next lines rest n line next keeps = keeps_front (take n lines ++ line ∷ []) rest lines (both_next lines rest n line next) keeps

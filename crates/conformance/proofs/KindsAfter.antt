@@ -8,6 +8,10 @@ use Rattle.std.proofs.lemmas.List.Elements.{All-contains, Contains-push, Contain
 use Rattle.recording_lines.specs.declared.recording_line.RecordedActor.{RecordedActor}
 use Rattle.recording_lines.specs.declared.recording_line.RecordedActor.TheVariants.{Job, Round}
 use Rattle.recording_lines.specs.RecordingLine.{RecordedLine, RoundBegins}
+use Rattle.recording_lines.specs.declared.recording_line.Line.{Line}
+use Rattle.recording_lines.specs.declared.recording_line.Line.TheVariants as code
+use Rattle.recording_lines.specs.RecordingLine.{line_seen}
+use Rattle.std.proofs.Common.{Bor}
 use Rattle.recorded_rules.specs.declared.rule.Rule.{Rule}
 use Rattle.recorded_rules.specs.declared.rule.Rule.TheVariants as rule
 use Rattle.recorded_rules.specs.LineParts.{is_begin}
@@ -98,33 +102,43 @@ behind_begin plan before told kinds round label keeps are =
       many = length-append kinds (first ∷ []) ∙ (ap (λ (n : ℕ). n + 1) are.many ∙ sym (begins_push before line));
       told_of = λ one r kind among is. there_before kinds (first ∷ []) r (Some kind) (are.told_of one r kind among is);
       others = λ r name named none. elim (kind_cases before line r name named) [
-          inl earlier ↦ there_before kinds (first ∷ []) r _ (are.others r name earlier none)
+        | inl earlier ↦ there_before kinds (first ∷ []) r _ (are.others r name earlier none)
         | inr now ↦
             let same = same_round (round == r) round r label name refl now in
             subst (λ (n : ℕ). slice_get (kinds ++ first ∷ []) n ≡ Some (slice_get (client_family plan name) 0)) (sym here ∙ same.0)
-              (subst (λ (x : List ℕ). slice_get (kinds ++ first ∷ []) (length kinds) ≡ Some (slice_get (client_family plan x) 0)) same.1 (there_last kinds first)) ];
+            (subst (λ (x : List ℕ). slice_get (kinds ++ first ∷ []) (length kinds) ≡ Some (slice_get (client_family plan x) 0)) same.1 (there_last kinds first))
+      ];
     }
 
 -- ---- behind another line
-abbrev pub begins_none : RecordedLine → Bool
-begins_none line = not (is_begin line)
-
 no_kind : (line : RecordedLine) (round : ℕ) (label : List ℕ) → is_begin line ≡ false → kind_in round line ≡ Some label → ⊥
 no_kind (RoundBegins one k) round label none is = grind (arith, none)
 no_kind _ round label none is = grind (arith, is)
 
 pub behind_other : (plan : Plan) (before : List RecordedLine) (line : RecordedLine) (told : List Settled) (kinds : List (Option ℕ)) → is_begin line ≡ false → AreFirstKinds plan before told kinds → AreFirstKinds plan (before ++ line ∷ []) told kinds
 behind_other plan before line told kinds other are = record {
-    many = are.many ∙ sym (begins_push before line ∙ (ap (λ (b : Bool). begins before + cond b 1 0) other ∙ (let x : begins before + 0 ≡ begins before = omega arith in x)));
-    told_of = are.told_of;
-    others = λ r name named none. elim (kind_cases before line r name named) [ inl earlier ↦ are.others r name earlier none | inr now ↦ absurd (no_kind line r name other now) ];
-  }
+  many = are.many ∙ sym (begins_push before line ∙ (ap (λ (b : Bool). begins before + cond b 1 0) other ∙ (let x : begins before + 0 ≡ begins before = omega arith in x)));
+  told_of = are.told_of;
+  others = λ r name named none. elim (kind_cases before line r name named) [ inl earlier ↦ are.others r name earlier none | inr now ↦ absurd (no_kind line r name other now) ];
+}
 
 pub none_yet : (plan : Plan) → AreFirstKinds plan [] [] []
 unfolding begins kind_of
 none_yet plan = record {
-    many = refl;
-    told_of = λ one r kind among is. absurd (let below : among.0 < 0 = among.1 in omega (arith, below));
-    others = λ r name named none. absurd (grind (arith, named));
-  }
+  many = refl;
+  told_of = λ one r kind among is. absurd (let below : among.0 < 0 = among.1 in omega (arith, below));
+  others = λ r name named none. absurd (grind (arith, named));
+}
 
+-- ---- lines as the program keeps them
+pub behind_begin_line : (plan : Plan) (before : List RecordedLine) (told : List Settled) (old new : List (Option ℕ)) (line : Line) (round : ℕ) (label : Bor (List ℕ)) → line ≡ code.RoundBegins round label
+    → KeepsRules (before ++ line_seen line ∷ []) → AreFirstKinds plan before told old → new ≡ old ++ slice_get (client_family plan label.now) 0 ∷ [] → AreFirstKinds plan (before ++ line_seen line ∷ []) told new
+behind_begin_line plan before told old new line round label is keeps are pushed =
+    let seen : line_seen line ≡ RoundBegins round label.now = ap line_seen is in
+    subst (λ (l : RecordedLine). AreFirstKinds plan (before ++ l ∷ []) told new) (sym seen)
+    (subst (λ (kinds : List (Option ℕ)). AreFirstKinds plan (before ++ RoundBegins round label.now ∷ []) told kinds) (sym pushed)
+    (behind_begin plan before told old round label.now (subst (λ (l : RecordedLine). KeepsRules (before ++ l ∷ [])) seen keeps) are))
+
+pub other_line : (line : Line) → ((round : ℕ) (kind : Bor (List ℕ)) → line ≡ code.RoundBegins round kind → ⊥) → is_begin (line_seen line) ≡ false
+other_line (code.RoundBegins round kind) other = absurd (other round kind refl)
+other_line _ other = refl

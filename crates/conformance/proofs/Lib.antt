@@ -11,3 +11,4 @@ pub mod KindsAfter
 pub mod VerdictsAfter
 pub mod ToldKinds
 pub mod WatchedAfter
+pub mod GatheredAll

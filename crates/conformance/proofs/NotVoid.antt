@@ -43,10 +43,11 @@ void_there : (number : ℕ) (lines : List RecordedLine) (line : RecordedLine) �
 void_there number [] line among h = absurd (is_among_none line among)
 void_there number (first ∷ behind) line among h =
     elim (head_or_later first line behind among) [
-      inl is ↦
-        let void = void_is number first behind (ap is_void is ∙ h) in
-        first_there (void_of number first behind) void.one (voids_from (number + 1) behind) void.is void.lasting
-    | inr more ↦ more_behind (void_of number first behind) (voids_from (number + 1) behind) (void_there (number + 1) behind line more h) ]
+      | inl is ↦
+          let void = void_is number first behind (ap is_void is ∙ h) in
+          first_there (void_of number first behind) void.one (voids_from (number + 1) behind) void.is void.lasting
+      | inr more ↦ more_behind (void_of number first behind) (voids_from (number + 1) behind) (void_there (number + 1) behind line more h)
+    ]
 
 -- ---- one of each word
 lasts_by : List ℕ → Bool
@@ -74,12 +75,14 @@ first_stays : (voids : List Void) (void : Void) → Contains voids void → last
 first_stays [] void among h = absurd (is_among_none void among)
 first_stays (first ∷ voids) void among h =
     elim (head_or_later first void voids among) [
-      inl is ↦ record { one = first; among = here first _; lasting = ap (λ (v : Void). lasts v.what) is ∙ h }
-    | inr more ↦
-        let rest = first_stays voids void more h in
-        elim (by_test (has_word rest.one.what first)) [
-          inl same ↦ record { one = first; among = here first _; lasting = same_lasts first.what rest.one.what same ∙ rest.lasting }
-        | inr other ↦ record { one = rest.one; among = later first rest.one _ (stays (λ (v : Void). not (has_word v.what first)) (first_of_each voids) rest.one rest.among (ap not other)); lasting = rest.lasting } ] ]
+      | inl is ↦ record { one = first; among = here first _; lasting = ap (λ (v : Void). lasts v.what) is ∙ h }
+      | inr more ↦
+          let rest = first_stays voids void more h in
+          elim (by_test (has_word rest.one.what first)) [
+            | inl same ↦ record { one = first; among = here first _; lasting = same_lasts first.what rest.one.what same ∙ rest.lasting }
+            | inr other ↦ record { one = rest.one; among = later first rest.one _ (stays (λ (v : Void). not (has_word v.what first)) (first_of_each voids) rest.one rest.among (ap not other)); lasting = rest.lasting }
+          ]
+    ]
 
 none_lasts : (voids : List Void) → filter is_lasting voids ≡ [] → Lasting voids → ⊥
 none_lasts voids none has = is_among_none has.one (subst (λ (xs : List Void). Contains xs has.one) none (stays is_lasting voids has.one has.among has.lasting))
@@ -92,5 +95,5 @@ pub not_void : (lines : List RecordedLine) → filter is_lasting (voids_of lines
 unfolding voids_of
 not_void lines none = λ line among.
     not_true (is_void line) (λ h.
-      let has = void_there 1 lines line among h in
-      none_lasts (voids_of lines) none (first_stays (voids_from 1 lines) has.one has.among has.lasting))
+    let has = void_there 1 lines line among h in
+    none_lasts (voids_of lines) none (first_stays (voids_from 1 lines) has.one has.among has.lasting))

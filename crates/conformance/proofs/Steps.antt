@@ -1,5 +1,5 @@
 -- A list, gone along one element after another.
-use Rattle.std.proofs.Common.{◌≡◌, ℕ, zero, suc, ◌+◌, ◌≤◌, List, [], ◌∷◌, ◌++◌, length, take, drop, slice_get, Some, refl, ap, sym, ◌∙◌, add-one, arith}
+use Rattle.std.proofs.Common.{◌≡◌, ℕ, zero, suc, ◌+◌, ◌≤◌, List, [], ◌∷◌, ◌++◌, length, take, drop, slice_get, Some, refl, ap, sym, ◌∙◌, add-one, length-take, arith}
 
 there : {X : Type 0} (xs rest : List X) (n : ℕ) (x : X) → drop n xs ≡ x ∷ rest → slice_get xs n ≡ Some x
 there [] rest zero x h = grind (arith, h)
@@ -58,3 +58,6 @@ both_next xs rest n x h =
 -- ---- at the end
 pub all_taken : {X : Type 0} (xs : List X) (n : ℕ) → drop n xs ≡ [] → take n xs ≡ xs
 all_taken xs n h = all_there xs n h
+
+pub number_next : {X : Type 0} (xs rest : List X) (n : ℕ) (x : X) → drop n xs ≡ x ∷ rest → n + 1 ≡ length (take n xs) + 1
+number_next xs rest n x h = omega (arith, within_there xs rest n x h, length-take n xs)

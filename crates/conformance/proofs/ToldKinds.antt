@@ -34,8 +34,9 @@ split : (lines : List RecordedLine) (line : RecordedLine) → Contains lines lin
 split [] line among = absurd (is_among_none line among)
 split (first ∷ lines) line among =
     elim (head_or_later first line lines among) [
-      inl is ↦ record { before = []; behind = lines; is = ap (λ (l : RecordedLine). l ∷ lines) is }
-    | inr more ↦ let rest = split lines line more in record { before = first ∷ rest.before; behind = rest.behind; is = ap (λ (ls : List RecordedLine). first ∷ ls) rest.is } ]
+      | inl is ↦ record { before = []; behind = lines; is = ap (λ (l : RecordedLine). l ∷ lines) is }
+      | inr more ↦ let rest = split lines line more in record { before = first ∷ rest.before; behind = rest.behind; is = ap (λ (ls : List RecordedLine). first ∷ ls) rest.is }
+    ]
 
 cons_count : {X : Type 0} (test : X → Bool) (x : X) (xs : List X) → count_by test (x ∷ xs) ≡ cond (test x) 1 0 + count_by test xs
 cons_count {X} test x xs = sum_by-cons (λ (y : X). cond (test y) 1 0) x xs
@@ -80,10 +81,10 @@ pub record HasBegun (lines : List RecordedLine) (one : Settled) : Type 0 where
 
 pub has_begun : (plan : Plan) (budget : ℕ) (lines : List RecordedLine) (one : Settled) → KeepsRules lines → IsTold plan budget lines one → HasBegun lines one
 has_begun plan budget lines one keeps told = record {
-    begun = λ round kind is.
+  begun = λ round kind is.
       let named : HasLabel lines (Round round) (string_bytes one.label) (string_bytes one.pool) = subst (λ (a : RecordedActor). HasLabel lines a (string_bytes one.label) (string_bytes one.pool)) (round_of one round kind is) told.label in
       begun_within lines round (string_bytes one.label) keeps (begun_so lines round (string_bytes one.label) named.0);
-  }
+}
 
 -- it was told of no other one with the same round
 abbrev pub IsNew : List Settled → Settled → Type 0
@@ -101,12 +102,13 @@ pair_is a b c d is =
 
 told_none : (plan : Plan) (lines : List RecordedLine) (told : List Settled) (kinds : List (Option ℕ)) (one : Settled) → AreFirstKinds plan lines told kinds → round_told one ≡ None → AreFirstKinds plan lines (told ++ one ∷ []) kinds
 told_none plan lines told kinds one are none = record {
-    many = are.many;
-    told_of = λ other round kind among is. elim (Contains-push_cases told one other among) [
-        inl earlier ↦ are.told_of other round kind earlier is
-      | inr same ↦ absurd (let no_round : None ≡ Some (round, kind) = sym none ∙ (ap round_told same ∙ is) in cc) ];
-    others = λ round label named without. are.others round label named (λ other kind among. without other kind (Contains-append_left told (one ∷ []) other among));
-  }
+  many = are.many;
+  told_of = λ other round kind among is. elim (Contains-push_cases told one other among) [
+    | inl earlier ↦ are.told_of other round kind earlier is
+    | inr same ↦ absurd (let no_round : None ≡ Some (round, kind) = sym none ∙ (ap round_told same ∙ is) in cc)
+  ];
+  others = λ round label named without. are.others round label named (λ other kind among. without other kind (Contains-append_left told (one ∷ []) other among));
+}
 
 told_some : (plan : Plan) (lines : List RecordedLine) (told : List Settled) (kinds : List (Option ℕ)) (one : Settled) (round kind : ℕ) → AreFirstKinds plan lines told kinds → IsNew told one → round < begins lines
     → round_told one ≡ Some (round, kind) → AreFirstKinds plan lines (told ++ one ∷ []) (set kinds round (Some kind))
@@ -115,15 +117,18 @@ told_some plan lines told kinds one round kind are new begun is =
     record {
       many = length-set kinds round (Some kind) ∙ are.many;
       told_of = λ other r k among told_is. elim (Contains-push_cases told one other among) [
-          inl earlier ↦ elim (cases_eq r round) [
-            inl same ↦ absurd (new other round k kind earlier (subst (λ (n : ℕ). round_told other ≡ Some (n, k)) same told_is) is)
-          | inr other_round ↦ elsewhere kinds round r (Some kind) other_round ∙ are.told_of other r k earlier told_is ]
+        | inl earlier ↦ elim (cases_eq r round) [
+          | inl same ↦ absurd (new other round k kind earlier (subst (λ (n : ℕ). round_told other ≡ Some (n, k)) same told_is) is)
+          | inr other_round ↦ elsewhere kinds round r (Some kind) other_round ∙ are.told_of other r k earlier told_is
+        ]
         | inr same ↦
             let both = pair_is round kind r k (sym is ∙ (ap round_told same ∙ told_is)) in
-            subst (λ (n : ℕ). slice_get (set kinds round (Some kind)) n ≡ Some (Some k)) both.0 (subst (λ (x : ℕ). slice_get (set kinds round (Some kind)) round ≡ Some (Some x)) both.1 (written kinds round (Some kind) below)) ];
+            subst (λ (n : ℕ). slice_get (set kinds round (Some kind)) n ≡ Some (Some k)) both.0 (subst (λ (x : ℕ). slice_get (set kinds round (Some kind)) round ≡ Some (Some x)) both.1 (written kinds round (Some kind) below))
+      ];
       others = λ r label named without. elim (cases_eq r round) [
-          inl same ↦ absurd (without one kind (Contains-push told one) (subst (λ (n : ℕ). round_told one ≡ Some (n, kind)) (sym same) is))
-        | inr other_round ↦ elsewhere kinds round r (Some kind) other_round ∙ are.others r label named (λ other k among. without other k (Contains-append_left told (one ∷ []) other among)) ];
+        | inl same ↦ absurd (without one kind (Contains-push told one) (subst (λ (n : ℕ). round_told one ≡ Some (n, kind)) (sym same) is))
+        | inr other_round ↦ elsewhere kinds round r (Some kind) other_round ∙ are.others r label named (λ other k among. without other k (Contains-append_left told (one ∷ []) other among))
+      ];
     }
 
 told_by : (plan : Plan) (lines : List RecordedLine) (told : List Settled) (kinds : List (Option ℕ)) (one : Settled) (given : Option (ℕ × ℕ)) → AreFirstKinds plan lines told kinds → IsNew told one → HasBegun lines one → round_told one ≡ given
@@ -140,8 +145,9 @@ some_there : {X : Type 0} (test : X → Bool) (xs : List X) (x : X) → Contains
 some_there test [] x among passes = absurd (is_among_none x among)
 some_there test (y ∷ xs) x among passes =
     elim (head_or_later y x xs among) [
-      inl is ↦ one_there test y xs (ap test is ∙ passes)
-    | inr more ↦ omega (arith, some_there test xs x more passes, cons_count test y xs) ]
+      | inl is ↦ one_there test y xs (ap test is ∙ passes)
+      | inr more ↦ omega (arith, some_there test xs x more passes, cons_count test y xs)
+    ]
 
 is_new : (told rest : List Settled) (one : Settled) → IsOnceEach (told ++ one ∷ rest) → IsNew told one
 is_new told rest one once = λ other round kind more among other_is one_is.
@@ -159,3 +165,11 @@ told_all plan lines told (one ∷ more) kinds are begun once =
     let next = told_by plan lines told kinds one (round_told one) are (is_new told more one once) (All-head (HasBegun lines) one more begun) refl in
     let all = told_all plan lines (told ++ one ∷ []) more (with_told one kinds) next (All-tail (HasBegun lines) one more begun) (subst IsOnceEach (sym same) once) in
     subst (λ (xs : List Settled). AreFirstKinds plan lines xs (with_all more (with_told one kinds))) same all
+
+pub all_push : (told : List Settled) (one : Settled) (kinds : List (Option ℕ)) → with_all (told ++ one ∷ []) kinds ≡ with_told one (with_all told kinds)
+all_push [] one kinds = refl
+all_push (first ∷ told) one kinds = all_push told one (with_told first kinds)
+
+pub all_right : (P : Settled → Type 0) (xs ys : List Settled) → All P (xs ++ ys) → All P ys
+all_right P [] ys all = all
+all_right P (x ∷ xs) ys all = all_right P xs ys (All-tail P x (xs ++ ys) all)

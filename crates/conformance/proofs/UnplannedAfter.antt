@@ -9,6 +9,11 @@ use Rattle.std.proofs.lemmas.List.Elements.{All-push, All-weaker, Contains-push_
 use Rattle.std.proofs.lemmas.Slice.Eq.{bytes_eq-Decides}
 use Rattle.job_bodies.specs.Plan.{Plan}
 use Rattle.recording_lines.specs.declared.recording_line.RecordedActor.{RecordedActor}
+use Rattle.recording_lines.specs.declared.recording_line.Line.{Line}
+use Rattle.recording_lines.specs.declared.recording_line.Line.TheVariants as read
+use Rattle.recording_lines.specs.RecordingLine.{line_seen}
+use Rattle.std.proofs.Common.{Bor}
+use Rattle.conformance.specs.Verdicts.{is_empty}
 use Rattle.recording_lines.specs.RecordingLine.{RecordedLine, Submits, RoundBegins}
 use Rattle.plan_families.specs.Family.{class_family, client_family}
 use Rattle.conformance.specs.declared.unplanned.NotPlanned.{NotPlanned}
@@ -73,25 +78,26 @@ pub record NothingNew (plan : Plan) (line : RecordedLine) (old : Unplanned) : Ty
 
 pub stays_behind : (plan : Plan) (before : List RecordedLine) (line : RecordedLine) (old : Unplanned) → IsUnplannedOf plan before old → NothingNew plan line old → IsUnplannedOf plan (before ++ line ∷ []) old
 stays_behind plan before line old so none = record {
-    sound = All-weaker (IsNotPlanned plan before) (IsNotPlanned plan (before ++ line ∷ [])) (label_stays plan before (line ∷ [])) _ so.sound;
-    classes = λ actor job class pool among empty. elim (Contains-push_cases before line _ among) [ inl earlier ↦ so.classes actor job class pool earlier empty | inr is ↦ none.classes actor job class pool is empty ];
-    kinds = λ round kind among empty. elim (Contains-push_cases before line _ among) [ inl earlier ↦ so.kinds round kind earlier empty | inr is ↦ none.kinds round kind is empty ];
-    kept_classes = so.kept_classes;
-    kept_kinds = so.kept_kinds;
-  }
+  sound = All-weaker (IsNotPlanned plan before) (IsNotPlanned plan (before ++ line ∷ [])) (label_stays plan before (line ∷ [])) _ so.sound;
+  classes = λ actor job class pool among empty. elim (Contains-push_cases before line _ among) [ inl earlier ↦ so.classes actor job class pool earlier empty | inr is ↦ none.classes actor job class pool is empty ];
+  kinds = λ round kind among empty. elim (Contains-push_cases before line _ among) [ inl earlier ↦ so.kinds round kind earlier empty | inr is ↦ none.kinds round kind is empty ];
+  kept_classes = so.kept_classes;
+  kept_kinds = so.kept_kinds;
+}
 
 -- ---- a submit
 known_class : (plan : Plan) (before : List RecordedLine) (actor : RecordedActor) (job : ℕ) (class pool : List ℕ) (old : Unplanned) → IsUnplannedOf plan before old
     → (has_label old.classes (pair_text class pool) ≡ true) ⊎ (¬ (class_family plan class pool ≡ [])) → NothingNew plan (Submits actor job class pool) old
 known_class plan before actor job class pool old so why = record {
-    classes = λ who one c p is empty.
-        let same_class : class ≡ c = cc in
-        let same_pool : pool ≡ p = cc in
-        elim why [
-          inl known ↦ sym (so.kept_classes c p) ∙ (ap (λ (text : List ℕ). has_label old.classes text) (ap (λ (x : List ℕ). pair_text x p) (sym same_class) ∙ ap (λ (x : List ℕ). pair_text class x) (sym same_pool)) ∙ known)
-        | inr there ↦ absurd (there (ap (λ (x : List ℕ). class_family plan x pool) same_class ∙ (ap (λ (x : List ℕ). class_family plan c x) same_pool ∙ empty))) ];
-    kinds = λ round kind is empty. absurd (cc);
-  }
+  classes = λ who one c p is empty.
+      let same_class : class ≡ c = cc in
+      let same_pool : pool ≡ p = cc in
+      elim why [
+        | inl known ↦ sym (so.kept_classes c p) ∙ (ap (λ (text : List ℕ). has_label old.classes text) (ap (λ (x : List ℕ). pair_text x p) (sym same_class) ∙ ap (λ (x : List ℕ). pair_text class x) (sym same_pool)) ∙ known)
+        | inr there ↦ absurd (there (ap (λ (x : List ℕ). class_family plan x pool) same_class ∙ (ap (λ (x : List ℕ). class_family plan c x) same_pool ∙ empty)))
+      ];
+  kinds = λ round kind is empty. absurd (cc);
+}
 
 told_class : (plan : Plan) (before : List RecordedLine) (number : ℕ) (actor : RecordedActor) (job : ℕ) (class pool : List ℕ) (old new : Unplanned) → IsNext number before → IsUnplannedOf plan before old
     → (c p : String Global) → string_bytes c ≡ class → string_bytes p ≡ pool → class_family plan class pool ≡ []
@@ -103,26 +109,28 @@ told_class plan before number actor job class pool old new next so c p c_is p_is
     let line = Submits actor job class pool in
     let one = code.Class number c p in
     let any_class : (x y : List ℕ) → list_any (tells_class x y) new.found.items ≡ (list_any (tells_class x y) old.found.items || tells_class x y one)
-          = λ x y. ap (list_any (tells_class x y)) found_is ∙ any_push (tells_class x y) old.found.items one in
+    = λ x y. ap (list_any (tells_class x y)) found_is ∙ any_push (tells_class x y) old.found.items one in
     let any_kind : (x : List ℕ) → list_any (tells_kind x) new.found.items ≡ list_any (tells_kind x) old.found.items
-          = λ x. ap (list_any (tells_kind x)) found_is ∙ (any_push (tells_kind x) old.found.items one ∙ or_none _ _ refl) in
+    = λ x. ap (list_any (tells_kind x)) found_is ∙ (any_push (tells_kind x) old.found.items one ∙ or_none _ _ refl) in
     let text : pair_text (string_bytes c) (string_bytes p) ≡ pair_text class pool = ap (λ (x : List ℕ). pair_text x (string_bytes p)) c_is ∙ ap (λ (x : List ℕ). pair_text class x) p_is in
     let tells : (x y : List ℕ) → tells_class x y one ≡ bytes_eq (pair_text class pool) (pair_text x y) = λ x y. ap (λ (t : List ℕ). bytes_eq t (pair_text x y)) text in
     let new_one : IsNotPlanned plan (before ++ line ∷ []) one = record {
-          actor = actor; job = job;
-          line = subst (λ (x : List ℕ). IsLine (before ++ line ∷ []) number (Submits actor job x (string_bytes p))) (sym c_is) (subst (λ (y : List ℕ). IsLine (before ++ line ∷ []) number (Submits actor job class y)) (sym p_is) (last_line before number line next));
-          none = ap (λ (x : List ℕ). class_family plan x (string_bytes p)) c_is ∙ (ap (λ (y : List ℕ). class_family plan class y) p_is ∙ empty);
-        } in
+      actor = actor;
+      job = job;
+      line = subst (λ (x : List ℕ). IsLine (before ++ line ∷ []) number (Submits actor job x (string_bytes p))) (sym c_is) (subst (λ (y : List ℕ). IsLine (before ++ line ∷ []) number (Submits actor job class y)) (sym p_is) (last_line before number line next));
+      none = ap (λ (x : List ℕ). class_family plan x (string_bytes p)) c_is ∙ (ap (λ (y : List ℕ). class_family plan class y) p_is ∙ empty);
+    } in
     record {
       sound = subst (λ (xs : List NotPlanned). All (IsNotPlanned plan (before ++ line ∷ [])) xs) (sym found_is)
           (All-push (IsNotPlanned plan (before ++ line ∷ [])) old.found.items one (All-weaker (IsNotPlanned plan before) (IsNotPlanned plan (before ++ line ∷ [])) (label_stays plan before (line ∷ [])) _ so.sound) new_one);
       classes = λ who n x y among none. elim (Contains-push_cases before line _ among) [
-          inl earlier ↦ any_class x y ∙ or_left _ _ (so.classes who n x y earlier none)
+        | inl earlier ↦ any_class x y ∙ or_left _ _ (so.classes who n x y earlier none)
         | inr is ↦
             let same_class : class ≡ x = cc in
             let same_pool : pool ≡ y = cc in
             let same : bytes_eq (pair_text class pool) (pair_text x y) ≡ true = ap (λ (t : List ℕ). bytes_eq (pair_text class pool) t) (sym (ap (λ (z : List ℕ). pair_text z pool) same_class ∙ ap (λ (z : List ℕ). pair_text x z) same_pool)) ∙ same_bytes (pair_text class pool) in
-            any_class x y ∙ or_right _ _ (tells x y ∙ same) ];
+            any_class x y ∙ or_right _ _ (tells x y ∙ same)
+      ];
       kinds = λ round kind among none. elim (Contains-push_cases before line _ among) [ inl earlier ↦ any_kind kind ∙ so.kinds round kind earlier none | inr is ↦ absurd (cc) ];
       kept_classes = λ x y. kept_is (pair_text x y) ∙ (ap (λ (b : Bool). b || bytes_eq (pair_text class pool) (pair_text x y)) (so.kept_classes x y) ∙ (ap (λ (b : Bool). list_any (tells_class x y) old.found.items || b) (sym (tells x y)) ∙ sym (any_class x y)));
       kept_kinds = λ x. ap (λ (k : _). has_label k x) kinds_is ∙ (so.kept_kinds x ∙ sym (any_kind x));
@@ -139,13 +147,14 @@ behind_submit plan before number actor job class pool old new next so (class_tel
 known_kind : (plan : Plan) (before : List RecordedLine) (round : ℕ) (kind : List ℕ) (old : Unplanned) → IsUnplannedOf plan before old
     → (has_label old.kinds kind ≡ true) ⊎ (¬ (client_family plan kind ≡ [])) → NothingNew plan (RoundBegins round kind) old
 known_kind plan before round kind old so why = record {
-    classes = λ who one c p is empty. absurd (cc);
-    kinds = λ one k is empty.
-        let same : kind ≡ k = cc in
-        elim why [
-          inl known ↦ sym (so.kept_kinds k) ∙ (ap (λ (x : List ℕ). has_label old.kinds x) (sym same) ∙ known)
-        | inr there ↦ absurd (there (ap (λ (x : List ℕ). client_family plan x) same ∙ empty)) ];
-  }
+  classes = λ who one c p is empty. absurd (cc);
+  kinds = λ one k is empty.
+      let same : kind ≡ k = cc in
+      elim why [
+        | inl known ↦ sym (so.kept_kinds k) ∙ (ap (λ (x : List ℕ). has_label old.kinds x) (sym same) ∙ known)
+        | inr there ↦ absurd (there (ap (λ (x : List ℕ). client_family plan x) same ∙ empty))
+      ];
+}
 
 told_kind : (plan : Plan) (before : List RecordedLine) (number round : ℕ) (kind : List ℕ) (old new : Unplanned) → IsNext number before → IsUnplannedOf plan before old
     → (k : String Global) → string_bytes k ≡ kind → client_family plan kind ≡ []
@@ -157,23 +166,24 @@ told_kind plan before number round kind old new next so k k_is empty found_is ke
     let line = RoundBegins round kind in
     let one = code.Kind number k in
     let any_class : (x y : List ℕ) → list_any (tells_class x y) new.found.items ≡ list_any (tells_class x y) old.found.items
-          = λ x y. ap (list_any (tells_class x y)) found_is ∙ (any_push (tells_class x y) old.found.items one ∙ or_none _ _ refl) in
+    = λ x y. ap (list_any (tells_class x y)) found_is ∙ (any_push (tells_class x y) old.found.items one ∙ or_none _ _ refl) in
     let any_kind : (x : List ℕ) → list_any (tells_kind x) new.found.items ≡ (list_any (tells_kind x) old.found.items || bytes_eq kind x)
-          = λ x. ap (list_any (tells_kind x)) found_is ∙ (any_push (tells_kind x) old.found.items one ∙ ap (λ (t : List ℕ). list_any (tells_kind x) old.found.items || bytes_eq t x) k_is) in
+    = λ x. ap (list_any (tells_kind x)) found_is ∙ (any_push (tells_kind x) old.found.items one ∙ ap (λ (t : List ℕ). list_any (tells_kind x) old.found.items || bytes_eq t x) k_is) in
     let new_one : IsNotPlanned plan (before ++ line ∷ []) one = record {
-          round = round;
-          line = subst (λ (x : List ℕ). IsLine (before ++ line ∷ []) number (RoundBegins round x)) (sym k_is) (last_line before number line next);
-          none = ap (λ (x : List ℕ). client_family plan x) k_is ∙ empty;
-        } in
+      round = round;
+      line = subst (λ (x : List ℕ). IsLine (before ++ line ∷ []) number (RoundBegins round x)) (sym k_is) (last_line before number line next);
+      none = ap (λ (x : List ℕ). client_family plan x) k_is ∙ empty;
+    } in
     record {
       sound = subst (λ (xs : List NotPlanned). All (IsNotPlanned plan (before ++ line ∷ [])) xs) (sym found_is)
           (All-push (IsNotPlanned plan (before ++ line ∷ [])) old.found.items one (All-weaker (IsNotPlanned plan before) (IsNotPlanned plan (before ++ line ∷ [])) (label_stays plan before (line ∷ [])) _ so.sound) new_one);
       classes = λ who n x y among none. elim (Contains-push_cases before line _ among) [ inl earlier ↦ any_class x y ∙ so.classes who n x y earlier none | inr is ↦ absurd (cc) ];
       kinds = λ r x among none. elim (Contains-push_cases before line _ among) [
-          inl earlier ↦ any_kind x ∙ or_left _ _ (so.kinds r x earlier none)
+        | inl earlier ↦ any_kind x ∙ or_left _ _ (so.kinds r x earlier none)
         | inr is ↦
             let same : kind ≡ x = cc in
-            any_kind x ∙ or_right _ _ (ap (λ (t : List ℕ). bytes_eq kind t) (sym same) ∙ same_bytes kind) ];
+            any_kind x ∙ or_right _ _ (ap (λ (t : List ℕ). bytes_eq kind t) (sym same) ∙ same_bytes kind)
+      ];
       kept_classes = λ x y. ap (λ (l : _). has_label l (pair_text x y)) classes_is ∙ (so.kept_classes x y ∙ sym (any_class x y));
       kept_kinds = λ x. kept_is x ∙ (ap (λ (b : Bool). b || bytes_eq kind x) (so.kept_kinds x) ∙ sym (any_kind x));
     }
@@ -193,9 +203,35 @@ is_label_line line = false
 
 pub behind_other : (plan : Plan) (before : List RecordedLine) (line : RecordedLine) (old : Unplanned) → IsUnplannedOf plan before old → is_label_line line ≡ false → IsUnplannedOf plan (before ++ line ∷ []) old
 behind_other plan before line old so other = stays_behind plan before line old so (record {
-    classes = λ actor job class pool is empty. absurd (contra (sym (ap is_label_line is) ∙ other));
-    kinds = λ round kind is empty. absurd (contra (sym (ap is_label_line is) ∙ other));
-  })
+  classes = λ actor job class pool is empty. absurd (contra (sym (ap is_label_line is) ∙ other));
+  kinds = λ round kind is empty. absurd (contra (sym (ap is_label_line is) ∙ other));
+})
   where
     contra : true ≡ false → ⊥
     contra h = cc
+
+-- ---- families
+pub filled : (numbers : List ℕ) → is_empty numbers ≡ false → numbers ≡ [] → ⊥
+filled [] h none = grind (arith, h)
+filled (n ∷ more) h none = grind (arith, none)
+
+pub emptied : (numbers : List ℕ) → is_empty numbers ≡ true → numbers ≡ []
+emptied [] h = refl
+emptied (n ∷ more) h = absurd (grind (arith, h))
+
+-- ---- lines as the program keeps them
+pub submit_seen : (plan : Plan) (before : List RecordedLine) (number : ℕ) (line : Line) (actor : RecordedActor) (job : ℕ) (class pool : Bor (List ℕ)) (old new : Unplanned) → line ≡ read.Submits actor job class pool
+    → IsNext number before → IsUnplannedOf plan before old → TakesClass plan number class.now pool.now old new → IsUnplannedOf plan (before ++ line_seen line ∷ []) new
+submit_seen plan before number line actor job class pool old new is next so takes =
+    subst (λ (l : RecordedLine). IsUnplannedOf plan (before ++ l ∷ []) new) (sym (ap line_seen is)) (behind_submit plan before number actor job class.now pool.now old new next so takes)
+
+pub begin_seen : (plan : Plan) (before : List RecordedLine) (number : ℕ) (line : Line) (round : ℕ) (kind : Bor (List ℕ)) (old new : Unplanned) → line ≡ read.RoundBegins round kind
+    → IsNext number before → IsUnplannedOf plan before old → TakesKind plan number kind.now old new → IsUnplannedOf plan (before ++ line_seen line ∷ []) new
+begin_seen plan before number line round kind old new is next so takes =
+    subst (λ (l : RecordedLine). IsUnplannedOf plan (before ++ l ∷ []) new) (sym (ap line_seen is)) (behind_begin plan before number round kind.now old new next so takes)
+
+pub label_none : (line : Line) → ((actor : RecordedActor) (job : ℕ) (class pool : Bor (List ℕ)) → line ≡ read.Submits actor job class pool → ⊥) → ((round : ℕ) (kind : Bor (List ℕ)) → line ≡ read.RoundBegins round kind → ⊥)
+    → is_label_line (line_seen line) ≡ false
+label_none (read.Submits actor job class pool) no_submit no_begin = absurd (no_submit actor job class pool refl)
+label_none (read.RoundBegins round kind) no_submit no_begin = absurd (no_begin round kind refl)
+label_none _ no_submit no_begin = refl

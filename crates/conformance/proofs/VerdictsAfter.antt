@@ -1,6 +1,6 @@
 -- What is kept of the actors of which is told, behind one more.
 use Rattle.std.proofs.Common.{◌≡◌, ℕ, Bool, true, false, cond, ◌&&◌, ◌||◌, not, List, [], ◌∷◌, ◌++◌, refl, ap, sym, subst, ◌∙◌, arith}
-use Rattle.std.specs.Prelude.{filter}
+use Rattle.std.specs.Prelude.{filter, Result, Ok, Err, OnOk, ⊤}
 use Rattle.std.specs.List.{list_any}
 use Rattle.std.proofs.lemmas.List.{append-nil}
 use Rattle.std.proofs.lemmas.List.Elements.{filter-append}
@@ -42,7 +42,7 @@ and_false true = refl
 and_false false = refl
 
 -- ---- one more
-same_firsts : (all : List Settled) (first other : Firsts) → other ≡ first → AreFirsts all first.actors.items → AreFirsts all other.actors.items
+pub same_firsts : (all : List Settled) (first other : Firsts) → other ≡ first → AreFirsts all first.actors.items → AreFirsts all other.actors.items
 same_firsts all first other is are = subst (λ (f : Firsts). AreFirsts all f.actors.items) (sym is) are
 
 -- one that is not decided
@@ -87,3 +87,10 @@ behind_good plan told one old so decided some =
       undecided = subst (λ (all : List Settled). AreFirsts all old.undecided.actors.items) (sym (filter_push (is_undecided plan) told one false undecided)) so.undecided;
       classless = λ job. so.classless job ∙ sym (any_push (is_classless_job job) told one ∙ (ap (λ (b : Bool). list_any (is_classless_job job) told || b) (no_job job) ∙ or_false _));
     }
+
+pub noted_planned : (plan : Plan) (one : Settled) (told firsts : List Settled) → is_planned plan one ≡ true → AreFirsts (told ++ one ∷ []) firsts → AreFirsts (with_planned plan one told) firsts
+noted_planned plan one told firsts planned are = subst (λ (b : Bool). AreFirsts (cond b (told ++ one ∷ []) told) firsts) (sym planned) are
+
+pub on_both : {T E P Q R : Type 0} (r : Result T E) → (P → Q → R) → OnOk r P → OnOk r Q → OnOk r R
+on_both (Ok x) f p q = f p q
+on_both (Err e) f p q = p

@@ -26,3 +26,11 @@ pub excesses_after : (plan : Plan) (kinds : List (Option ℕ)) (before : List Re
 excesses_after plan kinds before line number old new adds_up next so adds =
     adds ∙ (ap (λ (xs : List RoundExcess). xs ++ excesses_by_line plan kinds before number line) so
     ∙ (ap (λ (n : ℕ). excesses_by_lines plan kinds before ++ excesses_by_line plan kinds before n line) next ∙ sym (adds_up plan kinds before line)))
+
+pub no_excesses : (plan : Plan) (kinds : List (Option ℕ)) → [] ≡ excesses_by_lines plan kinds []
+unfolding excesses_by_lines
+no_excesses plan kinds = refl
+
+pub no_deviations : (plan : Plan) → [] ≡ deviations_by_lines plan []
+unfolding deviations_by_lines
+no_deviations plan = refl

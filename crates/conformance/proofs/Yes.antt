@@ -125,10 +125,12 @@ good_if plan told verdicts one so no_strays no_undecided among has_label =
     let no_stray : is_stray plan one ≡ true → ⊥ = λ h. none_first _ _ one so.strays no_strays (stays (is_stray plan) told one among h) in
     let not_undecided : is_undecided plan one ≡ true → ⊥ = λ h. none_first _ _ one so.undecided no_undecided (stays (is_undecided plan) told one among h) in
     elim (by_test one.family.is_decided) [
-      inr open_yet ↦ absurd (not_undecided (and_true _ _ (ap not open_yet) has_label))
-    | inl decided ↦ elim (by_test (is_empty one.family.members.items)) [
-          inl empty ↦ absurd (no_stray (and_true _ _ (and_true _ _ decided empty) has_label))
-        | inr some ↦ record { decided = decided; some = some } ] ]
+      | inr open_yet ↦ absurd (not_undecided (and_true _ _ (ap not open_yet) has_label))
+      | inl decided ↦ elim (by_test (is_empty one.family.members.items)) [
+        | inl empty ↦ absurd (no_stray (and_true _ _ (and_true _ _ decided empty) has_label))
+        | inr some ↦ record { decided = decided; some = some }
+      ]
+    ]
 
 pub all_good : (plan : Plan) (budget : ℕ) (lines : List RecordedLine) (told : List Settled) (verdicts : Verdicts) (unplanned : Unplanned) (one : Settled)
     → All (IsTold plan budget lines) told → IsVerdictsOf plan told verdicts → IsUnplannedOf plan lines unplanned

@@ -29,14 +29,23 @@ pool_difference_text name difference = codes "pool " ++ name ++ codes ": " ++ di
 abbrev pub not_recorded_text : List ℕ → List ℕ
 not_recorded_text name = codes "pool " ++ name ++ codes ": in the plan and not in the recording"
 
+abbrev pub unplanned_text : List ℕ → List ℕ → List ℕ
+unplanned_text sort name = sort ++ (codes " " ++ (name ++ codes ": not in the plan"))
+
+abbrev pub class_name_text : List ℕ → List ℕ
+class_name_text class = codes "class " ++ class ++ codes " in "
+
+abbrev pub class_text : List ℕ → List ℕ → List ℕ
+class_text class pool = class_name_text class ++ unplanned_text (codes "pool") pool
+
 abbrev pub deviation_text : Plan → PoolDeviation → List ℕ
-deviation_text plan (pool.NotPlanned line name) = codes "pool " ++ string_bytes name ++ codes ": not in the plan"
+deviation_text plan (pool.NotPlanned line name) = unplanned_text (codes "pool") (string_bytes name)
 deviation_text plan (pool.Differs line number difference) = pool_difference_text (pool_at plan number).name difference
 deviation_text plan (pool.NotRecorded number) = not_recorded_text (pool_at plan number).name
 
 abbrev pub not_planned_text : NotPlanned → List ℕ
-not_planned_text (label.Class line class name) = codes "class " ++ string_bytes class ++ codes " in pool " ++ string_bytes name ++ codes ": not in the plan"
-not_planned_text (label.Kind line kind) = codes "kind " ++ string_bytes kind ++ codes ": not in the plan"
+not_planned_text (label.Class line class name) = class_text (string_bytes class) (string_bytes name)
+not_planned_text (label.Kind line kind) = unplanned_text (codes "kind") (string_bytes kind)
 
 abbrev pub kind_excess_text : Plan → RoundExcess → List ℕ
 kind_excess_text plan found = codes "kind " ++ (client_at plan found.kind).name ++ codes ": " ++ excess_text found.excess

@@ -1,7 +1,6 @@
 -- Of each label the actor with the smallest number.
-use Rattle.std.specs.Prelude.{◌≡◌, ◌≤◌, ◌<◌, ℕ, Bool, true, false, ◌&&◌, List, slice_get, string_bytes, All, Any, AllPairs, Contains, Option, Some, None}
+use Rattle.std.specs.Prelude.{◌≡◌, ◌≤◌, ℕ, Bool, true, false, ◌&&◌, List, string_bytes, All, Any, Contains}
 use Rattle.std.specs.Str.{bytes_eq}
-use Rattle.std.specs.List.{list_any}
 use Rattle.recording_lines.specs.declared.recording_line.RecordedActor.{RecordedActor}
 use Rattle.recording_lines.specs.declared.recording_line.RecordedActor.TheVariants.{Job, Round}
 use Rattle.recorded_classes.specs.declared.settled.Settled.{Settled}
@@ -29,8 +28,3 @@ pub record StandsFor (other first : Settled) : Type 0 where
 pub record AreFirsts (all firsts : List Settled) : Type 0 where
   pub among : All (Contains all) firsts
   pub each : All (λ one. Any (StandsFor one) firsts) all
-
--- the place of the one of the same label
-abbrev pub IsPlaceOf : List Settled → Settled → Option ℕ → Type 0
-IsPlaceOf firsts one None = list_any (λ first. is_same_label first one) firsts ≡ false
-IsPlaceOf firsts one (Some place) = (first : Settled) × (slice_get firsts place ≡ Some first) × (is_same_label first one ≡ true)

@@ -14,10 +14,9 @@ use Rattle.recorded_notes.specs.ForeignGets.{first_foreign_get}
 use Rattle.recorded_notes.specs.Voids.{voids_of}
 use Rattle.conformance.specs.declared.finding.Finding.{Finding}
 use Rattle.conformance.specs.declared.finding.Finding.TheVariants as finding
-use Rattle.conformance.specs.declared.job_set.JobSet.{JobSet}
 use Rattle.conformance.specs.declared.stray.Stray.{Stray}
 use Rattle.conformance.specs.declared.survey.Survey.{Survey}
-use Rattle.conformance.specs.Described.{IsDescribed, IsLabelOf}
+use Rattle.conformance.specs.Described.{IsDescribed}
 
 -- behind what was found before stand more, of which this is so
 pub record Adds (old : List Finding) (IsSo : List Finding → Type 0) (new : List Finding) : Type 0 where
@@ -26,19 +25,19 @@ pub record Adds (old : List Finding) (IsSo : List Finding → Type 0) (new : Lis
   pub so : IsSo more
 
 -- ---- actors
-pub data IsStrayTold (lines : List RecordedLine) (classless : JobSet) (told : Settled) : Finding → Type 0 where
-  strays : (number : Option ℕ) (stray : Stray) → IsDescribed lines classless told number stray → IsStrayTold lines classless told (finding.Strays number stray)
+pub data IsStrayTold (told : Settled) : Finding → Type 0 where
+  strays : (number : Option ℕ) (stray : Stray) → IsDescribed told stray → IsStrayTold told (finding.Strays number stray)
 
-abbrev pub AreStrays : List RecordedLine → JobSet → List Settled → List Finding → Type 0
-AreStrays lines classless told found = AllZip (IsStrayTold lines classless) told found
+abbrev pub AreStrays : List Settled → List Finding → Type 0
+AreStrays told found = AllZip IsStrayTold told found
 
 abbrev pub not_decided : Settled → Finding
 not_decided told = finding.NotDecided told.actor told.label
 
 -- ---- notes
-pub data AreForeign (lines : List RecordedLine) : Option ForeignGet → List Finding → Type 0 where
-  none : AreForeign lines None []
-  one : (get : ForeignGet) (label : String Global) → IsLabelOf lines get.actor label → AreForeign lines (Some get) (finding.ForeignGet get label ∷ [])
+pub data AreForeign : Option ForeignGet → List Finding → Type 0 where
+  none : AreForeign None []
+  one : (get : ForeignGet) (label : String Global) → AreForeign (Some get) (finding.ForeignGet get label ∷ [])
 
 -- it voids a yes where the actor's path is of a body
 abbrev pub lasts : Voiding → Bool
@@ -50,11 +49,11 @@ abbrev pub is_lasting : Void → Bool
 is_lasting void = lasts void.what
 
 -- ---- all
--- the labels are those of the text's lines, and the notes those of these
-pub record AreGathered (text lines : List RecordedLine) (survey : Survey) (excesses : List RoundExcess) (found : List Finding) : Type 0 where
+-- the notes are those of these lines
+pub record AreGathered (lines : List RecordedLine) (survey : Survey) (excesses : List RoundExcess) (found : List Finding) : Type 0 where
   pub strays : List Finding
   pub foreign : List Finding
-  pub strays_so : AreStrays text survey.judged.verdicts.classless survey.judged.verdicts.strays.actors.items strays
-  pub foreign_so : AreForeign text (first_foreign_get lines) foreign
+  pub strays_so : AreStrays survey.judged.verdicts.strays.actors.items strays
+  pub foreign_so : AreForeign (first_foreign_get lines) foreign
   pub all : found ≡ map finding.Pool survey.watched.deviations.items ++ map finding.NotPlanned survey.watched.unplanned.found.items ++ strays
       ++ map not_decided survey.judged.verdicts.undecided.actors.items ++ map finding.TooMany excesses ++ foreign ++ map finding.Void (filter is_lasting (voids_of lines))

@@ -11,7 +11,6 @@ pub mod Verdicts
 pub mod FirstKinds
 pub mod Survey
 pub mod Described
-pub mod Found
 pub mod Conforms
 pub mod Gathered
 pub mod Outcome

@@ -1,5 +1,6 @@
 -- What a comparison comes to.
-use Rattle.std.specs.Prelude.{◌≤◌, ℕ, List, ⊤, AllPairs, Option, Some, None}
+use Rattle.std.specs.Prelude.{List, ⊤, Option, Some, None}
+use Rattle.std.specs.List.Sorted.{IsNonDecreasingBy}
 use Rattle.recorded_rules.specs.declared.fault.RecordingFault.{RecordingFault}
 use Rattle.conformance.specs.declared.comparison.Conformance.{Conformance}
 use Rattle.conformance.specs.declared.comparison.Conformance.TheVariants.{Bad, Compared}
@@ -18,4 +19,4 @@ IfCompared (Compared findings) P = P findings.items
 
 -- in the order of their lines, those without a line last
 abbrev pub AreInOrder : List Finding → Type 0
-AreInOrder findings = AllPairs (λ earlier later. place_of earlier ≤ place_of later) findings
+AreInOrder findings = IsNonDecreasingBy place_of findings

@@ -1,12 +1,11 @@
 //! Whether a service still is its plan.
 
-ghost use Rattle.std.specs.Prelude.{◌≡◌, ◌++◌, [], ℕ, List, All, AllPairs, IfOk, OnOk, map};
+ghost use Rattle.std.specs.Prelude.{◌≡◌, [], IfOk};
 ghost use Rattle.recording_lines.specs.RecordingLine.{lines_read};
 ghost use Rattle.recorded_rules.specs.Faults.{IsFirstFault};
 ghost use Rattle.recorded_paths.specs.StandsFor.{KeepsRules};
 ghost use Rattle.conformance.specs.Lines.{lines_of};
 ghost use Rattle.conformance.specs.Conforms.{Conforms, IsNotVoid};
-ghost use Rattle.conformance.specs.Found as found;
 ghost use Rattle.conformance.specs.Outcome as spec;
 
 use crate::counted::excesses;
@@ -14,6 +13,7 @@ use crate::finding::Finding;
 use crate::gathered::gathered;
 use crate::survey::surveyed;
 use job_bodies::Plan;
+use plan_differences::{pools_are_as_planned, rounds_are_within_plan};
 use recorded_rules::{RecordingFault, first_fault};
 use std::alloc::{AllocError, Global};
 
@@ -44,14 +44,12 @@ pub fn conform(
 ) -> Result<Conformance, AllocError>
     ensures bad { IfOk result (λ told. IsFirstFault (lines_read recording.now) (spec.fault_of told)) }
     ensures conforms { IfOk result (λ told. spec.IfCompared told (λ findings. findings ≡ [] → Conforms plan.now (lines_of recording.now) × IsNotVoid (lines_of recording.now))) }
-    ensures sound { IfOk result (λ told. spec.IfCompared told (All (found.IsFinding plan.now budget (lines_of recording.now)))) }
     ensures ascending { IfOk result (λ told. spec.IfCompared told spec.AreInOrder) }
 {
-    match first_fault(alloc, recording)? {
+    let fault = first_fault(alloc, recording)?;
+    match fault {
         Some(fault) => Ok(Conformance::Bad(fault)),
-        None => Ok(Conformance::Compared(compared(
-            alloc, plan, recording, budget,
-        )?)),
+        None => Ok(Conformance::Compared(compared(alloc, plan, recording, budget)?)),
     }
 }
 
@@ -63,16 +61,13 @@ fn compared(
     budget: u64,
 ) -> Result<Vec<Finding>, AllocError>
     ensures conforms { IfOk result (λ findings. KeepsRules (lines_of recording.now) → findings.items ≡ [] → Conforms plan.now (lines_of recording.now) × IsNotVoid (lines_of recording.now)) }
-    ensures sound { IfOk result (λ findings. KeepsRules (lines_of recording.now) → All (found.IsFinding plan.now budget (lines_of recording.now)) findings.items) }
     ensures ascending { IfOk result (λ findings. spec.AreInOrder findings.items) }
 {
+    pools_are_as_planned();
+    rounds_are_within_plan();
     let survey = surveyed(alloc, plan, recording, budget)?;
-    let excesses = excesses(
-        alloc,
-        plan,
-        recording,
-        survey.judged.kinds.kinds.as_slice(),
-    )?;
+    let kinds = survey.judged.kinds.kinds.as_slice();
+    let excesses = excesses(alloc, plan, recording, kinds)?;
     let mut findings = gathered(alloc, recording, survey, excesses)?;
     findings.sort_by_key(Finding::place)?;
     Ok(findings)

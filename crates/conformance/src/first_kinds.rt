@@ -1,10 +1,11 @@
 //! The kind that each round is counted as.
 
-ghost use Rattle.std.specs.Prelude.{◌≡◌, ◌++◌, ◌∷◌, [], ℕ, List, OnOk, IfOk, slice_get, slice_set};
+ghost use Rattle.std.specs.Prelude.{◌≡◌, ◌++◌, ◌∷◌, [], ℕ, List, OnOk, slice_get};
 ghost use Rattle.job_bodies.specs.Plan as plans;
 ghost use Rattle.recorded_classes.specs.declared.settled.Settled as settleds;
 ghost use Rattle.recording_lines.specs.RecordingLine.{RecordedLine, line_seen};
 ghost use Rattle.recorded_paths.specs.StandsFor.{KeepsRules};
+ghost use Rattle.plan_families.specs.Family.{client_family as clients_of};
 ghost use Rattle.conformance.specs.FirstKinds as spec;
 
 use job_bodies::Plan;
@@ -39,10 +40,19 @@ impl FirstKinds {
     pub(crate) fn take(&mut self, plan: &Plan, line: &Line<'_>) -> Result<(), AllocError>
         ensures { (before : List RecordedLine) (told : List settleds.Settled) → KeepsRules (before ++ line_seen line.now ∷ []) → spec.AreFirstKinds plan.now before told self.old.kinds.items → OnOk result (spec.AreFirstKinds plan.now (before ++ line_seen line.now ∷ []) told self.new.kinds.items) }
     {
-        if let Line::RoundBegins { kind, .. } = *line {
-            let family = client_family(self.alloc, plan, kind)?;
-            self.kinds.push(family.first().copied())?;
+        match *line {
+            Line::RoundBegins { kind, .. } => self.push(plan, kind),
+            _ => Ok(()),
         }
+    }
+
+    // A round with this label.
+    fn push(&mut self, plan: &Plan, label: &str) -> Result<(), AllocError>
+        ensures { OnOk result (self.new.kinds.items ≡ self.old.kinds.items ++ slice_get (clients_of plan.now label.now) 0 ∷ []) }
+    {
+        let family = client_family(self.alloc, plan, label)?;
+        let first = family.first().copied();
+        self.kinds.push(first)?;
         Ok(())
     }
 

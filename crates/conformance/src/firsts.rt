@@ -1,6 +1,6 @@
 //! Of each label the actor with the smallest number.
 
-ghost use Rattle.std.specs.Prelude.{◌≡◌, ◌++◌, ◌∷◌, [], List, OnOk};
+ghost use Rattle.std.specs.Prelude.{◌≡◌, ◌++◌, ◌∷◌, [], List, OnOk, position};
 ghost use Rattle.recorded_classes.specs.declared.settled.Settled as settleds;
 ghost use Rattle.conformance.specs.Firsts as spec;
 
@@ -48,7 +48,7 @@ impl Firsts {
 
     // Where the one of this label is.
     fn place_of(&self, settled: &Settled) -> Option<usize>
-        ensures { spec.IsPlaceOf self.now.actors.items settled.now result }
+        ensures { result ≡ position (λ (one : settleds.Settled). spec.is_same_label one settled.now) self.now.actors.items }
     {
         self.actors
             .iter()

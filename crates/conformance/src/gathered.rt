@@ -5,7 +5,6 @@ ghost use Rattle.recording_lines.specs.RecordingLine.{RecordedLine};
 ghost use Rattle.recorded_notes.specs.StandsFor.{IsNotesOf};
 ghost use Rattle.recorded_notes.specs.ForeignGets.{first_foreign_get};
 ghost use Rattle.recorded_notes.specs.Voids.{voids_of};
-ghost use Rattle.conformance.specs.Lines.{lines_of};
 ghost use Rattle.conformance.specs.Gathered as spec;
 ghost use Rattle.conformance.specs.declared.finding.Finding.TheVariants as kinds;
 
@@ -31,7 +30,7 @@ pub(crate) fn gathered(
     survey: Survey,
     excesses: Vec<RoundExcess>,
 ) -> Result<Vec<Finding>, AllocError>
-    ensures { (lines : List RecordedLine) → IsNotesOf survey.watched.notes lines → IfOk result (λ found. spec.AreGathered (lines_of recording.now) lines survey excesses.items found.items) }
+    ensures { (lines : List RecordedLine) → IsNotesOf survey.watched.notes lines → IfOk result (λ found. spec.AreGathered lines survey excesses.items found.items) }
 {
     let Survey { watched, judged } = survey;
     let Watched {
@@ -59,10 +58,7 @@ pub(crate) fn gathered(
     Ok(findings)
 }
 
-fn push_pools(
-    findings: &mut Vec<Finding>,
-    deviations: Vec<PoolDeviation>,
-) -> Result<(), AllocError>
+fn push_pools(findings: &mut Vec<Finding>, deviations: Vec<PoolDeviation>) -> Result<(), AllocError>
     ensures { OnOk result (findings.new.items ≡ findings.old.items ++ map kinds.Pool deviations.items) }
 {
     for deviation in deviations {
@@ -87,7 +83,7 @@ fn push_strays(
     classless: &JobSet,
     strays: &[Settled],
 ) -> Result<(), AllocError>
-    ensures { OnOk result (spec.Adds findings.old.items (spec.AreStrays (lines_of recording.now) classless.now strays.now) findings.new.items) }
+    ensures { OnOk result (spec.Adds findings.old.items (spec.AreStrays strays.now) findings.new.items) }
 {
     for told in strays {
         let (line, stray) = described(alloc, recording, classless, told)?;
@@ -121,7 +117,7 @@ fn push_foreign_get(
     recording: &[u8],
     notes: &RecordedNotes,
 ) -> Result<(), AllocError>
-    ensures { (lines : List RecordedLine) → IsNotesOf notes.now lines → OnOk result (spec.Adds findings.old.items (spec.AreForeign (lines_of recording.now) (first_foreign_get lines)) findings.new.items) }
+    ensures { (lines : List RecordedLine) → IsNotesOf notes.now lines → OnOk result (spec.Adds findings.old.items (spec.AreForeign (first_foreign_get lines)) findings.new.items) }
 {
     if let Some(get) = notes.foreign_get() {
         let label = label_of(alloc, recording, get.actor)?;

@@ -37,11 +37,15 @@ impl Watched {
     pub(crate) fn new(alloc: Global) -> Watched
         ensures { (plan : plans.Plan) → spec.IsWatchedOf plan [] result }
     {
+        let pools = PoolWatch::new(alloc);
+        let deviations = Vec::new(alloc);
+        let notes = RecordedNotes::new(alloc);
+        let unplanned = Unplanned::new(alloc);
         Watched {
-            pools: PoolWatch::new(alloc),
-            deviations: Vec::new(alloc),
-            notes: RecordedNotes::new(alloc),
-            unplanned: Unplanned::new(alloc),
+            pools,
+            deviations,
+            notes,
+            unplanned,
         }
     }
 
@@ -88,10 +92,9 @@ impl Judged {
     pub(crate) fn new(alloc: Global) -> Judged
         ensures { (plan : plans.Plan) (budget : ℕ) → AreTold plan budget [] [] → spec.IsJudgedOf plan budget [] [] result }
     {
-        Judged {
-            verdicts: Verdicts::new(alloc),
-            kinds: FirstKinds::new(alloc),
-        }
+        let verdicts = Verdicts::new(alloc);
+        let kinds = FirstKinds::new(alloc);
+        Judged { verdicts, kinds }
     }
 
     /// It is told of these actors.

@@ -6,6 +6,7 @@ ghost use Rattle.recording_lines.specs.RecordingLine.{RecordedLine, line_seen};
 ghost use Rattle.conformance.specs.Unplanned as spec;
 
 use crate::labels::{Labels, pair};
+use crate::numbers::is_none;
 use job_bodies::Plan;
 use plan_families::{class_family, client_family};
 use recording_lines::Line;
@@ -21,7 +22,10 @@ pub enum NotPlanned {
         pool: String,
     },
     /// A round began, and the plan has no such kind.
-    Kind { line: usize, kind: String },
+    Kind {
+        line: usize,
+        kind: String,
+    },
 }
 
 /// The labels that the plan has not, by the lines so far.
@@ -76,29 +80,40 @@ impl Unplanned {
         ensures { OnOk result (spec.TakesClass plan.now number class.now pool.now self.old self.new) }
     {
         let label = pair(self.alloc, class, pool)?;
-        if !self.classes.contains(&label)
-            && class_family(self.alloc, plan, class, pool)?.is_empty()
-        {
-            self.classes.insert(&label)?;
-            self.found.push(NotPlanned::Class {
-                line: number,
-                class: String::from_str(self.alloc, class)?,
-                pool: String::from_str(self.alloc, pool)?,
-            })?;
+        if self.classes.contains(&label) {
+            return Ok(());
         }
+        let family = class_family(self.alloc, plan, class, pool)?;
+        if !is_none(&family) {
+            return Ok(());
+        }
+        let class = String::from_str(self.alloc, class)?;
+        let pool = String::from_str(self.alloc, pool)?;
+        self.classes.insert(&label)?;
+        self.found.push(NotPlanned::Class {
+            line: number,
+            class,
+            pool,
+        })?;
         Ok(())
     }
 
     fn take_kind(&mut self, plan: &Plan, number: usize, kind: &str) -> Result<(), AllocError>
         ensures { OnOk result (spec.TakesKind plan.now number kind.now self.old self.new) }
     {
-        if !self.kinds.contains(kind) && client_family(self.alloc, plan, kind)?.is_empty() {
-            self.kinds.insert(kind)?;
-            self.found.push(NotPlanned::Kind {
-                line: number,
-                kind: String::from_str(self.alloc, kind)?,
-            })?;
+        if self.kinds.contains(kind) {
+            return Ok(());
         }
+        let family = client_family(self.alloc, plan, kind)?;
+        if !is_none(&family) {
+            return Ok(());
+        }
+        let label = String::from_str(self.alloc, kind)?;
+        self.kinds.insert(kind)?;
+        self.found.push(NotPlanned::Kind {
+            line: number,
+            kind: label,
+        })?;
         Ok(())
     }
 }

@@ -9,6 +9,7 @@ ghost use Rattle.conformance.specs.Verdicts as spec;
 
 use crate::firsts::Firsts;
 use crate::job_set::JobSet;
+use crate::numbers::is_none;
 use job_bodies::Plan;
 use plan_families::{class_family, client_family};
 use recorded_classes::Settled;
@@ -50,7 +51,7 @@ impl Verdicts {
         if !settled.family.is_decided {
             return self.note_undecided(plan, settled);
         }
-        if settled.family.members.is_empty() {
+        if is_none(&settled.family.members) {
             return self.note_stray(plan, settled);
         }
         Ok(())
@@ -72,13 +73,22 @@ impl Verdicts {
         ensures undecided { self.new.undecided ≡ self.old.undecided }
         ensures classless { OnOk result ((job : ℕ) → has_job self.new.classless job ≡ spec.with_job settled.actor (has_job self.old.classless job) job) }
     {
-        if let RecordedActor::Job(job) = settled.actor {
-            self.classless.insert(job)?;
-        }
+        self.note_job(settled.actor)?;
         if is_planned(self.alloc, plan, &settled)? {
             self.strays.note(settled)?;
         }
         Ok(())
+    }
+
+    fn note_job(&mut self, actor: RecordedActor) -> Result<(), AllocError>
+        ensures strays { self.new.strays ≡ self.old.strays }
+        ensures undecided { self.new.undecided ≡ self.old.undecided }
+        ensures classless { OnOk result ((job : ℕ) → has_job self.new.classless job ≡ spec.with_job actor (has_job self.old.classless job) job) }
+    {
+        match actor {
+            RecordedActor::Job(job) => self.classless.insert(job),
+            RecordedActor::Round(_) => Ok(()),
+        }
     }
 }
 

@@ -1,5 +1,5 @@
 -- What `conform` may answer to an input: a relation, since nothing is said of which ways through a body are tried first.
-use Rattle.std.specs.Prelude.{◌≡◌, ℕ, Bool, true, false, nat_lt, if◌then◌else◌, List, [], ◌∷◌, ◌++◌, length, codes, All, Option, Some, None, Result, Ok, Err, MatchBool}
+use Rattle.std.specs.Prelude.{◌≡◌, ℕ, Bool, true, false, nat_lt, if◌then◌else◌, List, [], ◌∷◌, ◌++◌, length, codes, Option, Some, None, Result, Ok, Err, MatchBool}
 use Rattle.std.specs.List.{list_all}
 use Rattle.job_bodies.specs.Plan.{Plan}
 use Rattle.job_bodies.specs.FaultText.{fault_line}
@@ -17,10 +17,9 @@ use Rattle.conformance.specs.declared.finding.Finding.{Finding}
 use Rattle.conformance.specs.declared.finding.Finding.TheVariants as finding
 use Rattle.conformance.specs.Conforms.{Conforms, IsNotVoid}
 use Rattle.conformance.specs.FindingText.{findings_text}
-use Rattle.conformance.specs.Found.{IsFinding}
 use Rattle.conformance.specs.Lines.{lines_of}
 use Rattle.conformance.specs.Outcome.{AreInOrder, IfCompared, fault_of}
-use Rattle.sizing_cli.specs.declared.limits.TheConstants.{MAX_RECORDED_BYTES, MAX_PATH_STEPS}
+use Rattle.sizing_cli.specs.declared.limits.TheConstants.{MAX_RECORDED_BYTES}
 use Rattle.sizing_cli.specs.declared.status.Status.{Status}
 use Rattle.sizing_cli.specs.declared.status.Status.TheVariants.{Done, Refused, Undecided}
 use Rattle.sizing_cli.specs.Answer.{Answer, fault, input_too_long, no_separator}
@@ -61,11 +60,10 @@ answer_of plan (Compared findings) = findings_answer plan findings.items
 abbrev pub AreAllFindings : Plan → List ℕ → List Finding → Type 0
 AreAllFindings plan recording findings = findings ≡ [] → Conforms plan (lines_of recording) × IsNotVoid (lines_of recording)
 
--- the recording's first bad line; or what was found, where it has none: each is so, and they are all
+-- the recording's first bad line; or what was found, where it has none, in the order of the lines
 pub record IsSaidOf (plan : Plan) (recording : List ℕ) (said : Conformance) : Type 0 where
   pub bad : IsFirstFault (lines_read recording) (fault_of said)
   pub conforms : IfCompared said (AreAllFindings plan recording)
-  pub sound : IfCompared said (All (IsFinding plan MAX_PATH_STEPS (lines_of recording)))
   pub ascending : IfCompared said AreInOrder
 
 -- to a plan and a recording

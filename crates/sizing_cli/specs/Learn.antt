@@ -1,5 +1,5 @@
 -- What `learn` may answer to a recording: a relation, since nothing is said of which bodies are found.
-use Rattle.std.specs.Prelude.{◌≡◌, ◌⊎◌, ℕ, Bool, true, false, nat_lt, List, [], ◌∷◌, ◌++◌, length, flat_map, codes, decimal, All, None, Some, Ok, IsTrue, MatchBool}
+use Rattle.std.specs.Prelude.{◌≡◌, ◌⊎◌, ℕ, Bool, true, false, nat_lt, List, [], ◌∷◌, ◌++◌, length, flat_map, codes, decimal, None, Some, Ok, IsTrue, MatchBool}
 use Rattle.std.specs.List.{list_all}
 use Rattle.job_bodies.specs.Plan.{Plan}
 use Rattle.plan_text.specs.PlanOf.{plan_of}
@@ -10,11 +10,10 @@ use Rattle.recorded_rules.specs.declared.fault.RecordingFault.{RecordingFault}
 use Rattle.conformance.specs.declared.finding.Finding.{Finding}
 use Rattle.conformance.specs.declared.finding.Finding.TheVariants as finding
 use Rattle.conformance.specs.FindingText.{finding_line}
-use Rattle.conformance.specs.Found.{IsFinding}
 use Rattle.conformance.specs.Lines.{lines_of}
 use Rattle.learned_plans.specs.TooMuch.{too_much_text}
 use Rattle.learned_plans.specs.declared.too_much.TooMuch.{TooMuch}
-use Rattle.sizing_cli.specs.declared.limits.TheConstants.{MAX_RECORDED_BYTES, MAX_PATH_STEPS}
+use Rattle.sizing_cli.specs.declared.limits.TheConstants.{MAX_RECORDED_BYTES}
 use Rattle.sizing_cli.specs.declared.status.Status.TheVariants.{Done, Refused}
 use Rattle.sizing_cli.specs.Answer.{Answer, input_too_long}
 use Rattle.sizing_cli.specs.Conform.{AreAllFindings, bad_recording}
@@ -51,7 +50,6 @@ pub record IsLearnedText (recording text : List ℕ) : Type 0 where
   pub is_plan : plan_of text ≡ Ok plan
   pub findings : List Finding
   pub all : AreAllFindings plan recording findings
-  pub sound : All (IsFinding plan MAX_PATH_STEPS (lines_of recording)) findings
   pub comments_alone : IsTrue (list_all is_comment findings)
   pub rest : List ℕ
   pub text_is : text ≡ head_comment (begins (lines_of recording)) (submits (lines_of recording)) ++ (comments plan findings ++ rest)

@@ -1,0 +1,11 @@
+//! Lists of numbers.
+
+ghost use Rattle.std.specs.Prelude.{◌≡◌};
+ghost use Rattle.conformance.specs.Verdicts.{is_empty};
+
+/// Whether there are none.
+pub(crate) fn is_none(numbers: &[usize]) -> bool
+    ensures { result ≡ is_empty numbers.now }
+{
+    numbers.is_empty()
+}
