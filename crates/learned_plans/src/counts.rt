@@ -1,8 +1,8 @@
 //! How many clients there are of each kind.
 
-ghost use Rattle.std.specs.Prelude.{◌≡◌, ◌++◌, ◌∷◌, [], ℕ, List, length, OnOk, IfOk};
+ghost use Rattle.std.specs.Prelude.{◌≡◌, ◌++◌, ◌∷◌, [], ℕ, List, OnOk, IfOk};
 ghost use Rattle.recording_lines.specs.RecordingLine.{RecordedLine, line_seen};
-ghost use Rattle.learned_plans.specs.Counts.{Kinds};
+ghost use Rattle.learned_plans.specs.Counts.{Kinds, is_kind, begins_one, ends_one};
 ghost use Rattle.learned_plans.specs.Kept.{IsCountOf, AreCountsOf, ChangesOne, kinds_in, with_begin, with_end};
 ghost use Rattle.learned_plans.specs.Learned.{lines_of};
 
@@ -57,8 +57,7 @@ pub(crate) fn kind_counts(
     kinds: &[Option<usize>],
     count: usize,
 ) -> Result<Vec<KindCount>, AllocError>
-    ensures count { IfOk result (λ counts. length counts.items ≡ count) }
-    ensures all { IfOk result (λ counts. AreCountsOf (kinds_in kinds.now) (lines_of recording.now) counts.items) }
+    ensures { IfOk result (λ counts. AreCountsOf (kinds_in kinds.now) (lines_of recording.now) counts.items) }
 {
     let mut counts = Vec::from_elem(alloc, KindCount::new(), count)?;
     let mut lines = RecordingLines::new(recording);
@@ -76,13 +75,28 @@ fn note(
     kinds: &[Option<usize>],
     line: &Line<'_>,
 ) -> Result<(), AllocError>
-    ensures count { length counts.new ≡ length counts.old }
-    ensures all { (before : List RecordedLine) → AreCountsOf (kinds_in kinds.now) before counts.old → OnOk result (AreCountsOf (kinds_in kinds.now) (before ++ line_seen line.now ∷ []) counts.new) }
+    ensures { (before : List RecordedLine) → AreCountsOf (kinds_in kinds.now) before counts.old → OnOk result (AreCountsOf (kinds_in kinds.now) (before ++ line_seen line.now ∷ []) counts.new) }
+{
+    begin_one(counts, kind_begun(kinds, line))?;
+    end_one(counts, kind_ended(kinds, line))?;
+    Ok(())
+}
+
+fn kind_begun(kinds: &[Option<usize>], line: &Line<'_>) -> Option<usize>
+    ensures { (kind : ℕ) → is_kind kind result ≡ begins_one (kinds_in kinds.now) kind (line_seen line.now) }
 {
     match *line {
-        Line::RoundBegins { round, .. } => begin_one(counts, kind_of(kinds, round)),
-        Line::RoundEnds { round } => end_one(counts, kind_of(kinds, round)),
-        _ => Ok(()),
+        Line::RoundBegins { round, .. } => kind_of(kinds, round),
+        _ => None,
+    }
+}
+
+fn kind_ended(kinds: &[Option<usize>], line: &Line<'_>) -> Option<usize>
+    ensures { (kind : ℕ) → is_kind kind result ≡ ends_one (kinds_in kinds.now) kind (line_seen line.now) }
+{
+    match *line {
+        Line::RoundEnds { round } => kind_of(kinds, round),
+        _ => None,
     }
 }
 
@@ -93,8 +107,7 @@ fn kind_of(kinds: &[Option<usize>], round: usize) -> Option<usize>
 }
 
 fn begin_one(counts: &mut [KindCount], kind: Option<usize>) -> Result<(), AllocError>
-    ensures count { length counts.new ≡ length counts.old }
-    ensures one { OnOk result (ChangesOne kind with_begin counts.old counts.new) }
+    ensures { OnOk result (ChangesOne kind with_begin counts.old counts.new) }
 {
     match kind {
         Some(kind) if kind < counts.len() => counts[kind].begin(),
@@ -103,8 +116,7 @@ fn begin_one(counts: &mut [KindCount], kind: Option<usize>) -> Result<(), AllocE
 }
 
 fn end_one(counts: &mut [KindCount], kind: Option<usize>) -> Result<(), AllocError>
-    ensures count { length counts.new ≡ length counts.old }
-    ensures one { OnOk result (ChangesOne kind with_end counts.old counts.new) }
+    ensures { OnOk result (ChangesOne kind with_end counts.old counts.new) }
 {
     match kind {
         Some(kind) if kind < counts.len() => counts[kind].end(),

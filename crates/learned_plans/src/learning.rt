@@ -74,10 +74,13 @@ fn counted_clients(
     let entries = &working.kinds.entries;
     let counts = kind_counts(alloc, recording, kinds, entries.len())?;
     let mut clients = Vec::new(alloc);
-    for (entry, count) in entries.iter().zip(counts.iter()) {
-        clients
-            .push(counted_client(alloc, entry, *count)?)
-            .map_err(AllocError::from)?;
+    for _ in 0..entries.len() {
+        let kind = clients.len();
+        let (Some(entry), Some(count)) = (entries.get(kind), counts.get(kind)) else {
+            return Err(Stop::TooMuch(TooMuch::Kinds));
+        };
+        let client = counted_client(alloc, entry, *count)?;
+        clients.push(client).map_err(AllocError::from)?;
     }
     Ok(clients)
 }
