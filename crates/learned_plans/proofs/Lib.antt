@@ -2,4 +2,4 @@ pub mod Rest
 pub mod Firsts
 pub mod Named
 pub mod Tallies
-pub mod Clients
+pub mod Pushed

@@ -17,6 +17,10 @@ submits_more : (before : List RecordedLine) (line : RecordedLine) → submits (b
 unfolding submits
 submits_more before line = sum_by_push (λ x. if is_submit x then 1 else 0) before line
 
+pub none_named : (names : SeenNames) → names.pools.items ≡ [] → names.rounds ≡ 0 → names.jobs ≡ 0 → AreNamesOf names []
+unfolding pools_seen begins submits
+none_named names pools rounds jobs = record { pools = pools; rounds = rounds; jobs = jobs }
+
 pub named_after : (old new : SeenNames) (before : List RecordedLine) (line : RecordedLine) → AreNamesOf old before → new.pools.items ≡ with_first_of (pool_of_line line) old.pools.items
     → new.rounds ≡ old.rounds + (if is_begin line then 1 else 0) → new.jobs ≡ old.jobs + (if is_submit line then 1 else 0) → AreNamesOf new (before ++ line ∷ [])
 named_after old new before line names pools rounds jobs = record {

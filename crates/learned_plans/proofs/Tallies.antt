@@ -1,5 +1,5 @@
 -- The rounds of a kind, where one more line stands behind the others.
-use Rattle.std.proofs.Common.{◌≡◌, ◌≤◌, ◌<◌, ℕ, zero, suc, ◌+◌, ◌-◌, max, Bool, true, false, if◌then◌else◌, List, [], ◌∷◌, ◌++◌, length, take, slice_get, Some, refl, ap, sym, subst, ◌∙◌, inl, inr, arith}
+use Rattle.std.proofs.Common.{◌≡◌, ◌≤◌, ◌<◌, ℕ, zero, suc, ◌+◌, ◌-◌, max, Bool, true, false, if◌then◌else◌, List, [], ◌∷◌, ◌++◌, length, take, slice_get, Option, Some, None, refl, ap, sym, subst, ◌∙◌, inl, inr, arith}
 use Rattle.std.specs.List.{count_by}
 use Rattle.std.specs.Option.{option_map}
 use Rattle.std.proofs.lemmas.List.{take_all, take-append-le}
@@ -120,7 +120,7 @@ not_both : (kinds : Kinds) (kind : ℕ) (line : RecordedLine) → begins_one kin
 not_both kinds kind Head begins = refl
 not_both kinds kind (Pool name sizes) begins = refl
 not_both kinds kind (RoundBegins round label) begins = refl
-not_both kinds kind (RoundEnds round) begins = refl
+not_both kinds kind (RoundEnds round) begins = absurd (grind (arith, begins))
 not_both kinds kind (Submits actor job class pool) begins = refl
 not_both kinds kind (Refused actor job) begins = refl
 not_both kinds kind (JobStarts job) begins = refl

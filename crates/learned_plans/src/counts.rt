@@ -1,6 +1,6 @@
 //! How many clients there are of each kind.
 
-ghost use Rattle.std.specs.Prelude.{◌≡◌, ◌++◌, ◌∷◌, [], ℕ, List, OnOk, IfOk};
+ghost use Rattle.std.specs.Prelude.{◌≡◌, ◌++◌, ◌∷◌, [], ℕ, List, length, OnOk, IfOk};
 ghost use Rattle.recording_lines.specs.RecordingLine.{RecordedLine, line_seen};
 ghost use Rattle.learned_plans.specs.Counts.{Kinds, is_kind, begins_one, ends_one};
 ghost use Rattle.learned_plans.specs.Kept.{IsCountOf, AreCountsOf, ChangesOne, kinds_in, with_begin, with_end};
@@ -59,12 +59,23 @@ pub(crate) fn kind_counts(
 ) -> Result<Vec<KindCount>, AllocError>
     ensures { IfOk result (λ counts. AreCountsOf (kinds_in kinds.now) (lines_of recording.now) counts.items) }
 {
-    let mut counts = Vec::from_elem(alloc, KindCount::new(), count)?;
+    let mut counts = no_counts(alloc, count)?;
     let mut lines = RecordingLines::new(recording);
     while let Some(line) = lines.next() {
         if let Ok(line) = line {
             note(&mut counts, kinds, &line)?;
         }
+    }
+    Ok(counts)
+}
+
+// So many kinds, of which there are no rounds.
+fn no_counts(alloc: Global, count: usize) -> Result<Vec<KindCount>, AllocError>
+    ensures { (kinds : Kinds) → IfOk result (λ counts. AreCountsOf kinds [] counts.items) }
+{
+    let mut counts = Vec::new(alloc);
+    for _ in 0..count {
+        counts.push(KindCount::new())?;
     }
     Ok(counts)
 }
@@ -75,7 +86,8 @@ fn note(
     kinds: &[Option<usize>],
     line: &Line<'_>,
 ) -> Result<(), AllocError>
-    ensures { (before : List RecordedLine) → AreCountsOf (kinds_in kinds.now) before counts.old → OnOk result (AreCountsOf (kinds_in kinds.now) (before ++ line_seen line.now ∷ []) counts.new) }
+    ensures count { length counts.new ≡ length counts.old }
+    ensures all { (before : List RecordedLine) → AreCountsOf (kinds_in kinds.now) before counts.old → OnOk result (AreCountsOf (kinds_in kinds.now) (before ++ line_seen line.now ∷ []) counts.new) }
 {
     begin_one(counts, kind_begun(kinds, line))?;
     end_one(counts, kind_ended(kinds, line))?;
@@ -107,7 +119,8 @@ fn kind_of(kinds: &[Option<usize>], round: usize) -> Option<usize>
 }
 
 fn begin_one(counts: &mut [KindCount], kind: Option<usize>) -> Result<(), AllocError>
-    ensures { OnOk result (ChangesOne kind with_begin counts.old counts.new) }
+    ensures count { length counts.new ≡ length counts.old }
+    ensures one { OnOk result (ChangesOne kind with_begin counts.old counts.new) }
 {
     match kind {
         Some(kind) if kind < counts.len() => counts[kind].begin(),
@@ -116,7 +129,8 @@ fn begin_one(counts: &mut [KindCount], kind: Option<usize>) -> Result<(), AllocE
 }
 
 fn end_one(counts: &mut [KindCount], kind: Option<usize>) -> Result<(), AllocError>
-    ensures { OnOk result (ChangesOne kind with_end counts.old counts.new) }
+    ensures count { length counts.new ≡ length counts.old }
+    ensures one { OnOk result (ChangesOne kind with_end counts.old counts.new) }
 {
     match kind {
         Some(kind) if kind < counts.len() => counts[kind].end(),

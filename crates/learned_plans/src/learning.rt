@@ -1,6 +1,6 @@
 //! The plan that a recording shows.
 
-ghost use Rattle.std.specs.Prelude.{◌≡◌, ℕ, List, IfOk};
+ghost use Rattle.std.specs.Prelude.{◌≡◌, ◌++◌, ◌∷◌, [], ℕ, List, OnOk, IfOk};
 ghost use Rattle.recording_lines.specs.RecordingLine.{RecordedLine, lines_read};
 ghost use Rattle.recorded_rules.specs.Faults.{IsFirstFault};
 ghost use Rattle.recorded_rules.specs.Before.{begins, submits};
@@ -80,9 +80,16 @@ fn counted_clients(
             return Err(Stop::TooMuch(TooMuch::Kinds));
         };
         let client = counted_client(alloc, entry, *count)?;
-        clients.push(client).map_err(AllocError::from)?;
+        push_client(&mut clients, client)?;
     }
     Ok(clients)
+}
+
+fn push_client(clients: &mut Vec<Client>, client: Client) -> Result<(), AllocError>
+    ensures { OnOk result (clients.new.items ≡ clients.old.items ++ client ∷ []) }
+{
+    clients.push(client)?;
+    Ok(())
 }
 
 fn counted_client(alloc: Global, entry: &Entry, count: KindCount) -> Result<Client, Stop>
