@@ -1,6 +1,6 @@
 -- What holds of each item of a list at its place, where one more stands behind them.
-use Rattle.std.proofs.Common.{◌≡◌, ℕ, zero, suc, List, [], ◌∷◌, ◌++◌, length, slice_get, Some, None, take, ap, ◌∙◌, subst, arith}
-use Rattle.std.proofs.lemmas.List.{take-append_seam}
+use Rattle.std.proofs.Common.{◌≡◌, ℕ, zero, suc, List, [], ◌∷◌, ◌++◌, length, slice_get, Some, take, ap, ◌∙◌, subst, arith}
+use Rattle.std.proofs.Math.Seq.{take-append_seam}
 
 one_of_one : {X : Type 0} (x y : X) → Some x ≡ Some y → x ≡ y
 one_of_one x y same = grind (arith, same)

@@ -1,5 +1,5 @@
 -- The pools of a recording, as a plan has them.
-use Rattle.std.specs.Prelude.{ℕ, Bool, not, ◌&&◌, ◌==◌, List, [], ◌∷◌, map, filter, Option, Some, None, if◌then◌else◌, ◌++◌, min, max}
+use Rattle.std.specs.Prelude.{ℕ, Bool, not, ◌&&◌, ◌==◌, List, [], ◌∷◌, filter, Option, Some, None, if◌then◌else◌, ◌++◌, min, max}
 use Rattle.std.specs.List.{filter_map, list_any}
 use Rattle.std.specs.Str.{bytes_eq}
 use Rattle.job_bodies.specs.Plan.{Pool}

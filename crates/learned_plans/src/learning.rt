@@ -1,6 +1,6 @@
 //! The plan that a recording shows.
 
-ghost use Rattle.std.specs.Prelude.{◌≡◌, ◌++◌, ◌∷◌, [], ℕ, List, OnOk, IfOk};
+ghost use Rattle.std.specs.Prelude.{◌≡◌, ◌++◌, ◌∷◌, [], ℕ, List, slice_get, OnOk, IfOk};
 ghost use Rattle.recording_lines.specs.RecordingLine.{RecordedLine, lines_read};
 ghost use Rattle.recorded_rules.specs.Faults.{IsFirstFault};
 ghost use Rattle.recorded_rules.specs.Before.{begins, submits};
@@ -76,13 +76,19 @@ fn counted_clients(
     let mut clients = Vec::new(alloc);
     for _ in 0..entries.len() {
         let kind = clients.len();
-        let (Some(entry), Some(count)) = (entries.get(kind), counts.get(kind)) else {
+        let (Some(entry), Some(count)) = (entries.get(kind), count_at(&counts, kind)) else {
             return Err(Stop::TooMuch(TooMuch::Kinds));
         };
-        let client = counted_client(alloc, entry, *count)?;
+        let client = counted_client(alloc, entry, count)?;
         push_client(&mut clients, client)?;
     }
     Ok(clients)
+}
+
+fn count_at(counts: &[KindCount], kind: usize) -> Option<KindCount>
+    ensures { result ≡ slice_get counts.now kind }
+{
+    counts.get(kind).copied()
 }
 
 fn push_client(clients: &mut Vec<Client>, client: Client) -> Result<(), AllocError>

@@ -1,4 +1,4 @@
-use Rattle.std.proofs.Common.{◌≡◌, ◌+◌, if◌then◌else◌, ◌∙◌, ap}
+use Rattle.std.proofs.Common.{◌+◌, if◌then◌else◌, ◌∙◌, ap}
 use Rattle.recording_lines.specs.RecordingLine.{line_seen}
 use Rattle.learned_plans.proofs.Named.{named_after}
 use Rattle.learned_plans.proofs.seen_names.SeenNames.note.Goals as goal
