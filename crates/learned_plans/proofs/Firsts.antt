@@ -1,14 +1,14 @@
 -- The first pool of each name, where one more pool comes.
-use Rattle.std.proofs.Common.{◌≡◌, ℕ, Bool, true, false, ◌||◌, not, if◌then◌else◌, List, [], ◌∷◌, ◌++◌, refl, ap, sym, ◌∙◌, arith}
-use Rattle.std.specs.List.{list_any, filter, filter_map}
+use Rattle.std.proofs.Common.{◌≡◌, ℕ, Bool, true, false, if◌then◌else◌, List, [], ◌∷◌, ◌++◌, Option, Some, None, refl, ap, ◌∙◌, arith}
+use Rattle.std.specs.List.{filter, filter_map, cons_option}
+use Rattle.std.specs.Option.{option_to_list}
 use Rattle.std.specs.Str.{bytes_eq}
-use Rattle.std.proofs.lemmas.List.Elements.{filter-append, filter_map-append}
+use Rattle.std.proofs.lemmas.List.Elements.{filter_map-append}
+use Rattle.std.proofs.lemmas.List.{append-nil}
 use Rattle.std.proofs.lemmas.Slice.Eq.{bytes_eq-Decides}
 use Rattle.job_bodies.specs.Plan.{Pool}
-use Rattle.recording_lines.specs.RecordingLine as line
 use Rattle.recording_lines.specs.RecordingLine.{RecordedLine}
-use Rattle.recording_lines.specs.declared.pool_sizes.PoolSizes.{PoolSizes}
-use Rattle.learned_plans.specs.Pools.{pool_seen, pool_of_line, has_other_name, firsts, pools_seen, has_name, with_first}
+use Rattle.learned_plans.specs.Pools.{pool_of_line, has_other_name, firsts, pools_seen, has_name, with_first, with_first_of}
 
 -- of two names, the second of which is a third one, the first is the third one or not as it is the second one
 same_other : (x f p : List ℕ) → bytes_eq f p ≡ true → bytes_eq x f ≡ bytes_eq x p
@@ -40,6 +40,14 @@ firsts_more (x ∷ pools) p =
     ∙ ap (λ rest. x ∷ rest) (step _ _ x (firsts pools) p refl refl)
     ∙ with_behind _ x (filter (has_other_name x) (firsts pools)) p refl
 
-pub pools_more : (before : List RecordedLine) (name : List ℕ) (sizes : PoolSizes) → pools_seen (before ++ line.Pool name sizes ∷ []) ≡ with_first (pools_seen before) (pool_seen name sizes)
+behind_all : (one : Option Pool) (pools : List Pool) → firsts (pools ++ option_to_list one) ≡ with_first_of one (firsts pools)
+behind_all (Some pool) pools = firsts_more pools pool
+behind_all None pools = ap firsts (append-nil pools)
+
+as_list : (one : Option Pool) → cons_option one [] ≡ option_to_list one
+as_list None = refl
+as_list (Some pool) = refl
+
+pub pools_more : (before : List RecordedLine) (line : RecordedLine) → pools_seen (before ++ line ∷ []) ≡ with_first_of (pool_of_line line) (pools_seen before)
 unfolding pools_seen
-pools_more before name sizes = ap firsts (filter_map-append pool_of_line before (line.Pool name sizes ∷ [])) ∙ firsts_more (filter_map pool_of_line before) (pool_seen name sizes)
+pools_more before line = ap firsts (filter_map-append pool_of_line before (line ∷ []) ∙ ap (λ more. filter_map pool_of_line before ++ more) (as_list (pool_of_line line))) ∙ behind_all (pool_of_line line) (filter_map pool_of_line before)

@@ -1,3 +1,5 @@
 pub mod Rest
 pub mod Firsts
+pub mod Named
 pub mod Tallies
+pub mod Pushed

@@ -1,11 +1,10 @@
 -- The rounds of a kind, where one more line stands behind the others.
-use Rattle.std.proofs.Common.{◌≡◌, ◌≤◌, ◌<◌, ℕ, zero, suc, ◌+◌, ◌-◌, max, Bool, true, false, if◌then◌else◌, List, [], ◌∷◌, ◌++◌, length, take, slice_get, Some, refl, ap, sym, subst, ◌∙◌, inl, inr, arith}
-use Rattle.std.specs.List.{count_by}
+use Rattle.std.proofs.Common.{◌≡◌, ◌≤◌, ◌<◌, ℕ, ◌+◌, ◌-◌, max, Bool, true, false, if◌then◌else◌, List, [], ◌∷◌, ◌++◌, length, take, slice_get, Option, Some, None, refl, ap, sym, subst, ◌∙◌, inl, inr, arith}
 use Rattle.std.specs.Option.{option_map}
 use Rattle.std.proofs.lemmas.List.{take_all, take-append-le}
 use Rattle.std.proofs.lemmas.Bool.{cases_lt}
 use Rattle.std.proofs.lemmas.List.Sums.{sum_by_push}
-use Rattle.recording_lines.specs.RecordingLine.{RecordedLine, RoundBegins, RoundEnds}
+use Rattle.recording_lines.specs.RecordingLine.{RecordedLine, Head, Pool, RoundBegins, RoundEnds, Submits, Refused, JobStarts, JobEnds, JobThrew, Got, TimedOut, Interrupted, Cancels, InvokesAny, Removed, ShutDown, Unseen, End}
 use Rattle.learned_plans.specs.declared.counts.KindCount.{KindCount}
 use Rattle.learned_plans.specs.Counts.{Kinds, is_kind, begins_one, ends_one, begun_of, ended_of, open_of, IsMostAtOnce}
 use Rattle.learned_plans.specs.Kept.{IsCountOf, AreCountsOf, ChangesOne, with_begin, with_end}
@@ -19,7 +18,7 @@ unfolding ended_of
 ended_more kinds kind before line = sum_by_push (λ x. if ends_one kinds kind x then 1 else 0) before line
 
 -- ---- the first so many of the lines
-take_none : (n : ℕ) → take n [] ≡ []
+take_none : (n : ℕ) → take {A = RecordedLine} n [] ≡ []
 take_none n = take_all n [] (omega arith)
 
 length_more : (before : List RecordedLine) (line : RecordedLine) → length (before ++ line ∷ []) ≡ length before + 1
@@ -113,3 +112,41 @@ other_counted kinds kind before line count begins ends c =
       ended = grind (arith, ended, ends, c.ended);
       most = stays kinds kind count.most before line (omega (arith, same, open_now kinds kind count.most before c.most)) c.most;
     }
+
+-- ---- all counts
+-- no line begins one and ends one
+not_both : (kinds : Kinds) (kind : ℕ) (line : RecordedLine) → begins_one kinds kind line ≡ true → ends_one kinds kind line ≡ false
+not_both kinds kind Head begins = refl
+not_both kinds kind (Pool name sizes) begins = refl
+not_both kinds kind (RoundBegins round label) begins = refl
+not_both kinds kind (RoundEnds round) begins = absurd (grind (arith, begins))
+not_both kinds kind (Submits actor job class pool) begins = refl
+not_both kinds kind (Refused actor job) begins = refl
+not_both kinds kind (JobStarts job) begins = refl
+not_both kinds kind (JobEnds job) begins = refl
+not_both kinds kind (JobThrew job) begins = refl
+not_both kinds kind (Got actor job) begins = refl
+not_both kinds kind (TimedOut actor job) begins = refl
+not_both kinds kind (Interrupted actor job) begins = refl
+not_both kinds kind (Cancels actor job) begins = refl
+not_both kinds kind (InvokesAny actor pool) begins = refl
+not_both kinds kind (Removed job) begins = refl
+not_both kinds kind (ShutDown pool) begins = refl
+not_both kinds kind (Unseen pool jobs) begins = refl
+not_both kinds kind End begins = refl
+
+counted_at : (begins ends : Bool) (kinds : Kinds) (kind : ℕ) (before : List RecordedLine) (line : RecordedLine) (old mid : Option KindCount) (count : KindCount) → begins_one kinds kind line ≡ begins → ends_one kinds kind line ≡ ends
+    → mid ≡ (if begins then option_map with_begin old else old) → (if ends then option_map with_end mid else mid) ≡ Some count → ((one : KindCount) → old ≡ Some one → IsCountOf kinds before kind one) → IsCountOf kinds (before ++ line ∷ []) kind count
+counted_at true true kinds kind before line old mid count begins ends m n counts = absurd (grind (arith, begins, ends, not_both kinds kind line begins))
+counted_at true false kinds kind before line None mid count begins ends m n counts = absurd (grind (arith, m, n))
+counted_at true false kinds kind before line (Some one) mid count begins ends m n counts =
+    subst (IsCountOf kinds (before ++ line ∷ []) kind) (grind (arith, m, n)) (begin_counted kinds kind before line one begins ends (counts one refl))
+counted_at false true kinds kind before line None mid count begins ends m n counts = absurd (grind (arith, m, n))
+counted_at false true kinds kind before line (Some one) mid count begins ends m n counts =
+    subst (IsCountOf kinds (before ++ line ∷ []) kind) (grind (arith, m, n)) (end_counted kinds kind before line one begins ends (counts one refl))
+counted_at false false kinds kind before line old mid count begins ends m n counts = other_counted kinds kind before line count begins ends (counts count (sym m ∙ n))
+
+pub all_counted : (kinds : Kinds) (begun ended : Option ℕ) (before : List RecordedLine) (line : RecordedLine) (old mid new : List KindCount) → ((kind : ℕ) → is_kind kind begun ≡ begins_one kinds kind line)
+    → ((kind : ℕ) → is_kind kind ended ≡ ends_one kinds kind line) → ChangesOne begun with_begin old mid → ChangesOne ended with_end mid new → AreCountsOf kinds before old → AreCountsOf kinds (before ++ line ∷ []) new
+all_counted kinds begun ended before line old mid new begins ends one two counts kind count there =
+    counted_at (is_kind kind begun) (is_kind kind ended) kinds kind before line (slice_get old kind) (slice_get mid kind) count (sym (begins kind)) (sym (ends kind)) (one kind) (sym (two kind) ∙ there) (counts kind)

@@ -1,5 +1,5 @@
 -- What is kept of the lines so far, and how it stands for them.
-use Rattle.std.specs.Prelude.{◌≡◌, ℕ, ◌+◌, ◌-◌, max, if◌then◌else◌, List, slice_get, Option, Some, None}
+use Rattle.std.specs.Prelude.{◌≡◌, ℕ, ◌+◌, ◌-◌, max, if◌then◌else◌, List, slice_get, Option, Some}
 use Rattle.std.specs.Option.{option_map, option_and_then}
 use Rattle.recording_lines.specs.RecordingLine.{RecordedLine}
 use Rattle.recorded_rules.specs.Before.{begins, submits}

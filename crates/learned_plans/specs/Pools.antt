@@ -1,5 +1,5 @@
 -- The pools of a recording, as a plan has them.
-use Rattle.std.specs.Prelude.{ℕ, Bool, not, ◌&&◌, ◌==◌, List, [], ◌∷◌, map, filter, Option, Some, None, if◌then◌else◌, ◌++◌, min, max}
+use Rattle.std.specs.Prelude.{ℕ, Bool, not, ◌&&◌, ◌==◌, List, [], ◌∷◌, filter, Option, Some, None, if◌then◌else◌, ◌++◌, min, max}
 use Rattle.std.specs.List.{filter_map, list_any}
 use Rattle.std.specs.Str.{bytes_eq}
 use Rattle.job_bodies.specs.Plan.{Pool}
@@ -47,3 +47,7 @@ has_name name pools = list_any (λ pool. bytes_eq pool.name name) pools
 -- behind the others, where none has its name
 abbrev pub with_first : List Pool → Pool → List Pool
 with_first pools pool = if has_name pool.name pools then pools else pools ++ pool ∷ []
+
+abbrev pub with_first_of : Option Pool → List Pool → List Pool
+with_first_of (Some pool) pools = with_first pools pool
+with_first_of None pools = pools

@@ -2,7 +2,7 @@
 
 ghost use Rattle.std.specs.Prelude.{◌≡◌, ◌++◌, ◌∷◌, [], ℕ, List, length, OnOk, IfOk};
 ghost use Rattle.recording_lines.specs.RecordingLine.{RecordedLine, line_seen};
-ghost use Rattle.learned_plans.specs.Counts.{Kinds};
+ghost use Rattle.learned_plans.specs.Counts.{Kinds, is_kind, begins_one, ends_one};
 ghost use Rattle.learned_plans.specs.Kept.{IsCountOf, AreCountsOf, ChangesOne, kinds_in, with_begin, with_end};
 ghost use Rattle.learned_plans.specs.Learned.{lines_of};
 
@@ -57,15 +57,25 @@ pub(crate) fn kind_counts(
     kinds: &[Option<usize>],
     count: usize,
 ) -> Result<Vec<KindCount>, AllocError>
-    ensures count { IfOk result (λ counts. length counts.items ≡ count) }
-    ensures all { IfOk result (λ counts. AreCountsOf (kinds_in kinds.now) (lines_of recording.now) counts.items) }
+    ensures { IfOk result (λ counts. AreCountsOf (kinds_in kinds.now) (lines_of recording.now) counts.items) }
 {
-    let mut counts = Vec::from_elem(alloc, KindCount::new(), count)?;
+    let mut counts = no_counts(alloc, count)?;
     let mut lines = RecordingLines::new(recording);
     while let Some(line) = lines.next() {
         if let Ok(line) = line {
             note(&mut counts, kinds, &line)?;
         }
+    }
+    Ok(counts)
+}
+
+// So many kinds, of which there are no rounds.
+fn no_counts(alloc: Global, count: usize) -> Result<Vec<KindCount>, AllocError>
+    ensures { (kinds : Kinds) → IfOk result (λ counts. AreCountsOf kinds [] counts.items) }
+{
+    let mut counts = Vec::new(alloc);
+    for _ in 0..count {
+        counts.push(KindCount::new())?;
     }
     Ok(counts)
 }
@@ -79,10 +89,26 @@ fn note(
     ensures count { length counts.new ≡ length counts.old }
     ensures all { (before : List RecordedLine) → AreCountsOf (kinds_in kinds.now) before counts.old → OnOk result (AreCountsOf (kinds_in kinds.now) (before ++ line_seen line.now ∷ []) counts.new) }
 {
+    begin_one(counts, kind_begun(kinds, line))?;
+    end_one(counts, kind_ended(kinds, line))?;
+    Ok(())
+}
+
+fn kind_begun(kinds: &[Option<usize>], line: &Line<'_>) -> Option<usize>
+    ensures { (kind : ℕ) → is_kind kind result ≡ begins_one (kinds_in kinds.now) kind (line_seen line.now) }
+{
     match *line {
-        Line::RoundBegins { round, .. } => begin_one(counts, kind_of(kinds, round)),
-        Line::RoundEnds { round } => end_one(counts, kind_of(kinds, round)),
-        _ => Ok(()),
+        Line::RoundBegins { round, .. } => kind_of(kinds, round),
+        _ => None,
+    }
+}
+
+fn kind_ended(kinds: &[Option<usize>], line: &Line<'_>) -> Option<usize>
+    ensures { (kind : ℕ) → is_kind kind result ≡ ends_one (kinds_in kinds.now) kind (line_seen line.now) }
+{
+    match *line {
+        Line::RoundEnds { round } => kind_of(kinds, round),
+        _ => None,
     }
 }
 

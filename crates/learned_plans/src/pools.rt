@@ -1,12 +1,13 @@
 //! The pools of a recording, as a plan has them.
 
-ghost use Rattle.std.specs.Prelude.{◌≡◌, is_some, IfOk, OnOk};
+ghost use Rattle.std.specs.Prelude.{◌≡◌, IfOk, OnOk};
+ghost use Rattle.recording_lines.specs.RecordingLine.{line_seen};
 ghost use Rattle.learned_plans.specs.Pools as spec;
 
 use crate::stop::Stop;
 use crate::too_much::TooMuch;
 use job_bodies::{MAX_POOLS, MAX_SIZE, Pool};
-use recording_lines::PoolSizes;
+use recording_lines::{Line, PoolSizes};
 use std::alloc::{AllocError, Global};
 
 /// The pool of this name that the line tells of, each size brought into the range that it has in a plan.
@@ -40,34 +41,41 @@ fn has_core_threads(sizes: PoolSizes) -> bool
     sizes.prestarted != 0 && sizes.prestarted == sizes.core
 }
 
-/// The pool of this name is there from here on: as the line tells, where there was none.
+/// The pool that the line tells of is there from here on: as the line tells, where there was none of its name.
 ///
 /// # Errors
 ///
 /// [`Stop::TooMuch`] where a plan may not have one more; [`Stop::Memory`] where there is no memory for it.
-pub(crate) fn note_pool(
-    alloc: Global,
-    pools: &mut Vec<Pool>,
-    name: &str,
-    sizes: PoolSizes,
-) -> Result<(), Stop>
+pub(crate) fn note_pool(alloc: Global, pools: &mut Vec<Pool>, line: &Line<'_>) -> Result<(), Stop>
+    ensures { OnOk result (pools.new.items ≡ spec.with_first_of (spec.pool_of_line (line_seen line.now)) pools.old.items) }
+{
+    match *line {
+        Line::Pool { name, sizes } => add_pool(alloc, pools, name, sizes),
+        _ => Ok(()),
+    }
+}
+
+fn add_pool(alloc: Global, pools: &mut Vec<Pool>, name: &str, sizes: PoolSizes) -> Result<(), Stop>
     ensures { OnOk result (pools.new.items ≡ spec.with_first pools.old.items (spec.pool_seen name.now sizes)) }
 {
-    if pool_number(pools, name).is_some() {
+    if has_name(pools, name) {
         return Ok(());
     }
     if pools.len() >= MAX_POOLS {
         return Err(Stop::TooMuch(TooMuch::Pools));
     }
-    pools
-        .push(pool_seen(alloc, name, sizes)?)
-        .map_err(AllocError::from)?;
+    let pool = pool_seen(alloc, name, sizes)?;
+    pools.push(pool).map_err(AllocError::from)?;
     Ok(())
 }
 
-/// The number of the pool of this name.
-pub(crate) fn pool_number(pools: &[Pool], name: &str) -> Option<usize>
-    ensures { is_some result ≡ spec.has_name name.now pools.now }
+fn has_name(pools: &[Pool], name: &str) -> bool
+    ensures { result ≡ spec.has_name name.now pools.now }
 {
+    pools.iter().any(|pool| pool.name.as_str() == name)
+}
+
+/// The number of the pool of this name.
+pub(crate) fn pool_number(pools: &[Pool], name: &str) -> Option<usize> {
     pools.iter().position(|pool| pool.name.as_str() == name)
 }

@@ -1,11 +1,12 @@
 //! What the lines of a recording name.
 
-ghost use Rattle.std.specs.Prelude.{◌≡◌, ◌++◌, ◌∷◌, [], List, OnOk, IfOk};
+ghost use Rattle.std.specs.Prelude.{◌≡◌, ◌+◌, ◌++◌, ◌∷◌, [], List, OnOk, IfOk, if◌then◌else◌};
+ghost use Rattle.recorded_rules.specs.LineParts as parts;
 ghost use Rattle.recording_lines.specs.RecordingLine.{RecordedLine, line_seen};
 ghost use Rattle.learned_plans.specs.Learned.{lines_of};
 ghost use Rattle.learned_plans.specs.Kept.{AreNamesOf};
 
-use crate::pools::{note_pool, pool_number};
+use crate::pools::note_pool;
 use crate::stop::Stop;
 use crate::working::Working;
 use job_bodies::Pool;
@@ -50,20 +51,39 @@ impl SeenNames {
     fn note(&mut self, line: &Line<'_>) -> Result<(), Stop>
         ensures { (before : List RecordedLine) → AreNamesOf self.old before → OnOk result (AreNamesOf self.new (before ++ line_seen line.now ∷ [])) }
     {
-        match *line {
-            Line::Pool { name, sizes } => note_pool(self.alloc, &mut self.pools, name, sizes),
-            Line::RoundBegins { kind, .. } => {
-                self.rounds = self.rounds.checked_add(1).ok_or(AllocError)?;
-                self.working.kinds.note(kind, 0)
-            }
-            Line::Submits { class, pool, .. } => {
-                self.jobs = self.jobs.checked_add(1).ok_or(AllocError)?;
-                match pool_number(&self.pools, pool) {
-                    Some(pool) => self.working.classes.note(class, pool),
-                    None => Ok(()),
-                }
-            }
-            _ => Ok(()),
-        }
+        self.working.note(&self.pools, line)?;
+        note_pool(self.alloc, &mut self.pools, line)?;
+        self.rounds = counted(self.rounds, is_begin(line))?;
+        self.jobs = counted(self.jobs, is_submit(line))?;
+        Ok(())
+    }
+}
+
+// One more, where it is counted.
+fn counted(count: usize, is_one: bool) -> Result<usize, AllocError>
+    ensures { IfOk result (λ new. new ≡ count + (if is_one then 1 else 0)) }
+{
+    if is_one {
+        count.checked_add(1).ok_or(AllocError)
+    } else {
+        Ok(count)
+    }
+}
+
+fn is_begin(line: &Line<'_>) -> bool
+    ensures { result ≡ parts.is_begin (line_seen line.now) }
+{
+    match *line {
+        Line::RoundBegins { .. } => true,
+        _ => false,
+    }
+}
+
+fn is_submit(line: &Line<'_>) -> bool
+    ensures { result ≡ parts.is_submit (line_seen line.now) }
+{
+    match *line {
+        Line::Submits { .. } => true,
+        _ => false,
     }
 }

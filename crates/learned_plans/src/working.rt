@@ -1,10 +1,14 @@
 //! The plan, while its bodies are learned.
 
+ghost use Rattle.std.specs.Prelude.{◌≡◌, IfOk};
+
 use crate::entries::{Entries, Entry};
 use crate::growth::{Did, reached_from};
+use crate::pools::pool_number;
 use crate::stop::Stop;
 use crate::too_much::TooMuch;
 use job_bodies::{Class, Client, MAX_CLASSES, MAX_CLIENT_KINDS, Plan, Pool};
+use recording_lines::Line;
 use std::alloc::{AllocError, Global};
 
 /// The classes and the kinds of clients, with the bodies that they have so far.
@@ -22,6 +26,22 @@ impl Working {
             classes: Entries::new(alloc, MAX_CLASSES, TooMuch::Classes),
             kinds: Entries::new(alloc, MAX_CLIENT_KINDS, TooMuch::Kinds),
             alloc,
+        }
+    }
+
+    /// The class or the kind that the line names is there from here on.
+    ///
+    /// # Errors
+    ///
+    /// [`Stop::TooMuch`] where a plan may not have one more; [`Stop::Memory`] where there is no memory for it.
+    pub(crate) fn note(&mut self, pools: &[Pool], line: &Line<'_>) -> Result<(), Stop> {
+        match *line {
+            Line::RoundBegins { kind, .. } => self.kinds.note(kind, 0),
+            Line::Submits { class, pool, .. } => match pool_number(pools, pool) {
+                Some(pool) => self.classes.note(class, pool),
+                None => Ok(()),
+            },
+            _ => Ok(()),
         }
     }
 
@@ -108,7 +128,10 @@ pub(crate) fn client_of(
     entry: &Entry,
     count: u64,
     repeat: bool,
-) -> Result<Client, AllocError> {
+) -> Result<Client, AllocError>
+    ensures count { IfOk result (λ client. client.count ≡ count) }
+    ensures repeat { IfOk result (λ client. client.repeat ≡ repeat) }
+{
     Ok(Client {
         name: String::from_str(alloc, &entry.name)?,
         count,

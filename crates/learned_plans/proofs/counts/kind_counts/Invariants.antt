@@ -1,14 +1,11 @@
-use Rattle.std.proofs.Common.{◌≡◌, ◌×◌, ℕ, length}
+use Rattle.std.proofs.Common.{length}
 use Rattle.recording_lines.specs.RecordingLine.{lines_read}
 use Rattle.learned_plans.specs.Kept.{AreCountsOf, kinds_in}
 use Rattle.learned_plans.proofs.Rest.{Rest, good}
 use Rattle.learned_plans.proofs.counts.kind_counts.Given as goal
 
 abbrev pub invariant-loop-line : goal.invariant-loop-line
-invariant-loop-line l = record {
-  count : length l.counts.items ≡ l.count;
-  rest : Rest (λ before. AreCountsOf (kinds_in l.kinds) before l.counts.items) (good (lines_read l.recording)) l.lines;
-}
+invariant-loop-line l = Rest (λ before. AreCountsOf (kinds_in l.kinds) before l.counts.items) (good (lines_read l.recording)) l.lines
 
 abbrev pub decreases-loop-line : goal.decreases-loop-line
 decreases-loop-line l = length l.lines

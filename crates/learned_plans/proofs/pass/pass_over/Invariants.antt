@@ -1,4 +1,5 @@
-use Rattle.std.proofs.Common.{ℕ, length, ⊤}
+use Rattle.std.proofs.Common.{length}
+use Rattle.std.specs.Bool.{⊤}
 use Rattle.learned_plans.proofs.pass.pass_over.Given as goal
 
 abbrev pub invariant-loop-line : goal.invariant-loop-line

@@ -1,4 +1,4 @@
-use Rattle.std.proofs.Common.{ℕ, length}
+use Rattle.std.proofs.Common.{length}
 use Rattle.recording_lines.specs.RecordingLine.{lines_read}
 use Rattle.learned_plans.specs.Kept.{AreNamesOf}
 use Rattle.learned_plans.proofs.Rest.{Rest, good}

@@ -1,6 +1,6 @@
 //! The plan that a recording shows.
 
-ghost use Rattle.std.specs.Prelude.{◌≡◌, ℕ, List, IfOk};
+ghost use Rattle.std.specs.Prelude.{◌≡◌, ◌++◌, ◌∷◌, [], ℕ, List, slice_get, OnOk, IfOk};
 ghost use Rattle.recording_lines.specs.RecordingLine.{RecordedLine, lines_read};
 ghost use Rattle.recorded_rules.specs.Faults.{IsFirstFault};
 ghost use Rattle.recorded_rules.specs.Before.{begins, submits};
@@ -74,12 +74,28 @@ fn counted_clients(
     let entries = &working.kinds.entries;
     let counts = kind_counts(alloc, recording, kinds, entries.len())?;
     let mut clients = Vec::new(alloc);
-    for (entry, count) in entries.iter().zip(counts.iter()) {
-        clients
-            .push(counted_client(alloc, entry, *count)?)
-            .map_err(AllocError::from)?;
+    for _ in 0..entries.len() {
+        let kind = clients.len();
+        let (Some(entry), Some(count)) = (entries.get(kind), count_at(&counts, kind)) else {
+            return Err(Stop::TooMuch(TooMuch::Kinds));
+        };
+        let client = counted_client(alloc, entry, count)?;
+        push_client(&mut clients, client)?;
     }
     Ok(clients)
+}
+
+fn count_at(counts: &[KindCount], kind: usize) -> Option<KindCount>
+    ensures { result ≡ slice_get counts.now kind }
+{
+    counts.get(kind).copied()
+}
+
+fn push_client(clients: &mut Vec<Client>, client: Client) -> Result<(), AllocError>
+    ensures { OnOk result (clients.new.items ≡ clients.old.items ++ client ∷ []) }
+{
+    clients.push(client)?;
+    Ok(())
 }
 
 fn counted_client(alloc: Global, entry: &Entry, count: KindCount) -> Result<Client, Stop>
