@@ -14,6 +14,8 @@ mod help_texts;
 #[cfg(test)]
 mod judged_plans;
 #[cfg(test)]
+mod learned;
+#[cfg(test)]
 mod limits;
 #[cfg(test)]
 mod pools;

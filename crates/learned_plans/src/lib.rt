@@ -32,8 +32,6 @@ mod pass;
 mod pools;
 mod seen_names;
 mod stop;
-#[cfg(test)]
-mod tests;
 mod too_much;
 mod working;
 

@@ -1,7 +1,7 @@
 //! Recordings of which the plan is known.
 
-use crate::{Learned, learn};
 use job_bodies::{Action, Plan};
+use learned_plans::{Learned, learn};
 use std::alloc::{AllocError, Global};
 use std::process::Abort;
 
