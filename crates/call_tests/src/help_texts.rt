@@ -15,7 +15,7 @@ const TABLE: &[(&[&str], &[&str])] = &[
             "with a line between them that is exactly `%%`",
             "paste the example of `sizing ask --help` into a shell",
             "\nExit status:\n  0  ",
-            "\n  4  not decided, of `ask` and `refute` (with --bundle that is 1)",
+            "\n  4  not decided, of `ask`, `conform` and `refute` (with --bundle that is 1)",
         ],
     ),
     (
@@ -93,6 +93,26 @@ const TABLE: &[(&[&str], &[&str])] = &[
             "\nEND\n\nIt answers, with status 1:\n",
             "\nrefused by pages, after 7 events of 2 clients\n",
             "\npool pages: threads 1 of 1, idle 1, queued 1 of 1\n",
+        ],
+    ),
+    (
+        &["sizing", "conform", "--help"],
+        &[
+            "\nUsage: sizing conform PLAN RECORDING\n       sizing conform < INPUT\n",
+            "\n  line 903: kind tomcat: 31 at once, count is 30\n",
+            "\nsizing conform <<'END'\n[[pool]]\n",
+            "\n%%\nrecording 1\n",
+            "\nEND\n\nIt answers, with status 1:\n",
+            "\nline 2: pool pages: queue 3, plan 2\nline 7: round 0 of kind browser ended;",
+        ],
+    ),
+    (
+        &["sizing", "learn", "--help"],
+        &[
+            "\nUsage: sizing learn RECORDING\n       sizing learn < RECORDING\n",
+            "[RECORDING]",
+            "\nsizing learn <<'END'\nrecording 1\n",
+            "\nround 1 begin browser\nEND",
         ],
     ),
     (
