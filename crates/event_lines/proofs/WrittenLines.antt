@@ -168,9 +168,9 @@ verb_read plan verb rest line read =
 
 -- ---- lines
 -- a text that writes a line is the line's text, and the line is lawful
-pub read_is_written : (plan : Plan) (text : List ℕ) (line : Line) → line_of plan text ≡ Some line → (is_lawful_line plan line ≡ true) × (text ≡ line_text plan line)
+pub line_read : (plan : Plan) (text : List ℕ) (line : Line) → line_of plan text ≡ Some line → (is_lawful_line plan line ≡ true) × (text ≡ line_text plan line)
 unfolding line_of
-read_is_written plan text line read =
+line_read plan text line read =
     option_and_then_some (λ words. line_of_verb plan words.0 words.1) (split_space text) line read (λ words split verb.
     let found = verb_read plan words.0 words.1 line verb in
     (found.0, split_parts text words split ∙ found.1))

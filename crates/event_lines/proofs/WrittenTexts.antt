@@ -14,7 +14,7 @@ use Rattle.event_lines.specs.LineText.{line_text, lines_text, is_lawful_line}
 use Rattle.event_lines.specs.Laws.{EventLinesAreCanonical}
 use Rattle.line_words.proofs.LastNewline.{last_newline, cut_off, stays, lines_of_some}
 use Rattle.line_words.proofs.Splits.{has_no, cut_at, cut_joined, joined_before, flat_map-map, is_piece, joined_ends}
-use Rattle.event_lines.proofs.WrittenLines.{read_is_written, line_written, has_plain_name, line_on_one_line}
+use Rattle.event_lines.proofs.WrittenLines.{line_read, line_written, has_plain_name, line_on_one_line}
 
 -- ---- one line after another
 then_ok : {A B F : Type 0} (r : Result A F) (f : A → Result B F) (y : B) → (r >>= f) ≡ Ok y → (x : A) × (r ≡ Ok x) × (f x ≡ Ok y)
@@ -29,14 +29,14 @@ some_of_ok None fault x e = absurd cc
 abbrev AreLines : Plan → List (List ℕ) → List Line → Type 0
 AreLines plan texts lines = (list_all (is_lawful_line plan) lines ≡ true) × (texts ≡ map (line_text plan) lines)
 
-reads_are_written : (plan : Plan) (i : ℕ) (texts : List (List ℕ)) (lines : List Line) → read_each (line_at plan) i texts ≡ Ok lines → AreLines plan texts lines
-reads_are_written plan i [] [] read = (refl, refl)
-reads_are_written plan i [] (line ∷ lines) read = absurd cc
-reads_are_written plan i (text ∷ texts) lines read =
+lines_read : (plan : Plan) (i : ℕ) (texts : List (List ℕ)) (lines : List Line) → read_each (line_at plan) i texts ≡ Ok lines → AreLines plan texts lines
+lines_read plan i [] [] read = (refl, refl)
+lines_read plan i [] (line ∷ lines) read = absurd cc
+lines_read plan i (text ∷ texts) lines read =
     let first = then_ok (line_at plan i text) _ lines read in
     let others = then_ok (read_each (line_at plan) (i + 1) texts) _ lines first.2 in
-    let one = read_is_written plan text first.0 (some_of_ok (line_of plan text) (i + 1) first.0 first.1) in
-    let more = reads_are_written plan (i + 1) texts others.0 others.1 in
+    let one = line_read plan text first.0 (some_of_ok (line_of plan text) (i + 1) first.0 first.1) in
+    let more = lines_read plan (i + 1) texts others.0 others.1 in
     let whole : first.0 ∷ others.0 ≡ lines = cc (others.2) in
     subst (λ (ls : List Line). AreLines plan (text ∷ texts) ls) whole (and_from _ _ one.0 more.0, ap₂ (λ (x : List ℕ) (xs : List (List ℕ)). x ∷ xs) one.1 more.1)
 
@@ -81,7 +81,7 @@ same_fronts (x ∷ xs) (y ∷ ys) c e =
 -- some lines are read of a text that is not empty
 some_lines_read : (plan : Plan) (text : List ℕ) (lines : List Line) → 0 < length text → read_each (line_at plan) 0 (lines_of text) ≡ Ok lines
     → (list_all (is_lawful_line plan) lines ≡ true) × ((text ≡ lines_text plan lines) ⊎ (text ++ 10 ∷ [] ≡ lines_text plan lines))
-some_lines_read plan text lines some read = by_lines lines (reads_are_written plan 0 (lines_of text) lines read)
+some_lines_read plan text lines some read = by_lines lines (lines_read plan 0 (lines_of text) lines read)
   where
     by_lines : (lines : List Line) → AreLines plan (lines_of text) lines
         → (list_all (is_lawful_line plan) lines ≡ true) × ((text ≡ lines_text plan lines) ⊎ (text ++ 10 ∷ [] ≡ lines_text plan lines))
