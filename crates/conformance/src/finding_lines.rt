@@ -32,11 +32,7 @@ pub fn push_findings(text: &mut String, plan: &Plan, findings: &[Finding]) -> Re
 /// # Errors
 ///
 /// [`AllocError`] where memory runs out.
-pub fn push_finding(
-    text: &mut String,
-    plan: &Plan,
-    finding: &Finding,
-) -> Result<(), AllocError>
+pub fn push_finding(text: &mut String, plan: &Plan, finding: &Finding) -> Result<(), AllocError>
     ensures { Pushes result text.old text.new (spec.finding_text plan.now finding.now) }
 {
     push_line_number(text, finding.line())?;

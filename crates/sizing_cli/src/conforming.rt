@@ -42,11 +42,7 @@ fn compared(alloc: Global, plan: &Plan, recording: &[u8]) -> Result<Answer, Allo
     }
 }
 
-fn findings_told(
-    alloc: Global,
-    plan: &Plan,
-    findings: &[Finding],
-) -> Result<Answer, AllocError>
+fn findings_told(alloc: Global, plan: &Plan, findings: &[Finding]) -> Result<Answer, AllocError>
     ensures { IfOk result (λ answer. answer ≡ spec.findings_answer plan.now findings.now) }
 {
     let mut text = String::new(alloc);

@@ -111,17 +111,12 @@ fn head_of(
 fn head_comment(alloc: Global, rounds: usize, jobs: usize) -> Result<String, AllocError>
     ensures { IfOk result (λ text. string_bytes text ≡ spec.head_comment rounds jobs) }
 {
-    format!(
-        in alloc;
+    format!(in alloc;
         "# Learned from a recording. Rounds: {rounds}. Jobs: {jobs}.\n# What was not taken is not here: another path, class, kind or pool. Each count is what was seen at once.\n"
     )
 }
 
-fn push_comments(
-    text: &mut String,
-    plan: &Plan,
-    findings: &[Finding],
-) -> Result<(), AllocError>
+fn push_comments(text: &mut String, plan: &Plan, findings: &[Finding]) -> Result<(), AllocError>
     ensures { Pushes result text.old text.new (spec.comments plan.now findings.now) }
 {
     for finding in findings {
