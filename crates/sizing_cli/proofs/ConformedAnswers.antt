@@ -1,6 +1,8 @@
 -- What status 0 of `conform` means.
 use Rattle.std.proofs.Common.{◌≡◌, ℕ, inl, inr, Bool, true, false, cond, List, [], ◌∷◌, length, Option, Some, None, Result, Ok, Err, refl, sym, ap, ◌∙◌}
-use Rattle.std.specs.Prelude.{MatchBool, nat_lt}
+use Rattle.std.specs.Prelude.{MatchBool, nat_lt, ◌==◌}
+use Rattle.std.proofs.lemmas.Bool.{eqb-true}
+use Rattle.std.proofs.lemmas.List.{nil_from_length}
 use Rattle.std.specs.List.{list_all}
 use Rattle.job_bodies.specs.Plan.{Plan}
 use Rattle.job_bodies.specs.declared.fault.PlanFault.{PlanFault}
@@ -16,12 +18,15 @@ use Rattle.sizing_cli.specs.Conform.{AnswersBundle, AnswersReading, AnswersRecor
 
 -- nothing was found
 none_found : (findings : List Finding) → status_of findings ≡ Done → findings ≡ []
-none_found [] done = refl
-none_found (one ∷ more) done = by_test (list_all is_undecided (one ∷ more)) done
+none_found findings done = by_length (length findings == 0) refl done
   where
-    by_test : (test : Bool) → cond test Undecided Refused ≡ Done → (one ∷ more) ≡ []
-    by_test true no = absurd cc
-    by_test false no = absurd cc
+    by_all : (all : Bool) → cond all Undecided Refused ≡ Done → findings ≡ []
+    by_all true said = absurd cc
+    by_all false said = absurd cc
+
+    by_length : (none : Bool) → (length findings == 0) ≡ none → cond none Done (cond (list_all is_undecided findings) Undecided Refused) ≡ Done → findings ≡ []
+    by_length true is said = nil_from_length findings (eqb-true (length findings) 0 is)
+    by_length false is said = by_all (list_all is_undecided findings) said
 
 with_said : (input : List ℕ) (bundle : Bundle) (plan : Plan) → bundle_of input ≡ Some bundle → plan_of bundle.plan ≡ Ok plan → (said : Conformance)
     → IsSaidOf plan bundle.second said → (answer_of plan said).status ≡ Done → IsConformingInput input

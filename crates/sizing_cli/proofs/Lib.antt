@@ -8,6 +8,7 @@ pub mod Certified
 pub mod FittedAnswers
 pub mod AsDeclared
 pub mod RefutedAnswers
+mod SearchedPlans
 mod ConformedAnswers
 mod LearnedAnswers
 pub mod ServedAnswers

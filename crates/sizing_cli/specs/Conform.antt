@@ -1,5 +1,5 @@
 -- What `conform` may answer to an input: a relation, since nothing is said of which ways through a body are tried first.
-use Rattle.std.specs.Prelude.{◌≡◌, ℕ, Bool, true, false, nat_lt, if◌then◌else◌, List, [], ◌∷◌, ◌++◌, length, codes, Option, Some, None, Result, Ok, Err, MatchBool}
+use Rattle.std.specs.Prelude.{◌≡◌, ◌==◌, ℕ, Bool, true, false, nat_lt, if◌then◌else◌, List, [], ◌∷◌, ◌++◌, length, codes, Option, Some, None, Result, Ok, Err, MatchBool}
 use Rattle.std.specs.List.{list_all}
 use Rattle.job_bodies.specs.Plan.{Plan}
 use Rattle.job_bodies.specs.FaultText.{fault_line}
@@ -28,7 +28,7 @@ use Rattle.sizing_cli.specs.Bundle.{Bundle, bundle_of}
 -- ---- what is written
 -- the recording has this bad line
 abbrev pub bad_recording : RecordingFault → Answer
-bad_recording found = fault (head BAD_RECORDING ++ codes " at " ++ fault_text found)
+bad_recording found = fault (head BAD_RECORDING ++ (codes " at " ++ fault_text found))
 
 abbrev pub is_undecided : Finding → Bool
 is_undecided (finding.NotDecided actor name) = true
@@ -41,12 +41,10 @@ is_undecided (finding.Void void) = false
 
 -- a no, where more was found than what could not be decided
 abbrev pub status_of : List Finding → Status
-status_of [] = Done
-status_of (one ∷ more) = if list_all is_undecided (one ∷ more) then Undecided else Refused
+status_of findings = if length findings == 0 then Done else (if list_all is_undecided findings then Undecided else Refused)
 
 abbrev pub told_text : Plan → List Finding → List ℕ
-told_text plan [] = codes "conforms" ++ 10 ∷ []
-told_text plan (one ∷ more) = findings_text plan (one ∷ more)
+told_text plan findings = if length findings == 0 then codes "conforms" ++ 10 ∷ [] else findings_text plan findings
 
 abbrev pub findings_answer : Plan → List Finding → Answer
 findings_answer plan findings = record { text = told_text plan findings; status = status_of findings }

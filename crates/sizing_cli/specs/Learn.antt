@@ -22,8 +22,8 @@ use Rattle.sizing_cli.specs.Conform.{AreAllFindings, bad_recording}
 -- of how much it was seen, and what no recording shows
 abbrev pub head_comment : ℕ → ℕ → List ℕ
 head_comment rounds jobs =
-    codes "# Learned from a recording. Rounds: " ++ decimal rounds ++ codes ". Jobs: " ++ decimal jobs ++ codes "." ++ 10
-    ∷ codes "# What was not taken is not here: another path, class, kind or pool. Each count is what was seen at once." ++ 10 ∷ []
+    (codes "# Learned from a recording. Rounds: " ++ (decimal rounds ++ (codes ". Jobs: " ++ (decimal jobs ++ (codes "." ++ 10 ∷ [])))))
+    ++ (codes "# What was not taken is not here: another path, class, kind or pool. Each count is what was seen at once." ++ 10 ∷ [])
 
 -- a thing that the recording has and no plan says
 abbrev pub comment_line : Plan → Finding → List ℕ

@@ -1,6 +1,7 @@
 //! What a recording is answered that stands behind a plan.
 
 ghost use Rattle.std.specs.Prelude.{◌≡◌, IfOk};
+ghost use Rattle.std.specs.List.{list_all};
 ghost use Rattle.sizing_cli.specs.Conform as spec;
 
 use crate::Status;
@@ -60,11 +61,17 @@ fn status_of(findings: &[Finding]) -> Status
 {
     if findings.is_empty() {
         Status::Done
-    } else if findings.iter().all(is_undecided) {
+    } else if are_undecided(findings) {
         Status::Undecided
     } else {
         Status::Refused
     }
+}
+
+fn are_undecided(findings: &[Finding]) -> bool
+    ensures { result ≡ list_all spec.is_undecided findings.now }
+{
+    findings.iter().all(|finding| is_undecided(finding))
 }
 
 fn is_undecided(finding: &Finding) -> bool

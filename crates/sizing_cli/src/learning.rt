@@ -1,6 +1,7 @@
 //! What a recording is answered that a plan is to be learned of.
 
-ghost use Rattle.std.specs.Prelude.{◌≡◌, ◌++◌, IfOk, IsTrue, None};
+ghost use Rattle.std.specs.Prelude.{◌≡◌, ◌++◌, IfOk, IsTrue, None, string_bytes};
+ghost use Rattle.std.specs.List.{list_all};
 ghost use Rattle.decimals.specs.Pushed.{Pushes};
 ghost use Rattle.recording_lines.specs.RecordingLine.{lines_read};
 ghost use Rattle.recorded_rules.specs.Before.{begins, submits};
@@ -86,11 +87,14 @@ fn is_learned(
     let Conformance::Compared(findings) = conform(alloc, &plan, recording, MAX_PATH_STEPS)? else {
         return Ok(false);
     };
-    if !findings.iter().all(is_comment) {
+    if !are_comments(&findings) {
         return Ok(false);
     }
     let head = head_of(alloc, rounds, jobs, &plan, &findings)?;
-    Ok(text.strip_prefix(head.as_bytes()).is_some())
+    match text.strip_prefix(head.as_bytes()) {
+        Some(_) => Ok(true),
+        None => Ok(false),
+    }
 }
 
 /// The comments at the head of a plan.
@@ -111,20 +115,36 @@ fn head_of(
 fn head_comment(alloc: Global, rounds: usize, jobs: usize) -> Result<String, AllocError>
     ensures { IfOk result (λ text. string_bytes text ≡ spec.head_comment rounds jobs) }
 {
-    format!(in alloc;
-        "# Learned from a recording. Rounds: {rounds}. Jobs: {jobs}.\n# What was not taken is not here: another path, class, kind or pool. Each count is what was seen at once.\n"
-    )
+    let mut text = format!(in alloc;
+        "# Learned from a recording. Rounds: {rounds}. Jobs: {jobs}.\n"
+    )?;
+    text.push_str(
+        "# What was not taken is not here: another path, class, kind or pool. Each count is what was seen at once.\n",
+    )?;
+    Ok(text)
 }
 
 fn push_comments(text: &mut String, plan: &Plan, findings: &[Finding]) -> Result<(), AllocError>
     ensures { Pushes result text.old text.new (spec.comments plan.now findings.now) }
 {
     for finding in findings {
-        text.push_str("# ")?;
-        push_finding(text, plan, finding)?;
-        text.push('\n')?;
+        push_comment(text, plan, finding)?;
     }
     Ok(())
+}
+
+fn push_comment(text: &mut String, plan: &Plan, finding: &Finding) -> Result<(), AllocError>
+    ensures { Pushes result text.old text.new (spec.comment_line plan.now finding.now) }
+{
+    text.push_str("# ")?;
+    push_finding(text, plan, finding)?;
+    text.push('\n')
+}
+
+fn are_comments(findings: &[Finding]) -> bool
+    ensures { result ≡ list_all spec.is_comment findings.now }
+{
+    findings.iter().all(|finding| is_comment(finding))
 }
 
 fn is_comment(finding: &Finding) -> bool
