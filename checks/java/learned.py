@@ -27,15 +27,19 @@ ROUNDS = 1000
 ROUNDS_OF_A_RUN = {"orders": 10, "hurried-prices": 50}
 # A run has stopped where nothing is done for so many seconds.
 SECONDS = 30
-# With a number one less a service is run so often, by threads that wait for so many microseconds at most before they take.
-TRIES = 5
+# Threads that are slow to take wait for so many microseconds at most before. With a number one less a service is run so often.
 SLOW = 2000
+TRIES = 5
 SECONDS_OF_A_TRY = 5
+OTHER_QUEUE = "queue of another kind (other)"
 # Of a recording so many gets are left out, one at a time.
 GETS_LEFT_OUT = 10
-# Where `fit` finds no sizes, what it must say, by hand. The letters of `orders`, which nobody waits for, have sizes: each buyer
-# comes once.
-NO_SIZES = {}
+# Where all clients repeat, of which plans there are no sizes, by hand: nobody waits for a letter of `orders`, nor for some of the
+# hurried prices. As the services are, each buyer and each hurried one comes once, so all have sizes.
+NEVER_GOT = {
+    "orders": r"no fitting sizes found class reserve action 0: submits for ever, never got",
+    "hurried-prices": r"no fitting sizes found client hurried action \d: submits for ever, never got",
+}
 
 
 class Learned(NamedTuple):
@@ -76,8 +80,10 @@ def part(tools):
         return wrong
     sized, wrong = sizes_of(tools, plans)
     ran = [(one, runs(tools, one.name, one.plan)) for one in sized]
+    slow = [(one, runs(tools, one.name, one.plan, SLOW)) for one in sized]
     return [*wrong, *as_recorded(tools, plans, recordings), *as_written(tools, plans, recordings), *slips_of_plans(tools, plans, recordings),
-            *slips_of_recordings(tools, plans, recordings), *without_refusal(tools, ran), *slips_of_sizes(tools, ran), *one_less(tools, ran)]
+            *slips_of_recordings(tools, plans, recordings), *without_refusal(tools, ran, ""), *without_refusal(tools, slow, ", threads slow to take"),
+            *slips_of_sizes(tools, ran), *one_less(tools, ran)]
 
 
 def conformed(tools, plan, recording):
@@ -114,7 +120,8 @@ def as_recorded(tools, plans, recordings):
         found = conformed(tools, told.text, recordings[name])
         if found != told.comments or deviations(found) or voids(found) != VOIDS[name]:
             wrong.append(f"learned, {name}: conform says {found}, the comments {told.comments}")
-    print(f"learned: {len(plans)} plans, with {sum(len(told.comments) for told in plans.values())} comments; conform says otherwise of {len(wrong)}", flush=True)
+    comments = sum(len(told.comments) for told in plans.values())
+    print(f"learned: {len(plans)} plans, with {comments} comments; conform says otherwise of {len(wrong)}", flush=True)
     return wrong
 
 
@@ -130,7 +137,7 @@ def as_written(tools, plans, recordings):
         ours, theirs = bodies_of(told.plan), bodies_of(written)
         bodies += len(ours)
         alike += sum(theirs.get(key) == body for key, body in ours.items())
-    print(f"learned and written by hand: {len(plans)} plans, of whose {bodies} bodies {alike} are the same word for word, with {len(wrong)} wrong", flush=True)
+    print(f"learned and written by hand: {len(plans)} plans, of whose {bodies} bodies {alike} are the same, with {len(wrong)} wrong", flush=True)
     return wrong
 
 
@@ -189,16 +196,22 @@ def slips_of_recordings(tools, plans, recordings):
 
 
 def sizes_of(tools, plans):
-    """Each learned plan with the sizes that `fit` finds: where it begins with those that the service has, and with ones."""
+    """Each learned plan with the sizes that `fit` finds: where it begins with those that the service has, and with ones. There are
+    none where clients begin again and jobs are never got."""
     sized, wrong = [], []
     for name, told in plans.items():
         ones = told.plan._replace(pools=[pool._replace(core=1, max=1, queue=1) for pool in told.plan.pools])
         for began, plan in (("its own sizes", told.plan), ("from 1", ones)):
             found, said = fitted(tools, plan)
-            if found is None and said != NO_SIZES.get(name):
+            if found is None:
                 wrong.append(f"learned, {name}, {began}: fit says {said}")
-            sized.append(Sized(name, began, found or plan))
-            print(f"sizes of {sized[-1]}: {said if found is None else sizes_text(found)}", flush=True)
+            else:
+                sized.append(Sized(name, began, found))
+                print(f"sizes of {sized[-1]}: {sizes_text(found)}", flush=True)
+        again = told.plan._replace(clients=[client._replace(repeat=True) for client in told.plan.clients])
+        found, said = fitted(tools, again)
+        if (found is None) != (name in NEVER_GOT) or not re.fullmatch(NEVER_GOT.get(name, "sizes"), said):
+            wrong.append(f"learned, {name}, where all clients repeat: fit says {said}")
     return sized, wrong
 
 
@@ -211,7 +224,7 @@ def fitted(tools, plan):
     status, told = tools.sizing("fit", text_of(plan))
     lines = told.splitlines()
     sizes = [POOL.fullmatch(line) for line in lines[:-1]]
-    if not all(sizes):
+    if not sizes or not all(sizes):
         return None, " ".join(lines)
     pools = [pool._replace(core=int(core), max=int(most), queue=int(queue))
              for pool, (name, core, most, queue) in zip(plan.pools, (size.groups() for size in sizes), strict=True) if pool.name == name]
@@ -259,18 +272,19 @@ def counts(run):
     return {what: int(number) for what, number in (words.split() for words in run.told.split(", "))}
 
 
-def without_refusal(tools, ran):
-    """With the sizes that `fit` found no run meets anything, and each is one of the plan."""
+def without_refusal(tools, ran, how):
+    """With the sizes that `fit` found no run meets anything, and each is one of the plan. (A queue that threads are slow to take
+    from is of another kind.)"""
     wrong = []
     for one, all_runs in ran:
         for run in all_runs:
-            found = conformed(tools, text_of(one.plan), run.recording)
+            found = [line for line in conformed(tools, text_of(one.plan), run.recording) if not how or not line.endswith(OTHER_QUEUE)]
             if met(run) or deviations(found) or voids(found) != VOIDS[one.name]:
                 wrong.append(f"learned, {one}: a run met {met(run)}, and conform says {found}")
         rounds, jobs = (sum(counts(run)[what] for run in all_runs) for what in ("rounds", "jobs"))
-        print(f"runs of {one}: {len(all_runs)}, {rounds} rounds, {jobs} jobs, refused {sum(counts(run)['refused'] for run in all_runs)}, "
+        print(f"runs of {one}{how}: {len(all_runs)}, {rounds} rounds, {jobs} jobs, refused {sum(counts(run)['refused'] for run in all_runs)}, "
               f"stopped {sum(counts(run)['stopped'] for run in all_runs)}", flush=True)
-    print(f"runs with these sizes: {sum(len(all_runs) for _, all_runs in ran)}, with {len(wrong)} wrong", flush=True)
+    print(f"runs with these sizes{how}: {sum(len(all_runs) for _, all_runs in ran)}, with {len(wrong)} wrong", flush=True)
     return wrong
 
 
