@@ -27,11 +27,15 @@ ROUNDS = 1000
 ROUNDS_OF_A_RUN = {"orders": 10, "hurried-prices": 50}
 # A run has stopped where nothing is done for so many seconds.
 SECONDS = 30
-# Threads that are slow to take wait for so many microseconds at most before. With a number one less a service is run so often.
+# Threads that are slow to take wait for so many microseconds at most before. Their queue is a subclass, of no kind of a plan.
 SLOW = 2000
+OTHER_QUEUE = "queue of another kind (other)"
+# With a number one less a service is run so often.
 TRIES = 5
 SECONDS_OF_A_TRY = 5
-OTHER_QUEUE = "queue of another kind (other)"
+# How `refute` ends where it says `safe` or `not decided`.
+NO_WITNESS = (0, 4)
+FROM_ONE = "from 1"
 # Of a recording so many gets are left out, one at a time.
 GETS_LEFT_OUT = 10
 # Where all clients repeat, of which plans there are no sizes, by hand: nobody waits for a letter of `orders`, nor for some of the
@@ -39,6 +43,19 @@ GETS_LEFT_OUT = 10
 NEVER_GOT = {
     "orders": r"no fitting sizes found class reserve action 0: submits for ever, never got",
     "hurried-prices": r"no fitting sizes found client hurried action \d: submits for ever, never got",
+}
+# What the witness ends in, by hand, where `fit` began with 1 and the first number is one less that is not safe so.
+WITNESS = {
+    # seven clients, each of whose requests is queued while the one thread is idle
+    "web-and-database": "refused by web",
+    # three reports hold all of three threads, and no thread is left for their sections
+    "reports": "stuck for ever",
+    # ten orders, before any of them is done
+    "orders": "refused by front",
+    # the three rows of the window, all queued while the one thread is idle
+    "importer": "refused by rows",
+    # the prices of two patient clients and of four hurried ones, all queued while the one thread is idle
+    "hurried-prices": "refused by prices",
 }
 
 
@@ -201,7 +218,7 @@ def sizes_of(tools, plans):
     sized, wrong = [], []
     for name, told in plans.items():
         ones = told.plan._replace(pools=[pool._replace(core=1, max=1, queue=1) for pool in told.plan.pools])
-        for began, plan in (("its own sizes", told.plan), ("from 1", ones)):
+        for began, plan in (("its own sizes", told.plan), (FROM_ONE, ones)):
             found, said = fitted(tools, plan)
             if found is None:
                 wrong.append(f"learned, {name}, {began}: fit says {said}")
@@ -319,13 +336,17 @@ def one_less(tools, ran):
     """The first number whose lack `refute` has a witness of: the witness is replayed, and the service is run without."""
     wrong, missed, found, all_met = [], [], 0, 0
     for one, all_runs in ran:
-        safe = []
+        safe, status, told = [], None, ""
         for what, plan in less(one.plan):
             status, told = tools.sizing("refute", text_of(plan))
             if status == 1:
                 break
+            if status not in NO_WITNESS:
+                wrong.append(f"learned, {one}, {what}: refute ends with {status}: {told}")
             safe.append(f"{what} ({told.split(':')[0]})")
         before = "; before it " + ", ".join(safe) if safe else ""
+        if one.began == FROM_ONE and (status != 1 or not told.startswith(WITNESS[one.name])):
+            wrong.append(f"learned, {one}: refute ends with {status}: {told}")
         if status != 1:
             print(f"one less of {one}: no witness{before}", flush=True)
             continue
