@@ -1,7 +1,7 @@
 #!/usr/bin/env python3
 """Holds unmodified executors of java.util.concurrent to what the plans, the rules of docs/GUIDE.md and the promises say.
 
-    python3 checks/java/check.py [PART ..]     # replays, interleavings, bursts, loops, permits, services; all where nothing is said
+    python3 checks/java/check.py [PART ..]     # replays, interleavings, bursts, loops, permits, services, learned; all where nothing is said
 
 README.md says what each part shows. Each part also has planted slips, which it must find. It needs a JDK (`javac` and
 `java`, of JAVA_HOME where that is set): where there is none it says so, and nothing is shown.
@@ -25,6 +25,7 @@ sys.path[:0] = [str(HERE), str(HERE.parent)]
 
 import bursts
 import interleavings
+import learned
 import loops
 import permits
 import replays
@@ -32,7 +33,9 @@ import services
 from refused_growths import Unable, built
 
 PARTS = {"replays": replays.part, "interleavings": interleavings.part, "bursts": bursts.part, "loops": loops.part,
-         "permits": permits.part, "services": services.part}
+         "permits": permits.part, "services": services.part, "learned": learned.part}
+# The parts that ask the program.
+ASKING = {"replays", "learned"}
 LIBRARY = HERE.parent.parent / "java" / "src" / "sizing"
 SECONDS = 1800
 
@@ -49,8 +52,8 @@ class Tools:
                                stdout=subprocess.PIPE, timeout=SECONDS, check=True)
         return ended.stdout.splitlines()
 
-    def sizing(self, command, text):
-        ended = subprocess.run([self.program, command], input=text, text=True, capture_output=True, timeout=SECONDS)
+    def sizing(self, command, text, *options):
+        ended = subprocess.run([self.program, command, *options], input=text, text=True, capture_output=True, timeout=SECONDS)
         return ended.returncode, ended.stdout
 
 
@@ -66,7 +69,7 @@ def main():
         return 0
     wanted = sys.argv[1:] or list(PARTS)
     try:
-        program = built() if "replays" in wanted else None
+        program = built() if ASKING & set(wanted) else None
     except Unable as why:
         print(why, file=sys.stderr)
         return 2

@@ -7,15 +7,21 @@ import java.util.LinkedHashMap;
 import java.util.List;
 import java.util.Map;
 import java.util.Queue;
-import java.util.concurrent.ArrayBlockingQueue;
 import java.util.concurrent.ConcurrentLinkedQueue;
 import java.util.concurrent.CountDownLatch;
 import java.util.concurrent.ExecutorService;
+import java.util.concurrent.RejectedExecutionException;
 import java.util.concurrent.ThreadPoolExecutor;
 import java.util.concurrent.TimeUnit;
+import java.util.concurrent.atomic.AtomicInteger;
+import java.util.concurrent.atomic.LongAdder;
+import java.util.function.BooleanSupplier;
 import sizing.Recorder;
 
-/** One run of a service with a recorder: its pools, the threads of its clients, and a slip where one is planted. */
+/**
+ * One run of a service with a recorder: its pools, the threads of its clients, a slip where one is planted, and sizes and rounds
+ * where they are given.
+ */
 final class Run {
     /** What a client does in a round; clients of a kind are numbered from 0, and so are the rounds of each. */
     interface Round {
@@ -27,15 +33,30 @@ final class Run {
     private static final long SECONDS_OF_A_SLIP = 30;
     final Recorder recorder;
     private final String slip;
+    private final Given given;
     private final Map<String, ThreadPoolExecutor> executors = new LinkedHashMap<>();
     private final List<Thread> clients = new ArrayList<>();
     private final Queue<Throwable> failed = new ConcurrentLinkedQueue<>();
+    private final LongAdder rounds = new LongAdder();
+    private final LongAdder refused = new LongAdder();
+    /** Of rounds that are given: how many clients may still begin again. */
+    private final AtomicInteger roundsLeft = new AtomicInteger();
     private boolean isFirstKind = true;
 
     /** The slip is `none`, `path`, `count`, `size` or `change`. */
     Run(Path recording, String slip) throws IOException {
+        this(recording, slip, Given.NOTHING);
+    }
+
+    /** A run with what is given. */
+    Run(Path recording, Given given) throws IOException {
+        this(recording, "none", given);
+    }
+
+    private Run(Path recording, String slip, Given given) throws IOException {
         recorder = Recorder.toFile(recording);
         this.slip = slip;
+        this.given = given;
     }
 
     /** The service takes a path that is not of its plan. */
@@ -46,12 +67,26 @@ final class Run {
     /** A pool with an `ArrayBlockingQueue`. A slip of sizes is one of the first pool. */
     ExecutorService pool(String name, int core, int max, int queue) {
         int more = slip.equals("size") && executors.isEmpty() ? 1 : 0;
-        ThreadPoolExecutor executor = new ThreadPoolExecutor(core, max + more, 1, TimeUnit.SECONDS, new ArrayBlockingQueue<>(queue));
+        Given.Sizes sizes = given.of(name, new Given.Sizes(core, max + more, queue));
+        ThreadPoolExecutor executor = new ThreadPoolExecutor(sizes.core(), sizes.max(), 1, TimeUnit.SECONDS, given.queueOf(sizes));
+        if (given.isSomething()) {
+            executor.setRejectedExecutionHandler(this::refuse);
+        }
         executors.put(name, executor);
         return recorder.pool(name, executor);
     }
 
-    /** Threads of a kind, which are all within their first rounds at once. A slip of counts is one thread more of the first kind. */
+    /** Counts it, whoever of the service hears of it, and ends the run soon. */
+    private void refuse(Runnable task, ThreadPoolExecutor executor) {
+        refused.increment();
+        roundsLeft.set(0);
+        throw new RejectedExecutionException();
+    }
+
+    /**
+     * Threads of a kind, which are all within their first rounds at once. A slip of counts is one thread more of the first kind.
+     * Where rounds are given, those who begin again share them.
+     */
     void clients(String kind, int count, int rounds, Round body) {
         int all = count + (slip.equals("count") && isFirstKind ? 1 : 0);
         isFirstKind = false;
@@ -59,15 +94,20 @@ final class Run {
         for (int number = 0; number < all; number++) {
             int client = number;
             clients.add(new Thread(() -> {
-                for (int round = 0; round < rounds && round(kind, client, round, within, body); round++) {
+                for (int round = 0; begins(round, rounds) && round(kind, client, round, within, body); round++) {
                     continue;
                 }
             }, kind + "-" + client));
         }
     }
 
+    private boolean begins(int round, int own) {
+        return round == 0 || (given.isSomething() ? own > 1 && roundsLeft.getAndDecrement() > 0 : round < own);
+    }
+
     /** Whether it came to its end. */
     private boolean round(String kind, int client, int round, CountDownLatch within, Round body) {
+        rounds.increment();
         try (Recorder.Round recorded = recorder.round(kind)) {
             within.countDown();
             await(within);
@@ -108,6 +148,44 @@ final class Run {
         if (!failed.isEmpty()) {
             throw new AssertionError(failed.peek());
         }
+    }
+
+    /** Runs the clients until they and the pools are through, or nothing was done for so many seconds, and tells what they met. */
+    String met(long seconds) throws InterruptedException, IOException {
+        roundsLeft.set(given.rounds() - clients.size());
+        clients.forEach(Thread::start);
+        boolean stopped = stops(seconds, () -> clients.stream().noneMatch(Thread::isAlive));
+        if (!stopped) {
+            executors.values().forEach(ThreadPoolExecutor::shutdown);
+            stopped = stops(seconds, () -> executors.values().stream().allMatch(ThreadPoolExecutor::isTerminated));
+        }
+        recorder.close();
+        String met = "rounds " + rounds + ", jobs " + done() + ", refused " + refused + ", failed " + failed.size() + ", stopped " + (stopped ? 1 : 0);
+        executors.values().forEach(ThreadPoolExecutor::shutdownNow);
+        clients.forEach(Thread::interrupt);
+        end();
+        return met;
+    }
+
+    /** Whether nothing is done for so many seconds before it is through. */
+    private boolean stops(long seconds, BooleanSupplier through) throws InterruptedException {
+        long before = -1;
+        long since = System.nanoTime();
+        while (!through.getAsBoolean()) {
+            TimeUnit.MILLISECONDS.sleep(1);
+            long now = done() + rounds.sum();
+            if (now != before) {
+                before = now;
+                since = System.nanoTime();
+            } else if (System.nanoTime() - since > TimeUnit.SECONDS.toNanos(seconds)) {
+                return true;
+            }
+        }
+        return false;
+    }
+
+    private long done() {
+        return executors.values().stream().mapToLong(ThreadPoolExecutor::getCompletedTaskCount).sum();
     }
 
     private void end() throws InterruptedException {

@@ -20,7 +20,7 @@ final class Services {
         }
     }
 
-    private static Service named(String name) {
+    static Service named(String name) {
         return switch (name) {
             case "web-and-database" -> new WebAndDatabase(6, 8);
             case "example" -> new WebAndDatabase(2, 2);

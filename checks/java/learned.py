@@ -1,0 +1,392 @@
+"""The plans that services show of themselves. Each service is run with the recorder, `learn` gives its plan, and `fit` the sizes
+of that; with them it is run again, a thousand rounds in all, and may meet no refusal and no stop. Then a number is one less: where
+`refute` has a witness, its events are replayed, also on executors, and the service is run with that number.
+
+Planted slips must be found: a plan with another size, count or body, a recording without one of its gets, and a run that met a
+refusal or a stop and is told as right.
+"""
+
+import re
+import tempfile
+from pathlib import Path
+from typing import NamedTuple
+
+from conform import compared
+from java_text import case
+from read_plans import read_plan
+from recording import read
+from replays import KINDS, on_executors
+from services import VOID, VOIDS, deviations, other_plans, plan_of, put
+from small_plans import Plan, text_of
+
+SERVICES = [name for name in VOIDS if name != "example"]
+HEAD = re.compile(r"# Learned from a recording\. Rounds: (\d+)\. Jobs: (\d+)\.\n# What was not taken is not here: .*\n")
+POOL = re.compile(r"pool (\w+): core (\d+)(?: \(now \d+\))?, max (\d+)(?: \(now \d+\))?, queue (\d+)(?: \(now \d+\))?")
+ROUNDS = 1000
+# How many rounds one run has, where it is not all of them: clients that do not repeat have one each in the life of a service.
+ROUNDS_OF_A_RUN = {"orders": 10, "hurried-prices": 50}
+# A run has stopped where nothing is done for so many seconds.
+SECONDS = 30
+# Threads that are slow to take wait for so many microseconds at most before. Their queue is a subclass, of no kind of a plan.
+SLOW = 2000
+OTHER_QUEUE = "queue of another kind (other)"
+# With a number one less a service is run so often.
+TRIES = 5
+SECONDS_OF_A_TRY = 5
+# How `refute` ends where it says `safe` or `not decided`.
+NO_WITNESS = (0, 4)
+FROM_ONE = "from 1"
+# Of a recording so many gets are left out, one at a time.
+GETS_LEFT_OUT = 10
+# Where all clients repeat, of which plans there are no sizes, by hand: nobody waits for a letter of `orders`, nor for some of the
+# hurried prices. As the services are, each buyer and each hurried one comes once, so all have sizes.
+NEVER_GOT = {
+    "orders": r"no fitting sizes found class reserve action 0: submits for ever, never got",
+    "hurried-prices": r"no fitting sizes found client hurried action \d: submits for ever, never got",
+}
+# What the witness ends in, by hand, where `fit` began with 1 and the first number is one less that is not safe so.
+WITNESS = {
+    # seven clients, each of whose requests is queued while the one thread is idle
+    "web-and-database": "refused by web",
+    # three reports hold all of three threads, and no thread is left for their sections
+    "reports": "stuck for ever",
+    # ten orders, before any of them is done
+    "orders": "refused by front",
+    # the three rows of the window, all queued while the one thread is idle
+    "importer": "refused by rows",
+    # the prices of two patient clients and of four hurried ones, all queued while the one thread is idle
+    "hurried-prices": "refused by prices",
+}
+
+
+class Learned(NamedTuple):
+    """What `learn` says of a recording: a text, its comments behind the head, and the plan."""
+
+    text: str
+    comments: list
+    plan: Plan
+
+
+class Sized(NamedTuple):
+    """A service with sizes that `fit` found, where it began with those that are named."""
+
+    name: str
+    began: str
+    plan: Plan
+
+    def __str__(self):
+        return f"{self.name}, {self.began}"
+
+
+class Ran(NamedTuple):
+    """One run: how many rounds it was to have, what it told, and its recording."""
+
+    rounds: int
+    told: str
+    recording: str
+
+
+def part(tools):
+    with tempfile.TemporaryDirectory() as folder:
+        files = {name: Path(folder) / f"{name}.recording" for name in SERVICES}
+        tools.run_java("services.Services", *(word for name, file in files.items() for word in (name, "none", file)))
+        recordings = {name: file.read_text() for name, file in files.items()}
+    plans = {name: learned(tools, recording) for name, recording in recordings.items()}
+    wrong = [f"learned, {name}: no plan" for name, told in plans.items() if told is None]
+    if wrong:
+        return wrong
+    sized, wrong = sizes_of(tools, plans)
+    ran = [(one, runs(tools, one.name, one.plan)) for one in sized]
+    slow = [(one, runs(tools, one.name, one.plan, SLOW)) for one in sized]
+    return [*wrong, *as_recorded(tools, plans, recordings), *as_written(tools, plans, recordings), *slips_of_plans(tools, plans, recordings),
+            *slips_of_recordings(tools, plans, recordings), *without_refusal(tools, ran, ""), *without_refusal(tools, slow, ", threads slow to take"),
+            *slips_of_sizes(tools, ran), *one_less(tools, ran)]
+
+
+def conformed(tools, plan, recording):
+    """The lines of `sizing conform`, none where it says `conforms`; those of `conform.py` must be the same."""
+    status, told = tools.sizing("conform", f"{plan}%%\n{recording}")
+    lines = told.splitlines()
+    found = [] if lines == ["conforms"] else lines
+    if status != bool(found) or found != compared(plan, recording):
+        raise AssertionError(f"sizing conform ends with {status}: {lines[:3]}, conform.py says {compared(plan, recording)[:3]} of\n{plan}")
+    return found
+
+
+def voids(found):
+    return [re.sub(VOID, "", re.sub(r"job \d+", "job N", line)) for line in found if re.match(VOID, line)]
+
+
+# ---- the plan
+
+
+def learned(tools, recording):
+    """The plan that `learn` gives, None where it gives none."""
+    status, text = tools.sizing("learn", recording)
+    head = HEAD.match(text)
+    if status or not head or list(map(int, head.groups())) != [len(read(recording).rounds), len(read(recording).jobs)]:
+        return None
+    comments = text[head.end():].split("\n\n")[0].splitlines() if text[head.end()] != "\n" else []
+    return Learned(text, [line.removeprefix("# ") for line in comments], read_plan(text))
+
+
+def as_recorded(tools, plans, recordings):
+    """The recording conforms to the plan, but for what the comments say, and that is what is known by hand."""
+    wrong = []
+    for name, told in plans.items():
+        found = conformed(tools, told.text, recordings[name])
+        if found != told.comments or deviations(found) or voids(found) != VOIDS[name]:
+            wrong.append(f"learned, {name}: conform says {found}, the comments {told.comments}")
+    comments = sum(len(told.comments) for told in plans.values())
+    print(f"learned: {len(plans)} plans, with {comments} comments; conform says otherwise of {len(wrong)}", flush=True)
+    return wrong
+
+
+def as_written(tools, plans, recordings):
+    """The plan is the one that was written by hand, as far as a run shows it."""
+    wrong, bodies, alike = [], 0, 0
+    for name, told in plans.items():
+        written = read_plan(plan_of(name))
+        found = conformed(tools, plan_of(name), recordings[name])
+        wrong += [f"learned, {name}: {difference}" for difference in differences(told.plan, written)]
+        if deviations(found) or voids(found) != VOIDS[name]:
+            wrong.append(f"learned, {name}: of the plan that was written conform says {found}")
+        ours, theirs = bodies_of(told.plan), bodies_of(written)
+        bodies += len(ours)
+        alike += sum(theirs.get(key) == body for key, body in ours.items())
+    print(f"learned and written by hand: {len(plans)} plans, of whose {bodies} bodies {alike} are the same, with {len(wrong)} wrong", flush=True)
+    return wrong
+
+
+def differences(plan, written):
+    """Pools and sizes, classes in their pools, kinds and counts, whatever order they have."""
+    for what, ours, theirs in zip(("pools", "classes", "kinds"), tables(plan), tables(written)):
+        if ours != theirs:
+            yield f"{what} {sorted(ours)}, written {sorted(theirs)}"
+
+
+def tables(plan):
+    return (set(plan.pools), {(one.name, plan.pools[one.pool].name) for one in plan.classes},
+            {(client.name, client.count, client.repeat) for client in plan.clients})
+
+
+def bodies_of(plan):
+    """By what has the body, its submits with the names of their classes and its gets. What is `work` nobody records."""
+    return {(sort, one.name): [(what, plan.classes[operand].name if what == "submit" else operand) for what, operand in one.body]
+            for sort, entries in (("class", plan.classes), ("kind", plan.clients)) for one in entries}
+
+
+def slips_of_plans(tools, plans, recordings):
+    """Another size, count or body: conform finds it, and so does the comparison with the written plan where it is no body."""
+    missed, tried, told_apart = [], 0, 0
+    for name, told in plans.items():
+        for what, other in other_plans(told.plan):
+            tried += 1
+            if not deviations(conformed(tools, text_of(other), recordings[name])):
+                missed.append(f"learned, {name}: the slip of the plan '{what}' is not found")
+            if "without action" not in what:
+                told_apart += 1
+                if not list(differences(other, told.plan)):
+                    missed.append(f"learned, {name}: the slip of the plan '{what}' is not told apart")
+    print(f"slips of learned plans: {tried} by conform and {told_apart} by comparison, of which {len(missed)} were not found", flush=True)
+    return missed
+
+
+def slips_of_recordings(tools, plans, recordings):
+    """Without the line of a get the plan is another one. (A hurried client may have no get: both paths are its plan's.)"""
+    missed, tried = [], 0
+    for name, told in plans.items():
+        lines = recordings[name].splitlines(keepends=True)
+        hurried = {f"round {one.number}" for one in read(recordings[name]).rounds if one.name == "hurried"}
+        gets = [at for at, line in enumerate(lines) if " got " in line and line.split(" got ")[0] not in hurried]
+        for at in gets[:: max(1, len(gets) // GETS_LEFT_OUT)]:
+            tried += 1
+            shorter = "".join(lines[:at] + lines[at + 1 :])
+            other = learned(tools, shorter)
+            if not deviations(conformed(tools, told.text, shorter)) or other is not None and bodies_of(other.plan) == bodies_of(told.plan):
+                missed.append(f"learned, {name}: nobody misses line {at + 1}, {lines[at]!r}")
+    print(f"slips of recordings: without a get {tried}, of which {len(missed)} were not found", flush=True)
+    return missed
+
+
+# ---- the sizes
+
+
+def sizes_of(tools, plans):
+    """Each learned plan with the sizes that `fit` finds: where it begins with those that the service has, and with ones. There are
+    none where clients begin again and jobs are never got."""
+    sized, wrong = [], []
+    for name, told in plans.items():
+        ones = told.plan._replace(pools=[pool._replace(core=1, max=1, queue=1) for pool in told.plan.pools])
+        for began, plan in (("its own sizes", told.plan), (FROM_ONE, ones)):
+            found, said = fitted(tools, plan)
+            if found is None:
+                wrong.append(f"learned, {name}, {began}: fit says {said}")
+            else:
+                sized.append(Sized(name, began, found))
+                print(f"sizes of {sized[-1]}: {sizes_text(found)}", flush=True)
+        again = told.plan._replace(clients=[client._replace(repeat=True) for client in told.plan.clients])
+        found, said = fitted(tools, again)
+        if (found is None) != (name in NEVER_GOT) or not re.fullmatch(NEVER_GOT.get(name, "sizes"), said):
+            wrong.append(f"learned, {name}, where all clients repeat: fit says {said}")
+    return sized, wrong
+
+
+def sizes_text(plan):
+    return ", ".join(f"{pool.name} {pool.core}/{pool.max}/{pool.queue}" for pool in plan.pools)
+
+
+def fitted(tools, plan):
+    """The plan with the sizes that `fit` finds, of which the bundle has a certificate, or None, and what else it says."""
+    status, told = tools.sizing("fit", text_of(plan))
+    lines = told.splitlines()
+    sizes = [POOL.fullmatch(line) for line in lines[:-1]]
+    if not sizes or not all(sizes):
+        return None, " ".join(lines)
+    pools = [pool._replace(core=int(core), max=int(most), queue=int(queue))
+             for pool, (name, core, most, queue) in zip(plan.pools, (size.groups() for size in sizes), strict=True) if pool.name == name]
+    changes = told.count(" (now ")
+    _, bundle = tools.sizing("fit", text_of(plan), "--bundle")
+    if (lines[-1] != f"changes {changes}" or status != bool(changes) or changes != numbers_changed(plan.pools, pools)
+            or read_plan(bundle.split("%%\n")[0]).pools != pools or tools.sizing("check", bundle)[0]):
+        return None, f"answers that are not of one plan: {lines}"
+    return plan._replace(pools=pools), "sizes"
+
+
+def numbers_changed(pools, others):
+    return sum(one != other for pair in zip(pools, others, strict=True) for one, other in zip(*pair))
+
+
+# ---- runs
+
+
+def runs(tools, name, plan, slow=0, seconds=SECONDS, number=None):
+    """Runs of the service with the plan's sizes, as many as have all rounds together where nothing else is said."""
+    rounds = ROUNDS_OF_A_RUN.get(name, ROUNDS)
+    sizes = " ".join(f"{pool.name} {pool.core} {pool.max} {pool.queue}" for pool in plan.pools)
+    with tempfile.TemporaryDirectory() as folder:
+        files = [Path(folder) / f"{at}.recording" for at in range(number or ROUNDS // rounds)]
+        told = tools.run_java("services.Sized", given="".join(f"{name} {rounds} {seconds} {slow} {file} {sizes}\n" for file in files))
+        return [Ran(rounds, line, file.read_text()) for line, file in zip(told, files, strict=True)]
+
+
+def met(run):
+    """What the run met that no run with a yes may meet: as its clients and pools tell it, and as its recording does."""
+    told, seen = counts(run), read(run.recording)
+    cancelled = {act.job for actor in seen.rounds + seen.jobs for act in actor.acts if act.word == "cancel"}
+    found = [f"{told[what]} {what}" for what in ("refused", "failed", "stopped") if told[what]]
+    found += [f"{number} of {run.rounds} rounds {what}" for number, what in (
+        (told["rounds"], "told"), (len(seen.rounds), "recorded"), (sum(one.last is not None for one in seen.rounds), "ended")) if number != run.rounds]
+    refused = sum(job.refused for job in seen.jobs)
+    open_jobs = sum(job.last is None and not job.refused and job not in cancelled for job in seen.jobs)
+    found += [f"{number} jobs {what}, by the recording" for number, what in ((refused, "refused"), (open_jobs, "not done")) if number]
+    if refused != told["refused"]:
+        found.append(f"{refused} jobs refused by the recording, {told['refused']} by the pools")
+    return found
+
+
+def counts(run):
+    return {what: int(number) for what, number in (words.split() for words in run.told.split(", "))}
+
+
+def without_refusal(tools, ran, how):
+    """With the sizes that `fit` found no run meets anything, and each is one of the plan. (A queue that threads are slow to take
+    from is of another kind.)"""
+    wrong = []
+    for one, all_runs in ran:
+        for run in all_runs:
+            found = [line for line in conformed(tools, text_of(one.plan), run.recording) if not how or not line.endswith(OTHER_QUEUE)]
+            if met(run) or deviations(found) or voids(found) != VOIDS[one.name]:
+                wrong.append(f"learned, {one}: a run met {met(run)}, and conform says {found}")
+        rounds, jobs = (sum(counts(run)[what] for run in all_runs) for what in ("rounds", "jobs"))
+        print(f"runs of {one}{how}: {len(all_runs)}, {rounds} rounds, {jobs} jobs, refused {sum(counts(run)['refused'] for run in all_runs)}, "
+              f"stopped {sum(counts(run)['stopped'] for run in all_runs)}", flush=True)
+    print(f"runs with these sizes{how}: {sum(len(all_runs) for _, all_runs in ran)}, with {len(wrong)} wrong", flush=True)
+    return wrong
+
+
+def slips_of_sizes(tools, ran):
+    """To the recording of such a run no plan conforms that has a number one less."""
+    missed, tried = [], 0
+    for one, all_runs in ran:
+        for what, other in less(one.plan):
+            tried += 1
+            found = conformed(tools, text_of(other), all_runs[0].recording)
+            if not any(re.match(rf"line \d+: pool {what.split()[0]}: {what.split()[1]} \d+, plan \d+$", line) for line in found):
+                missed.append(f"learned, {one}: the slip '{what}' is not found: {found}")
+    print(f"slips of sizes: one less {tried}, of which {len(missed)} were not found", flush=True)
+    return missed
+
+
+# ---- a number one less
+
+
+def less(plan):
+    """The plan with each number one less that can be, in its order; where core and max are equal, both are."""
+    for at, pool in enumerate(plan.pools):
+        changes = [{"core": pool.core - 1, "max": pool.max - (pool.core == pool.max)}]
+        changes += [{"max": pool.max - 1}] if pool.max > pool.core else []
+        for change in [*changes, {"queue": pool.queue - 1}]:
+            if 0 not in change.values():
+                yield f"{pool.name} " + " ".join(f"{what} {number}" for what, number in change.items() if number != getattr(pool, what)), \
+                    plan._replace(pools=put(plan.pools, at, pool._replace(**change)))
+
+
+def one_less(tools, ran):
+    """The first number whose lack `refute` has a witness of: the witness is replayed, and the service is run without."""
+    wrong, missed, found, all_met = [], [], 0, 0
+    for one, all_runs in ran:
+        safe, status, told = [], None, ""
+        for what, plan in less(one.plan):
+            status, told = tools.sizing("refute", text_of(plan))
+            if status == 1:
+                break
+            if status not in NO_WITNESS:
+                wrong.append(f"learned, {one}, {what}: refute ends with {status}: {told}")
+            safe.append(f"{what} ({told.split(':')[0]})")
+        before = "; before it " + ", ".join(safe) if safe else ""
+        if one.began == FROM_ONE and (status != 1 or not told.startswith(WITNESS[one.name])):
+            wrong.append(f"learned, {one}: refute ends with {status}: {told}")
+        if status != 1:
+            print(f"one less of {one}: no witness{before}", flush=True)
+            continue
+        found += 1
+        wrong += [f"learned, {one}, {what}: {line}" for line in replayed(tools, one.plan, plan, told)]
+        tries = runs(tools, one.name, plan, SLOW, SECONDS_OF_A_TRY, TRIES)
+        bad = [run for run in tries if met(run)]
+        all_met += bool(bad)
+        missed += not_told_apart(one, all_runs[0], bad)
+        first = min((counts(run)["rounds"] for run in bad), default="no")
+        print(f"one less of {one}, {what}: {told.splitlines()[0]}; replayed, and met by {len(bad)} of {len(tries)} runs, the first after "
+              f"{first} rounds{before}", flush=True)
+    print(f"witnesses: {found} of {len(ran)}, {all_met} of them met by runs, with {len(wrong)} wrong; slips of runs not found {len(missed)}", flush=True)
+    return wrong + missed
+
+
+def replayed(tools, right, plan, told):
+    """The witness ends as `refute` says, by `sizing replay` and on executors; with the right sizes the same events do not."""
+    status, bundle = tools.sizing("refute", text_of(plan), "--bundle")
+    text, events = bundle.rsplit("%%\n", 1)
+    ended, answer = tools.sizing("replay", bundle)
+    lines, wrong = answer.splitlines(), []
+    is_stuck = told.startswith("stuck")
+    end = ": stuck yes" if is_stuck else ": " + told.split(",")[0]
+    if status or ended != 1 or read_plan(text).pools != plan.pools or not lines[-2].endswith(end):
+        wrong.append(f"the witness is {told.splitlines()[0]!r}, and its replay ends in {lines[-2:]}")
+    steps = [*events.splitlines(), "counts", "run free 0"]
+    cases = [case(read_plan(text)._replace(pools=pools), kind, False, steps) for pools in (plan.pools, right.pools) for kind in KINDS]
+    answers = on_executors(tools, cases)
+    for kind, executors in zip(KINDS, answers):
+        if executors[: len(lines)] != lines or is_stuck == executors[-1].endswith("unfinished 0"):
+            wrong.append(f"on executors, {kind}: {executors}, replay says {lines}")
+    by_replay = tools.sizing("replay", f"{text_of(right)}%%\n{events}")[1].splitlines()
+    for executors in [by_replay, *answers[len(KINDS) :]]:
+        if any("refused by" in line or line.endswith("stuck yes") for line in executors):
+            wrong.append(f"with the right sizes: {executors}")
+    return wrong
+
+
+def not_told_apart(one, right, bad):
+    """A run that met something is told as right, or recorded as right."""
+    slips = [wrong for run in bad for wrong in (run._replace(told=right.told), run._replace(recording=right.recording))]
+    return [f"learned, {one}: a run that met {met(run)} is told as right" for run in slips if not met(run)]

@@ -1,0 +1,31 @@
+package services;
+
+import java.util.Map;
+import java.util.concurrent.ArrayBlockingQueue;
+import java.util.concurrent.BlockingQueue;
+
+/**
+ * What a run has in place of the service's own: the sizes of its pools by their names, how many rounds there are in all, and for
+ * how many microseconds at most a thread waits before it takes a job.
+ */
+record Given(Map<String, Sizes> pools, int rounds, int microseconds) {
+    record Sizes(int core, int max, int queue) {}
+
+    /** The service has its own sizes and rounds. */
+    static final Given NOTHING = new Given(Map.of(), 0, 0);
+
+    boolean isSomething() {
+        return rounds > 0;
+    }
+
+    Sizes of(String pool, Sizes own) {
+        if (isSomething() && !pools.containsKey(pool)) {
+            throw new IllegalArgumentException("no sizes of " + pool);
+        }
+        return pools.getOrDefault(pool, own);
+    }
+
+    BlockingQueue<Runnable> queueOf(Sizes sizes) {
+        return microseconds > 0 ? new SlowlyTaken(sizes.queue(), microseconds) : new ArrayBlockingQueue<>(sizes.queue());
+    }
+}

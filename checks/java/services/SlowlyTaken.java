@@ -1,0 +1,33 @@
+package services;
+
+import java.util.concurrent.ArrayBlockingQueue;
+import java.util.concurrent.ThreadLocalRandom;
+import java.util.concurrent.TimeUnit;
+import java.util.concurrent.locks.LockSupport;
+
+/** Java's queue, from which threads are slow to take, as where the machine has other things to do. */
+final class SlowlyTaken extends ArrayBlockingQueue<Runnable> {
+    private static final long serialVersionUID = 1;
+    private final int microseconds;
+
+    SlowlyTaken(int capacity, int microseconds) {
+        super(capacity);
+        this.microseconds = microseconds;
+    }
+
+    @Override
+    public Runnable take() throws InterruptedException {
+        waitALittle();
+        return super.take();
+    }
+
+    @Override
+    public Runnable poll(long time, TimeUnit unit) throws InterruptedException {
+        waitALittle();
+        return super.poll(time, unit);
+    }
+
+    private void waitALittle() {
+        LockSupport.parkNanos(1000L * ThreadLocalRandom.current().nextInt(microseconds));
+    }
+}
