@@ -3,6 +3,7 @@ use Rattle.std.proofs.Common.{◌≡◌, ◌<◌, ℕ, zero, suc, Bool, true, fa
 use Rattle.std.specs.Prelude.{filter, Any, ◌⊎◌}
 use Rattle.std.specs.List.{list_any}
 use Rattle.conformance.proofs.Steps.{front_next}
+use Rattle.conformance.proofs.Times.{none_of_both}
 
 -- ---- membership
 pub here : {X : Type 0} (x : X) (xs : List X) → Contains (x ∷ xs) x
@@ -100,10 +101,6 @@ any_behind test [] x none fails = ap (λ (b : Bool). b || false) fails
 any_behind test (y ∷ xs) x none fails =
     let both = none_of_both (test y) (list_any test xs) none in
     ap (λ (b : Bool). b || list_any test (xs ++ x ∷ [])) both.0 ∙ any_behind test xs x both.1 fails
-  where
-    none_of_both : (a b : Bool) → (a || b) ≡ false → (a ≡ false) × (b ≡ false)
-    none_of_both true b h = absurd (grind (arith, h))
-    none_of_both false b h = (refl, h)
 
 pub any_more : {X : Type 0} (test : X → Bool) (xs rest : List X) (n : ℕ) (x : X) → drop n xs ≡ x ∷ rest → list_any test (take n xs) ≡ false → test x ≡ false → list_any test (take (n + 1) xs) ≡ false
 any_more test xs rest n x next none fails = ap (list_any test) (front_next xs rest n x next) ∙ any_behind test (take n xs) x none fails

@@ -10,6 +10,9 @@ use Rattle.recording_lines.specs.declared.recording_line.RecordedActor.{Recorded
 use Rattle.recording_lines.specs.declared.recording_line.RecordedActor.TheVariants.{Job, Round}
 use Rattle.recorded_classes.specs.declared.settled.Settled.{Settled}
 use Rattle.conformance.specs.Firsts.{is_same_sort, number_of, is_same_label, StandsFor, AreFirsts}
+use Rattle.conformance.proofs.Among.{Passing, passing, passed}
+use Rattle.conformance.proofs.Places.{within}
+use Rattle.conformance.proofs.Times.{once_more, count_write}
 
 -- ---- labels
 both_true : (a b : Bool) → (a && b) ≡ true → (a ≡ true) × (b ≡ true)
@@ -47,18 +50,40 @@ sort_both (Round a) (Round b) (Round c) h k = refl
 sort_both (Round a) (Round b) (Job c) h k = k
 sort_both (Round a) (Job b) third h k = absurd (grind (arith, h))
 
+same_itself : (one : Settled) → is_same_label one one ≡ true
+same_itself one = whole one one (record { sort = sort_itself one.actor; label = refl; pool = refl })
+
+-- the second and the third have the label that both have with the first
+same_both : (first second third : Settled) → is_same_label first second ≡ true → is_same_label first third ≡ true → is_same_label second third ≡ true
+same_both first second third h k =
+    let a = parts first second h in
+    let b = parts first third k in
+    whole second third (record { sort = sort_both first.actor second.actor third.actor a.sort b.sort; label = sym a.label ∙ b.label; pool = sym a.pool ∙ b.pool })
+
+turned : (one other : Settled) → is_same_label one other ≡ true → is_same_label other one ≡ true
+turned one other h = same_both one other one h (same_itself one)
+
+same_answer : (a b : Bool) → (a ≡ true → b ≡ true) → (b ≡ true → a ≡ true) → a ≡ b
+same_answer true b there back = sym (there refl)
+same_answer false true there back = back refl
+same_answer false false there back = refl
+
+-- two of the same label are alike to each third one
+alike : (third one first : Settled) → is_same_label first one ≡ true → is_same_label third one ≡ is_same_label third first
+alike third one first same =
+    same_answer (is_same_label third one) (is_same_label third first)
+    (λ h. same_both one third first (turned third one h) (turned first one same))
+    (λ h. same_both first third one (turned third first h) same)
+
 itself : (one : Settled) → StandsFor one one
-itself one = record { label = whole one one (record { sort = sort_itself one.actor; label = refl; pool = refl }); before = omega arith }
+itself one = record { label = same_itself one; before = omega arith }
 
 -- one that is of the same label as the first, and before it, stands for what that stood for
 instead : (one first other : Settled) → is_same_label first one ≡ true → number_of one.actor ≤ number_of first.actor → StandsFor other first → StandsFor other one
-instead one first other same earlier stands =
-    let a = parts first one same in
-    let b = parts first other stands.label in
-    record {
-      label = whole one other (record { sort = sort_both first.actor one.actor other.actor a.sort b.sort; label = sym a.label ∙ b.label; pool = sym a.pool ∙ b.pool });
-      before = omega (arith, earlier, stands.before);
-    }
+instead one first other same earlier stands = record {
+  label = same_both first one other same stands.label;
+  before = omega (arith, earlier, stands.before);
+}
 
 -- ---- places
 any_append : {X : Type 0} (P : X → Type 0) (xs : List X) (y : X) → Any P xs → Any P (xs ++ y ∷ [])
@@ -87,21 +112,29 @@ any_there P (z ∷ xs) (suc place) first there holds =
     let rest = any_there P xs place first there holds in
     (suc rest.0, rest.1, omega (arith, rest.2), rest.3, rest.4)
 
-within : {X : Type 0} (xs : List X) (place : ℕ) (first : X) → slice_get xs place ≡ Some first → place < length xs
-within [] place first there = absurd (grind (arith, there))
-within (z ∷ xs) zero first there = omega arith
-within (z ∷ xs) (suc place) first there = omega (arith, within xs place first there)
-
 -- ---- one more
 among_more : (told : List Settled) (one : Settled) (firsts : List Settled) → All (Contains told) firsts → All (Contains (told ++ one ∷ [])) firsts
 among_more told one firsts among = All-weaker (Contains told) (Contains (told ++ one ∷ [])) (λ x has. Contains-append_left told (one ∷ []) x has) firsts among
 
-pub behind_new : (told firsts : List Settled) (one : Settled) → AreFirsts told firsts → AreFirsts (told ++ one ∷ []) (firsts ++ one ∷ [])
-behind_new told firsts one are = record {
+-- where there is none of this label, there is none of a label that it has
+none_alike : (firsts : List Settled) (one third : Settled) → list_any (λ (first : Settled). is_same_label first one) firsts ≡ false → is_same_label third one ≡ true → list_any (is_same_label third) firsts ≡ false
+none_alike firsts one third none same = not_any (list_any (is_same_label third) firsts) (λ any.
+    let there = passing (is_same_label third) firsts any in
+    contra (sym (passed (λ (first : Settled). is_same_label first one) firsts there.one there.among (same_both third there.one one there.passes same)) ∙ none))
+  where
+    not_any : (b : Bool) → (b ≡ true → ⊥) → b ≡ false
+    not_any true h = absurd (h refl)
+    not_any false h = refl
+    contra : true ≡ false → ⊥
+    contra h = cc
+
+pub behind_new : (told firsts : List Settled) (one : Settled) → list_any (λ (first : Settled). is_same_label first one) firsts ≡ false → AreFirsts told firsts → AreFirsts (told ++ one ∷ []) (firsts ++ one ∷ [])
+behind_new told firsts one new are = record {
   among = All-push (Contains (told ++ one ∷ [])) firsts one (among_more told one firsts are.among) (Contains-push told one);
   each = All-push (λ x. Any (StandsFor x) (firsts ++ one ∷ [])) told one
       (All-weaker (λ x. Any (StandsFor x) firsts) (λ x. Any (StandsFor x) (firsts ++ one ∷ [])) (λ x any. any_append (StandsFor x) firsts one any) told are.each)
       (Any-push (StandsFor one) firsts one (itself one));
+  once = λ third. once_more (is_same_label third) firsts one (are.once third) (none_alike firsts one third new);
 }
 
 pub behind_known : (told firsts : List Settled) (one first : Settled) (place : ℕ) → AreFirsts told firsts → slice_get firsts place ≡ Some first → is_same_label first one ≡ true → number_of first.actor ≤ number_of one.actor
@@ -109,6 +142,7 @@ pub behind_known : (told firsts : List Settled) (one first : Settled) (place : �
 behind_known told firsts one first place are there same later = record {
   among = among_more told one firsts are.among;
   each = All-push (λ x. Any (StandsFor x) firsts) told one are.each (any_there (StandsFor one) firsts place first there (record { label = same; before = later }));
+  once = are.once;
 }
 
 pub behind_earlier : (told firsts : List Settled) (one first : Settled) (place : ℕ) → AreFirsts told firsts → slice_get firsts place ≡ Some first → is_same_label first one ≡ true → number_of one.actor ≤ number_of first.actor
@@ -118,10 +152,11 @@ behind_earlier told firsts one first place are there same earlier = record {
   each = All-push (λ x. Any (StandsFor x) (set firsts place one)) told one
       (All-weaker (λ x. Any (StandsFor x) firsts) (λ x. Any (StandsFor x) (set firsts place one)) (λ x any. any_write (StandsFor x) firsts place first one there (instead one first x same earlier) any) told are.each)
       (any-set (StandsFor one) firsts place one (within firsts place first there) (itself one));
+  once = λ third. subst (λ (n : ℕ). n ≤ 1) (sym (count_write (is_same_label third) firsts place first one there (alike third one first same))) (are.once third);
 }
 
 pub none_yet : AreFirsts [] []
-none_yet = record { among = λ k d below. absurd (omega arith); each = λ k d below. absurd (omega arith) }
+none_yet = record { among = λ k d below. absurd (omega arith); each = λ k d below. absurd (omega arith); once = λ one. omega arith }
 
 pub read_at : {X : Type 0} (xs : List X) (place : ℕ) (x : X) → place < length xs → x ≡ get_or xs place x → slice_get xs place ≡ Some x
 read_at [] place x below is = absurd (omega arith)

@@ -3,7 +3,6 @@ use Rattle.std.proofs.Common.{◌≡◌, ◌≤◌, ◌<◌, ◌+◌, ℕ, zero,
 use Rattle.std.specs.Prelude.{◌⊎◌}
 use Rattle.std.specs.List.{list_any, filter_map, cons_option}
 use Rattle.std.proofs.lemmas.Bool.{eqb-true, cases_eq}
-use Rattle.std.proofs.lemmas.List.Sums.{sum_by_push}
 use Rattle.std.proofs.lemmas.List.Elements.{All-contains, Contains-push, Contains-push_cases, Contains-append_left, filter_map-append}
 use Rattle.recording_lines.specs.declared.recording_line.RecordedActor.{RecordedActor}
 use Rattle.recording_lines.specs.declared.recording_line.RecordedActor.TheVariants.{Job, Round}
@@ -23,17 +22,10 @@ use Rattle.plan_families.specs.Family.{client_family}
 use Rattle.recorded_classes.specs.declared.settled.Settled.{Settled}
 use Rattle.recorded_classes.specs.Label.{HasLabel, kind_of, kind_in}
 use Rattle.conformance.specs.FirstKinds.{has_kind, round_told, with_kind, with_round, with_told, with_all, AreFirstKinds}
+use Rattle.conformance.proofs.Places.{there_before, there_last}
+use Rattle.conformance.proofs.Times.{count_push}
 
 -- ---- lists
-there_before : {X : Type 0} (xs ys : List X) (i : ℕ) (x : X) → slice_get xs i ≡ Some x → slice_get (xs ++ ys) i ≡ Some x
-there_before [] ys i x h = absurd (grind (arith, h))
-there_before (y ∷ xs) ys zero x h = h
-there_before (y ∷ xs) ys (suc i) x h = there_before xs ys i x h
-
-there_last : {X : Type 0} (xs : List X) (x : X) → slice_get (xs ++ x ∷ []) (length xs) ≡ Some x
-there_last [] x = refl
-there_last (y ∷ xs) x = there_last xs x
-
 pub written : {X : Type 0} (xs : List X) (i : ℕ) (x : X) → i < length xs → slice_get (set xs i x) i ≡ Some x
 written [] i x below = absurd (omega arith)
 written (y ∷ xs) zero x below = refl
@@ -45,9 +37,6 @@ elsewhere (y ∷ xs) zero zero x other = absurd (other refl)
 elsewhere (y ∷ xs) zero (suc k) x other = refl
 elsewhere (y ∷ xs) (suc i) zero x other = refl
 elsewhere (y ∷ xs) (suc i) (suc k) x other = elsewhere xs i k x (λ same. other (ap suc same))
-
-count_push : {X : Type 0} (test : X → Bool) (xs : List X) (x : X) → count_by test (xs ++ x ∷ []) ≡ count_by test xs + cond (test x) 1 0
-count_push {X} test xs x = sum_by_push (λ (y : X). cond (test y) 1 0) xs x
 
 -- ---- a line
 -- a rule that the first tests pass leaves the others

@@ -1,4 +1,6 @@
 pub mod Steps
+pub mod Places
+pub mod Times
 pub mod Among
 pub mod FormLines
 pub mod Kept

@@ -1,5 +1,5 @@
 -- The labels that the plan has not, behind one more line.
-use Rattle.std.proofs.Common.{◌≡◌, ◌+◌, ℕ, zero, suc, Bool, true, false, ◌||◌, List, [], ◌∷◌, ◌++◌, length, map, All, Contains, Option, Some, None, refl, ap, sym, subst, ◌∙◌, inl, inr, string_bytes, slice_get, arith}
+use Rattle.std.proofs.Common.{◌≡◌, ◌≤◌, ◌+◌, ℕ, zero, suc, Bool, true, false, ◌||◌, List, [], ◌∷◌, ◌++◌, length, map, All, Contains, Option, Some, None, refl, ap, sym, subst, ◌∙◌, inl, inr, string_bytes, slice_get, count_by, arith}
 use Rattle.std.specs.Prelude.{◌⊎◌}
 use Rattle.std.specs.List.{list_any}
 use Rattle.std.specs.Str.{bytes_eq}
@@ -21,27 +21,54 @@ use Rattle.conformance.specs.declared.unplanned.NotPlanned.TheVariants as code
 use Rattle.conformance.specs.declared.unplanned.Unplanned.{Unplanned}
 use Rattle.conformance.specs.Labels.{has_label, pair_text}
 use Rattle.conformance.specs.Wanted.{IsLine}
-use Rattle.conformance.specs.Unplanned.{IsNext, IsNotPlanned, IsUnplannedOf, TakesClass, TakesKind, class_stays, class_tells, kind_stays, kind_tells, tells_class, tells_kind}
+use Rattle.conformance.proofs.Among.{at_place}
+use Rattle.conformance.proofs.Places.{there_before, there_last, within, before_or_behind}
+use Rattle.conformance.proofs.Times.{once_more}
+use Rattle.conformance.specs.Unplanned.{IsNext, IsClassNotPlanned, IsKindNotPlanned, IsNotPlanned, IsUnplannedOf, TakesClass, TakesKind, class_stays, class_tells, kind_stays, kind_tells, tells_class, tells_kind}
 
 -- ---- lines
-there_before : {X : Type 0} (xs ys : List X) (i : ℕ) (x : X) → slice_get xs i ≡ Some x → slice_get (xs ++ ys) i ≡ Some x
-there_before [] ys i x h = absurd (grind (arith, h))
-there_before (y ∷ xs) ys zero x h = h
-there_before (y ∷ xs) ys (suc i) x h = there_before xs ys i x h
-
-there_last : {X : Type 0} (xs : List X) (x : X) → slice_get (xs ++ x ∷ []) (length xs) ≡ Some x
-there_last [] x = refl
-there_last (y ∷ xs) x = there_last xs x
-
 line_stays : (before more : List RecordedLine) (number : ℕ) (line : RecordedLine) → IsLine before number line → IsLine (before ++ more) number line
 line_stays before more number line (i, is, there) = (i, is, there_before before more i line there)
 
 last_line : (before : List RecordedLine) (number : ℕ) (line : RecordedLine) → IsNext number before → IsLine (before ++ line ∷ []) number line
 last_line before number line next = (length before, next, there_last before line)
 
+-- a line is one of those before, or its number is above theirs
+line_cases : (before more : List RecordedLine) (number : ℕ) (line : RecordedLine) → IsLine (before ++ more) number line → IsLine before number line ⊎ (length before + 1 ≤ number)
+line_cases before more number line (i, is, there) =
+    elim (before_or_behind before more i line there) [ inl earlier ↦ inl (i, is, earlier) | inr behind ↦ inr (omega (arith, is, behind)) ]
+
+-- and theirs are no greater than how many there are
+within_lines : (before : List RecordedLine) (number : ℕ) (line : RecordedLine) → IsLine before number line → number ≤ length before
+within_lines before number line (i, is, there) = omega (arith, is, within before i line there)
+
+line_among : (before : List RecordedLine) (number : ℕ) (line : RecordedLine) → IsLine before number line → Contains before line
+line_among before number line (i, is, there) = at_place before i line there
+
+-- the first of its sort stays the first
+first_stays : (before more : List RecordedLine) (number : ℕ) (line other : RecordedLine) (earlier : ℕ) → IsLine before number line → (IsLine before earlier other → number ≤ earlier) → IsLine (before ++ more) earlier other → number ≤ earlier
+first_stays before more number line other earlier here first at =
+    elim (line_cases before more earlier other at) [ inl before_it ↦ first before_it | inr behind ↦ omega (arith, within_lines before number line here, behind) ]
+
+-- and the next line is the first where no earlier one is of its sort
+first_next : (before : List RecordedLine) (number : ℕ) (line other : RecordedLine) (earlier : ℕ) → IsNext number before → (Contains before other → ⊥) → IsLine (before ++ line ∷ []) earlier other → number ≤ earlier
+first_next before number line other earlier next none at =
+    elim (line_cases before (line ∷ []) earlier other at) [ inl before_it ↦ absurd (none (line_among before earlier other before_it)) | inr behind ↦ omega (arith, next, behind) ]
+
 label_stays : (plan : Plan) (before more : List RecordedLine) (label : NotPlanned) → IsNotPlanned plan before label → IsNotPlanned plan (before ++ more) label
-label_stays plan before more (code.Class line class pool) so = record { actor = so.actor; job = so.job; line = line_stays before more line _ so.line; none = so.none }
-label_stays plan before more (code.Kind line kind) so = record { round = so.round; line = line_stays before more line _ so.line; none = so.none }
+label_stays plan before more (code.Class line class pool) so = record {
+  actor = so.actor;
+  job = so.job;
+  line = line_stays before more line _ so.line;
+  none = so.none;
+  first = λ earlier by one at. first_stays before more line _ (Submits by one (string_bytes class) (string_bytes pool)) earlier so.line (so.first earlier by one) at;
+}
+label_stays plan before more (code.Kind line kind) so = record {
+  round = so.round;
+  line = line_stays before more line _ so.line;
+  none = so.none;
+  first = λ earlier one at. first_stays before more line _ (RoundBegins one (string_bytes kind)) earlier so.line (so.first earlier one) at;
+}
 
 -- ---- what is told
 any_push : {X : Type 0} (test : X → Bool) (xs : List X) (x : X) → list_any test (xs ++ x ∷ []) ≡ (list_any test xs || test x)
@@ -78,9 +105,13 @@ pub record NothingNew (plan : Plan) (line : RecordedLine) (old : Unplanned) : Ty
 
 pub stays_behind : (plan : Plan) (before : List RecordedLine) (line : RecordedLine) (old : Unplanned) → IsUnplannedOf plan before old → NothingNew plan line old → IsUnplannedOf plan (before ++ line ∷ []) old
 stays_behind plan before line old so none = record {
-  sound = All-weaker (IsNotPlanned plan before) (IsNotPlanned plan (before ++ line ∷ [])) (label_stays plan before (line ∷ [])) _ so.sound;
-  classes = λ actor job class pool among empty. elim (Contains-push_cases before line _ among) [ inl earlier ↦ so.classes actor job class pool earlier empty | inr is ↦ none.classes actor job class pool is empty ];
-  kinds = λ round kind among empty. elim (Contains-push_cases before line _ among) [ inl earlier ↦ so.kinds round kind earlier empty | inr is ↦ none.kinds round kind is empty ];
+  found = record {
+    sound = All-weaker (IsNotPlanned plan before) (IsNotPlanned plan (before ++ line ∷ [])) (label_stays plan before (line ∷ [])) _ so.found.sound;
+    classes = λ actor job class pool among empty. elim (Contains-push_cases before line _ among) [ inl earlier ↦ so.found.classes actor job class pool earlier empty | inr is ↦ none.classes actor job class pool is empty ];
+    kinds = λ round kind among empty. elim (Contains-push_cases before line _ among) [ inl earlier ↦ so.found.kinds round kind earlier empty | inr is ↦ none.kinds round kind is empty ];
+    class_once = so.found.class_once;
+    kind_once = so.found.kind_once;
+  };
   kept_classes = so.kept_classes;
   kept_kinds = so.kept_kinds;
 }
@@ -99,13 +130,17 @@ known_class plan before actor job class pool old so why = record {
   kinds = λ round kind is empty. absurd (cc);
 }
 
+contra : (b : Bool) → b ≡ true → b ≡ false → ⊥
+contra true h none = absurd (cc)
+contra false h none = absurd (cc)
+
 told_class : (plan : Plan) (before : List RecordedLine) (number : ℕ) (actor : RecordedActor) (job : ℕ) (class pool : List ℕ) (old new : Unplanned) → IsNext number before → IsUnplannedOf plan before old
-    → (c p : String Global) → string_bytes c ≡ class → string_bytes p ≡ pool → class_family plan class pool ≡ []
+    → has_label old.classes (pair_text class pool) ≡ false → (c p : String Global) → string_bytes c ≡ class → string_bytes p ≡ pool → class_family plan class pool ≡ []
     → new.found.items ≡ old.found.items ++ code.Class number c p ∷ []
     → ((q : List ℕ) → has_label new.classes q ≡ (has_label old.classes q || bytes_eq (pair_text class pool) q))
     → new.kinds ≡ old.kinds
     → IsUnplannedOf plan (before ++ Submits actor job class pool ∷ []) new
-told_class plan before number actor job class pool old new next so c p c_is p_is empty found_is kept_is kinds_is =
+told_class plan before number actor job class pool old new next so fresh c p c_is p_is empty found_is kept_is kinds_is =
     let line = Submits actor job class pool in
     let one = code.Class number c p in
     let any_class : (x y : List ℕ) → list_any (tells_class x y) new.found.items ≡ (list_any (tells_class x y) old.found.items || tells_class x y one)
@@ -114,24 +149,37 @@ told_class plan before number actor job class pool old new next so c p c_is p_is
     = λ x. ap (list_any (tells_kind x)) found_is ∙ (any_push (tells_kind x) old.found.items one ∙ or_none _ _ refl) in
     let text : pair_text (string_bytes c) (string_bytes p) ≡ pair_text class pool = ap (λ (x : List ℕ). pair_text x (string_bytes p)) c_is ∙ ap (λ (x : List ℕ). pair_text class x) p_is in
     let tells : (x y : List ℕ) → tells_class x y one ≡ bytes_eq (pair_text class pool) (pair_text x y) = λ x y. ap (λ (t : List ℕ). bytes_eq t (pair_text x y)) text in
-    let new_one : IsNotPlanned plan (before ++ line ∷ []) one = record {
+    let not_earlier : (by : RecordedActor) (other : ℕ) → Contains before (Submits by other class pool) → ⊥
+    = λ by other among. contra _ (so.kept_classes class pool ∙ so.found.classes by other class pool among empty) fresh in
+    let first_one : IsClassNotPlanned plan (before ++ line ∷ []) number class pool = record {
       actor = actor;
       job = job;
-      line = subst (λ (x : List ℕ). IsLine (before ++ line ∷ []) number (Submits actor job x (string_bytes p))) (sym c_is) (subst (λ (y : List ℕ). IsLine (before ++ line ∷ []) number (Submits actor job class y)) (sym p_is) (last_line before number line next));
-      none = ap (λ (x : List ℕ). class_family plan x (string_bytes p)) c_is ∙ (ap (λ (y : List ℕ). class_family plan class y) p_is ∙ empty);
+      line = last_line before number line next;
+      none = empty;
+      first = λ earlier by other at. first_next before number line (Submits by other class pool) earlier next (not_earlier by other) at;
     } in
+    let new_one : IsNotPlanned plan (before ++ line ∷ []) one =
+        subst (λ (x : List ℕ). IsClassNotPlanned plan (before ++ line ∷ []) number x (string_bytes p)) (sym c_is) (subst (λ (y : List ℕ). IsClassNotPlanned plan (before ++ line ∷ []) number class y) (sym p_is) first_one) in
+    let not_yet : (x y : List ℕ) → tells_class x y one ≡ true → list_any (tells_class x y) old.found.items ≡ false
+    = λ x y h.
+        let same : pair_text class pool ≡ pair_text x y = (bytes_eq-Decides (pair_text class pool) (pair_text x y)).0 (sym (tells x y) ∙ h) in
+        sym (so.kept_classes x y) ∙ (ap (λ (t : List ℕ). has_label old.classes t) (sym same) ∙ fresh) in
     record {
+      found = record {
       sound = subst (λ (xs : List NotPlanned). All (IsNotPlanned plan (before ++ line ∷ [])) xs) (sym found_is)
-          (All-push (IsNotPlanned plan (before ++ line ∷ [])) old.found.items one (All-weaker (IsNotPlanned plan before) (IsNotPlanned plan (before ++ line ∷ [])) (label_stays plan before (line ∷ [])) _ so.sound) new_one);
+          (All-push (IsNotPlanned plan (before ++ line ∷ [])) old.found.items one (All-weaker (IsNotPlanned plan before) (IsNotPlanned plan (before ++ line ∷ [])) (label_stays plan before (line ∷ [])) _ so.found.sound) new_one);
       classes = λ who n x y among none. elim (Contains-push_cases before line _ among) [
-        | inl earlier ↦ any_class x y ∙ or_left _ _ (so.classes who n x y earlier none)
+        | inl earlier ↦ any_class x y ∙ or_left _ _ (so.found.classes who n x y earlier none)
         | inr is ↦
             let same_class : class ≡ x = cc in
             let same_pool : pool ≡ y = cc in
             let same : bytes_eq (pair_text class pool) (pair_text x y) ≡ true = ap (λ (t : List ℕ). bytes_eq (pair_text class pool) t) (sym (ap (λ (z : List ℕ). pair_text z pool) same_class ∙ ap (λ (z : List ℕ). pair_text x z) same_pool)) ∙ same_bytes (pair_text class pool) in
             any_class x y ∙ or_right _ _ (tells x y ∙ same)
       ];
-      kinds = λ round kind among none. elim (Contains-push_cases before line _ among) [ inl earlier ↦ any_kind kind ∙ so.kinds round kind earlier none | inr is ↦ absurd (cc) ];
+      kinds = λ round kind among none. elim (Contains-push_cases before line _ among) [ inl earlier ↦ any_kind kind ∙ so.found.kinds round kind earlier none | inr is ↦ absurd (cc) ];
+      class_once = λ x y. subst (λ (xs : List NotPlanned). count_by (tells_class x y) xs ≤ 1) (sym found_is) (once_more (tells_class x y) old.found.items one (so.found.class_once x y) (not_yet x y));
+      kind_once = λ x. subst (λ (xs : List NotPlanned). count_by (tells_kind x) xs ≤ 1) (sym found_is) (once_more (tells_kind x) old.found.items one (so.found.kind_once x) (λ h. absurd (contra _ h refl)));
+      };
       kept_classes = λ x y. kept_is (pair_text x y) ∙ (ap (λ (b : Bool). b || bytes_eq (pair_text class pool) (pair_text x y)) (so.kept_classes x y) ∙ (ap (λ (b : Bool). list_any (tells_class x y) old.found.items || b) (sym (tells x y)) ∙ sym (any_class x y)));
       kept_kinds = λ x. ap (λ (k : _). has_label k x) kinds_is ∙ (so.kept_kinds x ∙ sym (any_kind x));
     }
@@ -140,8 +188,8 @@ pub behind_submit : (plan : Plan) (before : List RecordedLine) (number : ℕ) (a
     → TakesClass plan number class pool old new → IsUnplannedOf plan (before ++ Submits actor job class pool ∷ []) new
 behind_submit plan before number actor job class pool old new next so (class_stays why is) =
     subst (IsUnplannedOf plan (before ++ Submits actor job class pool ∷ [])) (sym is) (stays_behind plan before _ old so (known_class plan before actor job class pool old so why))
-behind_submit plan before number actor job class pool old new next so (class_tells c p c_is p_is empty found_is kept_is kinds_is) =
-    told_class plan before number actor job class pool old new next so c p c_is p_is empty found_is kept_is kinds_is
+behind_submit plan before number actor job class pool old new next so (class_tells fresh c p c_is p_is empty found_is kept_is kinds_is) =
+    told_class plan before number actor job class pool old new next so fresh c p c_is p_is empty found_is kept_is kinds_is
 
 -- ---- a begin
 known_kind : (plan : Plan) (before : List RecordedLine) (round : ℕ) (kind : List ℕ) (old : Unplanned) → IsUnplannedOf plan before old
@@ -157,33 +205,45 @@ known_kind plan before round kind old so why = record {
 }
 
 told_kind : (plan : Plan) (before : List RecordedLine) (number round : ℕ) (kind : List ℕ) (old new : Unplanned) → IsNext number before → IsUnplannedOf plan before old
-    → (k : String Global) → string_bytes k ≡ kind → client_family plan kind ≡ []
+    → has_label old.kinds kind ≡ false → (k : String Global) → string_bytes k ≡ kind → client_family plan kind ≡ []
     → new.found.items ≡ old.found.items ++ code.Kind number k ∷ []
     → ((q : List ℕ) → has_label new.kinds q ≡ (has_label old.kinds q || bytes_eq kind q))
     → new.classes ≡ old.classes
     → IsUnplannedOf plan (before ++ RoundBegins round kind ∷ []) new
-told_kind plan before number round kind old new next so k k_is empty found_is kept_is classes_is =
+told_kind plan before number round kind old new next so fresh k k_is empty found_is kept_is classes_is =
     let line = RoundBegins round kind in
     let one = code.Kind number k in
     let any_class : (x y : List ℕ) → list_any (tells_class x y) new.found.items ≡ list_any (tells_class x y) old.found.items
     = λ x y. ap (list_any (tells_class x y)) found_is ∙ (any_push (tells_class x y) old.found.items one ∙ or_none _ _ refl) in
     let any_kind : (x : List ℕ) → list_any (tells_kind x) new.found.items ≡ (list_any (tells_kind x) old.found.items || bytes_eq kind x)
     = λ x. ap (list_any (tells_kind x)) found_is ∙ (any_push (tells_kind x) old.found.items one ∙ ap (λ (t : List ℕ). list_any (tells_kind x) old.found.items || bytes_eq t x) k_is) in
-    let new_one : IsNotPlanned plan (before ++ line ∷ []) one = record {
+    let tells : (x : List ℕ) → tells_kind x one ≡ bytes_eq kind x = λ x. ap (λ (t : List ℕ). bytes_eq t x) k_is in
+    let not_earlier : (other : ℕ) → Contains before (RoundBegins other kind) → ⊥ = λ other among. contra _ (so.kept_kinds kind ∙ so.found.kinds other kind among empty) fresh in
+    let first_one : IsKindNotPlanned plan (before ++ line ∷ []) number kind = record {
       round = round;
-      line = subst (λ (x : List ℕ). IsLine (before ++ line ∷ []) number (RoundBegins round x)) (sym k_is) (last_line before number line next);
-      none = ap (λ (x : List ℕ). client_family plan x) k_is ∙ empty;
+      line = last_line before number line next;
+      none = empty;
+      first = λ earlier other at. first_next before number line (RoundBegins other kind) earlier next (not_earlier other) at;
     } in
+    let new_one : IsNotPlanned plan (before ++ line ∷ []) one = subst (λ (x : List ℕ). IsKindNotPlanned plan (before ++ line ∷ []) number x) (sym k_is) first_one in
+    let not_yet : (x : List ℕ) → tells_kind x one ≡ true → list_any (tells_kind x) old.found.items ≡ false
+    = λ x h.
+        let same : kind ≡ x = (bytes_eq-Decides kind x).0 (sym (tells x) ∙ h) in
+        sym (so.kept_kinds x) ∙ (ap (λ (t : List ℕ). has_label old.kinds t) (sym same) ∙ fresh) in
     record {
+      found = record {
       sound = subst (λ (xs : List NotPlanned). All (IsNotPlanned plan (before ++ line ∷ [])) xs) (sym found_is)
-          (All-push (IsNotPlanned plan (before ++ line ∷ [])) old.found.items one (All-weaker (IsNotPlanned plan before) (IsNotPlanned plan (before ++ line ∷ [])) (label_stays plan before (line ∷ [])) _ so.sound) new_one);
-      classes = λ who n x y among none. elim (Contains-push_cases before line _ among) [ inl earlier ↦ any_class x y ∙ so.classes who n x y earlier none | inr is ↦ absurd (cc) ];
+          (All-push (IsNotPlanned plan (before ++ line ∷ [])) old.found.items one (All-weaker (IsNotPlanned plan before) (IsNotPlanned plan (before ++ line ∷ [])) (label_stays plan before (line ∷ [])) _ so.found.sound) new_one);
+      classes = λ who n x y among none. elim (Contains-push_cases before line _ among) [ inl earlier ↦ any_class x y ∙ so.found.classes who n x y earlier none | inr is ↦ absurd (cc) ];
       kinds = λ r x among none. elim (Contains-push_cases before line _ among) [
-        | inl earlier ↦ any_kind x ∙ or_left _ _ (so.kinds r x earlier none)
+        | inl earlier ↦ any_kind x ∙ or_left _ _ (so.found.kinds r x earlier none)
         | inr is ↦
             let same : kind ≡ x = cc in
             any_kind x ∙ or_right _ _ (ap (λ (t : List ℕ). bytes_eq kind t) (sym same) ∙ same_bytes kind)
       ];
+      class_once = λ x y. subst (λ (xs : List NotPlanned). count_by (tells_class x y) xs ≤ 1) (sym found_is) (once_more (tells_class x y) old.found.items one (so.found.class_once x y) (λ h. absurd (contra _ h refl)));
+      kind_once = λ x. subst (λ (xs : List NotPlanned). count_by (tells_kind x) xs ≤ 1) (sym found_is) (once_more (tells_kind x) old.found.items one (so.found.kind_once x) (not_yet x));
+      };
       kept_classes = λ x y. ap (λ (l : _). has_label l (pair_text x y)) classes_is ∙ (so.kept_classes x y ∙ sym (any_class x y));
       kept_kinds = λ x. kept_is x ∙ (ap (λ (b : Bool). b || bytes_eq kind x) (so.kept_kinds x) ∙ sym (any_kind x));
     }
@@ -192,8 +252,8 @@ pub behind_begin : (plan : Plan) (before : List RecordedLine) (number round : �
     → TakesKind plan number kind old new → IsUnplannedOf plan (before ++ RoundBegins round kind ∷ []) new
 behind_begin plan before number round kind old new next so (kind_stays why is) =
     subst (IsUnplannedOf plan (before ++ RoundBegins round kind ∷ [])) (sym is) (stays_behind plan before _ old so (known_kind plan before round kind old so why))
-behind_begin plan before number round kind old new next so (kind_tells k k_is empty found_is kept_is classes_is) =
-    told_kind plan before number round kind old new next so k k_is empty found_is kept_is classes_is
+behind_begin plan before number round kind old new next so (kind_tells fresh k k_is empty found_is kept_is classes_is) =
+    told_kind plan before number round kind old new next so fresh k k_is empty found_is kept_is classes_is
 
 -- ---- another line
 abbrev pub is_label_line : RecordedLine → Bool
@@ -203,12 +263,9 @@ is_label_line line = false
 
 pub behind_other : (plan : Plan) (before : List RecordedLine) (line : RecordedLine) (old : Unplanned) → IsUnplannedOf plan before old → is_label_line line ≡ false → IsUnplannedOf plan (before ++ line ∷ []) old
 behind_other plan before line old so other = stays_behind plan before line old so (record {
-  classes = λ actor job class pool is empty. absurd (contra (sym (ap is_label_line is) ∙ other));
-  kinds = λ round kind is empty. absurd (contra (sym (ap is_label_line is) ∙ other));
+  classes = λ actor job class pool is empty. absurd (contra _ (ap is_label_line is) other);
+  kinds = λ round kind is empty. absurd (contra _ (ap is_label_line is) other);
 })
-  where
-    contra : true ≡ false → ⊥
-    contra h = cc
 
 -- ---- families
 pub filled : (numbers : List ℕ) → is_empty numbers ≡ false → numbers ≡ [] → ⊥

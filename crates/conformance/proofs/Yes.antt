@@ -94,9 +94,9 @@ planned_if : (plan : Plan) (lines : List RecordedLine) (unplanned : Unplanned) (
     → HasLabel lines actor label pool → family_of plan actor label pool ≡ [] → ⊥
 planned_if plan lines unplanned (Job job) label pool so none named empty =
     let line = submitted_so lines job label pool named in
-    nothing_told _ (so.classes line.0 job label pool line.1 empty) (ap (list_any (tells_class label pool)) none)
+    nothing_told _ (so.found.classes line.0 job label pool line.1 empty) (ap (list_any (tells_class label pool)) none)
 planned_if plan lines unplanned (Round round) label pool so none named empty =
-    nothing_told _ (so.kinds round label (begun_so lines round label named.0) empty) (ap (list_any (tells_kind label)) none)
+    nothing_told _ (so.found.kinds round label (begun_so lines round label named.0) empty) (ap (list_any (tells_kind label)) none)
 
 not_empty : (b : Bool) → (b ≡ true → ⊥) → not b ≡ true
 not_empty true h = absurd (h refl)

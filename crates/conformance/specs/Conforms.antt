@@ -39,12 +39,16 @@ pub record AreEnoughClients (plan : Plan) (lines : List RecordedLine) : Type 0 w
   pub each : (round : ℕ) → is_begun lines round ≡ true → HasItsKind plan lines kinds round
   pub within : (before behind : List RecordedLine) → lines ≡ before ++ behind → (kind : ℕ) → kind < length plan.clients → IsWithinPlan (rounds.rounds_of plan kinds before kind)
 
-pub record Conforms (plan : Plan) (lines : List RecordedLine) : Type 0 where
-  pub pools : (name : List ℕ) (sizes : PoolSizes) → Contains lines (Pool name sizes) → IsPlannedPool plan name sizes
-  pub recorded : is_closed lines ≡ true → (pool : ℕ) → pool < length plan.pools → has_pool lines (pool_at plan pool).name ≡ true
+-- what the jobs and the rounds did is of their bodies, and there are enough clients
+pub record DoAsPlanned (plan : Plan) (lines : List RecordedLine) : Type 0 where
   pub jobs : (job : ℕ) → is_submitted lines job ≡ true → IsOfAClass plan lines job
   pub rounds : (round : ℕ) → is_begun lines round ≡ true → IsOfAKind plan lines round
   pub clients : AreEnoughClients plan lines
+
+pub record Conforms (plan : Plan) (lines : List RecordedLine) : Type 0 where
+  pub pools : (name : List ℕ) (sizes : PoolSizes) → Contains lines (Pool name sizes) → IsPlannedPool plan name sizes
+  pub recorded : is_closed lines ≡ true → (pool : ℕ) → pool < length plan.pools → has_pool lines (pool_at plan pool).name ≡ true
+  pub actors : DoAsPlanned plan lines
   pub gets : first_foreign_get lines ≡ None
 
 -- ---- what voids a yes, whatever the paths are

@@ -1,15 +1,24 @@
 -- What an actor did that is of no body.
-use Rattle.std.specs.Prelude.{◌≡◌, ℕ, List, slice_get, string_bytes, Option, Some, None}
+use Rattle.std.specs.Prelude.{◌≡◌, ℕ, zero, suc, Bool, true, false, List, slice_get, string_bytes, option_map, Option, Some, None}
 use Rattle.std.specs.Option.{option_and_then}
+use Rattle.std.specs.declared.alloc.Global.{Global}
+use Rattle.std.specs.declared.string.String.{String}
+use Rattle.recording_lines.specs.RecordingLine.{RecordedLine}
+use Rattle.recording_lines.specs.declared.recording_line.RecordedActor.TheVariants.{Job}
 use Rattle.recording_lines.specs.declared.recording_line.RecordedActor.{RecordedActor}
 use Rattle.recorded_paths.specs.declared.deed.RecordedDeed.{RecordedDeed}
 use Rattle.recorded_paths.specs.declared.deed.RecordedDeed.TheVariants as recorded
 use Rattle.recorded_classes.specs.declared.settled.Settled.{Settled}
 use Rattle.conformance.specs.declared.described.JobDeed.{JobDeed}
 use Rattle.conformance.specs.declared.described.JobDeed.TheVariants as deed
+use Rattle.conformance.specs.declared.stray.NamedDeed.{NamedDeed}
+use Rattle.conformance.specs.declared.stray.NamedDeed.TheVariants as named
 use Rattle.conformance.specs.declared.stray.Stray.{Stray}
+use Rattle.conformance.specs.declared.stray.StrayDeed.{StrayDeed}
+use Rattle.conformance.specs.declared.stray.StrayDeed.TheVariants as stray
 use Rattle.conformance.specs.declared.wanted.Wanted.{Wanted}
 use Rattle.conformance.specs.declared.wanted.Wanted.TheVariants as wanted
+use Rattle.conformance.specs.Wanted.{IsFirstLine, IsLabelOf}
 
 -- ---- one deed of a path
 abbrev pub got_by : RecordedDeed → Option JobDeed
@@ -34,8 +43,42 @@ wanted_of actor None = wanted.Last actor
 wanted_of actor (Some (deed.Submits job)) = wanted.Submit job
 wanted_of actor (Some (deed.Gets job)) = wanted.Got actor job
 
+-- the last deed before this place; None at the begin
+abbrev pub deed_before : List RecordedDeed → ℕ → Option JobDeed
+deed_before path zero = None
+deed_before path (suc place) = deed_at path place
+
 -- ---- what is told
--- it is told of this actor, with its label
-pub record IsDescribed (told : Settled) (found : Stray) : Type 0 where
+-- the deed, with the class of its job by its submit
+pub data IsNamedDeed (lines : List RecordedLine) : JobDeed → NamedDeed → Type 0 where
+  submits : (job : ℕ) (class : String Global) → IsLabelOf lines (Job job) (string_bytes class) → IsNamedDeed lines (deed.Submits job) (named.Submits class)
+  gets : (job : ℕ) (class : String Global) → IsLabelOf lines (Job job) (string_bytes class) → IsNamedDeed lines (deed.Gets job) (named.Gets class)
+
+pub data IsNamed (lines : List RecordedLine) : Option JobDeed → Option NamedDeed → Type 0 where
+  nothing : IsNamed lines None None
+  something : (did : JobDeed) (name : NamedDeed) → IsNamedDeed lines did name → IsNamed lines (Some did) (Some name)
+
+-- What no body says: the actor came to its end, submitted a job that is of no class itself, or did anything else. Each of these
+-- jobs is of no class of the plan.
+pub data IsStrayDeed (lines : List RecordedLine) (is_classless : ℕ → Bool) : Option JobDeed → StrayDeed → Type 0 where
+  ends : IsStrayDeed lines is_classless None stray.Ends
+  submits_stray : (job : ℕ) (class : String Global) → is_classless job ≡ true → IsLabelOf lines (Job job) (string_bytes class)
+      → IsStrayDeed lines is_classless (Some (deed.Submits job)) (stray.SubmitsStray job class)
+  submits : (job : ℕ) (name : NamedDeed) → is_classless job ≡ false → IsNamedDeed lines (deed.Submits job) name
+      → IsStrayDeed lines is_classless (Some (deed.Submits job)) (stray.Deed name)
+  gets : (job : ℕ) (name : NamedDeed) → IsNamedDeed lines (deed.Gets job) name
+      → IsStrayDeed lines is_classless (Some (deed.Gets job)) (stray.Deed name)
+
+abbrev pub number_seen : Option (ℕ × RecordedLine) → Option ℕ
+number_seen found = option_map (λ (number, line). number) found
+
+-- It is told of this actor, with its label: what it did behind the most of its path that a body explains, the line with which
+-- it did so, and what it did before that.
+pub record IsDescribed (lines : List RecordedLine) (is_classless : ℕ → Bool) (told : Settled) (number : Option ℕ) (found : Stray) : Type 0 where
   pub actor_is : found.actor ≡ told.actor
   pub label_is : string_bytes found.label ≡ string_bytes told.label
+  pub line : Option (ℕ × RecordedLine)
+  pub first : IsFirstLine lines (wanted_of told.actor (deed_at told.path.items told.family.explained)) line
+  pub number_is : number ≡ number_seen line
+  pub did : IsStrayDeed lines is_classless (deed_at told.path.items told.family.explained) found.deed
+  pub behind : IsNamed lines (deed_before told.path.items told.family.explained) found.behind

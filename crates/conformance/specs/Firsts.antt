@@ -1,5 +1,5 @@
 -- Of each label the actor with the smallest number.
-use Rattle.std.specs.Prelude.{◌≡◌, ◌≤◌, ℕ, Bool, true, false, ◌&&◌, List, string_bytes, All, Any, Contains}
+use Rattle.std.specs.Prelude.{◌≡◌, ◌≤◌, ℕ, Bool, true, false, ◌&&◌, List, string_bytes, All, Any, Contains, count_by}
 use Rattle.std.specs.Str.{bytes_eq}
 use Rattle.recording_lines.specs.declared.recording_line.RecordedActor.{RecordedActor}
 use Rattle.recording_lines.specs.declared.recording_line.RecordedActor.TheVariants.{Job, Round}
@@ -28,3 +28,4 @@ pub record StandsFor (other first : Settled) : Type 0 where
 pub record AreFirsts (all firsts : List Settled) : Type 0 where
   pub among : All (Contains all) firsts
   pub each : All (λ one. Any (StandsFor one) firsts) all
+  pub once : (one : Settled) → count_by (is_same_label one) firsts ≤ 1

@@ -1,9 +1,10 @@
 -- All findings, one kind behind another.
-use Rattle.std.specs.Prelude.{◌≡◌, ◌++◌, ℕ, Bool, true, false, List, [], ◌∷◌, map, filter, Option, Some, None}
+use Rattle.std.specs.Prelude.{◌≡◌, ◌++◌, ℕ, Bool, true, false, List, [], ◌∷◌, map, filter, string_bytes, Option, Some, None}
 use Rattle.std.specs.List.{AllZip}
 use Rattle.std.specs.declared.alloc.Global.{Global}
 use Rattle.std.specs.declared.string.String.{String}
 use Rattle.recording_lines.specs.RecordingLine.{RecordedLine}
+use Rattle.plan_differences.specs.declared.pool_watch.PoolDeviation.{PoolDeviation}
 use Rattle.plan_differences.specs.declared.round_watch.RoundExcess.{RoundExcess}
 use Rattle.recorded_classes.specs.declared.settled.Settled.{Settled}
 use Rattle.recorded_notes.specs.declared.foreign_get.ForeignGet.{ForeignGet}
@@ -16,7 +17,10 @@ use Rattle.conformance.specs.declared.finding.Finding.{Finding}
 use Rattle.conformance.specs.declared.finding.Finding.TheVariants as finding
 use Rattle.conformance.specs.declared.stray.Stray.{Stray}
 use Rattle.conformance.specs.declared.survey.Survey.{Survey}
+use Rattle.conformance.specs.declared.unplanned.NotPlanned.{NotPlanned}
 use Rattle.conformance.specs.Described.{IsDescribed}
+use Rattle.conformance.specs.JobSet.{has_job}
+use Rattle.conformance.specs.Wanted.{IsLabelOf}
 
 -- behind what was found before stand more, of which this is so
 pub record Adds (old : List Finding) (IsSo : List Finding → Type 0) (new : List Finding) : Type 0 where
@@ -25,19 +29,19 @@ pub record Adds (old : List Finding) (IsSo : List Finding → Type 0) (new : Lis
   pub so : IsSo more
 
 -- ---- actors
-pub data IsStrayTold (told : Settled) : Finding → Type 0 where
-  strays : (number : Option ℕ) (stray : Stray) → IsDescribed told stray → IsStrayTold told (finding.Strays number stray)
+pub data IsStrayTold (lines : List RecordedLine) (is_classless : ℕ → Bool) (told : Settled) : Finding → Type 0 where
+  strays : (number : Option ℕ) (stray : Stray) → IsDescribed lines is_classless told number stray → IsStrayTold lines is_classless told (finding.Strays number stray)
 
-abbrev pub AreStrays : List Settled → List Finding → Type 0
-AreStrays told found = AllZip IsStrayTold told found
+abbrev pub AreStrays : List RecordedLine → (ℕ → Bool) → List Settled → List Finding → Type 0
+AreStrays lines is_classless told found = AllZip (IsStrayTold lines is_classless) told found
 
 abbrev pub not_decided : Settled → Finding
 not_decided told = finding.NotDecided told.actor told.label
 
 -- ---- notes
-pub data AreForeign : Option ForeignGet → List Finding → Type 0 where
-  none : AreForeign None []
-  one : (get : ForeignGet) (label : String Global) → AreForeign (Some get) (finding.ForeignGet get label ∷ [])
+pub data AreForeign (lines : List RecordedLine) : Option ForeignGet → List Finding → Type 0 where
+  none : AreForeign lines None []
+  one : (get : ForeignGet) (label : String Global) → IsLabelOf lines get.actor (string_bytes label) → AreForeign lines (Some get) (finding.ForeignGet get label ∷ [])
 
 -- it voids a yes where the actor's path is of a body
 abbrev pub lasts : Voiding → Bool
@@ -49,11 +53,15 @@ abbrev pub is_lasting : Void → Bool
 is_lasting void = lasts void.what
 
 -- ---- all
+-- what was found, each kind behind another
+abbrev pub one_behind_another : List PoolDeviation → List NotPlanned → List Finding → List Settled → List RoundExcess → List Finding → List Void → List Finding
+one_behind_another deviations labels astray undecided excesses gets voids =
+    map finding.Pool deviations ++ map finding.NotPlanned labels ++ astray ++ map not_decided undecided ++ map finding.TooMany excesses ++ gets ++ map finding.Void voids
+
 -- the notes are those of these lines
 pub record AreGathered (lines : List RecordedLine) (survey : Survey) (excesses : List RoundExcess) (found : List Finding) : Type 0 where
   pub strays : List Finding
   pub foreign : List Finding
-  pub strays_so : AreStrays survey.judged.verdicts.strays.actors.items strays
-  pub foreign_so : AreForeign (first_foreign_get lines) foreign
-  pub all : found ≡ map finding.Pool survey.watched.deviations.items ++ map finding.NotPlanned survey.watched.unplanned.found.items ++ strays
-      ++ map not_decided survey.judged.verdicts.undecided.actors.items ++ map finding.TooMany excesses ++ foreign ++ map finding.Void (filter is_lasting (voids_of lines))
+  pub strays_so : AreStrays lines (has_job survey.judged.verdicts.classless) survey.judged.verdicts.strays.actors.items strays
+  pub foreign_so : AreForeign lines (first_foreign_get lines) foreign
+  pub all : found ≡ one_behind_another survey.watched.deviations.items survey.watched.unplanned.found.items strays survey.judged.verdicts.undecided.actors.items excesses foreign (filter is_lasting (voids_of lines))

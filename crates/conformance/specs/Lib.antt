@@ -13,4 +13,5 @@ pub mod Survey
 pub mod Described
 pub mod Conforms
 pub mod Gathered
+pub mod Findings
 pub mod Outcome

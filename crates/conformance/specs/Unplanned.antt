@@ -1,5 +1,5 @@
 -- The labels of a recording that the plan has not.
-use Rattle.std.specs.Prelude.{◌≡◌, ◌+◌, ◌||◌, ◌⊎◌, ℕ, Bool, true, false, List, [], ◌∷◌, ◌++◌, length, map, All, Any, Contains, Option, Some, None, string_bytes}
+use Rattle.std.specs.Prelude.{◌≡◌, ◌≤◌, ◌+◌, ◌||◌, ◌⊎◌, ℕ, Bool, true, false, List, [], ◌∷◌, ◌++◌, length, map, All, Any, Contains, count_by, Option, Some, None, string_bytes}
 use Rattle.std.specs.List.{list_any}
 use Rattle.std.specs.Str.{bytes_eq}
 use Rattle.std.specs.declared.alloc.Global.{Global}
@@ -19,18 +19,20 @@ abbrev pub IsNext : ℕ → List RecordedLine → Type 0
 IsNext number before = number ≡ length before + 1
 
 -- ---- one label
--- this line submits a job of this class to this pool, and the plan has no such class there
+-- this line is the first that submits a job of this class to this pool, and the plan has no such class there
 pub record IsClassNotPlanned (plan : Plan) (lines : List RecordedLine) (number : ℕ) (class pool : List ℕ) : Type 0 where
   pub actor : RecordedActor
   pub job : ℕ
   pub line : IsLine lines number (Submits actor job class pool)
   pub none : class_family plan class pool ≡ []
+  pub first : (earlier : ℕ) (by : RecordedActor) (one : ℕ) → IsLine lines earlier (Submits by one class pool) → number ≤ earlier
 
--- this line begins a round of this kind, and the plan has no such kind
+-- this line is the first that begins a round of this kind, and the plan has no such kind
 pub record IsKindNotPlanned (plan : Plan) (lines : List RecordedLine) (number : ℕ) (kind : List ℕ) : Type 0 where
   pub round : ℕ
   pub line : IsLine lines number (RoundBegins round kind)
   pub none : client_family plan kind ≡ []
+  pub first : (earlier : ℕ) (one : ℕ) → IsLine lines earlier (RoundBegins one kind) → number ≤ earlier
 
 abbrev pub IsNotPlanned : Plan → List RecordedLine → NotPlanned → Type 0
 IsNotPlanned plan lines (code.Class line class pool) = IsClassNotPlanned plan lines line (string_bytes class) (string_bytes pool)
@@ -46,13 +48,19 @@ abbrev pub tells_kind : List ℕ → NotPlanned → Bool
 tells_kind kind (code.Class line c p) = false
 tells_kind kind (code.Kind line k) = bytes_eq (string_bytes k) kind
 
--- what is found is so, each label is told of that the plan has not, and the labels that are kept are those of what is found
-pub record IsUnplannedOf (plan : Plan) (lines : List RecordedLine) (unplanned : Unplanned) : Type 0 where
-  pub sound : All (IsNotPlanned plan lines) unplanned.found.items
+-- Each label is told of that the plan has not, once, with the first line that has it, and no other label is.
+pub record AreNotPlanned (plan : Plan) (lines : List RecordedLine) (found : List NotPlanned) : Type 0 where
+  pub sound : All (IsNotPlanned plan lines) found
   pub classes : (actor : RecordedActor) (job : ℕ) (class pool : List ℕ) → Contains lines (Submits actor job class pool) → class_family plan class pool ≡ []
-      → list_any (tells_class class pool) unplanned.found.items ≡ true
+      → list_any (tells_class class pool) found ≡ true
   pub kinds : (round : ℕ) (kind : List ℕ) → Contains lines (RoundBegins round kind) → client_family plan kind ≡ []
-      → list_any (tells_kind kind) unplanned.found.items ≡ true
+      → list_any (tells_kind kind) found ≡ true
+  pub class_once : (class pool : List ℕ) → count_by (tells_class class pool) found ≤ 1
+  pub kind_once : (kind : List ℕ) → count_by (tells_kind kind) found ≤ 1
+
+-- so it is of what is found, and the labels that are kept are those of what is found
+pub record IsUnplannedOf (plan : Plan) (lines : List RecordedLine) (unplanned : Unplanned) : Type 0 where
+  pub found : AreNotPlanned plan lines unplanned.found.items
   pub kept_classes : (class pool : List ℕ) → has_label unplanned.classes (pair_text class pool) ≡ list_any (tells_class class pool) unplanned.found.items
   pub kept_kinds : (kind : List ℕ) → has_label unplanned.kinds kind ≡ list_any (tells_kind kind) unplanned.found.items
 
@@ -60,7 +68,7 @@ pub record IsUnplannedOf (plan : Plan) (lines : List RecordedLine) (unplanned : 
 -- The label of a submit is told of where the plan has no such class there, unless it was told of before.
 pub data TakesClass (plan : Plan) (number : ℕ) (class pool : List ℕ) (old new : Unplanned) : Type 0 where
   class_stays : (has_label old.classes (pair_text class pool) ≡ true) ⊎ (¬ (class_family plan class pool ≡ [])) → new ≡ old → TakesClass plan number class pool old new
-  class_tells : (c p : String Global) → string_bytes c ≡ class → string_bytes p ≡ pool → class_family plan class pool ≡ []
+  class_tells : has_label old.classes (pair_text class pool) ≡ false → (c p : String Global) → string_bytes c ≡ class → string_bytes p ≡ pool → class_family plan class pool ≡ []
       → new.found.items ≡ old.found.items ++ code.Class number c p ∷ []
       → ((q : List ℕ) → has_label new.classes q ≡ (has_label old.classes q || bytes_eq (pair_text class pool) q))
       → new.kinds ≡ old.kinds
@@ -69,7 +77,7 @@ pub data TakesClass (plan : Plan) (number : ℕ) (class pool : List ℕ) (old ne
 -- the same of the label of a begin
 pub data TakesKind (plan : Plan) (number : ℕ) (kind : List ℕ) (old new : Unplanned) : Type 0 where
   kind_stays : (has_label old.kinds kind ≡ true) ⊎ (¬ (client_family plan kind ≡ [])) → new ≡ old → TakesKind plan number kind old new
-  kind_tells : (k : String Global) → string_bytes k ≡ kind → client_family plan kind ≡ []
+  kind_tells : has_label old.kinds kind ≡ false → (k : String Global) → string_bytes k ≡ kind → client_family plan kind ≡ []
       → new.found.items ≡ old.found.items ++ code.Kind number k ∷ []
       → ((q : List ℕ) → has_label new.kinds q ≡ (has_label old.kinds q || bytes_eq kind q))
       → new.classes ≡ old.classes

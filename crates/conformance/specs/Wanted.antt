@@ -1,5 +1,5 @@
 -- Lines of a recording that are looked for, and the first of them.
-use Rattle.std.specs.Prelude.{◌≡◌, ◌<◌, ◌+◌, ℕ, Bool, false, true, ◌==◌, ◌&&◌, List, [], slice_get, Option, Some, None}
+use Rattle.std.specs.Prelude.{◌≡◌, ◌<◌, ◌+◌, ℕ, Bool, false, true, ◌==◌, ◌&&◌, List, [], slice_get, take, Option, Some, None}
 use Rattle.std.specs.List.{list_any}
 use Rattle.recording_lines.specs.declared.recording_line.RecordedActor.{RecordedActor}
 use Rattle.recording_lines.specs.declared.recording_line.RecordedActor.TheVariants.{Job, Round}
@@ -45,7 +45,26 @@ found_seen (Some (number, line)) = Some (number, line_seen line)
 abbrev pub IsLine : List RecordedLine → ℕ → RecordedLine → Type 0
 IsLine lines number line = (i : ℕ) × (number ≡ i + 1) × (slice_get lines i ≡ Some line)
 
+-- the line of this number is wanted, and none before it
+pub record IsFirstAt (lines : List RecordedLine) (what : Wanted) (number : ℕ) (line : RecordedLine) : Type 0 where
+  pub before : ℕ
+  pub number_is : number ≡ before + 1
+  pub there : slice_get lines before ≡ Some line
+  pub is : is_wanted what line ≡ true
+  pub none_before : list_any (is_wanted what) (take before lines) ≡ false
+
 -- the first line that is wanted; None where there is none
 abbrev pub IsFirstLine : List RecordedLine → Wanted → Option (ℕ × RecordedLine) → Type 0
 IsFirstLine lines what None = list_any (is_wanted what) lines ≡ false
-IsFirstLine lines what (Some (number, line)) = IsLine lines number line × (is_wanted what line ≡ true)
+IsFirstLine lines what (Some (number, line)) = IsFirstAt lines what number line
+
+-- the label that a line gives an actor, if there is one
+abbrev pub label_seen : Option (ℕ × RecordedLine) → List ℕ
+label_seen None = []
+label_seen (Some (number, line)) = label_in line
+
+-- the actor has this label, by its submit or its begin; where there is no such line, it is empty
+pub record IsLabelOf (lines : List RecordedLine) (actor : RecordedActor) (label : List ℕ) : Type 0 where
+  pub found : Option (ℕ × RecordedLine)
+  pub first : IsFirstLine lines (label_line actor) found
+  pub label_is : label ≡ label_seen found

@@ -1,11 +1,13 @@
 //! Whether a service still is its plan.
 
-ghost use Rattle.std.specs.Prelude.{◌≡◌, [], IfOk};
+ghost use Rattle.std.specs.Prelude.{◌≡◌, [], false, IfOk};
+ghost use Rattle.std.specs.List.{list_any};
 ghost use Rattle.recording_lines.specs.RecordingLine.{lines_read};
 ghost use Rattle.recorded_rules.specs.Faults.{IsFirstFault};
 ghost use Rattle.recorded_paths.specs.StandsFor.{KeepsRules};
 ghost use Rattle.conformance.specs.Lines.{lines_of};
-ghost use Rattle.conformance.specs.Conforms.{Conforms, IsNotVoid};
+ghost use Rattle.conformance.specs.Conforms.{Conforms, DoAsPlanned, IsNotVoid};
+ghost use Rattle.conformance.specs.Findings.{AreFindingsOf, is_of_actors};
 ghost use Rattle.conformance.specs.Outcome as spec;
 
 use crate::counted::excesses;
@@ -44,6 +46,8 @@ pub fn conform(
 ) -> Result<Conformance, AllocError>
     ensures bad { IfOk result (λ told. IsFirstFault (lines_read recording.now) (spec.fault_of told)) }
     ensures conforms { IfOk result (λ told. spec.IfCompared told (λ findings. findings ≡ [] → Conforms plan.now (lines_of recording.now) × IsNotVoid (lines_of recording.now))) }
+    ensures actors { IfOk result (λ told. spec.IfCompared told (λ findings. list_any is_of_actors findings ≡ false → DoAsPlanned plan.now (lines_of recording.now))) }
+    ensures found { IfOk result (λ told. spec.IfCompared told (AreFindingsOf plan.now budget (lines_of recording.now))) }
     ensures ascending { IfOk result (λ told. spec.IfCompared told spec.AreInOrder) }
 {
     let fault = first_fault(alloc, recording)?;
@@ -61,6 +65,8 @@ fn compared(
     budget: u64,
 ) -> Result<Vec<Finding>, AllocError>
     ensures conforms { IfOk result (λ findings. KeepsRules (lines_of recording.now) → findings.items ≡ [] → Conforms plan.now (lines_of recording.now) × IsNotVoid (lines_of recording.now)) }
+    ensures actors { IfOk result (λ findings. KeepsRules (lines_of recording.now) → list_any is_of_actors findings.items ≡ false → DoAsPlanned plan.now (lines_of recording.now)) }
+    ensures found { IfOk result (λ findings. KeepsRules (lines_of recording.now) → AreFindingsOf plan.now budget (lines_of recording.now) findings.items) }
     ensures ascending { IfOk result (λ findings. spec.AreInOrder findings.items) }
 {
     pools_are_as_planned();

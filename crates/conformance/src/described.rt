@@ -1,6 +1,10 @@
 //! What an actor did that is of no body, looked up in the text of the recording.
 
-ghost use Rattle.std.specs.Prelude.{◌≡◌, IfOk};
+ghost use Rattle.std.specs.Prelude.{◌≡◌, IfOk, string_bytes};
+ghost use Rattle.recording_lines.specs.declared.recording_line.RecordedActor.TheVariants.{Job};
+ghost use Rattle.conformance.specs.JobSet.{has_job};
+ghost use Rattle.conformance.specs.Lines.{lines_of};
+ghost use Rattle.conformance.specs.Wanted.{IsLabelOf};
 ghost use Rattle.conformance.specs.Described as spec;
 
 use crate::job_set::JobSet;
@@ -23,7 +27,7 @@ pub(crate) fn described(
     classless: &JobSet,
     told: &Settled,
 ) -> Result<(Option<usize>, Stray), AllocError>
-    ensures { IfOk result (λ found. spec.IsDescribed told.now found.1) }
+    ensures { IfOk result (λ found. spec.IsDescribed (lines_of recording.now) (has_job classless.now) told.now found.0 found.1) }
 {
     let explained = told.family.explained;
     let deed = deed_at(&told.path, explained);
@@ -83,7 +87,9 @@ fn stray_deed(
     recording: &[u8],
     classless: &JobSet,
     deed: Option<JobDeed>,
-) -> Result<StrayDeed, AllocError> {
+) -> Result<StrayDeed, AllocError>
+    ensures { IfOk result (spec.IsStrayDeed (lines_of recording.now) (has_job classless.now) deed) }
+{
     match deed {
         None => Ok(StrayDeed::Ends),
         Some(JobDeed::Submits(job)) => {
@@ -105,7 +111,9 @@ fn named(
     alloc: Global,
     recording: &[u8],
     deed: Option<JobDeed>,
-) -> Result<Option<NamedDeed>, AllocError> {
+) -> Result<Option<NamedDeed>, AllocError>
+    ensures { IfOk result (spec.IsNamed (lines_of recording.now) deed) }
+{
     match deed {
         None => Ok(None),
         Some(JobDeed::Submits(job)) => {
@@ -120,7 +128,9 @@ fn named(
 }
 
 /// The class that the job's submit names.
-fn class_of(alloc: Global, recording: &[u8], job: usize) -> Result<String, AllocError> {
+fn class_of(alloc: Global, recording: &[u8], job: usize) -> Result<String, AllocError>
+    ensures { IfOk result (λ class. IsLabelOf (lines_of recording.now) (Job job) (string_bytes class)) }
+{
     label_of(alloc, recording, RecordedActor::Job(job))
 }
 
@@ -133,7 +143,9 @@ pub(crate) fn label_of(
     alloc: Global,
     recording: &[u8],
     actor: RecordedActor,
-) -> Result<String, AllocError> {
+) -> Result<String, AllocError>
+    ensures { IfOk result (λ label. IsLabelOf (lines_of recording.now) actor (string_bytes label)) }
+{
     match first_line(recording, Wanted::label_of(actor)) {
         Some((_, line)) => String::from_str(alloc, label_in(&line)),
         None => Ok(String::new(alloc)),

@@ -6,6 +6,8 @@ ghost use Rattle.recorded_notes.specs.StandsFor.{IsNotesOf};
 ghost use Rattle.recorded_notes.specs.ForeignGets.{first_foreign_get};
 ghost use Rattle.recorded_notes.specs.Voids.{voids_of};
 ghost use Rattle.conformance.specs.Gathered as spec;
+ghost use Rattle.conformance.specs.JobSet.{has_job};
+ghost use Rattle.conformance.specs.Lines.{lines_of};
 ghost use Rattle.conformance.specs.declared.finding.Finding.TheVariants as kinds;
 
 use crate::described::{described, label_of};
@@ -30,7 +32,7 @@ pub(crate) fn gathered(
     survey: Survey,
     excesses: Vec<RoundExcess>,
 ) -> Result<Vec<Finding>, AllocError>
-    ensures { (lines : List RecordedLine) → IsNotesOf survey.watched.notes lines → IfOk result (λ found. spec.AreGathered lines survey excesses.items found.items) }
+    ensures { IsNotesOf survey.watched.notes (lines_of recording.now) → IfOk result (λ found. spec.AreGathered (lines_of recording.now) survey excesses.items found.items) }
 {
     let Survey { watched, judged } = survey;
     let Watched {
@@ -83,7 +85,7 @@ fn push_strays(
     classless: &JobSet,
     strays: &[Settled],
 ) -> Result<(), AllocError>
-    ensures { OnOk result (spec.Adds findings.old.items (spec.AreStrays strays.now) findings.new.items) }
+    ensures { OnOk result (spec.Adds findings.old.items (spec.AreStrays (lines_of recording.now) (has_job classless.now) strays.now) findings.new.items) }
 {
     for told in strays {
         let (line, stray) = described(alloc, recording, classless, told)?;
@@ -117,7 +119,7 @@ fn push_foreign_get(
     recording: &[u8],
     notes: &RecordedNotes,
 ) -> Result<(), AllocError>
-    ensures { (lines : List RecordedLine) → IsNotesOf notes.now lines → OnOk result (spec.Adds findings.old.items (spec.AreForeign (first_foreign_get lines)) findings.new.items) }
+    ensures { IsNotesOf notes.now (lines_of recording.now) → OnOk result (spec.Adds findings.old.items (spec.AreForeign (lines_of recording.now) (first_foreign_get (lines_of recording.now))) findings.new.items) }
 {
     if let Some(get) = notes.foreign_get() {
         let label = label_of(alloc, recording, get.actor)?;

@@ -13,7 +13,7 @@ returns-then-is c =
     let lines = lines_of c.args.text.now in
     let n = c.loop-line.number in
     let next : drop n lines ≡ line_seen c.in-Some.line ∷ c.next.new.self = sym c.loop-line.invariant.rest ∙ c.in-Some.ensures in
-    ((n, refl, next_is lines _ n _ next), sym c.is.ensures ∙ c.if-is.true)
+    record { before = n; number_is = refl; there = next_is lines _ n _ next; is = sym c.is.ensures ∙ c.if-is.true; none_before = c.loop-line.invariant.none }
 
 pub loop-line-preserved : goal.loop-line-preserved
 loop-line-preserved c =

@@ -4,10 +4,11 @@ use Rattle.std.proofs.lemmas.List.Quantifiers.{position-Some}
 use Rattle.std.proofs.lemmas.Grind.{common_steps}
 use Rattle.conformance.specs.Firsts.{AreFirsts, is_same_label, number_of}
 use Rattle.conformance.proofs.FirstsAfter.{behind_new, behind_known, behind_earlier, read_at}
+use Rattle.conformance.proofs.Times.{none_passes}
 use Rattle.conformance.proofs.firsts.Firsts.note.Goals as goal
 
 pub returns-in_ok-push-in-None : goal.returns-in_ok-push-in-None
-returns-in_ok-push-in-None c = λ told are. subst (AreFirsts (told ++ c.args.settled ∷ [])) (sym c.in_ok-push-in-None.ensures.items) (behind_new told c.args.self.now.actors.items c.args.settled are)
+returns-in_ok-push-in-None c = λ told are. subst (AreFirsts (told ++ c.args.settled ∷ [])) (sym c.in_ok-push-in-None.ensures.items) (behind_new told c.args.self.now.actors.items c.args.settled (none_passes (λ (one : Settled). is_same_label one c.args.settled) c.args.self.now.actors.items (sym c.in-None.ensures)) are)
 
 pub returns-then-number_of : goal.returns-then-number_of
 returns-then-number_of c = λ told are.

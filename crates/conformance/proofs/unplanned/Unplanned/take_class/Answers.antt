@@ -13,4 +13,4 @@ pub returns-then-not-is_none : goal.returns-then-not-is_none
 returns-then-not-is_none c = class_stays (inr (λ none. filled c.in_ok-family.family.items (ap is_empty (sym c.deref-2.ensures.value) ∙ (sym c.is_none.ensures ∙ c.if-not-is_none.true)) (c.in_ok-family.ensures ∙ none))) refl
 
 pub returns : goal.returns
-returns c = class_tells c.in_ok-class.class c.in_ok-pool.pool c.in_ok-class.ensures.ok c.in_ok-pool.ensures.ok (sym c.in_ok-family.ensures ∙ emptied c.in_ok-family.family.items (ap is_empty (sym c.deref-2.ensures.value) ∙ (sym c.is_none.ensures ∙ c.if-not-is_none.false))) c.in_ok-push.ensures.items (λ q. c.in_ok-insert.ensures q ∙ ap (λ (t : List ℕ). has_label c.args.self.now.classes q || bytes_eq t q) (c.deref-3.ensures ∙ c.in_ok-label.ensures)) refl
+returns c = class_tells (ap (has_label c.args.self.now.classes) (sym c.in_ok-label.ensures ∙ sym c.deref.ensures) ∙ (sym c.contains.ensures ∙ c.if-contains.false)) c.in_ok-class.class c.in_ok-pool.pool c.in_ok-class.ensures.ok c.in_ok-pool.ensures.ok (sym c.in_ok-family.ensures ∙ emptied c.in_ok-family.family.items (ap is_empty (sym c.deref-2.ensures.value) ∙ (sym c.is_none.ensures ∙ c.if-not-is_none.false))) c.in_ok-push.ensures.items (λ q. c.in_ok-insert.ensures q ∙ ap (λ (t : List ℕ). has_label c.args.self.now.classes q || bytes_eq t q) (c.deref-3.ensures ∙ c.in_ok-label.ensures)) refl
