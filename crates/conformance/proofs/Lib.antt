@@ -14,3 +14,4 @@ pub mod VerdictsAfter
 pub mod ToldKinds
 pub mod WatchedAfter
 pub mod GatheredAll
+pub mod Deeds

@@ -51,8 +51,8 @@ deed_before path (suc place) = deed_at path place
 -- ---- what is told
 -- the deed, with the class of its job by its submit
 pub data IsNamedDeed (lines : List RecordedLine) : JobDeed → NamedDeed → Type 0 where
-  submits : (job : ℕ) (class : String Global) → IsLabelOf lines (Job job) (string_bytes class) → IsNamedDeed lines (deed.Submits job) (named.Submits class)
-  gets : (job : ℕ) (class : String Global) → IsLabelOf lines (Job job) (string_bytes class) → IsNamedDeed lines (deed.Gets job) (named.Gets class)
+  submitted : (job : ℕ) (class : String Global) → IsLabelOf lines (Job job) (string_bytes class) → IsNamedDeed lines (deed.Submits job) (named.Submits class)
+  got : (job : ℕ) (class : String Global) → IsLabelOf lines (Job job) (string_bytes class) → IsNamedDeed lines (deed.Gets job) (named.Gets class)
 
 pub data IsNamed (lines : List RecordedLine) : Option JobDeed → Option NamedDeed → Type 0 where
   nothing : IsNamed lines None None

@@ -4,7 +4,7 @@ ghost use Rattle.std.specs.Prelude.{◌≡◌, IfOk, string_bytes};
 ghost use Rattle.recording_lines.specs.declared.recording_line.RecordedActor.TheVariants.{Job};
 ghost use Rattle.conformance.specs.JobSet.{has_job};
 ghost use Rattle.conformance.specs.Lines.{lines_of};
-ghost use Rattle.conformance.specs.Wanted.{IsLabelOf};
+ghost use Rattle.conformance.specs.Wanted.{IsLabelOf, found_seen};
 ghost use Rattle.conformance.specs.Described as spec;
 
 use crate::job_set::JobSet;
@@ -12,7 +12,7 @@ use crate::stray::{NamedDeed, Stray, StrayDeed};
 use crate::wanted::{Wanted, first_line, label_in};
 use recorded_classes::Settled;
 use recorded_paths::RecordedDeed;
-use recording_lines::RecordedActor;
+use recording_lines::{Line, RecordedActor};
 use std::alloc::{AllocError, Global};
 
 /// What the actor did behind the most of its path that a body explains, and the line with which it did so. Each of these jobs
@@ -31,7 +31,7 @@ pub(crate) fn described(
 {
     let explained = told.family.explained;
     let deed = deed_at(&told.path, explained);
-    let line = first_line(recording, wanted_of(told.actor, deed)).map(|found| found.0);
+    let line = number_of(first_line(recording, wanted_of(told.actor, deed)));
     let behind = match explained.checked_sub(1) {
         None => None,
         Some(last) => named(alloc, recording, deed_at(&told.path, last))?,
@@ -43,6 +43,14 @@ pub(crate) fn described(
         behind,
     };
     Ok((line, stray))
+}
+
+/// The number of the line that was found.
+fn number_of(found: Option<(usize, Line<'_>)>) -> Option<usize>
+    ensures { result ≡ spec.number_seen (found_seen found.entry) }
+{
+    let (number, _) = found?;
+    Some(number)
 }
 
 /// What an actor did with a job.

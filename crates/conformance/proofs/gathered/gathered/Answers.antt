@@ -5,13 +5,16 @@ use Rattle.recorded_classes.specs.declared.settled.Settled.{Settled}
 use Rattle.conformance.specs.declared.finding.Finding.{Finding}
 use Rattle.conformance.specs.declared.finding.Finding.TheVariants as finding
 use Rattle.conformance.specs.Gathered as made
+use Rattle.conformance.specs.JobSet.{has_job}
+use Rattle.conformance.specs.Lines.{lines_of}
 use Rattle.conformance.proofs.gathered.gathered.Goals as goal
 
 pub returns : goal.returns
-returns c = λ lines so.
+returns c = λ so.
+    let lines = lines_of c.args.recording.now in
     let survey = c.args.survey in
     let strays = c.in_ok-push_strays.ensures in
-    let foreign = c.in_ok-push_foreign_get.ensures lines so in
+    let foreign = c.in_ok-push_foreign_get.ensures so in
     let a1 = c.in_ok-push_pools.ensures ∙ ap (λ (xs : List Finding). xs ++ map finding.Pool survey.watched.deviations.items) c.new-findings.ensures.items in
     let a2 = c.in_ok-push_labels.ensures ∙ ap (λ (xs : List Finding). xs ++ map finding.NotPlanned survey.watched.unplanned.found.items) a1 in
     let a3 = strays.behind ∙ ap (λ (xs : List Finding). xs ++ strays.more) a2 in
@@ -21,7 +24,7 @@ returns c = λ lines so.
     record {
       strays = strays.more;
       foreign = foreign.more;
-      strays_so = subst (λ (xs : List Settled). made.AreStrays xs strays.more) c.deref.ensures.value strays.so;
+      strays_so = subst (λ (xs : List Settled). made.AreStrays lines (has_job survey.judged.verdicts.classless) xs strays.more) c.deref.ensures.value strays.so;
       foreign_so = foreign.so;
       all = c.in_ok-push_voids.ensures lines so ∙ ap (λ (xs : List Finding). xs ++ map finding.Void (filter made.is_lasting (voids_of lines))) a6;
     }

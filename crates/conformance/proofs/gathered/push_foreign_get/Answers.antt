@@ -4,23 +4,26 @@ use Rattle.recorded_notes.specs.declared.foreign_get.ForeignGet.{ForeignGet}
 use Rattle.recorded_notes.specs.ForeignGets.{first_foreign_get}
 use Rattle.conformance.specs.declared.finding.Finding.TheVariants as finding
 use Rattle.conformance.specs.Gathered as made
+use Rattle.conformance.specs.Lines.{lines_of}
 use Rattle.conformance.proofs.gathered.push_foreign_get.Goals as goal
 
 pub returns-in_ok-push : goal.returns-in_ok-push
-returns-in_ok-push c = λ lines so.
+returns-in_ok-push c = λ so.
+    let lines = lines_of c.args.recording.now in
     let found = finding.ForeignGet c.in-Some.get c.in_ok-label.label in
     let is : Some c.in-Some.get ≡ first_foreign_get lines = c.in-Some.ensures lines so in
     record {
       more = found ∷ [];
       behind = c.in_ok-push.ensures.items;
-      so = subst (λ (get : Option ForeignGet). made.AreForeign get (found ∷ [])) is (made.one c.in-Some.get c.in_ok-label.label);
+      so = subst (λ (get : Option ForeignGet). made.AreForeign lines get (found ∷ [])) is (made.one c.in-Some.get c.in_ok-label.label c.in_ok-label.ensures);
     }
 
 pub returns-in_default : goal.returns-in_default
-returns-in_default c = λ lines so.
+returns-in_default c = λ so.
+    let lines = lines_of c.args.recording.now in
     let is : None ≡ first_foreign_get lines = c.in_default.ensures lines so in
     record {
       more = [];
       behind = sym (append-nil c.args.findings.now.items);
-      so = subst (λ (get : Option ForeignGet). made.AreForeign get []) is made.none;
+      so = subst (λ (get : Option ForeignGet). made.AreForeign lines get []) is made.none;
     }
