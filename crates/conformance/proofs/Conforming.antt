@@ -4,6 +4,7 @@ use Rattle.std.specs.Prelude.{filter}
 use Rattle.std.specs.List.{list_any}
 use Rattle.std.specs.Option.{option_and_then}
 use Rattle.std.proofs.lemmas.List.Elements.{All-contains}
+use Rattle.std.proofs.lemmas.List.Folds.{list_any-append}
 use Rattle.std.proofs.lemmas.Bool.{eqb-true}
 use Rattle.std.specs.List.Sorted.{IsPermutation}
 use Rattle.std.proofs.lemmas.List.Sorted.{length_permutation}
@@ -14,6 +15,7 @@ use Rattle.recording_lines.specs.RecordingLine.{RecordedLine}
 use Rattle.recorded_rules.specs.Before.{is_begun}
 use Rattle.recorded_rules.specs.LineParts.{is_same_actor}
 use Rattle.recorded_paths.specs.LineDeeds.{is_submitted}
+use Rattle.plan_differences.specs.declared.pool_watch.PoolDeviation.{PoolDeviation}
 use Rattle.plan_differences.specs.declared.round_watch.RoundExcess.{RoundExcess}
 use Rattle.plan_differences.specs.PoolDeviations.{deviation_seen, deviations_by_lines, deviations_at_end}
 use Rattle.plan_differences.specs.RoundExcesses.{excesses_by_lines}
@@ -21,20 +23,25 @@ use Rattle.plan_differences.specs.RoundExcesses as rounds
 use Rattle.plan_differences.specs.WatchLaws.{PoolsAreAsPlanned, PoolsAreRecorded, RoundsAreWithinPlan}
 use Rattle.recorded_notes.specs.ForeignGets.{first_foreign_get}
 use Rattle.recorded_notes.specs.declared.foreign_get.ForeignGet.{ForeignGet}
+use Rattle.recorded_notes.specs.declared.voiding.Void.{Void}
 use Rattle.recorded_notes.specs.Voids.{voids_of}
 use Rattle.recorded_classes.specs.declared.settled.Settled.{Settled}
 use Rattle.recorded_classes.specs.Settled.{IsTold, AreAllTold, CanBe, is_told, has_come}
 use Rattle.conformance.specs.declared.finding.Finding.{Finding}
 use Rattle.conformance.specs.declared.finding.Finding.TheVariants as finding
 use Rattle.conformance.specs.declared.survey.Survey.{Survey}
-use Rattle.conformance.specs.Conforms.{Conforms, IsNotVoid, IsOfAClass, IsOfAKind, HasItsKind, AreEnoughClients}
+use Rattle.conformance.specs.declared.unplanned.NotPlanned.{NotPlanned}
+use Rattle.conformance.specs.Conforms.{Conforms, DoAsPlanned, IsNotVoid, IsOfAClass, IsOfAKind, HasItsKind}
+use Rattle.conformance.specs.Findings.{is_of_actors}
 use Rattle.conformance.specs.FirstKinds.{AreFirstKinds, has_kind, round_told}
 use Rattle.conformance.specs.Gathered.{AreGathered, AreStrays, AreForeign, not_decided, is_lasting}
 use Rattle.conformance.specs.Gathered as made
+use Rattle.conformance.specs.JobSet.{has_job}
 use Rattle.conformance.specs.Survey.{IsSurveyOf}
 use Rattle.conformance.specs.Verdicts.{is_empty}
 use Rattle.conformance.proofs.Among.{here, Passing, passing, both_none, map_none}
 use Rattle.conformance.proofs.NotVoid.{not_void}
+use Rattle.conformance.proofs.Times.{none_of_both}
 use Rattle.conformance.proofs.Yes.{IsGood, all_good}
 
 -- ---- one actor
@@ -99,14 +106,55 @@ kind_so plan budget lines told kinds round are first come =
     counted_so plan lines told kinds one.one round one.one.family.members.items first one.among is refl (subst (λ (a : RecordedActor). CanBe plan lines a one.one.family.members.items) is (so.members good.decided)) good.some
 
 -- ---- the notes
-no_foreign : (get : Option ForeignGet) (found : List Finding) → AreForeign get found → found ≡ [] → get ≡ None
-no_foreign _ _ made.none none = refl
-no_foreign _ _ (made.one get label) none = absurd (grind (arith, none))
+no_foreign : (lines : List RecordedLine) (get : Option ForeignGet) (found : List Finding) → AreForeign lines get found → found ≡ [] → get ≡ None
+no_foreign lines _ _ made.none none = refl
+no_foreign lines _ _ (made.one get label is) none = absurd (grind (arith, none))
 
-none_told : (told : List Settled) (found : List Finding) → AreStrays told found → found ≡ [] → told ≡ []
-none_told [] found are none = refl
-none_told (one ∷ told) [] are none = absurd are
-none_told (one ∷ told) (first ∷ found) are none = absurd (grind (arith, none))
+-- ---- none of the actors
+contra : true ≡ false → ⊥
+contra h = cc
+
+none_in_both : (xs ys : List Finding) → list_any is_of_actors (xs ++ ys) ≡ false → (list_any is_of_actors xs ≡ false) × (list_any is_of_actors ys ≡ false)
+none_in_both xs ys h = none_of_both (list_any is_of_actors xs) (list_any is_of_actors ys) (sym (list_any-append is_of_actors xs ys) ∙ h)
+
+none_mapped : {X : Type 0} (f : X → Finding) (xs : List X) → ((x : X) → is_of_actors (f x) ≡ true) → list_any is_of_actors (map f xs) ≡ false → xs ≡ []
+none_mapped f [] each h = refl
+none_mapped f (x ∷ xs) each h = absurd (contra (sym (each x) ∙ (none_of_both (is_of_actors (f x)) (list_any is_of_actors (map f xs)) h).0))
+
+record NoActors (labels : List NotPlanned) (astray : List Finding) (undecided : List Settled) (excesses : List RoundExcess) : Type 0 where
+  labels_none : labels ≡ []
+  astray_none : list_any is_of_actors astray ≡ false
+  undecided_none : undecided ≡ []
+  excesses_none : excesses ≡ []
+
+none_in_parts : (deviations : List PoolDeviation) (labels : List NotPlanned) (astray : List Finding) (undecided : List Settled) (excesses : List RoundExcess) (gets : List Finding) (voids : List Void)
+    → list_any is_of_actors (made.one_behind_another deviations labels astray undecided excesses gets voids) ≡ false → NoActors labels astray undecided excesses
+none_in_parts deviations labels astray undecided excesses gets voids none =
+    let pools = map finding.Pool deviations in
+    let named = map finding.NotPlanned labels in
+    let not_yet = map not_decided undecided in
+    let many = map finding.TooMany excesses in
+    let p6 = none_in_both (pools ++ named ++ astray ++ not_yet ++ many ++ gets) (map finding.Void voids) none in
+    let p5 = none_in_both (pools ++ named ++ astray ++ not_yet ++ many) gets p6.0 in
+    let p4 = none_in_both (pools ++ named ++ astray ++ not_yet) many p5.0 in
+    let p3 = none_in_both (pools ++ named ++ astray) not_yet p4.0 in
+    let p2 = none_in_both (pools ++ named) astray p3.0 in
+    let p1 = none_in_both pools named p2.0 in
+    record {
+      labels_none = none_mapped finding.NotPlanned labels (λ label. refl) p1.1;
+      astray_none = p2.1;
+      undecided_none = none_mapped not_decided undecided (λ told. refl) p3.1;
+      excesses_none = none_mapped finding.TooMany excesses (λ excess. refl) p4.1;
+    }
+
+of_actors : (lines : List RecordedLine) (is_classless : ℕ → Bool) (told : Settled) (found : Finding) → made.IsStrayTold lines is_classless told found → is_of_actors found ≡ true
+of_actors lines is_classless told _ (made.strays number stray so) = refl
+
+none_told : (lines : List RecordedLine) (is_classless : ℕ → Bool) (told : List Settled) (found : List Finding) → AreStrays lines is_classless told found → list_any is_of_actors found ≡ false → told ≡ []
+none_told lines is_classless [] found are none = refl
+none_told lines is_classless (one ∷ told) [] are none = absurd are
+none_told lines is_classless (one ∷ told) (first ∷ found) are none =
+    absurd (contra (sym (of_actors lines is_classless one first are.0) ∙ (none_of_both (is_of_actors first) (list_any is_of_actors found) none).0))
 
 -- ---- in another order
 pub empty_if : {X : Type 0} (xs : List X) → length xs ≡ 0 → xs ≡ []
@@ -117,6 +165,30 @@ pub none_before : {X : Type 0} (xs ys : List X) → IsPermutation xs ys → ys �
 none_before xs ys moved none = empty_if xs (sym (length_permutation xs ys moved) ∙ ap length none)
 
 -- ---- all
+-- where nothing is found of the actors, they do as planned
+pub actors_do : (plan : Plan) (budget : ℕ) (lines : List RecordedLine) (survey : Survey) (excesses : List RoundExcess) (found : List Finding)
+    → RoundsAreWithinPlan → IsSurveyOf plan budget lines survey → excesses ≡ excesses_by_lines plan survey.judged.kinds.kinds.items lines → AreGathered lines survey excesses found → list_any is_of_actors found ≡ false
+    → DoAsPlanned plan lines
+actors_do plan budget lines survey excesses found are_within so counted gathered none =
+    let parts = none_in_parts survey.watched.deviations.items survey.watched.unplanned.found.items gathered.strays survey.judged.verdicts.undecided.actors.items excesses gathered.foreign (filter is_lasting (voids_of lines))
+        (ap (list_any is_of_actors) (sym gathered.all) ∙ none) in
+    let no_strays = none_told lines (has_job survey.judged.verdicts.classless) survey.judged.verdicts.strays.actors.items gathered.strays gathered.strays_so parts.astray_none in
+    let judged = so.judged in
+    let are : AreGood plan budget lines judged.told = record {
+      all = judged.all;
+      good = λ one among. all_good plan budget lines judged.told survey.judged.verdicts survey.watched.unplanned one judged.all.told judged.verdicts so.watched.unplanned no_strays parts.undecided_none parts.labels_none among;
+    } in
+    let kinds = survey.judged.kinds.kinds.items in
+    record {
+      jobs = λ job. job_so plan budget lines judged.told job are;
+      rounds = λ round. round_so plan budget lines judged.told round are;
+      clients = record {
+        kinds = kinds;
+        each = λ round. kind_so plan budget lines judged.told kinds round are judged.kinds;
+        within = λ before behind is. are_within plan kinds before behind (ap (excesses_by_lines plan kinds) (sym is) ∙ (sym counted ∙ parts.excesses_none));
+      };
+    }
+
 pub conforms : (plan : Plan) (budget : ℕ) (lines : List RecordedLine) (survey : Survey) (excesses : List RoundExcess) (found : List Finding)
     → PoolsAreAsPlanned → PoolsAreRecorded → RoundsAreWithinPlan
     → IsSurveyOf plan budget lines survey → excesses ≡ excesses_by_lines plan survey.judged.kinds.kinds.items lines → AreGathered lines survey excesses found → found ≡ []
@@ -129,29 +201,13 @@ conforms plan budget lines survey excesses found as_planned are_recorded are_wit
     let p2 = both_none _ _ p3.0 in
     let p1 = both_none _ _ p2.0 in
     let no_deviations = map_none finding.Pool _ p1.0 in
-    let no_labels = map_none finding.NotPlanned _ p1.1 in
-    let no_undecided = map_none not_decided _ p3.1 in
-    let no_excesses : excesses ≡ [] = map_none finding.TooMany excesses p4.1 in
-    let no_strays = none_told _ _ gathered.strays_so p2.1 in
     let no_voids : filter is_lasting (voids_of lines) ≡ [] = map_none finding.Void _ p6.1 in
-    let pools = both_none (deviations_by_lines plan lines) (deviations_at_end plan lines) (sym so.watched.deviations ∙ ap (map deviation_seen) no_deviations) in
-    let judged = so.judged in
-    let are : AreGood plan budget lines judged.told = record {
-      all = judged.all;
-      good = λ one among. all_good plan budget lines judged.told survey.judged.verdicts survey.watched.unplanned one judged.all.told judged.verdicts so.watched.unplanned no_strays no_undecided no_labels among;
-    } in
-    let kinds = survey.judged.kinds.kinds.items in (
+    let pools = both_none (deviations_by_lines plan lines) (deviations_at_end plan lines) (sym so.watched.deviations ∙ ap (map deviation_seen) no_deviations) in (
       record {
         pools = as_planned plan lines pools.0;
         recorded = λ closed. are_recorded plan lines closed pools.1;
-        jobs = λ job. job_so plan budget lines judged.told job are;
-        rounds = λ round. round_so plan budget lines judged.told round are;
-        clients = record {
-          kinds = kinds;
-          each = λ round. kind_so plan budget lines judged.told kinds round are judged.kinds;
-          within = λ before behind is. are_within plan kinds before behind (ap (excesses_by_lines plan kinds) (sym is) ∙ (sym counted ∙ no_excesses));
-        };
-        gets = no_foreign _ _ gathered.foreign_so p5.1;
+        actors = actors_do plan budget lines survey excesses found are_within so counted gathered (ap (list_any is_of_actors) none);
+        gets = no_foreign lines _ _ gathered.foreign_so p5.1;
       },
       not_void lines no_voids,
     )

@@ -15,3 +15,4 @@ pub mod ToldKinds
 pub mod WatchedAfter
 pub mod GatheredAll
 pub mod Deeds
+pub mod AllFound

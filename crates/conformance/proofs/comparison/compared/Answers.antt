@@ -1,9 +1,11 @@
 use Rattle.std.proofs.Common.{◌≡◌, List, [], ap, sym, ◌∙◌, Option, ℕ, rules}
-use Rattle.std.proofs.lemmas.List.Sorted.{length_permutation, IsNonDecreasingBy-from_sort_by_key}
+use Rattle.std.proofs.lemmas.List.Sorted.{list_any-IsPermutation, IsNonDecreasingBy-from_sort_by_key}
 use Rattle.plan_differences.specs.RoundExcesses.{excesses_by_lines}
 use Rattle.conformance.specs.Lines.{lines_of}
 use Rattle.conformance.specs.Finding.{place_of}
-use Rattle.conformance.proofs.Conforming.{conforms, none_before}
+use Rattle.conformance.specs.Findings.{is_of_actors}
+use Rattle.conformance.proofs.AllFound.{all_found}
+use Rattle.conformance.proofs.Conforming.{conforms, actors_do, none_before}
 use Rattle.conformance.proofs.comparison.compared.Goals as goal
 
 pub returns-clause-conforms : goal.returns-clause-conforms
@@ -13,8 +15,26 @@ returns-clause-conforms c = λ keeps none.
     let so = c.in_ok-survey.ensures keeps in
     conforms plan c.args.budget lines c.in_ok-survey.survey c.in_ok-excesses.excesses.items c.in_ok-findings.findings.items
     c.pools_are_as_planned.ensures.as_planned c.pools_are_as_planned.ensures.recorded c.rounds_are_within_plan.ensures.within
-    so (c.in_ok-excesses.ensures keeps ∙ ap (λ (kinds : List (Option ℕ)). excesses_by_lines plan kinds lines) c.as_slice-kinds.ensures.value) (c.in_ok-findings.ensures lines so.watched.notes)
+    so (c.in_ok-excesses.ensures keeps ∙ ap (λ (kinds : List (Option ℕ)). excesses_by_lines plan kinds lines) c.as_slice-kinds.ensures.value) (c.in_ok-findings.ensures so.watched.notes)
     (none_before _ _ c.in_ok-sort_by_key.ensures.permutation none)
+
+pub returns-clause-actors : goal.returns-clause-actors
+returns-clause-actors c = λ keeps none.
+    let lines = lines_of c.args.recording.now in
+    let plan = c.args.plan.now in
+    let so = c.in_ok-survey.ensures keeps in
+    actors_do plan c.args.budget lines c.in_ok-survey.survey c.in_ok-excesses.excesses.items c.in_ok-findings.findings.items c.rounds_are_within_plan.ensures.within
+    so (c.in_ok-excesses.ensures keeps ∙ ap (λ (kinds : List (Option ℕ)). excesses_by_lines plan kinds lines) c.as_slice-kinds.ensures.value) (c.in_ok-findings.ensures so.watched.notes)
+    (list_any-IsPermutation is_of_actors _ _ c.in_ok-sort_by_key.ensures.permutation ∙ none)
+
+pub returns-clause-found : goal.returns-clause-found
+returns-clause-found c = λ keeps.
+    let lines = lines_of c.args.recording.now in
+    let plan = c.args.plan.now in
+    let so = c.in_ok-survey.ensures keeps in
+    all_found plan c.args.budget lines c.in_ok-survey.survey c.in_ok-excesses.excesses.items c.in_ok-findings.findings.items _
+    so (c.in_ok-excesses.ensures keeps ∙ ap (λ (kinds : List (Option ℕ)). excesses_by_lines plan kinds lines) c.as_slice-kinds.ensures.value) (c.in_ok-findings.ensures so.watched.notes)
+    c.in_ok-sort_by_key.ensures.permutation
 
 pub returns-clause-ascending : goal.returns-clause-ascending
 returns-clause-ascending c = IsNonDecreasingBy-from_sort_by_key place_of _ c.in_ok-sort_by_key.ensures.sorted (λ a r q k. search rules)
