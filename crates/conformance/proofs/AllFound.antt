@@ -1,5 +1,5 @@
 -- All that is found of a recording beside a plan.
-use Rattle.std.proofs.Common.{◌≡◌, ℕ, Bool, true, false, List, [], ◌∷◌, filter, Option, refl, ap, sym, subst, ◌∙◌}
+use Rattle.std.proofs.Common.{◌≡◌, ℕ, Bool, List, [], ◌∷◌, filter, Option, ap, sym, subst, ◌∙◌}
 use Rattle.std.specs.List.Sorted.{IsPermutation}
 use Rattle.job_bodies.specs.Plan.{Plan}
 use Rattle.recording_lines.specs.RecordingLine.{RecordedLine}

@@ -1,6 +1,6 @@
 -- What is among the elements of a list.
-use Rattle.std.proofs.Common.{◌≡◌, ◌<◌, ℕ, zero, suc, Bool, true, false, cond, ◌||◌, List, [], ◌∷◌, ◌++◌, length, get_or, map, All, Contains, slice_get, take, drop, ◌+◌, Option, Some, None, refl, ap, sym, subst, ◌∙◌, inl, inr, arith}
-use Rattle.std.specs.Prelude.{filter, Any, ◌⊎◌}
+use Rattle.std.proofs.Common.{◌≡◌, ℕ, zero, suc, Bool, true, false, cond, ◌||◌, List, [], ◌∷◌, ◌++◌, map, Contains, slice_get, take, drop, ◌+◌, Some, refl, ap, sym, subst, ◌∙◌, inl, inr, arith}
+use Rattle.std.specs.Prelude.{filter, ◌⊎◌}
 use Rattle.std.specs.List.{list_any}
 use Rattle.conformance.proofs.Steps.{front_next}
 use Rattle.conformance.proofs.Times.{none_of_both}

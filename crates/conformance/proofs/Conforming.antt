@@ -1,5 +1,5 @@
 -- Where nothing is found, the recording conforms.
-use Rattle.std.proofs.Common.{◌≡◌, ◌<◌, ℕ, zero, suc, Bool, true, false, List, [], ◌∷◌, ◌++◌, length, map, All, Contains, Option, Some, None, refl, ap, sym, subst, ◌∙◌, slice_get, arith}
+use Rattle.std.proofs.Common.{◌≡◌, ℕ, Bool, true, false, List, [], ◌∷◌, ◌++◌, length, map, Contains, Option, Some, None, refl, ap, sym, subst, ◌∙◌, arith}
 use Rattle.std.specs.Prelude.{filter}
 use Rattle.std.specs.List.{list_any}
 use Rattle.std.specs.Option.{option_and_then}
@@ -19,14 +19,12 @@ use Rattle.plan_differences.specs.declared.pool_watch.PoolDeviation.{PoolDeviati
 use Rattle.plan_differences.specs.declared.round_watch.RoundExcess.{RoundExcess}
 use Rattle.plan_differences.specs.PoolDeviations.{deviation_seen, deviations_by_lines, deviations_at_end}
 use Rattle.plan_differences.specs.RoundExcesses.{excesses_by_lines}
-use Rattle.plan_differences.specs.RoundExcesses as rounds
 use Rattle.plan_differences.specs.WatchLaws.{PoolsAreAsPlanned, PoolsAreRecorded, RoundsAreWithinPlan}
-use Rattle.recorded_notes.specs.ForeignGets.{first_foreign_get}
 use Rattle.recorded_notes.specs.declared.foreign_get.ForeignGet.{ForeignGet}
 use Rattle.recorded_notes.specs.declared.voiding.Void.{Void}
 use Rattle.recorded_notes.specs.Voids.{voids_of}
 use Rattle.recorded_classes.specs.declared.settled.Settled.{Settled}
-use Rattle.recorded_classes.specs.Settled.{IsTold, AreAllTold, CanBe, is_told, has_come}
+use Rattle.recorded_classes.specs.Settled.{IsTold, AreAllTold, CanBe, is_told}
 use Rattle.conformance.specs.declared.finding.Finding.{Finding}
 use Rattle.conformance.specs.declared.finding.Finding.TheVariants as finding
 use Rattle.conformance.specs.declared.survey.Survey.{Survey}
@@ -39,7 +37,7 @@ use Rattle.conformance.specs.Gathered as made
 use Rattle.conformance.specs.JobSet.{has_job}
 use Rattle.conformance.specs.Survey.{IsSurveyOf}
 use Rattle.conformance.specs.Verdicts.{is_empty}
-use Rattle.conformance.proofs.Among.{here, Passing, passing, both_none, map_none}
+use Rattle.conformance.proofs.Among.{here, passing, both_none, map_none}
 use Rattle.conformance.proofs.NotVoid.{not_void}
 use Rattle.conformance.proofs.Times.{none_of_both}
 use Rattle.conformance.proofs.Yes.{IsGood, all_good}
@@ -171,7 +169,7 @@ pub actors_do : (plan : Plan) (budget : ℕ) (lines : List RecordedLine) (survey
     → DoAsPlanned plan lines
 actors_do plan budget lines survey excesses found are_within so counted gathered none =
     let parts = none_in_parts survey.watched.deviations.items survey.watched.unplanned.found.items gathered.strays survey.judged.verdicts.undecided.actors.items excesses gathered.foreign (filter is_lasting (voids_of lines))
-        (ap (list_any is_of_actors) (sym gathered.all) ∙ none) in
+    (ap (list_any is_of_actors) (sym gathered.all) ∙ none) in
     let no_strays = none_told lines (has_job survey.judged.verdicts.classless) survey.judged.verdicts.strays.actors.items gathered.strays gathered.strays_so parts.astray_none in
     let judged = so.judged in
     let are : AreGood plan budget lines judged.told = record {

@@ -1,5 +1,5 @@
 -- What is told of a deed.
-use Rattle.std.proofs.Common.{◌≡◌, ◌≤◌, ◌+◌, ◌-◌, ℕ, zero, suc, Bool, true, false, List, Option, Some, None, refl, ap, sym, subst, ◌∙◌, string_bytes, arith}
+use Rattle.std.proofs.Common.{◌≡◌, ◌≤◌, ◌-◌, ℕ, zero, suc, Bool, true, false, List, Option, Some, None, ap, sym, subst, ◌∙◌, string_bytes, arith}
 use Rattle.std.specs.declared.alloc.Global.{Global}
 use Rattle.std.specs.declared.string.String.{String}
 use Rattle.recorded_paths.specs.declared.deed.RecordedDeed.{RecordedDeed}
@@ -9,7 +9,6 @@ use Rattle.conformance.specs.declared.described.JobDeed.{JobDeed}
 use Rattle.conformance.specs.declared.described.JobDeed.TheVariants as deed
 use Rattle.conformance.specs.declared.stray.NamedDeed.{NamedDeed}
 use Rattle.conformance.specs.declared.stray.NamedDeed.TheVariants as named
-use Rattle.conformance.specs.declared.stray.StrayDeed.{StrayDeed}
 use Rattle.conformance.specs.declared.stray.StrayDeed.TheVariants as stray
 use Rattle.conformance.specs.Described as spec
 use Rattle.conformance.specs.Wanted.{IsLabelOf}

@@ -1,7 +1,6 @@
 -- Of each label the actor with the smallest number, behind one more.
-use Rattle.std.proofs.Common.{◌≡◌, ◌≤◌, ◌<◌, ℕ, zero, suc, Bool, true, false, ◌&&◌, List, [], ◌∷◌, ◌++◌, length, get_or, set, All, Contains, Option, Some, None, refl, ap, sym, subst, ◌∙◌, inl, inr, string_bytes, slice_get, arith}
-use Rattle.std.specs.Prelude.{◌⊎◌, Any}
-use Rattle.std.specs.Str.{bytes_eq}
+use Rattle.std.proofs.Common.{◌≡◌, ◌≤◌, ◌<◌, ℕ, zero, suc, Bool, true, false, ◌&&◌, List, [], ◌∷◌, ◌++◌, length, get_or, set, All, Contains, Some, refl, ap, sym, subst, ◌∙◌, string_bytes, slice_get, arith}
+use Rattle.std.specs.Prelude.{Any}
 use Rattle.std.specs.List.{list_any}
 use Rattle.std.proofs.lemmas.Slice.Eq.{bytes_eq-Decides}
 use Rattle.std.proofs.lemmas.List.Elements.{All-push, All-weaker, All-set, Contains-push, Contains-append_left}
@@ -10,7 +9,7 @@ use Rattle.recording_lines.specs.declared.recording_line.RecordedActor.{Recorded
 use Rattle.recording_lines.specs.declared.recording_line.RecordedActor.TheVariants.{Job, Round}
 use Rattle.recorded_classes.specs.declared.settled.Settled.{Settled}
 use Rattle.conformance.specs.Firsts.{is_same_sort, number_of, is_same_label, StandsFor, AreFirsts}
-use Rattle.conformance.proofs.Among.{Passing, passing, passed}
+use Rattle.conformance.proofs.Among.{passing, passed}
 use Rattle.conformance.proofs.Places.{within}
 use Rattle.conformance.proofs.Times.{once_more, count_write}
 
@@ -125,6 +124,7 @@ none_alike firsts one third none same = not_any (list_any (is_same_label third) 
     not_any : (b : Bool) → (b ≡ true → ⊥) → b ≡ false
     not_any true h = absurd (h refl)
     not_any false h = refl
+
     contra : true ≡ false → ⊥
     contra h = cc
 

@@ -1,5 +1,5 @@
 -- Lines that have a form, among others.
-use Rattle.std.proofs.Common.{◌≡◌, ◌≤◌, ℕ, List, [], ◌∷◌, length, Option, Some, None, arith}
+use Rattle.std.proofs.Common.{◌≤◌, List, [], ◌∷◌, length, Option, Some, None, arith}
 use Rattle.recording_lines.specs.RecordingLine.{RecordedLine}
 use Rattle.conformance.specs.Lines.{with_form}
 

@@ -1,5 +1,5 @@
 -- Recordings that keep the rules.
-use Rattle.std.proofs.Common.{◌≡◌, ℕ, zero, suc, ◌+◌, ◌<◌, List, [], ◌∷◌, ◌++◌, length, take, drop, filter_map, map, slice_get, Option, Some, None, refl, ap, sym, ◌∙◌, append_assoc, arith}
+use Rattle.std.proofs.Common.{◌≡◌, ℕ, suc, List, [], ◌∷◌, ◌++◌, length, take, drop, map, slice_get, Option, Some, None, refl, ap, sym, ◌∙◌, append_assoc, arith}
 use Rattle.std.specs.Option.{option_map, option_and_then}
 use Rattle.recording_lines.specs.RecordingLine.{RecordedLine, lines_read}
 use Rattle.recorded_rules.specs.declared.fault.Breach.TheVariants as breach

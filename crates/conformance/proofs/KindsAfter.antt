@@ -1,11 +1,9 @@
 -- The kind that each round is counted as, behind one more line, and behind one more of which it is told.
-use Rattle.std.proofs.Common.{◌≡◌, ◌≤◌, ◌<◌, ◌+◌, ℕ, zero, suc, Bool, true, false, cond, ◌&&◌, not, ◌==◌, List, [], ◌∷◌, ◌++◌, length, set, All, Contains, Option, Some, None, refl, ap, sym, subst, ◌∙◌, inl, inr, string_bytes, slice_get, count_by, length-append, arith}
+use Rattle.std.proofs.Common.{◌≡◌, ◌<◌, ◌+◌, ℕ, zero, suc, Bool, true, false, cond, ◌&&◌, not, ◌==◌, List, [], ◌∷◌, ◌++◌, length, set, Option, Some, None, refl, ap, sym, subst, ◌∙◌, inl, inr, slice_get, length-append, arith}
 use Rattle.std.specs.Prelude.{◌⊎◌}
-use Rattle.std.specs.List.{list_any, filter_map, cons_option}
-use Rattle.std.proofs.lemmas.Bool.{eqb-true, cases_eq}
-use Rattle.std.proofs.lemmas.List.Elements.{All-contains, Contains-push, Contains-push_cases, Contains-append_left, filter_map-append}
-use Rattle.recording_lines.specs.declared.recording_line.RecordedActor.{RecordedActor}
-use Rattle.recording_lines.specs.declared.recording_line.RecordedActor.TheVariants.{Job, Round}
+use Rattle.std.specs.List.{filter_map, cons_option}
+use Rattle.std.proofs.lemmas.Bool.{eqb-true}
+use Rattle.std.proofs.lemmas.List.Elements.{filter_map-append}
 use Rattle.recording_lines.specs.RecordingLine.{RecordedLine, RoundBegins}
 use Rattle.recording_lines.specs.declared.recording_line.Line.{Line}
 use Rattle.recording_lines.specs.declared.recording_line.Line.TheVariants as code
@@ -15,13 +13,13 @@ use Rattle.recorded_rules.specs.declared.rule.Rule.{Rule}
 use Rattle.recorded_rules.specs.declared.rule.Rule.TheVariants as rule
 use Rattle.recorded_rules.specs.LineParts.{is_begin}
 use Rattle.recorded_rules.specs.Before.{begins}
-use Rattle.recorded_rules.specs.Rules.{broken_of, keeps_frame, keeps_pools, keeps_numbers, has_next_number}
+use Rattle.recorded_rules.specs.Rules.{keeps_frame, keeps_pools, keeps_numbers, has_next_number}
 use Rattle.recorded_paths.specs.StandsFor.{KeepsRules}
 use Rattle.job_bodies.specs.Plan.{Plan}
 use Rattle.plan_families.specs.Family.{client_family}
 use Rattle.recorded_classes.specs.declared.settled.Settled.{Settled}
-use Rattle.recorded_classes.specs.Label.{HasLabel, kind_of, kind_in}
-use Rattle.conformance.specs.FirstKinds.{has_kind, round_told, with_kind, with_round, with_told, with_all, AreFirstKinds}
+use Rattle.recorded_classes.specs.Label.{kind_of, kind_in}
+use Rattle.conformance.specs.FirstKinds.{AreFirstKinds}
 use Rattle.conformance.proofs.Places.{there_before, there_last}
 use Rattle.conformance.proofs.Times.{count_push}
 

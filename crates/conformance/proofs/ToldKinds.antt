@@ -1,9 +1,8 @@
 -- The kind that each round is counted as, behind those of which it is told.
-use Rattle.std.proofs.Common.{◌≡◌, ◌≤◌, ◌<◌, ◌+◌, ℕ, zero, suc, Bool, true, false, cond, List, [], ◌∷◌, ◌++◌, length, set, All, Contains, Option, Some, None, refl, ap, sym, subst, ◌∙◌, inl, inr, string_bytes, slice_get, count_by, sum_by, append_assoc, arith}
-use Rattle.std.specs.Prelude.{◌⊎◌}
+use Rattle.std.proofs.Common.{◌≡◌, ◌≤◌, ◌<◌, ◌+◌, ℕ, Bool, true, cond, List, [], ◌∷◌, ◌++◌, length, set, All, Contains, Option, Some, None, refl, ap, sym, subst, ◌∙◌, inl, inr, string_bytes, slice_get, count_by, append_assoc, arith}
 use Rattle.std.proofs.Math.ListN.{length-set}
 use Rattle.std.proofs.lemmas.Bool.{cases_eq, eq-eqb}
-use Rattle.std.proofs.lemmas.List.Elements.{All-contains, All-head, All-tail, Contains-push, Contains-push_cases, Contains-append_left}
+use Rattle.std.proofs.lemmas.List.Elements.{All-head, All-tail, Contains-push, Contains-push_cases, Contains-append_left}
 use Rattle.std.proofs.lemmas.List.{append-nil}
 use Rattle.std.proofs.lemmas.List.Sums.{sum_by-cons, sum_by-append}
 use Rattle.recording_lines.specs.declared.recording_line.RecordedActor.{RecordedActor}
@@ -13,11 +12,10 @@ use Rattle.recorded_rules.specs.LineParts.{is_same_actor, is_begin}
 use Rattle.recorded_rules.specs.Before.{begins}
 use Rattle.recorded_paths.specs.StandsFor.{KeepsRules}
 use Rattle.job_bodies.specs.Plan.{Plan}
-use Rattle.plan_families.specs.Family.{client_family}
 use Rattle.recorded_classes.specs.declared.settled.Settled.{Settled}
-use Rattle.recorded_classes.specs.Label.{HasLabel, kind_of}
+use Rattle.recorded_classes.specs.Label.{HasLabel}
 use Rattle.recorded_classes.specs.Settled.{IsTold, IsOnceEach, is_told}
-use Rattle.conformance.specs.FirstKinds.{has_kind, round_told, with_kind, with_round, with_told, with_all, AreFirstKinds}
+use Rattle.conformance.specs.FirstKinds.{has_kind, round_told, with_round, with_told, with_all, AreFirstKinds}
 use Rattle.conformance.proofs.Among.{head_or_later, is_among_none}
 use Rattle.conformance.proofs.Kept.{keeps_front}
 use Rattle.conformance.proofs.KindsAfter.{round_is, written, elsewhere}

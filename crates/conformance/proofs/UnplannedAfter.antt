@@ -1,5 +1,5 @@
 -- The labels that the plan has not, behind one more line.
-use Rattle.std.proofs.Common.{◌≡◌, ◌≤◌, ◌+◌, ℕ, zero, suc, Bool, true, false, ◌||◌, List, [], ◌∷◌, ◌++◌, length, map, All, Contains, Option, Some, None, refl, ap, sym, subst, ◌∙◌, inl, inr, string_bytes, slice_get, count_by, arith}
+use Rattle.std.proofs.Common.{◌≡◌, ◌≤◌, ◌+◌, ℕ, Bool, true, false, ◌||◌, List, [], ◌∷◌, ◌++◌, length, All, Contains, refl, ap, sym, subst, ◌∙◌, inl, inr, string_bytes, count_by, arith}
 use Rattle.std.specs.Prelude.{◌⊎◌}
 use Rattle.std.specs.List.{list_any}
 use Rattle.std.specs.Str.{bytes_eq}
@@ -159,26 +159,26 @@ told_class plan before number actor job class pool old new next so fresh c p c_i
       first = λ earlier by other at. first_next before number line (Submits by other class pool) earlier next (not_earlier by other) at;
     } in
     let new_one : IsNotPlanned plan (before ++ line ∷ []) one =
-        subst (λ (x : List ℕ). IsClassNotPlanned plan (before ++ line ∷ []) number x (string_bytes p)) (sym c_is) (subst (λ (y : List ℕ). IsClassNotPlanned plan (before ++ line ∷ []) number class y) (sym p_is) first_one) in
+    subst (λ (x : List ℕ). IsClassNotPlanned plan (before ++ line ∷ []) number x (string_bytes p)) (sym c_is) (subst (λ (y : List ℕ). IsClassNotPlanned plan (before ++ line ∷ []) number class y) (sym p_is) first_one) in
     let not_yet : (x y : List ℕ) → tells_class x y one ≡ true → list_any (tells_class x y) old.found.items ≡ false
     = λ x y h.
-        let same : pair_text class pool ≡ pair_text x y = (bytes_eq-Decides (pair_text class pool) (pair_text x y)).0 (sym (tells x y) ∙ h) in
-        sym (so.kept_classes x y) ∙ (ap (λ (t : List ℕ). has_label old.classes t) (sym same) ∙ fresh) in
+    let same : pair_text class pool ≡ pair_text x y = (bytes_eq-Decides (pair_text class pool) (pair_text x y)).0 (sym (tells x y) ∙ h) in
+    sym (so.kept_classes x y) ∙ (ap (λ (t : List ℕ). has_label old.classes t) (sym same) ∙ fresh) in
     record {
       found = record {
-      sound = subst (λ (xs : List NotPlanned). All (IsNotPlanned plan (before ++ line ∷ [])) xs) (sym found_is)
-          (All-push (IsNotPlanned plan (before ++ line ∷ [])) old.found.items one (All-weaker (IsNotPlanned plan before) (IsNotPlanned plan (before ++ line ∷ [])) (label_stays plan before (line ∷ [])) _ so.found.sound) new_one);
-      classes = λ who n x y among none. elim (Contains-push_cases before line _ among) [
-        | inl earlier ↦ any_class x y ∙ or_left _ _ (so.found.classes who n x y earlier none)
-        | inr is ↦
-            let same_class : class ≡ x = cc in
-            let same_pool : pool ≡ y = cc in
-            let same : bytes_eq (pair_text class pool) (pair_text x y) ≡ true = ap (λ (t : List ℕ). bytes_eq (pair_text class pool) t) (sym (ap (λ (z : List ℕ). pair_text z pool) same_class ∙ ap (λ (z : List ℕ). pair_text x z) same_pool)) ∙ same_bytes (pair_text class pool) in
-            any_class x y ∙ or_right _ _ (tells x y ∙ same)
-      ];
-      kinds = λ round kind among none. elim (Contains-push_cases before line _ among) [ inl earlier ↦ any_kind kind ∙ so.found.kinds round kind earlier none | inr is ↦ absurd (cc) ];
-      class_once = λ x y. subst (λ (xs : List NotPlanned). count_by (tells_class x y) xs ≤ 1) (sym found_is) (once_more (tells_class x y) old.found.items one (so.found.class_once x y) (not_yet x y));
-      kind_once = λ x. subst (λ (xs : List NotPlanned). count_by (tells_kind x) xs ≤ 1) (sym found_is) (once_more (tells_kind x) old.found.items one (so.found.kind_once x) (λ h. absurd (contra _ h refl)));
+        sound = subst (λ (xs : List NotPlanned). All (IsNotPlanned plan (before ++ line ∷ [])) xs) (sym found_is)
+            (All-push (IsNotPlanned plan (before ++ line ∷ [])) old.found.items one (All-weaker (IsNotPlanned plan before) (IsNotPlanned plan (before ++ line ∷ [])) (label_stays plan before (line ∷ [])) _ so.found.sound) new_one);
+        classes = λ who n x y among none. elim (Contains-push_cases before line _ among) [
+          | inl earlier ↦ any_class x y ∙ or_left _ _ (so.found.classes who n x y earlier none)
+          | inr is ↦
+              let same_class : class ≡ x = cc in
+              let same_pool : pool ≡ y = cc in
+              let same : bytes_eq (pair_text class pool) (pair_text x y) ≡ true = ap (λ (t : List ℕ). bytes_eq (pair_text class pool) t) (sym (ap (λ (z : List ℕ). pair_text z pool) same_class ∙ ap (λ (z : List ℕ). pair_text x z) same_pool)) ∙ same_bytes (pair_text class pool) in
+              any_class x y ∙ or_right _ _ (tells x y ∙ same)
+        ];
+        kinds = λ round kind among none. elim (Contains-push_cases before line _ among) [ inl earlier ↦ any_kind kind ∙ so.found.kinds round kind earlier none | inr is ↦ absurd (cc) ];
+        class_once = λ x y. subst (λ (xs : List NotPlanned). count_by (tells_class x y) xs ≤ 1) (sym found_is) (once_more (tells_class x y) old.found.items one (so.found.class_once x y) (not_yet x y));
+        kind_once = λ x. subst (λ (xs : List NotPlanned). count_by (tells_kind x) xs ≤ 1) (sym found_is) (once_more (tells_kind x) old.found.items one (so.found.kind_once x) (λ h. absurd (contra _ h refl)));
       };
       kept_classes = λ x y. kept_is (pair_text x y) ∙ (ap (λ (b : Bool). b || bytes_eq (pair_text class pool) (pair_text x y)) (so.kept_classes x y) ∙ (ap (λ (b : Bool). list_any (tells_class x y) old.found.items || b) (sym (tells x y)) ∙ sym (any_class x y)));
       kept_kinds = λ x. ap (λ (k : _). has_label k x) kinds_is ∙ (so.kept_kinds x ∙ sym (any_kind x));
@@ -228,21 +228,21 @@ told_kind plan before number round kind old new next so fresh k k_is empty found
     let new_one : IsNotPlanned plan (before ++ line ∷ []) one = subst (λ (x : List ℕ). IsKindNotPlanned plan (before ++ line ∷ []) number x) (sym k_is) first_one in
     let not_yet : (x : List ℕ) → tells_kind x one ≡ true → list_any (tells_kind x) old.found.items ≡ false
     = λ x h.
-        let same : kind ≡ x = (bytes_eq-Decides kind x).0 (sym (tells x) ∙ h) in
-        sym (so.kept_kinds x) ∙ (ap (λ (t : List ℕ). has_label old.kinds t) (sym same) ∙ fresh) in
+    let same : kind ≡ x = (bytes_eq-Decides kind x).0 (sym (tells x) ∙ h) in
+    sym (so.kept_kinds x) ∙ (ap (λ (t : List ℕ). has_label old.kinds t) (sym same) ∙ fresh) in
     record {
       found = record {
-      sound = subst (λ (xs : List NotPlanned). All (IsNotPlanned plan (before ++ line ∷ [])) xs) (sym found_is)
-          (All-push (IsNotPlanned plan (before ++ line ∷ [])) old.found.items one (All-weaker (IsNotPlanned plan before) (IsNotPlanned plan (before ++ line ∷ [])) (label_stays plan before (line ∷ [])) _ so.found.sound) new_one);
-      classes = λ who n x y among none. elim (Contains-push_cases before line _ among) [ inl earlier ↦ any_class x y ∙ so.found.classes who n x y earlier none | inr is ↦ absurd (cc) ];
-      kinds = λ r x among none. elim (Contains-push_cases before line _ among) [
-        | inl earlier ↦ any_kind x ∙ or_left _ _ (so.found.kinds r x earlier none)
-        | inr is ↦
-            let same : kind ≡ x = cc in
-            any_kind x ∙ or_right _ _ (ap (λ (t : List ℕ). bytes_eq kind t) (sym same) ∙ same_bytes kind)
-      ];
-      class_once = λ x y. subst (λ (xs : List NotPlanned). count_by (tells_class x y) xs ≤ 1) (sym found_is) (once_more (tells_class x y) old.found.items one (so.found.class_once x y) (λ h. absurd (contra _ h refl)));
-      kind_once = λ x. subst (λ (xs : List NotPlanned). count_by (tells_kind x) xs ≤ 1) (sym found_is) (once_more (tells_kind x) old.found.items one (so.found.kind_once x) (not_yet x));
+        sound = subst (λ (xs : List NotPlanned). All (IsNotPlanned plan (before ++ line ∷ [])) xs) (sym found_is)
+            (All-push (IsNotPlanned plan (before ++ line ∷ [])) old.found.items one (All-weaker (IsNotPlanned plan before) (IsNotPlanned plan (before ++ line ∷ [])) (label_stays plan before (line ∷ [])) _ so.found.sound) new_one);
+        classes = λ who n x y among none. elim (Contains-push_cases before line _ among) [ inl earlier ↦ any_class x y ∙ so.found.classes who n x y earlier none | inr is ↦ absurd (cc) ];
+        kinds = λ r x among none. elim (Contains-push_cases before line _ among) [
+          | inl earlier ↦ any_kind x ∙ or_left _ _ (so.found.kinds r x earlier none)
+          | inr is ↦
+              let same : kind ≡ x = cc in
+              any_kind x ∙ or_right _ _ (ap (λ (t : List ℕ). bytes_eq kind t) (sym same) ∙ same_bytes kind)
+        ];
+        class_once = λ x y. subst (λ (xs : List NotPlanned). count_by (tells_class x y) xs ≤ 1) (sym found_is) (once_more (tells_class x y) old.found.items one (so.found.class_once x y) (λ h. absurd (contra _ h refl)));
+        kind_once = λ x. subst (λ (xs : List NotPlanned). count_by (tells_kind x) xs ≤ 1) (sym found_is) (once_more (tells_kind x) old.found.items one (so.found.kind_once x) (not_yet x));
       };
       kept_classes = λ x y. ap (λ (l : _). has_label l (pair_text x y)) classes_is ∙ (so.kept_classes x y ∙ sym (any_class x y));
       kept_kinds = λ x. kept_is x ∙ (ap (λ (b : Bool). b || bytes_eq kind x) (so.kept_kinds x) ∙ sym (any_kind x));

@@ -1,6 +1,6 @@
 -- What it is told of actors where nothing is found of them.
-use Rattle.std.proofs.Common.{◌≡◌, ◌<◌, ℕ, zero, suc, Bool, true, false, cond, ◌&&◌, not, ◌==◌, List, [], ◌∷◌, length, All, Contains, Option, Some, None, refl, ap, sym, subst, ◌∙◌, inl, inr, string_bytes, slice_get, arith}
-use Rattle.std.specs.Prelude.{◌⊎◌, filter, Any, nat_eq}
+use Rattle.std.proofs.Common.{◌≡◌, ◌<◌, ℕ, Bool, true, false, cond, ◌&&◌, not, ◌==◌, List, [], ◌∷◌, length, All, Contains, Option, Some, None, refl, ap, subst, ◌∙◌, inl, inr, string_bytes, slice_get, arith}
+use Rattle.std.specs.Prelude.{◌⊎◌, Any}
 use Rattle.std.specs.List.{list_any, filter_map, cons_option}
 use Rattle.std.proofs.lemmas.List.Elements.{All-contains}
 use Rattle.std.proofs.lemmas.Bool.{eqb-true}
@@ -8,7 +8,6 @@ use Rattle.job_bodies.specs.Plan.{Plan}
 use Rattle.recording_lines.specs.declared.recording_line.RecordedActor.{RecordedActor}
 use Rattle.recording_lines.specs.declared.recording_line.RecordedActor.TheVariants.{Job, Round}
 use Rattle.recording_lines.specs.RecordingLine.{RecordedLine, Submits, RoundBegins}
-use Rattle.plan_families.specs.Family.{class_family, client_family}
 use Rattle.recorded_classes.specs.declared.settled.Settled.{Settled}
 use Rattle.recorded_classes.specs.Label.{HasLabel, label_of, kind_of, label_in, kind_in}
 use Rattle.recorded_classes.specs.Settled.{IsTold}
@@ -16,7 +15,7 @@ use Rattle.conformance.specs.declared.unplanned.Unplanned.{Unplanned}
 use Rattle.conformance.specs.declared.verdicts.Verdicts.{Verdicts}
 use Rattle.conformance.specs.Firsts.{AreFirsts, StandsFor}
 use Rattle.conformance.specs.Unplanned.{IsUnplannedOf, tells_class, tells_kind}
-use Rattle.conformance.specs.Verdicts.{IsVerdictsOf, is_empty, family_of, is_planned, is_classless, is_stray, is_undecided}
+use Rattle.conformance.specs.Verdicts.{IsVerdictsOf, is_empty, family_of, is_planned, is_stray, is_undecided}
 use Rattle.conformance.proofs.Among.{here, later, stays}
 
 -- ---- the lines that name an actor's label

@@ -1,6 +1,5 @@
 -- The lines of findings.
 use Rattle.std.specs.Prelude.{ℕ, Option, Some, None}
-use Rattle.std.specs.Option.{option_or}
 use Rattle.plan_differences.specs.declared.pool_watch.PoolDeviation.{PoolDeviation}
 use Rattle.plan_differences.specs.declared.pool_watch.PoolDeviation.TheVariants as pool
 use Rattle.conformance.specs.declared.finding.Finding.{Finding}

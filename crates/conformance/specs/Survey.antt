@@ -2,7 +2,7 @@
 use Rattle.std.specs.Prelude.{◌≡◌, ℕ, List, ◌++◌, map}
 use Rattle.job_bodies.specs.Plan.{Plan}
 use Rattle.recording_lines.specs.RecordingLine.{RecordedLine}
-use Rattle.plan_differences.specs.PoolDeviations.{Deviation, deviation_seen, deviations_by_lines, deviations_at_end}
+use Rattle.plan_differences.specs.PoolDeviations.{deviation_seen, deviations_by_lines, deviations_at_end}
 use Rattle.plan_differences.specs.PoolWatch.{IsPoolWatchOf}
 use Rattle.recorded_notes.specs.StandsFor.{IsNotesOf}
 use Rattle.recorded_classes.specs.declared.classes.Classes.{Classes}

@@ -1,5 +1,5 @@
 -- What is kept of the actors of which is told.
-use Rattle.std.specs.Prelude.{◌≡◌, ℕ, nat_eq, Bool, true, false, ◌==◌, ◌&&◌, ◌||◌, not, if◌then◌else◌, List, [], ◌∷◌, ◌++◌, filter, string_bytes, All, Contains}
+use Rattle.std.specs.Prelude.{◌≡◌, ℕ, Bool, true, false, ◌==◌, ◌&&◌, ◌||◌, not, if◌then◌else◌, List, [], ◌∷◌, ◌++◌, filter, string_bytes}
 use Rattle.std.specs.List.{list_any}
 use Rattle.conformance.specs.JobSet.{has_job}
 use Rattle.recording_lines.specs.declared.recording_line.RecordedActor.{RecordedActor}

@@ -1,4 +1,4 @@
-use Rattle.std.proofs.Common.{◌≡◌, List, [], ap, sym, ◌∙◌, Option, ℕ, rules}
+use Rattle.std.proofs.Common.{List, ap, ◌∙◌, Option, ℕ, rules}
 use Rattle.std.proofs.lemmas.List.Sorted.{list_any-IsPermutation, IsNonDecreasingBy-from_sort_by_key}
 use Rattle.plan_differences.specs.RoundExcesses.{excesses_by_lines}
 use Rattle.conformance.specs.Lines.{lines_of}

@@ -1,6 +1,5 @@
-use Rattle.std.proofs.Common.{◌≡◌, ◌≤◌, ◌+◌, ◌∷◌, [], ◌++◌, drop, take, length, refl, ap, sym, subst, ◌∙◌, arith}
+use Rattle.std.proofs.Common.{◌≡◌, ◌≤◌, ◌+◌, ◌∷◌, [], drop, take, length, ap, sym, subst, ◌∙◌, arith}
 use Rattle.recording_lines.specs.RecordingLine.{line_seen}
-use Rattle.recorded_paths.specs.StandsFor.{KeepsRules}
 use Rattle.plan_differences.specs.RoundExcesses.{excesses_by_lines}
 use Rattle.plan_differences.specs.RoundWatch.{IsRoundWatchOf}
 use Rattle.conformance.specs.Lines.{lines_of}

@@ -1,4 +1,4 @@
-use Rattle.std.proofs.Common.{◌≡◌, ◌∷◌, [], ℕ, List, Option, Some, None, refl, ap, sym, subst, ◌∙◌, rules, string_bytes}
+use Rattle.std.proofs.Common.{◌≡◌, List, Option, refl, ap, sym, subst, ◌∙◌, rules}
 use Rattle.recorded_paths.specs.declared.deed.RecordedDeed.{RecordedDeed}
 use Rattle.conformance.specs.declared.described.JobDeed.{JobDeed}
 use Rattle.conformance.specs.declared.stray.NamedDeed.{NamedDeed}

@@ -1,4 +1,3 @@
-use Rattle.std.proofs.Common.{◌≡◌}
 use Rattle.conformance.specs.Lines.{lines_of}
 use Rattle.conformance.proofs.Deeds.{named_none, named_submit, named_get}
 use Rattle.conformance.proofs.described.named.Goals as goal

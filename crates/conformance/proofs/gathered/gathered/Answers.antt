@@ -1,4 +1,4 @@
-use Rattle.std.proofs.Common.{◌≡◌, ◌++◌, [], List, map, filter, sym, subst, ap, ◌∙◌}
+use Rattle.std.proofs.Common.{◌++◌, List, map, filter, subst, ap, ◌∙◌}
 use Rattle.plan_differences.specs.declared.round_watch.RoundExcess.{RoundExcess}
 use Rattle.recorded_notes.specs.Voids.{voids_of}
 use Rattle.recorded_classes.specs.declared.settled.Settled.{Settled}

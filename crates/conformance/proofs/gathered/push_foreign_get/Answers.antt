@@ -1,4 +1,4 @@
-use Rattle.std.proofs.Common.{◌≡◌, ◌++◌, ◌∷◌, [], List, Option, Some, None, sym, subst}
+use Rattle.std.proofs.Common.{◌≡◌, ◌∷◌, [], Option, Some, None, sym, subst}
 use Rattle.std.proofs.lemmas.List.{append-nil}
 use Rattle.recorded_notes.specs.declared.foreign_get.ForeignGet.{ForeignGet}
 use Rattle.recorded_notes.specs.ForeignGets.{first_foreign_get}

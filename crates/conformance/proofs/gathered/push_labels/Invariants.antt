@@ -1,6 +1,5 @@
 use Rattle.std.proofs.Common.{◌≡◌, ◌++◌, map}
 use Rattle.conformance.specs.declared.finding.Finding.TheVariants as kinds
-use Rattle.conformance.specs.Gathered as spec
 use Rattle.conformance.proofs.gathered.push_labels.Given as goal
 
 abbrev pub invariant-loop-label : goal.invariant-loop-label

@@ -1,5 +1,4 @@
 use Rattle.std.proofs.Common.{◌≡◌, ◌++◌, map}
-use Rattle.conformance.specs.declared.finding.Finding.TheVariants as kinds
 use Rattle.conformance.specs.Gathered as spec
 use Rattle.conformance.proofs.gathered.push_undecided.Given as goal
 

@@ -1,10 +1,9 @@
-use Rattle.std.proofs.Common.{◌≡◌, ◌+◌, false, true, ◌∷◌, [], ◌++◌, drop, take, slice_get, Some, refl, ap, sym, subst, ◌∙◌, arith}
-use Rattle.std.proofs.lemmas.Grind.{common_steps}
+use Rattle.std.proofs.Common.{◌≡◌, ◌∷◌, [], drop, refl, ap, sym, ◌∙◌}
 use Rattle.std.specs.List.{list_any}
 use Rattle.recording_lines.specs.RecordingLine.{line_seen}
 use Rattle.conformance.specs.Lines.{lines_of}
 use Rattle.conformance.specs.Wanted.{is_wanted}
-use Rattle.conformance.proofs.Steps.{next_is, rest_next, within_next, front_next, all_taken}
+use Rattle.conformance.proofs.Steps.{next_is, rest_next, within_next, all_taken}
 use Rattle.conformance.proofs.Among.{any_more}
 use Rattle.conformance.proofs.wanted.first_line.Goals as goal
 

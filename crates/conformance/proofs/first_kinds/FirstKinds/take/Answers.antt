@@ -1,4 +1,3 @@
-use Rattle.std.proofs.Common.{◌≡◌, ◌++◌, ◌∷◌, [], ℕ, List, Option, refl, sym, subst}
 use Rattle.std.proofs.lemmas.Result.{on_ok_weaker}
 use Rattle.conformance.proofs.KindsAfter.{behind_begin_line, behind_other, other_line}
 use Rattle.conformance.proofs.first_kinds.FirstKinds.take.Goals as goal

@@ -1,8 +1,7 @@
-use Rattle.std.proofs.Common.{◌≡◌, ◌++◌, ◌∷◌, [], ℕ, List, refl, sym, subst, ◌∙◌, ap, slice_get, Some, true, arith}
+use Rattle.std.proofs.Common.{◌≡◌, ◌++◌, ◌∷◌, [], sym, subst, ◌∙◌, ap, true, arith}
 use Rattle.recorded_classes.specs.declared.settled.Settled.{Settled}
 use Rattle.std.proofs.lemmas.List.Quantifiers.{position-Some}
-use Rattle.std.proofs.lemmas.Grind.{common_steps}
-use Rattle.conformance.specs.Firsts.{AreFirsts, is_same_label, number_of}
+use Rattle.conformance.specs.Firsts.{AreFirsts, is_same_label}
 use Rattle.conformance.proofs.FirstsAfter.{behind_new, behind_known, behind_earlier, read_at}
 use Rattle.conformance.proofs.Times.{none_passes}
 use Rattle.conformance.proofs.firsts.Firsts.note.Goals as goal

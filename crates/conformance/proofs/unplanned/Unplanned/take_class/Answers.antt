@@ -1,4 +1,4 @@
-use Rattle.std.proofs.Common.{◌≡◌, ◌||◌, ℕ, List, ap, sym, ◌∙◌, inl, inr, refl}
+use Rattle.std.proofs.Common.{◌||◌, ℕ, List, ap, sym, ◌∙◌, inl, inr, refl}
 use Rattle.std.specs.Str.{bytes_eq}
 use Rattle.conformance.specs.Labels.{has_label}
 use Rattle.conformance.specs.Unplanned.{class_stays, class_tells}

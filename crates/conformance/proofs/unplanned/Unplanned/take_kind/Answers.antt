@@ -1,6 +1,4 @@
-use Rattle.std.proofs.Common.{◌≡◌, ◌||◌, ℕ, List, ap, sym, ◌∙◌, inl, inr, refl}
-use Rattle.std.specs.Str.{bytes_eq}
-use Rattle.conformance.specs.Labels.{has_label}
+use Rattle.std.proofs.Common.{ap, sym, ◌∙◌, inl, inr, refl}
 use Rattle.conformance.specs.Unplanned.{kind_stays, kind_tells}
 use Rattle.conformance.specs.Verdicts.{is_empty}
 use Rattle.conformance.proofs.UnplannedAfter.{filled, emptied}

@@ -1,4 +1,4 @@
-use Rattle.std.proofs.Common.{◌≡◌, true, false, ap, sym, ◌∙◌}
+use Rattle.std.proofs.Common.{ap, sym, ◌∙◌}
 use Rattle.conformance.specs.Verdicts.{is_empty}
 use Rattle.std.proofs.lemmas.Result.{on_ok_weaker}
 use Rattle.conformance.proofs.VerdictsAfter.{behind_undecided, behind_stray, behind_good, on_both}

@@ -1,5 +1,4 @@
-use Rattle.std.proofs.Common.{◌≡◌, true, sym, subst, ◌∙◌}
-use Rattle.conformance.specs.Firsts.{AreFirsts}
+use Rattle.std.proofs.Common.{sym, ◌∙◌}
 use Rattle.conformance.proofs.VerdictsAfter.{noted_planned, same_firsts}
 use Rattle.conformance.proofs.verdicts.Verdicts.note_stray.Goals as goal
 

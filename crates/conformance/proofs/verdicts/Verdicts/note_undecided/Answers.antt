@@ -1,4 +1,4 @@
-use Rattle.std.proofs.Common.{◌≡◌, true, sym, ◌∙◌}
+use Rattle.std.proofs.Common.{sym, ◌∙◌}
 use Rattle.conformance.proofs.VerdictsAfter.{noted_planned}
 use Rattle.conformance.proofs.verdicts.Verdicts.note_undecided.Goals as goal
 
