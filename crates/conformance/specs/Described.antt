@@ -58,8 +58,7 @@ pub data IsNamed (lines : List RecordedLine) : Option JobDeed → Option NamedDe
   nothing : IsNamed lines None None
   something : (did : JobDeed) (name : NamedDeed) → IsNamedDeed lines did name → IsNamed lines (Some did) (Some name)
 
--- What no body says: the actor came to its end, submitted a job that is of no class itself, or did anything else. Each of these
--- jobs is of no class of the plan.
+-- What no body says: the actor came to its end, submitted a job that is of no class of the plan itself, or did anything else.
 pub data IsStrayDeed (lines : List RecordedLine) (is_classless : ℕ → Bool) : Option JobDeed → StrayDeed → Type 0 where
   ends : IsStrayDeed lines is_classless None stray.Ends
   submits_stray : (job : ℕ) (class : String Global) → is_classless job ≡ true → IsLabelOf lines (Job job) (string_bytes class)

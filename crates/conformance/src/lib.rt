@@ -2,8 +2,10 @@
 //!
 //! [`conform`] answers the first bad line of a recording, or all that is not of the plan: pools that are not as the plan says,
 //! labels that it has not, jobs and rounds that are of no body, rounds that are too many, a job that is got by another one
-//! than its submitter, and what voids a yes. Where nothing is found the recording conforms: each job can be of a class of the
-//! plan, each round of a kind, and there are enough clients of each kind. [`push_findings`] writes each finding as a line.
+//! than its submitter, and what voids a yes. Each of these is told once, and nothing else is told. Where nothing is found the
+//! recording conforms: each job can be of a class of the plan, each round of a kind, and there are enough clients of each kind.
+//! These three hold already where only pools, gets of another one's job and voids are found. [`push_findings`] writes each
+//! finding as a line.
 //!
 //! The text is gone along three times, and once more for each look-up of an actor that strays, of which there are no more than
 //! labels of the plan. What is kept is what [`recorded_classes`], [`recorded_notes`] and [`plan_differences`] keep, the kind of
