@@ -1,47 +1,68 @@
 -- What the watches keep stands for the lines with one more behind them.
-use Rattle.std.proofs.Common.{◌≡◌, ℕ, ◌≤◌, map, ◌||◌, nat_lt, Bool, true, false, if◌then◌else◌, List, [], ◌∷◌, ◌++◌, length, slice_get, Option, Some, None, refl, ap, sym, ◌∙◌, arith}
+use Rattle.std.proofs.Common.{◌≡◌, ℕ, ◌≤◌, map, ◌&&◌, ◌||◌, not, nat_lt, Bool, true, false, if◌then◌else◌, List, [], ◌∷◌, ◌++◌, length, slice_get, Option, Some, None, refl, ap, sym, ◌∙◌, arith}
 use Rattle.std.specs.Option.{option_map, option_to_list}
 use Rattle.std.proofs.lemmas.Bool.{ltb-true}
+use Rattle.std.proofs.lemmas.List.Elements.{filter_agree}
 use Rattle.std.proofs.lemmas.Option.{slice_get-get_or, slice_get_past, slice_get-map}
-use Rattle.job_bodies.specs.Plan.{Plan, Client, client_at, no_client}
+use Rattle.job_bodies.specs.Plan.{Plan, Client, client_at, no_client, pool_at}
+use Rattle.recording_lines.specs.declared.pool_sizes.PoolSizes.{PoolSizes}
 use Rattle.recording_lines.specs.RecordingLine.{RecordedLine, RoundBegins, RoundEnds, Pool}
 use Rattle.recorded_rules.specs.LineParts.{is_end, declares}
 use Rattle.recorded_rules.specs.Before.{has_pool, is_closed}
 use Rattle.recorded_paths.specs.StandsFor.{KeepsRules}
+use Rattle.plan_differences.specs.declared.difference.Difference.{Difference}
 use Rattle.plan_differences.specs.declared.pool_watch.PoolWatch.{PoolWatch}
 use Rattle.plan_differences.specs.declared.round_watch.KindRounds.{KindRounds}
 use Rattle.plan_differences.specs.declared.round_watch.RoundWatch.{RoundWatch}
+use Rattle.plan_differences.specs.Sizes.{differences}
 use Rattle.plan_differences.specs.Rounds.{no_rounds, excess_of}
-use Rattle.plan_differences.specs.PoolDeviations.{deviates, has_deviated, deviations_unless, told_by_line as pool_told, deviations_by_line}
-use Rattle.plan_differences.specs.PoolWatch.{has_name, IsPoolWatchOf, IsNoted}
+use Rattle.plan_differences.specs.PoolDeviations.{Differs, pool_named, is_pool, is_among, has_difference, has_told, deviations_of_pool, told_by_line as pool_told, deviations_by_line}
+use Rattle.plan_differences.specs.PoolWatch.{has_name, is_told, IsPoolWatchOf, IsNoted}
 use Rattle.plan_differences.specs.RoundExcesses.{kind_of, is_kind, rounds_of, has_exceeded, excess_at, first_excess, excesses_of_kind, excesses_by_line}
 use Rattle.plan_differences.specs.RoundWatch.{kept_of, IsRoundWatchOf, after_begin, after_end, kind_after, IsCounted, told_of_kind, told_at, told_by_line}
 use Rattle.plan_differences.proofs.LineByLine.{any_more}
-use Rattle.plan_differences.proofs.PoolsFound.{deviated_more}
+use Rattle.plan_differences.proofs.PoolsFound.{has_pool_more, told_more}
 use Rattle.plan_differences.proofs.RoundsAfter.{rounds_begun, kept_begun, kept_ended, kept_same, open_here}
 
 -- ---- pools
-has_pool_more : (before : List RecordedLine) (line : RecordedLine) (pool : List ℕ) → has_pool (before ++ line ∷ []) pool ≡ (has_pool before pool || declares pool line)
-unfolding has_pool
-has_pool_more before line pool = any_more (declares pool) before line
-
 closed_more : (before : List RecordedLine) (line : RecordedLine) → is_closed (before ++ line ∷ []) ≡ (is_closed before || is_end line)
 unfolding is_closed
 closed_more before line = any_more is_end before line
 
-pub pools_none : (plan : Plan) (watch : PoolWatch) → ((pool : List ℕ) → has_name watch.named pool ≡ false) → ((pool : List ℕ) → has_name watch.deviated pool ≡ false) → watch.closed ≡ false → IsPoolWatchOf plan watch []
-unfolding has_pool is_closed has_deviated
-pools_none plan watch named deviated closed = record { named = named; deviated = deviated; closed = closed }
+pub pools_none : (plan : Plan) (watch : PoolWatch) → ((pool : List ℕ) → has_name watch.named pool ≡ false) → ((pool : ℕ) (difference : Difference) → is_told watch.told pool difference ≡ false) → watch.closed ≡ false → IsPoolWatchOf plan watch []
+unfolding has_pool is_closed has_told
+pools_none plan watch named told closed = record { named = named; told = told; closed = closed }
+
+by_names : (plan : Plan) (f g : List ℕ → Bool) → ((name : List ℕ) → f name ≡ g name) → (pool : ℕ) (difference : Difference) (line : RecordedLine) → has_difference plan f pool difference line ≡ has_difference plan g pool difference line
+by_names plan f g same pool difference (Pool name sizes) =
+    ap (λ (b : Bool). is_pool pool (pool_named plan name) && is_among (differences (not b) sizes (pool_at plan pool)) difference) (same name)
+by_names plan f g same pool difference line = refl
+
+told_after : (plan : Plan) (old new : PoolWatch) (before : List RecordedLine) (line : RecordedLine) → IsPoolWatchOf plan old before → IsNoted plan old line new → (pool : ℕ) (difference : Difference)
+    → is_told new.told pool difference ≡ has_told plan (before ++ line ∷ []) pool difference
+told_after plan old new before line s n pool difference =
+    n.told pool difference
+    ∙ (ap (λ (b : Bool). b || has_difference plan (has_name old.named) pool difference line) (s.told pool difference)
+    ∙ (ap (λ (b : Bool). has_told plan before pool difference || b) (by_names plan (has_name old.named) (has_pool before) s.named pool difference line) ∙ sym (told_more plan before line pool difference)))
 
 pub pools_after : (plan : Plan) (old new : PoolWatch) (before : List RecordedLine) (line : RecordedLine) → IsPoolWatchOf plan old before → IsNoted plan old line new → IsPoolWatchOf plan new (before ++ line ∷ [])
 pools_after plan old new before line s n = record {
   named = λ pool. n.named pool ∙ (ap (λ b. b || declares pool line) (s.named pool) ∙ sym (has_pool_more before line pool));
-  deviated = λ pool. n.deviated pool ∙ (ap (λ b. b || deviates plan pool line) (s.deviated pool) ∙ sym (deviated_more plan before line pool));
+  told = told_after plan old new before line s n;
   closed = n.closed ∙ (ap (λ b. b || is_end line) s.closed ∙ sym (closed_more before line));
 }
 
-pub pools_told : (plan : Plan) (watch : PoolWatch) (before : List RecordedLine) (number : ℕ) (line : RecordedLine) → IsPoolWatchOf plan watch before → pool_told plan (has_name watch.deviated) number line ≡ deviations_by_line plan before number line
-pools_told plan watch before number (Pool name sizes) s = ap (λ b. deviations_unless b plan number name sizes) (s.deviated name)
+by_told : (plan : Plan) (is_first : Bool) (f g : ℕ → Difference → Bool) → ((pool : ℕ) (difference : Difference) → f pool difference ≡ g pool difference) → (number : ℕ) (name : List ℕ) (sizes : PoolSizes) (there : Option ℕ)
+    → deviations_of_pool plan is_first f number name sizes there ≡ deviations_of_pool plan is_first g number name sizes there
+by_told plan is_first f g same number name sizes None = refl
+by_told plan is_first f g same number name sizes (Some pool) =
+    ap (map (Differs number pool)) (filter_agree (λ (d : Difference). not (f pool d)) (λ (d : Difference). not (g pool d)) (λ d. ap (λ (b : Bool). not b) (same pool d)) (differences is_first sizes (pool_at plan pool)))
+
+pub pools_told : (plan : Plan) (watch : PoolWatch) (before : List RecordedLine) (number : ℕ) (line : RecordedLine) → IsPoolWatchOf plan watch before
+    → pool_told plan (has_name watch.named) (is_told watch.told) number line ≡ deviations_by_line plan before number line
+pools_told plan watch before number (Pool name sizes) s =
+    ap (λ (b : Bool). deviations_of_pool plan (not b) (is_told watch.told) number name sizes (pool_named plan name)) (s.named name)
+    ∙ by_told plan (not (has_pool before name)) (is_told watch.told) (has_told plan before) s.told number name sizes (pool_named plan name)
 pools_told plan watch before number line s = refl
 
 -- ---- rounds

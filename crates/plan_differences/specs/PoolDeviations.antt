@@ -1,5 +1,5 @@
 -- What of the pools of a recording is not as the plan says, line by line.
-use Rattle.std.specs.Prelude.{ℕ, ◌+◌, ◌&&◌, not, Bool, true, false, if◌then◌else◌, List, [], ◌∷◌, length, map, position, Option, Some, None, string_bytes}
+use Rattle.std.specs.Prelude.{ℕ, ◌+◌, ◌==◌, ◌&&◌, not, Bool, false, if◌then◌else◌, List, [], ◌∷◌, length, map, filter, position, Option, Some, None, string_bytes}
 use Rattle.std.specs.List.{list_any, filter_map, flat_map, enumerate_from}
 use Rattle.std.specs.Str.{bytes_eq}
 use Rattle.job_bodies.specs.Plan as plans
@@ -11,6 +11,7 @@ use Rattle.recorded_paths.specs.LineDeeds.{with_lines_before}
 use Rattle.plan_differences.specs.declared.difference.Difference.{Difference}
 use Rattle.plan_differences.specs.declared.pool_watch.PoolDeviation.{PoolDeviation}
 use Rattle.plan_differences.specs.declared.pool_watch.PoolDeviation.TheVariants as code
+use Rattle.plan_differences.specs.Difference.{is_same_difference}
 use Rattle.plan_differences.specs.Sizes.{differences}
 
 -- what is found, with its name as a list of bytes
@@ -30,43 +31,43 @@ deviation_seen (code.NotRecorded pool) = NotRecorded pool
 abbrev pub pool_named : Plan → List ℕ → Option ℕ
 pool_named plan name = position (λ (pool : plans.Pool). bytes_eq pool.name name) plan.pools
 
--- all that a `pool` line of this number says otherwise than the plan, by the plan's pool of its name
-abbrev pub deviations_of_pool : Plan → ℕ → List ℕ → PoolSizes → Option ℕ → List Deviation
-deviations_of_pool plan number name sizes None = NotPlanned number name ∷ []
-deviations_of_pool plan number name sizes (Some pool) = map (Differs number pool) (differences sizes (pool_at plan pool))
+-- is it the plan's pool of this number?
+abbrev pub is_pool : ℕ → Option ℕ → Bool
+is_pool pool None = false
+is_pool pool (Some one) = one == pool
 
-abbrev pub are_none : List Difference → Bool
-are_none [] = true
-are_none (difference ∷ more) = false
+abbrev pub is_among : List Difference → Difference → Bool
+is_among found difference = list_any (λ one. is_same_difference one difference) found
 
--- whether the plan has a pool of this name, with these sizes
-abbrev pub is_planned_pool : Plan → PoolSizes → Option ℕ → Bool
-is_planned_pool plan sizes None = false
-is_planned_pool plan sizes (Some pool) = are_none (differences sizes (pool_at plan pool))
+-- a `pool` line of the plan's pool of this number that has this difference, behind lines of which it is known of which names there is a `pool` line
+abbrev pub has_difference : Plan → (List ℕ → Bool) → ℕ → Difference → RecordedLine → Bool
+has_difference plan is_named pool difference (Pool name sizes) =
+    is_pool pool (pool_named plan name) && is_among (differences (not (is_named name)) sizes (pool_at plan pool)) difference
+has_difference plan is_named pool difference line = false
 
-abbrev pub is_planned : Plan → List ℕ → PoolSizes → Bool
-is_planned plan name sizes = is_planned_pool plan sizes (pool_named plan name)
+-- one of the lines, beside those before it, has this difference of the plan's pool of this number
+unfoldable pub has_told : Plan → List RecordedLine → ℕ → Difference → Bool
+has_told plan lines pool difference = list_any (λ (before, line). has_difference plan (has_pool before) pool difference line) (with_lines_before lines)
 
--- a `pool` line of this name that is not as the plan says
-abbrev pub deviates : Plan → List ℕ → RecordedLine → Bool
-deviates plan pool (Pool name sizes) = bytes_eq name pool && not (is_planned plan name sizes)
-deviates plan pool line = false
+-- those differences that were not told yet
+abbrev pub untold : (Difference → Bool) → List Difference → List Difference
+untold is_told found = filter (λ difference. not (is_told difference)) found
 
-unfoldable pub has_deviated : Plan → List RecordedLine → List ℕ → Bool
-has_deviated plan before pool = list_any (deviates plan pool) before
+-- What a `pool` line of this number tells, by the plan's pool of its name: where the plan has none, just that, and where it is
+-- the first line of the name; else all in which it is not as planned that was not told yet of that pool.
+abbrev pub deviations_of_pool : Plan → Bool → (ℕ → Difference → Bool) → ℕ → List ℕ → PoolSizes → Option ℕ → List Deviation
+deviations_of_pool plan is_first is_told number name sizes None = if is_first then NotPlanned number name ∷ [] else []
+deviations_of_pool plan is_first is_told number name sizes (Some pool) = map (Differs number pool) (untold (is_told pool) (differences is_first sizes (pool_at plan pool)))
 
-abbrev pub deviations_unless : Bool → Plan → ℕ → List ℕ → PoolSizes → List Deviation
-deviations_unless told plan number name sizes = if told then [] else deviations_of_pool plan number name sizes (pool_named plan name)
+-- what a line tells, where pools of these names have a line before it, and these differences were told before of the plan's pools
+abbrev pub told_by_line : Plan → (List ℕ → Bool) → (ℕ → Difference → Bool) → ℕ → RecordedLine → List Deviation
+told_by_line plan is_named is_told number (Pool name sizes) = deviations_of_pool plan (not (is_named name)) is_told number name sizes (pool_named plan name)
+told_by_line plan is_named is_told number line = []
 
--- what a line tells, where it was told before of the pools of these names
-abbrev pub told_by_line : Plan → (List ℕ → Bool) → ℕ → RecordedLine → List Deviation
-told_by_line plan is_told number (Pool name sizes) = deviations_unless (is_told name) plan number name sizes
-told_by_line plan is_told number line = []
-
--- Of the lines of one name the first that is not as the plan says tells of all in which it is not, and no later one tells
--- of any.
+-- Of each pool each difference is told once, by the first line that has it. A pool that the plan has not is told once, by its
+-- first line.
 abbrev pub deviations_by_line : Plan → List RecordedLine → ℕ → RecordedLine → List Deviation
-deviations_by_line plan before number line = told_by_line plan (has_deviated plan before) number line
+deviations_by_line plan before number line = told_by_line plan (has_pool before) (has_told plan before) number line
 
 -- ---- all lines
 -- lines are numbered from 1

@@ -1,28 +1,39 @@
 -- What a watch of the pools keeps, and how it stands for the lines so far.
-use Rattle.std.specs.Prelude.{◌≡◌, ℕ, Bool, List, ◌++◌, ◌||◌, map}
+use Rattle.std.specs.Prelude.{◌≡◌, ℕ, ◌==◌, ◌&&◌, Bool, List, ◌++◌, ◌||◌, map}
+use Rattle.std.specs.List.{list_any}
 use Rattle.std.specs.HashSet.{contains_text}
 use Rattle.job_bodies.specs.Plan.{Plan}
 use Rattle.recording_lines.specs.RecordingLine.{RecordedLine}
 use Rattle.recorded_rules.specs.LineParts.{is_end, declares}
 use Rattle.recorded_rules.specs.Before.{has_pool, is_closed}
 use Rattle.plan_differences.specs.declared.pool_names.PoolNames.{PoolNames}
+use Rattle.plan_differences.specs.declared.difference.Difference.{Difference}
+use Rattle.plan_differences.specs.declared.told.PoolDifference.{PoolDifference}
+use Rattle.plan_differences.specs.declared.told.ToldDifferences.{ToldDifferences}
 use Rattle.plan_differences.specs.declared.pool_watch.PoolDeviation.{PoolDeviation}
 use Rattle.plan_differences.specs.declared.pool_watch.PoolWatch.{PoolWatch}
-use Rattle.plan_differences.specs.PoolDeviations.{Deviation, deviation_seen, deviates, has_deviated}
+use Rattle.plan_differences.specs.Difference.{is_same_difference}
+use Rattle.plan_differences.specs.PoolDeviations.{Deviation, deviation_seen, has_difference, has_told}
 
 abbrev pub has_name : PoolNames → List ℕ → Bool
 has_name names name = contains_text names.names name
 
--- which pools have a line, and which of them one that is not as the plan says; and whether the recording is whole
+abbrev pub is_difference : ℕ → Difference → PoolDifference → Bool
+is_difference pool difference told = told.pool == pool && is_same_difference told.difference difference
+
+abbrev pub is_told : ToldDifferences → ℕ → Difference → Bool
+is_told told pool difference = list_any (is_difference pool difference) told.items.items
+
+-- which pools have a line, and which differences they have of the plan's; and whether the recording is whole
 pub record IsPoolWatchOf (plan : Plan) (watch : PoolWatch) (lines : List RecordedLine) : Type 0 where
   pub named : (pool : List ℕ) → has_name watch.named pool ≡ has_pool lines pool
-  pub deviated : (pool : List ℕ) → has_name watch.deviated pool ≡ has_deviated plan lines pool
+  pub told : (pool : ℕ) (difference : Difference) → is_told watch.told pool difference ≡ has_told plan lines pool difference
   pub closed : watch.closed ≡ is_closed lines
 
 -- what a line changes
 pub record IsNoted (plan : Plan) (old : PoolWatch) (line : RecordedLine) (new : PoolWatch) : Type 0 where
   pub named : (pool : List ℕ) → has_name new.named pool ≡ (has_name old.named pool || declares pool line)
-  pub deviated : (pool : List ℕ) → has_name new.deviated pool ≡ (has_name old.deviated pool || deviates plan pool line)
+  pub told : (pool : ℕ) (difference : Difference) → is_told new.told pool difference ≡ (is_told old.told pool difference || has_difference plan (has_name old.named) pool difference line)
   pub closed : new.closed ≡ (old.closed || is_end line)
 
 -- these stand behind what was found before

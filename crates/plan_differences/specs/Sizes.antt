@@ -1,5 +1,5 @@
 -- What of a pool, as a line of a recording tells it, is not as the plan says.
-use Rattle.std.specs.Prelude.{◌≡◌, Bool, true, false, ◌==◌, not, if◌then◌else◌, List, [], ◌∷◌, ◌++◌, IsTrue}
+use Rattle.std.specs.Prelude.{◌≡◌, Bool, true, false, ◌==◌, ◌||◌, not, if◌then◌else◌, List, [], ◌∷◌, ◌++◌, IsTrue}
 use Rattle.job_bodies.specs.Plan.{Pool, first_workers}
 use Rattle.recording_lines.specs.declared.pool_sizes.PoolSizes.{PoolSizes}
 use Rattle.recording_lines.specs.declared.pool_sizes.QueueKind.{QueueKind}
@@ -19,22 +19,22 @@ is_array_or_linked queue.Other = false
 abbrev pub unless : Bool → Difference → List Difference
 unless agree difference = if agree then [] else difference ∷ []
 
--- another core, max, kind of queue or capacity than the plan's, core threads that may time out, and other than core threads prestarted where the plan
--- says `prestart`, or other than 0 where it does not
-abbrev pub differences : PoolSizes → Pool → List Difference
-differences sizes pool =
+-- Another core, max, kind of queue or capacity than the plan's, and core threads that may time out; and in the first line of
+-- the pool alone, other than core threads prestarted where the plan says `prestart`, or other than 0 where it does not.
+abbrev pub differences : Bool → PoolSizes → Pool → List Difference
+differences is_first sizes pool =
     unless (sizes.core == pool.core) (Core sizes.core pool.core)
     ++ unless (sizes.max == pool.max) (Max sizes.max pool.max)
     ++ unless (is_array_or_linked sizes.queue) (KindOfQueue sizes.queue)
     ++ unless (sizes.capacity == pool.queue) (Capacity sizes.capacity pool.queue)
     ++ unless (not sizes.timeout) CoreTimeout
-    ++ unless (sizes.prestarted == first_workers pool) (Prestarted sizes.prestarted (first_workers pool))
+    ++ unless (not is_first || sizes.prestarted == first_workers pool) (Prestarted sizes.prestarted (first_workers pool))
 
--- the sizes are the plan's
-pub record IsAsPlanned (sizes : PoolSizes) (pool : Pool) : Type 0 where
+-- the sizes are the plan's, as far as they count in this line
+pub record IsAsPlanned (is_first : Bool) (sizes : PoolSizes) (pool : Pool) : Type 0 where
   pub core : sizes.core ≡ pool.core
   pub max : sizes.max ≡ pool.max
   pub array_or_linked : IsTrue (is_array_or_linked sizes.queue)
   pub capacity : sizes.capacity ≡ pool.queue
   pub core_stays : sizes.timeout ≡ false
-  pub prestarted : sizes.prestarted ≡ first_workers pool
+  pub prestarted : is_first ≡ true → sizes.prestarted ≡ first_workers pool

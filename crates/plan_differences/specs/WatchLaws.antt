@@ -1,5 +1,5 @@
 -- What the watches' answers come to over all lines.
-use Rattle.std.specs.Prelude.{◌≡◌, ◌<◌, ◌+◌, ℕ, true, List, [], ◌∷◌, ◌++◌, length, Option, Contains}
+use Rattle.std.specs.Prelude.{◌≡◌, ◌<◌, ◌+◌, ℕ, Bool, true, not, List, [], ◌∷◌, ◌++◌, length, Option}
 use Rattle.job_bodies.specs.Plan.{Plan, pool_at}
 use Rattle.recording_lines.specs.declared.pool_sizes.PoolSizes.{PoolSizes}
 use Rattle.recording_lines.specs.RecordingLine.{RecordedLine, Pool}
@@ -19,16 +19,16 @@ ExcessesAddUp = (plan : Plan) (kinds : List (Option ℕ)) (before : List Recorde
     → excesses_by_lines plan kinds (before ++ line ∷ []) ≡ excesses_by_lines plan kinds before ++ excesses_by_line plan kinds before (length before + 1) line
 
 -- ---- where nothing is found
--- the plan has a pool of this name, with these sizes
-pub record IsPlannedPool (plan : Plan) (name : List ℕ) (sizes : PoolSizes) : Type 0 where
+-- the plan has a pool of this name, with these sizes as far as they count in this line
+pub record IsPlannedPool (plan : Plan) (is_first : Bool) (name : List ℕ) (sizes : PoolSizes) : Type 0 where
   pub pool : ℕ
   pub there : pool < length plan.pools
   pub named : (pool_at plan pool).name ≡ name
-  pub sizes_agree : IsAsPlanned sizes (pool_at plan pool)
+  pub sizes_agree : IsAsPlanned is_first sizes (pool_at plan pool)
 
 abbrev pub PoolsAreAsPlanned : Type 0
 PoolsAreAsPlanned = (plan : Plan) (lines : List RecordedLine) → deviations_by_lines plan lines ≡ []
-    → (name : List ℕ) (sizes : PoolSizes) → Contains lines (Pool name sizes) → IsPlannedPool plan name sizes
+    → (before behind : List RecordedLine) (name : List ℕ) (sizes : PoolSizes) → before ++ Pool name sizes ∷ behind ≡ lines → IsPlannedPool plan (not (has_pool before name)) name sizes
 
 abbrev pub PoolsAreRecorded : Type 0
 PoolsAreRecorded = (plan : Plan) (lines : List RecordedLine) → is_closed lines ≡ true → deviations_at_end plan lines ≡ []

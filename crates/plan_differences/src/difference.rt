@@ -26,6 +26,15 @@ pub enum Difference {
     Prestarted { recorded: u64, planned: u64 },
 }
 
+impl Difference {
+    /// Whether both are the same one, with the same numbers.
+    pub(crate) fn is_same(self, other: Difference) -> bool
+        ensures { result ≡ spec.is_same_difference self other }
+    {
+        self == other
+    }
+}
+
 impl fmt::Display for Difference {
     ghost output = { λ difference. Some (spec.difference_text difference) };
 

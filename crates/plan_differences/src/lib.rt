@@ -14,6 +14,7 @@ mod pool_watch;
 mod round_count;
 mod round_watch;
 mod sizes;
+mod told;
 mod watch_laws;
 
 pub use difference::Difference;

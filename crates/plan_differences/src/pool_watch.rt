@@ -1,14 +1,15 @@
 //! A watch over the pools of a recording.
 
-ghost use Rattle.std.specs.Prelude.{◌≡◌, List, [], ◌∷◌, ◌++◌, map, length, ◌<◌, OnOk, IfOk, IfSome};
+ghost use Rattle.std.specs.Prelude.{◌≡◌, List, [], ◌∷◌, ◌++◌, map, length, ◌<◌, if◌then◌else◌, OnOk, IfSome};
 ghost use Rattle.std.specs.Option.{option_to_list};
 ghost use Rattle.job_bodies.specs.Plan as plans;
 ghost use Rattle.recording_lines.specs.RecordingLine.{RecordedLine, line_seen};
 ghost use Rattle.recording_lines.specs.RecordingLine as lines;
 ghost use Rattle.plan_differences.specs.PoolDeviations as spec;
-ghost use Rattle.plan_differences.specs.PoolWatch.{has_name, IsPoolWatchOf, IsNoted, Adds};
+ghost use Rattle.plan_differences.specs.PoolWatch.{has_name, is_told, IsPoolWatchOf, IsNoted, Adds};
 
 use crate::pool_names::PoolNames;
+use crate::told::ToldDifferences;
 use crate::{Difference, differences};
 use job_bodies::{Plan, Pool};
 use recording_lines::{Line, PoolSizes};
@@ -36,11 +37,11 @@ pub enum PoolDeviation {
 
 /// The pools of a recording, watched line by line beside those of a plan.
 ///
-/// It keeps the names of the pools that have a line, each once.
+/// It keeps the names of the pools that have a line, each once, and of each of the plan's pools each difference that was told.
 #[derive(Debug, Drop)]
 pub struct PoolWatch {
     named: PoolNames,
-    deviated: PoolNames,
+    told: ToldDifferences,
     closed: bool,
     alloc: Global,
 }
@@ -52,14 +53,14 @@ impl PoolWatch {
     {
         PoolWatch {
             named: PoolNames::new(alloc),
-            deviated: PoolNames::new(alloc),
+            told: ToldDifferences::new(alloc),
             closed: false,
             alloc,
         }
     }
 
-    /// Takes the next line, which has this number. It finds a pool that the plan has not at its first line, and all in which
-    /// a pool is not as the plan says at the first of its lines that is not; no later line of that pool has any more.
+    /// Takes the next line, which has this number. It finds a pool that the plan has not at its first line, and of each pool
+    /// each [`Difference`] at the first line that has it. How many threads were prestarted counts in a first line alone.
     ///
     /// # Errors
     ///
@@ -99,7 +100,7 @@ impl PoolWatch {
         found: &mut Vec<PoolDeviation>,
     ) -> Result<(), AllocError>
         ensures noted { OnOk result (IsNoted plan.now self.old (line_seen line.now) self.new) }
-        ensures found { OnOk result (Adds found.old.items (spec.told_by_line plan.now (has_name self.old.deviated) number (line_seen line.now)) found.new.items) }
+        ensures found { OnOk result (Adds found.old.items (spec.told_by_line plan.now (has_name self.old.named) (is_told self.old.told) number (line_seen line.now)) found.new.items) }
     {
         match *line {
             Line::Pool { name, sizes } => self.note_pool(plan, number, name, &sizes, found),
@@ -120,13 +121,37 @@ impl PoolWatch {
         found: &mut Vec<PoolDeviation>,
     ) -> Result<(), AllocError>
         ensures noted { OnOk result (IsNoted plan.now self.old (lines.Pool name.now sizes.now) self.new) }
-        ensures found { OnOk result (Adds found.old.items (spec.told_by_line plan.now (has_name self.old.deviated) number (lines.Pool name.now sizes.now)) found.new.items) }
+        ensures found { OnOk result (Adds found.old.items (spec.told_by_line plan.now (has_name self.old.named) (is_told self.old.told) number (lines.Pool name.now sizes.now)) found.new.items) }
     {
+        let is_first = !self.named.contains(name);
         self.named.insert(name)?;
-        if !self.deviated.contains(name) {
-            let planned = push_deviations(self.alloc, plan, number, name, sizes, found)?;
-            if !planned {
-                self.deviated.insert(name)?;
+        match pool_named(plan, name) {
+            Some(pool) => {
+                let differences = differences(self.alloc, sizes, &plan.pools()[pool], is_first)?;
+                self.push_untold(number, pool, &differences, found)?;
+                self.told.insert_all(pool, &differences)
+            }
+            None => push_unplanned(self.alloc, is_first, number, name, found),
+        }
+    }
+
+    // Those of the differences that were not told yet of the plan's pool of this number.
+    fn push_untold(
+        &self,
+        line: usize,
+        pool: usize,
+        differences: &[Difference],
+        found: &mut Vec<PoolDeviation>,
+    ) -> Result<(), AllocError>
+        ensures { OnOk result (Adds found.old.items (map (spec.Differs line pool) (spec.untold (is_told self.now.told pool) differences.now)) found.new.items) }
+    {
+        for difference in differences {
+            if !self.told.contains(pool, *difference) {
+                found.push(PoolDeviation::Differs {
+                    line,
+                    pool,
+                    difference: *difference,
+                })?;
             }
         }
         Ok(())
@@ -166,46 +191,19 @@ fn pool_named(plan: &Plan, name: &str) -> Option<usize>
         .position(|pool| pool.name.as_str() == name)
 }
 
-// Answers whether the pool is as planned, so that nothing was pushed.
-fn push_deviations(
+// The plan has no pool of this name.
+fn push_unplanned(
     alloc: Global,
-    plan: &Plan,
+    is_first: bool,
     number: usize,
     name: &str,
-    sizes: &PoolSizes,
-    found: &mut Vec<PoolDeviation>,
-) -> Result<bool, AllocError>
-    ensures planned { IfOk result (λ planned. planned ≡ spec.is_planned plan.now name.now sizes.now) }
-    ensures found { OnOk result (Adds found.old.items (spec.deviations_of_pool plan.now number name.now sizes.now (spec.pool_named plan.now name.now)) found.new.items) }
-{
-    match pool_named(plan, name) {
-        Some(pool) => {
-            let differences = differences(alloc, sizes, &plan.pools()[pool])?;
-            push_differences(number, pool, &differences, found)?;
-            Ok(differences.is_empty())
-        }
-        None => {
-            let pool = String::from_str(alloc, name)?;
-            found.push(PoolDeviation::NotPlanned { line: number, pool })?;
-            Ok(false)
-        }
-    }
-}
-
-fn push_differences(
-    line: usize,
-    pool: usize,
-    differences: &[Difference],
     found: &mut Vec<PoolDeviation>,
 ) -> Result<(), AllocError>
-    ensures { OnOk result (Adds found.old.items (map (spec.Differs line pool) differences.now) found.new.items) }
+    ensures { OnOk result (Adds found.old.items (if is_first then spec.NotPlanned number name.now ∷ [] else []) found.new.items) }
 {
-    for difference in differences {
-        found.push(PoolDeviation::Differs {
-            line,
-            pool,
-            difference: *difference,
-        })?;
+    if is_first {
+        let pool = String::from_str(alloc, name)?;
+        found.push(PoolDeviation::NotPlanned { line: number, pool })?;
     }
     Ok(())
 }

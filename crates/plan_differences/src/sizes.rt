@@ -9,8 +9,8 @@ use recording_lines::{PoolSizes, QueueKind};
 use std::alloc::{AllocError, Global};
 
 /// All in which a pool, as a `pool` line tells it, is not as the plan says, in the order of [`Difference`]'s variants, each
-/// at most once. The list is empty just where the pool is as planned. The handler is none of it, since after a yes none is
-/// ever called.
+/// at most once. How many threads were prestarted counts in the first line of the pool alone. The list is empty just where
+/// the pool is as planned. The handler is none of it, since after a yes none is ever called.
 ///
 /// # Errors
 ///
@@ -19,9 +19,10 @@ pub fn differences(
     alloc: Global,
     sizes: &PoolSizes,
     pool: &Pool,
+    is_first: bool,
 ) -> Result<Vec<Difference>, AllocError>
-    ensures exact { IfOk result (λ found. found.items ≡ spec.differences sizes.now pool.now) }
-    ensures none { IfOk result (λ found. (found.items ≡ []) ↔ spec.IsAsPlanned sizes.now pool.now) }
+    ensures exact { IfOk result (λ found. found.items ≡ spec.differences is_first sizes.now pool.now) }
+    ensures none { IfOk result (λ found. (found.items ≡ []) ↔ spec.IsAsPlanned is_first sizes.now pool.now) }
 {
     let mut found = Vec::new(alloc);
     let (recorded, planned) = (sizes.core as u64, pool.core);
@@ -51,7 +52,7 @@ pub fn differences(
     let (recorded, planned) = (sizes.prestarted as u64, pool.first_workers());
     push_unless(
         &mut found,
-        recorded == planned,
+        !is_first || recorded == planned,
         Difference::Prestarted { recorded, planned },
     )?;
     Ok(found)

@@ -5,5 +5,5 @@ use Rattle.plan_differences.proofs.pool_watch.PoolWatch.new.Goals as goal
 
 pub returns : goal.returns
 returns c = λ plan.
-    let watch : PoolWatch = record { named = c.new.result; deviated = c.new-2.result; closed = false; alloc = c.args.alloc } in
+    let watch : PoolWatch = record { named = c.new.result; told = c.new-2.result; closed = false; alloc = c.args.alloc } in
     pools_none plan watch c.new.ensures c.new-2.ensures refl
