@@ -39,13 +39,13 @@ is_pool pool (Some one) = one == pool
 abbrev pub is_among : List Difference → Difference → Bool
 is_among found difference = list_any (λ one. is_same_difference one difference) found
 
--- a `pool` line of the plan's pool of this number that has this difference, behind lines of which it is known of which names there is a `pool` line
+-- a `pool` line of the plan's pool of this number that has this difference, where pools of these names have a line before it
 abbrev pub has_difference : Plan → (List ℕ → Bool) → ℕ → Difference → RecordedLine → Bool
 has_difference plan is_named pool difference (Pool name sizes) =
     is_pool pool (pool_named plan name) && is_among (differences (not (is_named name)) sizes (pool_at plan pool)) difference
 has_difference plan is_named pool difference line = false
 
--- one of the lines, beside those before it, has this difference of the plan's pool of this number
+-- one of the lines has this difference of the plan's pool of this number, so the first that has it told it
 unfoldable pub has_told : Plan → List RecordedLine → ℕ → Difference → Bool
 has_told plan lines pool difference = list_any (λ (before, line). has_difference plan (has_pool before) pool difference line) (with_lines_before lines)
 
@@ -53,8 +53,8 @@ has_told plan lines pool difference = list_any (λ (before, line). has_differenc
 abbrev pub untold : (Difference → Bool) → List Difference → List Difference
 untold is_told found = filter (λ difference. not (is_told difference)) found
 
--- What a `pool` line of this number tells, by the plan's pool of its name: where the plan has none, just that, and where it is
--- the first line of the name; else all in which it is not as planned that was not told yet of that pool.
+-- What a `pool` line of this number tells, by the plan's pool of its name: where the plan has none, just that, and only in the
+-- first line of the name; else each difference that was not told yet of that pool.
 abbrev pub deviations_of_pool : Plan → Bool → (ℕ → Difference → Bool) → ℕ → List ℕ → PoolSizes → Option ℕ → List Deviation
 deviations_of_pool plan is_first is_told number name sizes None = if is_first then NotPlanned number name ∷ [] else []
 deviations_of_pool plan is_first is_told number name sizes (Some pool) = map (Differs number pool) (untold (is_told pool) (differences is_first sizes (pool_at plan pool)))
