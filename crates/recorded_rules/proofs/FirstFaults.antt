@@ -40,6 +40,9 @@ breach_there [] n line h = grind (arith, h)
 breach_there (first ∷ lines) n line h = ap (option_and_then (breach_of (lines_before (first ∷ lines) n))) h
 
 -- ---- what a loop needs of its next line
+pub there_next : (lines rest : List (Option RecordedLine)) (n : ℕ) (line : Option RecordedLine) → drop n lines ≡ line ∷ rest → slice_get lines n ≡ Some line
+there_next lines rest n line h = there lines rest n line h
+
 pub rest_next : (lines rest : List (Option RecordedLine)) (n : ℕ) (line : Option RecordedLine) → drop n lines ≡ line ∷ rest → rest ≡ drop (n + 1) lines
 rest_next lines rest n line h = rw add-one (sym (rest_there lines rest n line h))
 

@@ -5,3 +5,4 @@ pub mod RoundsAfter
 pub mod OffersAfter
 pub mod StandsAfter
 pub mod FirstFaults
+pub mod RuledAfter

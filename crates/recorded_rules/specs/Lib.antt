@@ -8,3 +8,4 @@ pub mod Changes
 pub mod RuleText
 pub mod Faults
 pub mod FaultText
+pub mod RuledLines

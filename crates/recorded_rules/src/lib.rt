@@ -3,8 +3,9 @@
 //! [`recording_lines`] reads a line by its form alone; here it is held to the lines that stand before it. [`LinesSoFar`]
 //! takes one line after another, and answers for each the first [`Rule`] that it breaks, exactly: each rule is a fact of
 //! the list of all lines before, as the page has it. A line that breaks a rule is not taken, nor is one for whose names
-//! there is no memory: in both cases the lines so far are what they were. [`first_fault`] does so with a whole text, and
-//! answers its first bad line.
+//! there is no memory: in both cases the lines so far are what they were. [`RuledLines`] does so with the lines of a text,
+//! one after another, up to the first bad one: it is for whoever uses the lines of a recording that keeps the rules, and
+//! can do so in the walk that finds whether it keeps them. [`first_fault`] answers the first bad line alone.
 //!
 //! A line costs a few look-ups in tables, whatever stands before it. What is kept is the names of the pools, each round
 //! that has not ended, and each job that was submitted and is not done, which includes those that were refused, cancelled
@@ -20,9 +21,11 @@ mod noted_lines;
 mod pools;
 mod rounds;
 mod rule;
+mod ruled_lines;
 mod whole_text;
 
 pub use fault::{Breach, RecordingFault};
 pub use lines_so_far::LinesSoFar;
 pub use rule::Rule;
+pub use ruled_lines::RuledLines;
 pub use whole_text::first_fault;
