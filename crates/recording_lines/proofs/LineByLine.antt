@@ -1,15 +1,28 @@
 -- Lines that are read one after another, of a text that may be cut off.
-use Rattle.std.proofs.Common.{◌≡◌, inl, inr, ℕ, suc, ◌+◌, ◌-◌, ◌<◌, ◌≤◌, nat_lt, List, [], ◌∷◌, length, take, drop, position, Some, None, sym, ap, ap₂, ◌∙◌, arith}
+use Rattle.std.proofs.Common.{◌≡◌, inl, inr, ℕ, suc, ◌+◌, ◌-◌, ◌<◌, ◌≤◌, nat_lt, List, [], ◌∷◌, length, take, drop, position, Option, Some, None, sym, ap, ap₂, ◌∙◌, arith}
 use Rattle.std.specs.List.{slice_split}
-use Rattle.std.proofs.lemmas.Bool.{cases_lt, cond-true, lt-ltb, ltb-true}
+use Rattle.std.proofs.lemmas.Bool.{cases_lt, cond-true, cond-false, lt-ltb, le-ltb, ltb-true, false_from_ne_true}
 use Rattle.std.proofs.lemmas.List.{length-map, length-take}
 use Rattle.std.proofs.lemmas.List.Splits.{slice_split_none, slice_split_first, length-slice_split}
-use Rattle.std.proofs.lemmas.List.Sums.{fails_before_first, count_by-le-length}
+use Rattle.std.proofs.lemmas.List.Sums.{fails_before_first, position_or_len_is, count_by-le-length}
 use Rattle.std.proofs.lemmas.Option.{cond_some, none-some}
+use Rattle.memchr.specs.Find.{IsFirstByte, is_byte}
 use Rattle.line_words.specs.Pieces.{is_newline, first_line, behind_line}
 use Rattle.line_words.proofs.FirstPieces.{place, first_there, behind_there}
 use Rattle.recording_lines.specs.WholeLines.{whole_lines}
 use Rattle.recording_lines.specs.RecordingLine.{line_of, lines_read}
+
+-- ---- the first newline
+-- what a search finds is its place
+pub newline_found : (text : List ℕ) (found : Option ℕ) → IsFirstByte (is_byte 10) text found → position is_newline text ≡ found
+newline_found text None none =
+    let at_end : place 10 text ≡ length text = position_or_len_is is_newline text (length text) 0 (omega arith) (λ k below. false_from_ne_true _ (none k (omega arith) below)) (λ past. absurd (omega (arith, past))) in
+    let past : length text ≤ place 10 text = omega (arith, at_end) in
+    cond-false _ _ _ (le-ltb (place 10 text) (length text) past)
+newline_found text (Some k) first =
+    let here : place 10 text ≡ k = position_or_len_is is_newline text k 0 (omega (arith, first.0.high)) (λ j below. false_from_ne_true _ (first.0.before j (omega arith) below)) (λ within. first.1) in
+    let within : place 10 text < length text = omega (arith, here, first.0.high) in
+    cond-true _ _ _ (lt-ltb (place 10 text) (length text) within) ∙ ap (λ (n : ℕ). Some n) here
 
 -- ---- whole lines
 fronts_more : (first : List ℕ) (parts : List (List ℕ)) → 0 < length parts → take (length (first ∷ parts) - 1) (first ∷ parts) ≡ first ∷ take (length parts - 1) parts

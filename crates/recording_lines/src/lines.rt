@@ -6,6 +6,7 @@ ghost use Rattle.recording_lines.specs.RecordingLine.{line_read, lines_read};
 
 use crate::line_forms::line_of;
 use crate::recording_line::Line;
+use memchr::memchr;
 use std::marker::Model;
 
 /// Lines of a recording. [`next`](RecordingLines::next) reads them one after another, each once, so that they need no
@@ -59,6 +60,6 @@ impl<'a> RecordingLines<'a> {
 fn split_whole_line(text: &[u8]) -> Option<(&[u8], &[u8])>
     ensures { MatchOption result (whole_lines text.now ≡ []) (λ parts. whole_lines text.now ≡ parts.0.now ∷ whole_lines parts.1.now) }
 {
-    let newline = text.iter().position(|byte| *byte == b'\n')?;
+    let newline = memchr(b'\n', text)?;
     Some((&text[..newline], &text[newline + 1..]))
 }
