@@ -1,5 +1,6 @@
 pub mod Names
 pub mod WordByWord
+pub mod FirstNumbers
 pub mod WrittenPools
 pub mod WrittenActs
 pub mod WrittenLines

@@ -5,7 +5,7 @@ ghost use Rattle.std.specs.Str.{bytes_eq};
 ghost use Rattle.recording_lines.specs.Words as spec;
 
 use job_bodies::is_lawful_name;
-use line_words::{number_of, split_space};
+use line_words::{leading_number, split_space};
 
 /// Whether a text is this word.
 pub(crate) fn is_word(text: &[u8], word: &str) -> bool
@@ -32,12 +32,11 @@ pub(crate) fn name_of(text: &[u8]) -> Option<&str>
 }
 
 /// The number that the first of several words writes, and the other words.
-#[tactic(auto, unfolding(crate::specs::Words::number_then))]
 pub(crate) fn number_then(text: &[u8]) -> Option<(usize, &[u8])>
     ensures { option_map (λ read. (read.0, read.1.now)) result ≡ spec.number_then text.now }
 {
-    let (word, rest) = split_space(text)?;
-    Some((number_of(word)?, rest))
+    let (number, behind) = leading_number(text)?;
+    Some((number, behind.strip_prefix(b" ")?))
 }
 
 /// The name that the first of several words is, and the other words.
