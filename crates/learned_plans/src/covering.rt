@@ -7,7 +7,8 @@ use crate::working::Working;
 use job_bodies::Pool;
 use std::alloc::Global;
 
-/// How many passes there are at most. Jobs that submit jobs that submit jobs, so many levels deep, take one pass for each.
+/// How many passes there are at most. Mostly there are two: along the first one all bodies grow, and along the second one each
+/// actor is of one.
 const MAX_PASSES: usize = 600;
 
 /// Makes bodies grow until each actor is of one. The answer is the kind of each round, by its number.

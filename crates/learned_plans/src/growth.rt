@@ -17,20 +17,28 @@ pub(crate) struct Did {
     pub(crate) course: Course,
 }
 
+/// The class, or the kind, that an actor is taken for, by its number.
+#[derive(Clone, Copy, Debug)]
+pub(crate) struct Taken {
+    pub(crate) number: usize,
+    /// Whether its body has changed by that.
+    pub(crate) is_changed: bool,
+}
+
 impl Entries {
-    /// Whether one of this label, in this pool, does that.
-    pub(crate) fn explains(&self, label: &str, pool: usize, did: &Did) -> bool {
-        for entry in &self.entries {
-            if entry.is_of(label, pool) && is_path_of(&entry.body, did) {
-                return true;
-            }
-        }
-        false
+    /// The first one of this label, in this pool, that does that.
+    pub(crate) fn explaining(&self, label: &str, pool: usize, did: &Did) -> Option<Taken> {
+        let number = self.entries.iter().position(|entry| entry.is_of(label, pool)
+            && is_path_of(&entry.body, did))?;
+        Some(Taken {
+            number,
+            is_changed: false,
+        })
     }
 
     /// One of this label, in this pool, does that from here on: the first one whose body can be made one that covers it,
     /// or else a new one. One that is reached by what was done stays as it is, as it would submit jobs of its own class,
-    /// without an end. The answer is whether a body has changed.
+    /// without an end. None where no body does that.
     ///
     /// # Errors
     ///
@@ -41,22 +49,26 @@ impl Entries {
         pool: usize,
         did: &Did,
         reached: &[bool],
-    ) -> Result<bool, Stop> {
+    ) -> Result<Option<Taken>, Stop> {
         for number in 0..self.entries.len() {
             if self.is_free(number, label, pool, reached) {
                 if let Some(body) = covering_body(self.alloc, self.body(number), &did.deeds)? {
-                    let is_longer = body.len() > self.body(number).len();
+                    let is_changed = body.len() > self.body(number).len();
                     self.put(number, body);
-                    return Ok(is_longer);
+                    return Ok(Some(Taken { number, is_changed }));
                 }
             }
         }
+        let number = self.entries.len();
         match body_of_path(self.alloc, &did.deeds)? {
             Some(body) => {
                 self.add(label, pool, body)?;
-                Ok(true)
+                Ok(Some(Taken {
+                    number,
+                    is_changed: true,
+                }))
             }
-            None => Ok(false),
+            None => Ok(None),
         }
     }
 

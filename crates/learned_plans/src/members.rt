@@ -5,8 +5,8 @@ use recorded_paths::RecordedDeed;
 use std::alloc::{AllocError, Global};
 use std::collections::{HashMap, HashSet};
 
-/// The first class that a job can be of, by its number, of each job that it was told of and whose submitter it was not; none
-/// where it can be of no class.
+/// The class that a job is taken for, by its number, of each job that it was told of and whose submitter it was not; none where
+/// none was found.
 #[derive(Debug, Drop)]
 pub(crate) struct Members {
     jobs: HashMap<usize, Option<usize>>,

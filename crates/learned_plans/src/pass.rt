@@ -1,7 +1,7 @@
 //! A pass over a recording, along which bodies grow.
 
 use crate::ended::Ended;
-use crate::growth::Did;
+use crate::growth::{Did, Taken};
 use crate::members::Members;
 use crate::pools::pool_number;
 use crate::stop::Stop;
@@ -88,9 +88,9 @@ impl Pass {
     ) -> Result<(), Stop> {
         for one in told {
             self.ended.remove(one.actor);
-            self.learn(pools, one, Course::Whole, working)?;
+            let class = self.learn(pools, one, Course::Whole, working)?;
             self.members.forget(&one.path);
-            self.remember(one)?;
+            self.remember(one, class)?;
         }
         Ok(())
     }
@@ -103,10 +103,12 @@ impl Pass {
         working: &mut Working,
     ) -> Result<(), Stop> {
         for one in told {
-            if self.ended.contains(one.actor) {
-                self.learn(pools, one, Course::Whole, working)?;
-            }
-            self.remember(one)?;
+            let class = if self.ended.contains(one.actor) {
+                self.learn(pools, one, Course::Whole, working)?
+            } else {
+                one.family.members.first().copied()
+            };
+            self.remember(one, class)?;
         }
         if self.is_changed {
             return Ok(());
@@ -119,13 +121,14 @@ impl Pass {
         Ok(())
     }
 
-    fn remember(&mut self, one: &Settled) -> Result<(), AllocError> {
+    // Where it is a job, it is taken for this class from here on.
+    fn remember(&mut self, one: &Settled, class: Option<usize>) -> Result<(), AllocError> {
         let member = one.family.members.first().copied();
         if member.is_none() {
             self.is_explained = false;
         }
         match one.actor {
-            RecordedActor::Job(job) => self.members.insert(job, member),
+            RecordedActor::Job(job) => self.members.insert(job, class),
             RecordedActor::Round(round) => {
                 if let Some(slot) = self.kinds.get_mut(round) {
                     *slot = member;
@@ -135,33 +138,42 @@ impl Pass {
         }
     }
 
-    // A body grows where the actor is of none, and all jobs that it submitted are.
+    // What the actor is taken for. A body grows where it is of none, and all jobs that it submitted are taken for a class.
     fn learn(
         &mut self,
         pools: &[Pool],
         one: &Settled,
         course: Course,
         working: &mut Working,
-    ) -> Result<(), Stop> {
-        if !one.family.is_decided || !one.family.members.is_empty() {
-            return Ok(());
+    ) -> Result<Option<usize>, Stop> {
+        let member = one.family.members.first().copied();
+        if !one.family.is_decided || member.is_some() {
+            return Ok(member);
         }
-        if let Some(deeds) = self.members.deeds(self.alloc, &one.path)? {
-            let did = Did { deeds, course };
-            if learn_of(pools, one, &did, working)? {
-                self.is_changed = true;
+        let Some(deeds) = self.members.deeds(self.alloc, &one.path)? else {
+            return Ok(None);
+        };
+        match learn_of(pools, one, &Did { deeds, course }, working)? {
+            Some(taken) => {
+                self.is_changed = self.is_changed || taken.is_changed;
+                Ok(Some(taken.number))
             }
+            None => Ok(None),
         }
-        Ok(())
     }
 }
 
-fn learn_of(pools: &[Pool], one: &Settled, did: &Did, working: &mut Working) -> Result<bool, Stop> {
+fn learn_of(
+    pools: &[Pool],
+    one: &Settled,
+    did: &Did,
+    working: &mut Working,
+) -> Result<Option<Taken>, Stop> {
     match one.actor {
         RecordedActor::Round(_) => working.learn_round(&one.label, did),
         RecordedActor::Job(_) => match pool_number(pools, &one.pool) {
             Some(pool) => working.learn_job(&one.label, pool, did),
-            None => Ok(false),
+            None => Ok(None),
         },
     }
 }

@@ -3,7 +3,7 @@
 ghost use Rattle.std.specs.Prelude.{◌≡◌, IfOk};
 
 use crate::entries::{Entries, Entry};
-use crate::growth::{Did, reached_from};
+use crate::growth::{Did, Taken, reached_from};
 use crate::pools::pool_number;
 use crate::stop::Stop;
 use crate::too_much::TooMuch;
@@ -76,27 +76,32 @@ impl Working {
         Ok(clients)
     }
 
-    /// A job of this label, in this pool, did this. The answer is whether a body has changed by that.
+    /// The class that a job of this label, in this pool, is taken for that did this; None where none was found.
     ///
     /// # Errors
     ///
     /// [`Stop::TooMuch`] where a plan may not have one more class; [`Stop::Memory`] where there is no memory for it.
-    pub(crate) fn learn_job(&mut self, label: &str, pool: usize, did: &Did) -> Result<bool, Stop> {
-        if self.classes.explains(label, pool, did) {
-            return Ok(false);
+    pub(crate) fn learn_job(
+        &mut self,
+        label: &str,
+        pool: usize,
+        did: &Did,
+    ) -> Result<Option<Taken>, Stop> {
+        if let Some(taken) = self.classes.explaining(label, pool, did) {
+            return Ok(Some(taken));
         }
         let reached = reached_from(self.alloc, &self.classes, &did.deeds)?;
         self.classes.grow(label, pool, did, &reached)
     }
 
-    /// A round of this label did this. The answer is whether a body has changed by that.
+    /// The kind that a round of this label is taken for that did this; None where none was found.
     ///
     /// # Errors
     ///
     /// [`Stop::TooMuch`] where a plan may not have one more kind; [`Stop::Memory`] where there is no memory for it.
-    pub(crate) fn learn_round(&mut self, label: &str, did: &Did) -> Result<bool, Stop> {
-        if self.kinds.explains(label, 0, did) {
-            return Ok(false);
+    pub(crate) fn learn_round(&mut self, label: &str, did: &Did) -> Result<Option<Taken>, Stop> {
+        if let Some(taken) = self.kinds.explaining(label, 0, did) {
+            return Ok(Some(taken));
         }
         self.kinds.grow(label, 0, did, &[])
     }
