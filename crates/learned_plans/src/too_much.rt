@@ -20,6 +20,8 @@ pub enum TooMuch {
     Rounds,
     /// Some jobs or rounds did what no body was found for.
     Paths,
+    /// The text of the plan would be longer than a plan's text may be.
+    Text,
 }
 
 /// Writes it as a few words, as `more pools than a plan may have`.
@@ -34,6 +36,7 @@ impl fmt::Display for TooMuch {
             TooMuch::Names => "a class or a kind needs a longer name than a plan may have",
             TooMuch::Rounds => "more rounds of a kind at once than a plan may have clients",
             TooMuch::Paths => "no body was found for what some jobs or rounds did",
+            TooMuch::Text => "a longer text than a plan may have",
         })
     }
 }
