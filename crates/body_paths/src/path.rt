@@ -11,6 +11,9 @@ use crate::deed::{Course, Deed};
 use crate::walk::walk;
 use job_bodies::{Action, MAX_ACTIONS};
 
+/// Most bodies have no more actions, and need no room for more.
+const FEW_ACTIONS: usize = 16;
+
 /// Whether what an actor did is what this body says, the submits left out that it did not make, each with its get.
 ///
 /// It walks along the path through the body, and takes a step for each action that it comes to. Where a job may be of
@@ -27,7 +30,27 @@ pub fn path_fits(body: &[Action], path: &[Deed], course: Course, budget: u64) ->
     // a step for each action and one for the end, twice as many for each submit, are enough
     ensures decided { (length body.now + 1) * 2 ^ submit_count body.now ≤ budget → IsDecided result }
 {
-    let mut places = [None; MAX_ACTIONS];
+    if body.len() <= FEW_ACTIONS {
+        walk_whole(body, path, course, &mut [None; FEW_ACTIONS], budget)
+    } else {
+        walk_whole(body, path, course, &mut [None; MAX_ACTIONS], budget)
+    }
+}
+
+/// The same, with room for the place of each submit.
+fn walk_whole(
+    body: &[Action],
+    path: &[Deed],
+    course: Course,
+    places: &mut [Option<usize>],
+    budget: u64,
+) -> Answer
+    requires { length body.now ≤ length places.old }
+    ensures fits { OnFits result (IsPathOf course body.now path.now) }
+    ensures deviates { OnDeviates result (¬ IsPathOf course body.now path.now) }
+    ensures explained { IfDeviates result (IsExplained body.now path.now) }
+    ensures decided { (length body.now + 1) * 2 ^ submit_count body.now ≤ budget → IsDecided result }
+{
     let mut steps = budget;
-    walk(body, path, course, &mut places, 0, 0, &mut steps)
+    walk(body, path, course, places, 0, 0, &mut steps)
 }

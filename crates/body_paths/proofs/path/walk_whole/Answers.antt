@@ -1,6 +1,6 @@
 use Rattle.body_paths.proofs.Answered.{fits_told, deviates_told, explained_told}
 use Rattle.body_paths.proofs.EnoughSteps.{decided_by_budget}
-use Rattle.body_paths.proofs.path.path_fits.Goals as goal
+use Rattle.body_paths.proofs.path.walk_whole.Goals as goal
 
 pub returns-clause-fits : goal.returns-clause-fits
 returns-clause-fits c = let a = c.args in fits_told a.course a.body.now a.path.now c.walk.result c.walk.ensures.told
