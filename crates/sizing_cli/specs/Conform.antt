@@ -16,10 +16,11 @@ use Rattle.conformance.specs.declared.comparison.Conformance.TheVariants.{Bad, C
 use Rattle.conformance.specs.declared.finding.Finding.{Finding}
 use Rattle.conformance.specs.declared.finding.Finding.TheVariants as finding
 use Rattle.conformance.specs.Conforms.{Conforms, IsNotVoid}
+use Rattle.conformance.specs.Findings.{AreFindingsOf}
 use Rattle.conformance.specs.FindingText.{findings_text}
 use Rattle.conformance.specs.Lines.{lines_of}
 use Rattle.conformance.specs.Outcome.{AreInOrder, IfCompared, fault_of}
-use Rattle.sizing_cli.specs.declared.limits.TheConstants.{MAX_RECORDED_BYTES}
+use Rattle.sizing_cli.specs.declared.limits.TheConstants.{MAX_PATH_STEPS, MAX_RECORDED_BYTES}
 use Rattle.sizing_cli.specs.declared.status.Status.{Status}
 use Rattle.sizing_cli.specs.declared.status.Status.TheVariants.{Done, Refused, Undecided}
 use Rattle.sizing_cli.specs.Answer.{Answer, fault, input_too_long, no_separator}
@@ -58,9 +59,10 @@ answer_of plan (Compared findings) = findings_answer plan findings.items
 abbrev pub AreAllFindings : Plan → List ℕ → List Finding → Type 0
 AreAllFindings plan recording findings = findings ≡ [] → Conforms plan (lines_of recording) × IsNotVoid (lines_of recording)
 
--- the recording's first bad line; or what was found, where it has none, in the order of the lines
+-- the recording's first bad line; or all that is to be found, where it has none, each thing once, in the order of the lines
 pub record IsSaidOf (plan : Plan) (recording : List ℕ) (said : Conformance) : Type 0 where
   pub bad : IsFirstFault (lines_read recording) (fault_of said)
+  pub found : IfCompared said (AreFindingsOf plan MAX_PATH_STEPS (lines_of recording))
   pub conforms : IfCompared said (AreAllFindings plan recording)
   pub ascending : IfCompared said AreInOrder
 

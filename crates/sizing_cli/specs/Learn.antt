@@ -1,19 +1,24 @@
 -- What `learn` may answer to a recording: a relation, since nothing is said of which bodies are found.
 use Rattle.std.specs.Prelude.{◌≡◌, ◌⊎◌, ℕ, Bool, true, false, nat_lt, List, [], ◌∷◌, ◌++◌, length, flat_map, codes, decimal, None, Some, Ok, IsTrue, MatchBool}
-use Rattle.std.specs.List.{list_all}
+use Rattle.std.specs.List.{list_any}
 use Rattle.job_bodies.specs.Plan.{Plan}
 use Rattle.plan_text.specs.PlanOf.{plan_of}
-use Rattle.recording_lines.specs.RecordingLine.{lines_read}
+use Rattle.plan_writer.specs.PlanText.{IsPlanText}
+use Rattle.recording_lines.specs.RecordingLine.{RecordedLine, lines_read}
 use Rattle.recorded_rules.specs.Before.{begins, submits}
 use Rattle.recorded_rules.specs.Faults.{IsFirstFault}
 use Rattle.recorded_rules.specs.declared.fault.RecordingFault.{RecordingFault}
 use Rattle.conformance.specs.declared.finding.Finding.{Finding}
-use Rattle.conformance.specs.declared.finding.Finding.TheVariants as finding
+use Rattle.conformance.specs.Conforms.{DoAsPlanned}
+use Rattle.conformance.specs.Findings.{AreFindingsOf, is_of_actors}
 use Rattle.conformance.specs.FindingText.{finding_line}
 use Rattle.conformance.specs.Lines.{lines_of}
+use Rattle.learned_plans.specs.Counts.{AreCounted}
+use Rattle.learned_plans.specs.Pools.{pools_seen}
 use Rattle.learned_plans.specs.TooMuch.{too_much_text}
+use Rattle.learned_plans.specs.declared.learned.SeenPlan.{SeenPlan}
 use Rattle.learned_plans.specs.declared.too_much.TooMuch.{TooMuch}
-use Rattle.sizing_cli.specs.declared.limits.TheConstants.{MAX_RECORDED_BYTES}
+use Rattle.sizing_cli.specs.declared.limits.TheConstants.{MAX_PATH_STEPS, MAX_RECORDED_BYTES}
 use Rattle.sizing_cli.specs.declared.status.Status.TheVariants.{Done, Refused}
 use Rattle.sizing_cli.specs.Answer.{Answer, input_too_long}
 use Rattle.sizing_cli.specs.Conform.{AreAllFindings, bad_recording}
@@ -32,27 +37,33 @@ comment_line plan found = codes "# " ++ finding_line plan found
 abbrev pub comments : Plan → List Finding → List ℕ
 comments plan findings = flat_map (comment_line plan) findings
 
--- it is about a pool, or about what voids a yes, and not about what a job or a round did by itself
-abbrev pub is_comment : Finding → Bool
-is_comment (finding.Pool deviation) = true
-is_comment (finding.ForeignGet get name) = true
-is_comment (finding.Void void) = true
-is_comment (finding.NotPlanned name) = false
-is_comment (finding.Strays line stray) = false
-is_comment (finding.NotDecided actor name) = false
-is_comment (finding.TooMany excess) = false
-
 -- ---- what is answered
--- The text is a plan's. What was found of the recording stands at its head, each thing in a comment; where nothing was, the
--- recording conforms to the plan.
+-- its pools and the counts of its clients are those of the lines, and so many rounds and jobs were seen
+pub record IsSeen (lines : List RecordedLine) (seen : SeenPlan) : Type 0 where
+  pub pools : seen.plan.pools ≡ pools_seen lines
+  pub counts : AreCounted lines seen.plan.clients
+  pub rounds : seen.rounds ≡ begins lines
+  pub jobs : seen.jobs ≡ submits lines
+
+-- The text is this plan's. At its head stands of how much it was learned, and each thing that was found, in a comment.
+pub record IsTextOf (seen : SeenPlan) (findings : List Finding) (text : List ℕ) : Type 0 where
+  pub is_plan : plan_of text ≡ Ok seen.plan
+  pub written : List ℕ
+  pub is_written : IsPlanText seen.plan written
+  pub text_is : text ≡ head_comment seen.rounds seen.jobs ++ (comments seen.plan findings ++ 10 ∷ written)
+
+-- The text is a plan's. Its pools are those of the recording, and the count of each kind is what was seen at once. What the jobs
+-- and the rounds did is of its bodies, and it has enough clients. All else that is found of the recording stands at its head,
+-- each thing in a comment; where nothing is, the recording conforms to the plan.
 pub record IsLearnedText (recording text : List ℕ) : Type 0 where
-  pub plan : Plan
-  pub is_plan : plan_of text ≡ Ok plan
+  pub seen : SeenPlan
+  pub is_seen : IsSeen (lines_of recording) seen
   pub findings : List Finding
-  pub all : AreAllFindings plan recording findings
-  pub comments_alone : IsTrue (list_all is_comment findings)
-  pub rest : List ℕ
-  pub text_is : text ≡ head_comment (begins (lines_of recording)) (submits (lines_of recording)) ++ (comments plan findings ++ rest)
+  pub found : AreFindingsOf seen.plan MAX_PATH_STEPS (lines_of recording) findings
+  pub beside_actors : list_any is_of_actors findings ≡ false
+  pub actors : DoAsPlanned seen.plan (lines_of recording)
+  pub conforms : AreAllFindings seen.plan recording findings
+  pub is_text : IsTextOf seen findings text
 
 pub record IsLearned (recording : List ℕ) (answer : Answer) : Type 0 where
   pub no_fault : IsFirstFault (lines_read recording) None

@@ -1,11 +1,13 @@
 //! What a recording is answered that a plan is to be learned of.
 
-ghost use Rattle.std.specs.Prelude.{◌≡◌, ◌++◌, IfOk, IsTrue, None, string_bytes};
-ghost use Rattle.std.specs.List.{list_all};
+ghost use Rattle.std.specs.Prelude.{◌≡◌, ◌≤◌, ◌++◌, IfOk, IfSome, IsTrue, None, length, string_bytes};
+ghost use Rattle.std.specs.List.{list_any};
 ghost use Rattle.decimals.specs.Pushed.{Pushes};
+ghost use Rattle.plan_text.specs.PlanOf.{plan_of};
+ghost use Rattle.plan_text.specs.declared.document.TheConstants.{MAX_TEXT_BYTES};
 ghost use Rattle.recording_lines.specs.RecordingLine.{lines_read};
-ghost use Rattle.recorded_rules.specs.Before.{begins, submits};
 ghost use Rattle.recorded_rules.specs.Faults.{IsFirstFault};
+ghost use Rattle.conformance.specs.Findings.{is_of_actors};
 ghost use Rattle.conformance.specs.Lines.{lines_of};
 ghost use Rattle.sizing_cli.specs.Learn as spec;
 
@@ -16,6 +18,7 @@ use crate::texts::plan_in;
 use conformance::{Conformance, Finding, conform, push_finding};
 use job_bodies::Plan;
 use learned_plans::{Learned, SeenPlan, TooMuch, learn};
+use plan_text::MAX_TEXT_BYTES;
 use plan_writer::write_plan;
 use std::alloc::{AllocError, Global};
 
@@ -41,59 +44,56 @@ pub fn learn_report(alloc: Global, input: &[u8]) -> Result<Answer, AllocError>
 /// otherwise.
 fn seen_told(alloc: Global, recording: &[u8], seen: &SeenPlan) -> Result<Answer, AllocError>
     requires no_fault { IsFirstFault (lines_read recording.now) None }
-    requires rounds { seen.now.rounds ≡ begins (lines_of recording.now) }
-    requires jobs { seen.now.jobs ≡ submits (lines_of recording.now) }
+    requires seen { spec.IsSeen (lines_of recording.now) seen.now }
     ensures { IfOk result (spec.AnswersLines recording.now) }
 {
-    let text = seen_text(alloc, recording, seen)?;
-    if is_learned(alloc, recording, seen.rounds, seen.jobs, text.as_bytes())? {
-        Ok(Answer {
+    let Conformance::Compared(findings) = conform(alloc, &seen.plan, recording, MAX_PATH_STEPS)?
+    else {
+        return not_learned(alloc, TooMuch::Paths);
+    };
+    if are_of_actors(&findings) {
+        return not_learned(alloc, TooMuch::Paths);
+    }
+    match seen_text(alloc, seen, &findings)? {
+        Some(text) => Ok(Answer {
             text,
             status: Status::Done,
-        })
-    } else {
-        not_learned(alloc, TooMuch::Paths)
+        }),
+        None => not_learned(alloc, TooMuch::Text),
     }
 }
 
-/// The text of the plan, behind comments on all that the recording has and the plan does not say.
-fn seen_text(alloc: Global, recording: &[u8], seen: &SeenPlan) -> Result<String, AllocError> {
-    let mut text = match conform(alloc, &seen.plan, recording, MAX_PATH_STEPS)? {
-        Conformance::Compared(findings) => {
-            head_of(alloc, seen.rounds, seen.jobs, &seen.plan, &findings)?
-        }
-        Conformance::Bad(_) => String::new(alloc),
-    };
-    text.push('\n')?;
-    text.push_str(&write_plan(alloc, &seen.plan)?)?;
-    Ok(text)
-}
-
-/// Whether the text is that of a plan to which the recording conforms, but for what the comments at its head say.
-fn is_learned(
+/// The text of the plan, behind comments on all that the recording has and the plan does not say; None where that is not a text
+/// that a plan may have.
+fn seen_text(
     alloc: Global,
-    recording: &[u8],
-    rounds: usize,
-    jobs: usize,
-    text: &[u8],
-) -> Result<bool, AllocError>
-    requires rounds { rounds ≡ begins (lines_of recording.now) }
-    requires jobs { jobs ≡ submits (lines_of recording.now) }
-    ensures { IfOk result (λ yes. IsTrue yes → spec.IsLearnedText recording.now text.now) }
+    seen: &SeenPlan,
+    findings: &[Finding],
+) -> Result<Option<String>, AllocError>
+    ensures { IfOk result (λ found. IfSome found (λ text. spec.IsTextOf seen.now findings.now (string_bytes text))) }
 {
-    let Ok(plan) = plan_in(alloc, text)? else {
-        return Ok(false);
-    };
-    let Conformance::Compared(findings) = conform(alloc, &plan, recording, MAX_PATH_STEPS)? else {
-        return Ok(false);
-    };
-    if !are_comments(&findings) {
+    let plan = write_plan(alloc, &seen.plan)?;
+    let mut text = head_of(alloc, seen.rounds, seen.jobs, &seen.plan, findings)?;
+    text.push('\n')?;
+    text.push_str(&plan)?;
+    if reads_as(alloc, text.as_bytes(), plan.as_bytes())? {
+        Ok(Some(text))
+    } else {
+        Ok(None)
+    }
+}
+
+/// Whether the two texts are of the same plan, and the second is as [`write_plan`] writes it.
+fn reads_as(alloc: Global, text: &[u8], written: &[u8]) -> Result<bool, AllocError>
+    ensures same { IfOk result (λ yes. IsTrue yes → plan_of text.now ≡ plan_of written.now) }
+    ensures short { IfOk result (λ yes. IsTrue yes → length written.now ≤ MAX_TEXT_BYTES) }
+{
+    if written.len() > MAX_TEXT_BYTES {
         return Ok(false);
     }
-    let head = head_of(alloc, rounds, jobs, &plan, &findings)?;
-    match text.strip_prefix(head.as_bytes()) {
-        Some(_) => Ok(true),
-        None => Ok(false),
+    match plan_in(alloc, text)? {
+        Ok(plan) => Ok(write_plan(alloc, &plan)?.as_bytes() == written),
+        Err(_) => Ok(false),
     }
 }
 
@@ -141,16 +141,17 @@ fn push_comment(text: &mut String, plan: &Plan, finding: &Finding) -> Result<(),
     text.push('\n')
 }
 
-fn are_comments(findings: &[Finding]) -> bool
-    ensures { result ≡ list_all spec.is_comment findings.now }
+fn are_of_actors(findings: &[Finding]) -> bool
+    ensures { result ≡ list_any is_of_actors findings.now }
 {
-    findings.iter().all(|finding| is_comment(finding))
+    findings.iter().any(|finding| is_of_actors(finding))
 }
 
-fn is_comment(finding: &Finding) -> bool
-    ensures { result ≡ spec.is_comment finding.now }
+/// Whether it is about what a job or a round did by itself, or about how many rounds there are.
+fn is_of_actors(finding: &Finding) -> bool
+    ensures { result ≡ is_of_actors finding.now }
 {
-    matches!(
+    !matches!(
         finding,
         Finding::Pool(_) | Finding::ForeignGet { .. } | Finding::Void(_)
     )
