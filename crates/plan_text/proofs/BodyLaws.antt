@@ -1,11 +1,9 @@
 -- The bodies that are read are lawful.
-use Rattle.std.proofs.Common.{◌≡◌, ℕ, zero, suc, ◌<◌, true, false, ◌==◌, ◌&&◌, nat_lt, List, [], ◌∷◌, length, take, slice_get, Option, None, Some, Result, Ok, codes, refl, sym, ap, subst, ◌∙◌, arith, inl, inr}
-use Rattle.std.specs.Prelude.{option_and_then, is_none}
+use Rattle.std.proofs.Common.{◌≡◌, ℕ, zero, suc, ◌<◌, true, false, ◌==◌, nat_lt, List, [], ◌∷◌, length, take, slice_get, Option, Some, Result, Ok, refl, sym, ap, subst, ◌∙◌, arith, inl, inr}
+use Rattle.std.specs.Prelude.{is_none}
 use Rattle.std.specs.List.{list_any}
-use Rattle.std.specs.Str.{bytes_eq}
-use Rattle.std.specs.Str.Parse.{digits_value}
-use Rattle.std.proofs.lemmas.Bool.{cases_Bool, and_parts, and_from, lt-ltb, eqb-true, not_from_false}
-use Rattle.std.proofs.lemmas.Option.{option_and_then_some, cond_some, slice_get_within}
+use Rattle.std.proofs.lemmas.Bool.{cases_Bool, and_from, lt-ltb, eqb-true, not_from_false}
+use Rattle.std.proofs.lemmas.Option.{slice_get_within}
 use Rattle.readings.specs.Reading.{holds_or, some_or}
 use Rattle.readings.proofs.Steps.{bind_ok, holds_ok, some_ok}
 use Rattle.readings.proofs.Laws.{read_length, read_at}
@@ -13,13 +11,12 @@ use Rattle.job_bodies.specs.declared.action.Action.{Action}
 use Rattle.job_bodies.specs.declared.action.Action.TheVariants.{Work, Submit, Get}
 use Rattle.job_bodies.specs.declared.fault.PlanFault.{PlanFault}
 use Rattle.job_bodies.specs.declared.fault.Part.{Part}
-use Rattle.job_bodies.specs.declared.limits.TheConstants.{MAX_WORK}
 use Rattle.job_bodies.specs.Plan.{submits, gets}
-use Rattle.job_bodies.specs.WellFormed.{is_within, is_lawful_get, is_lawful_action}
+use Rattle.job_bodies.specs.WellFormed.{is_lawful_get, is_lawful_action}
 use Rattle.job_bodies.specs.Checks.{at_action, check_action, check_body}
 use Rattle.job_bodies.proofs.Passing.{test_passes, each_passes, list_any_from}
 use Rattle.plan_text.specs.Checks.{place_of}
-use Rattle.plan_text.specs.Orders.{Order, work, submit, submit_as, get, name_of, is_positive_decimal, units_of, split_space, submit_as_of, submit_parts, submit_of, order_of_verb, order_of}
+use Rattle.plan_text.specs.Orders.{Order, work, submit, submit_as, get, order_of}
 use Rattle.plan_text.specs.Slots.{filled}
 use Rattle.plan_text.specs.Bodies.{class_named, action_of, action_at, action_among, body_of}
 use Rattle.plan_text.proofs.ReadOrders.{read_spelled}

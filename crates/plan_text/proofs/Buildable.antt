@@ -6,7 +6,6 @@ use Rattle.readings.specs.Reading.{holds_or, some_or, check_each, read_each}
 use Rattle.readings.proofs.Steps.{given, given_same, bind_ok, bind_ok_then, holds_ok}
 use Rattle.readings.proofs.Laws.{read_length, read_at, read_images}
 use Rattle.job_bodies.specs.declared.fault.PlanFault.{PlanFault}
-use Rattle.job_bodies.specs.declared.fault.Part.{Part}
 use Rattle.job_bodies.specs.declared.fault.Part.TheVariants as part
 use Rattle.job_bodies.specs.declared.limits.TheConstants.{MAX_POOLS, MAX_CLASSES, MAX_CLIENT_KINDS, MAX_ACTIONS}
 use Rattle.job_bodies.specs.Plan.{Pool, Class, Client, Plan}

@@ -157,20 +157,21 @@ fn client_of<'a>(
     })
 }
 
-/// The classes of these entries, with their bodies.
-pub fn classes_of<'a>(
+/// The classes of these entries, with their bodies. The room of each entry is free once its class is there.
+pub fn classes_of<'p, 'd: 'p>(
     alloc: Global,
-    pools: &Names<'a>,
-    names: &Names<'a>,
-    entries: &[ClassEntry<'a>],
+    pools: &Names<'p>,
+    names: &Names<'p>,
+    entries: Vec<ClassEntry<'d>>,
 ) -> Result<Vec<Class>, TextError>
-    ensures { Gives (λ classes. classes.items) result (each.read_each (spec.class_of pools.now names.now) 0 entries.now) }
+    ensures { Gives (λ classes. classes.items) result (each.read_each (spec.class_of pools.now names.now) 0 entries.entry.items) }
 {
-    read_each(
-        alloc,
-        entries,
-        |index, entry| class_of(alloc, pools, names, index, entry),
-    )
+    let mut classes = Vec::new(alloc);
+    for entry in entries {
+        let class = class_of(alloc, pools, names, classes.len(), &entry)?;
+        classes.push(class)?;
+    }
+    Ok(classes)
 }
 
 /// The clients of these entries, with their bodies.

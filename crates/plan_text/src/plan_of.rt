@@ -9,10 +9,10 @@ ghost use Rattle.plan_text.specs.PlanOf as spec;
 use crate::bodies::{classes_of, clients_of};
 use crate::checks::{check_classes, check_clients, check_pools};
 use crate::document::document_of;
-use crate::entries::{Entries, entries_of};
+use crate::entries::{ClassEntry, ClientEntry, Entries, entries_of};
 use crate::fault::TextError;
 use faults::number::MEMORY;
-use job_bodies::{Class, Client, Plan, PlanFault};
+use job_bodies::{Class, Client, Plan, PlanFault, Pool};
 use readings::ReadError;
 use std::alloc::Global;
 
@@ -35,9 +35,13 @@ fn plan_of(alloc: Global, bytes: &[u8]) -> Result<Plan, TextError>
     ensures { Gives (λ plan. plan) result (spec.plan_of bytes.now) }
 {
     let document = document_of(alloc, bytes)?;
-    let entries = entries_of(alloc, &document)?;
-    let bodies = bodies_of(alloc, &entries)?;
-    Ok(Plan::of_well_formed(entries.pools, bodies.classes, bodies.clients))
+    let Entries {
+        pools,
+        classes,
+        clients,
+    } = entries_of(alloc, &document)?;
+    let bodies = bodies_of(alloc, &pools, classes, &clients)?;
+    Ok(Plan::of_well_formed(pools, bodies.classes, bodies.clients))
 }
 
 /// The classes and clients of a plan.
@@ -48,13 +52,18 @@ struct Bodies {
 }
 
 #[tactic(auto, unfolding(crate::specs::PlanOf::plan_of_entries))]
-fn bodies_of(alloc: Global, entries: &Entries) -> Result<Bodies, TextError>
-    ensures { Gives (λ bodies. given entries.now.pools bodies.classes.items bodies.clients.items) result (spec.plan_of_entries entries.now) }
+fn bodies_of<'p, 'd: 'p>(
+    alloc: Global,
+    pools: &'p [Pool],
+    classes: Vec<ClassEntry<'d>>,
+    clients: &[ClientEntry<'d>],
+) -> Result<Bodies, TextError>
+    ensures { Gives (λ bodies. given pools.now bodies.classes.items bodies.clients.items) result (spec.plan_of_entries (record { pools = pools.now; classes = classes.entry.items; clients = clients.now })) }
 {
-    let pool_names = check_pools(alloc, &entries.pools)?;
-    let class_names = check_classes(alloc, &pool_names, &entries.classes)?;
-    check_clients(alloc, &entries.clients)?;
-    let classes = classes_of(alloc, &pool_names, &class_names, &entries.classes)?;
-    let clients = clients_of(alloc, &class_names, &entries.clients)?;
+    let pool_names = check_pools(alloc, pools)?;
+    let class_names = check_classes(alloc, &pool_names, &classes)?;
+    check_clients(alloc, clients)?;
+    let classes = classes_of(alloc, &pool_names, &class_names, classes)?;
+    let clients = clients_of(alloc, &class_names, clients)?;
     Ok(Bodies { classes, clients })
 }
