@@ -1,5 +1,5 @@
 -- When a service still is its plan, by the lines of a recording that keeps the rules.
-use Rattle.std.specs.Prelude.{◌≡◌, ◌<◌, ◌++◌, ℕ, Bool, true, false, List, length, Contains, Option, Some, None}
+use Rattle.std.specs.Prelude.{◌≡◌, ◌<◌, ◌++◌, ◌∷◌, ℕ, Bool, true, false, not, List, length, Contains, Option, Some, None}
 use Rattle.recording_lines.specs.declared.pool_sizes.PoolSizes.{PoolSizes}
 use Rattle.recording_lines.specs.RecordingLine.{RecordedLine, Pool, Refused, Cancels, InvokesAny, Removed, JobThrew, Unseen}
 use Rattle.recorded_rules.specs.Before.{has_pool, is_closed, is_begun}
@@ -45,8 +45,9 @@ pub record DoAsPlanned (plan : Plan) (lines : List RecordedLine) : Type 0 where
   pub rounds : (round : ℕ) → is_begun lines round ≡ true → IsOfAKind plan lines round
   pub clients : AreEnoughClients plan lines
 
+-- Each pool has the plan's sizes in each of its lines, and in its first one as many threads as the plan starts.
 pub record Conforms (plan : Plan) (lines : List RecordedLine) : Type 0 where
-  pub pools : (name : List ℕ) (sizes : PoolSizes) → Contains lines (Pool name sizes) → IsPlannedPool plan name sizes
+  pub pools : (before behind : List RecordedLine) (name : List ℕ) (sizes : PoolSizes) → before ++ Pool name sizes ∷ behind ≡ lines → IsPlannedPool plan (not (has_pool before name)) name sizes
   pub recorded : is_closed lines ≡ true → (pool : ℕ) → pool < length plan.pools → has_pool lines (pool_at plan pool).name ≡ true
   pub actors : DoAsPlanned plan lines
   pub gets : first_foreign_get lines ≡ None

@@ -1,7 +1,9 @@
 -- What is kept of the lines of a recording, and how it stands for them.
-use Rattle.std.specs.Prelude.{◌≡◌, ℕ, List, ◌++◌, map}
+use Rattle.std.specs.Prelude.{◌≡◌, ℕ, List, ◌++◌, map, Some, None, Result, Ok, Err}
 use Rattle.job_bodies.specs.Plan.{Plan}
-use Rattle.recording_lines.specs.RecordingLine.{RecordedLine}
+use Rattle.recording_lines.specs.RecordingLine.{RecordedLine, lines_read}
+use Rattle.recorded_rules.specs.declared.fault.RecordingFault.{RecordingFault}
+use Rattle.recorded_rules.specs.Faults.{IsFirstFault}
 use Rattle.plan_differences.specs.PoolDeviations.{deviation_seen, deviations_by_lines, deviations_at_end}
 use Rattle.plan_differences.specs.PoolWatch.{IsPoolWatchOf}
 use Rattle.recorded_notes.specs.StandsFor.{IsNotesOf}
@@ -12,6 +14,7 @@ use Rattle.recorded_classes.specs.StandsFor.{IsClassesOf}
 use Rattle.conformance.specs.declared.survey.Watched.{Watched}
 use Rattle.conformance.specs.declared.survey.Judged.{Judged}
 use Rattle.conformance.specs.declared.survey.Survey.{Survey}
+use Rattle.conformance.specs.Lines.{lines_of}
 use Rattle.conformance.specs.Unplanned.{IsUnplannedOf}
 use Rattle.conformance.specs.Verdicts.{IsVerdictsOf}
 use Rattle.conformance.specs.FirstKinds.{AreFirstKinds}
@@ -52,3 +55,9 @@ pub record IsJudged (plan : Plan) (budget : ℕ) (lines : List RecordedLine) (ju
 pub record IsSurveyOf (plan : Plan) (budget : ℕ) (lines : List RecordedLine) (survey : Survey) : Type 0 where
   pub watched : IsWatched plan lines survey.watched
   pub judged : IsJudged plan budget lines survey.judged
+
+-- ---- of a text
+-- where the lines of the text keep the rules, they are surveyed; else it is told which is the first that does not
+abbrev pub IsSurveyed : Plan → ℕ → List ℕ → Result Survey RecordingFault → Type 0
+IsSurveyed plan budget text (Ok survey) = IsFirstFault (lines_read text) None × IsSurveyOf plan budget (lines_of text) survey
+IsSurveyed plan budget text (Err fault) = IsFirstFault (lines_read text) (Some fault)

@@ -1,6 +1,6 @@
 //! Whether a service still is its plan.
 
-ghost use Rattle.std.specs.Prelude.{◌≡◌, [], false, IfOk};
+ghost use Rattle.std.specs.Prelude.{◌≡◌, [], ℕ, false, IfOk};
 ghost use Rattle.std.specs.List.{list_any};
 ghost use Rattle.recording_lines.specs.RecordingLine.{lines_read};
 ghost use Rattle.recorded_rules.specs.Faults.{IsFirstFault};
@@ -8,15 +8,16 @@ ghost use Rattle.recorded_paths.specs.StandsFor.{KeepsRules};
 ghost use Rattle.conformance.specs.Lines.{lines_of};
 ghost use Rattle.conformance.specs.Conforms.{Conforms, DoAsPlanned, IsNotVoid};
 ghost use Rattle.conformance.specs.Findings.{AreFindingsOf, is_of_actors};
+ghost use Rattle.conformance.specs.Survey.{IsSurveyOf};
 ghost use Rattle.conformance.specs.Outcome as spec;
 
 use crate::counted::excesses;
 use crate::finding::Finding;
 use crate::gathered::gathered;
-use crate::survey::surveyed;
+use crate::survey::{Survey, surveyed};
 use job_bodies::Plan;
 use plan_differences::{pools_are_as_planned, rounds_are_within_plan};
-use recorded_rules::{RecordingFault, first_fault};
+use recorded_rules::RecordingFault;
 use std::alloc::{AllocError, Global};
 
 /// What a recording says of a plan.
@@ -60,28 +61,26 @@ pub fn conform(
     ensures found { IfOk result (λ told. spec.IfCompared told (AreFindingsOf plan.now budget (lines_of recording.now))) }
     ensures ascending { IfOk result (λ told. spec.IfCompared told spec.AreInOrder) }
 {
-    let fault = first_fault(alloc, recording)?;
-    match fault {
-        Some(fault) => Ok(Conformance::Bad(fault)),
-        None => Ok(Conformance::Compared(compared(alloc, plan, recording, budget)?)),
+    match surveyed(alloc, plan, recording, budget)? {
+        Ok(survey) => Ok(Conformance::Compared(compared(alloc, plan, recording, survey)?)),
+        Err(fault) => Ok(Conformance::Bad(fault)),
     }
 }
 
-// What of a recording without a bad line is not of the plan.
+// What of a recording without a bad line, of which this is the survey, is not of the plan.
 fn compared(
     alloc: Global,
     plan: &Plan,
     recording: &[u8],
-    budget: u64,
+    survey: Survey,
 ) -> Result<Vec<Finding>, AllocError>
-    ensures conforms { IfOk result (λ findings. KeepsRules (lines_of recording.now) → findings.items ≡ [] → Conforms plan.now (lines_of recording.now) × IsNotVoid (lines_of recording.now)) }
-    ensures actors { IfOk result (λ findings. KeepsRules (lines_of recording.now) → list_any is_of_actors findings.items ≡ false → DoAsPlanned plan.now (lines_of recording.now)) }
-    ensures found { IfOk result (λ findings. KeepsRules (lines_of recording.now) → AreFindingsOf plan.now budget (lines_of recording.now) findings.items) }
+    ensures conforms { (budget : ℕ) → KeepsRules (lines_of recording.now) → IsSurveyOf plan.now budget (lines_of recording.now) survey → IfOk result (λ findings. findings.items ≡ [] → Conforms plan.now (lines_of recording.now) × IsNotVoid (lines_of recording.now)) }
+    ensures actors { (budget : ℕ) → KeepsRules (lines_of recording.now) → IsSurveyOf plan.now budget (lines_of recording.now) survey → IfOk result (λ findings. list_any is_of_actors findings.items ≡ false → DoAsPlanned plan.now (lines_of recording.now)) }
+    ensures found { (budget : ℕ) → KeepsRules (lines_of recording.now) → IsSurveyOf plan.now budget (lines_of recording.now) survey → IfOk result (λ findings. AreFindingsOf plan.now budget (lines_of recording.now) findings.items) }
     ensures ascending { IfOk result (λ findings. spec.AreInOrder findings.items) }
 {
     pools_are_as_planned();
     rounds_are_within_plan();
-    let survey = surveyed(alloc, plan, recording, budget)?;
     let kinds = survey.judged.kinds.kinds.as_slice();
     let excesses = excesses(alloc, plan, recording, kinds)?;
     let mut findings = gathered(alloc, recording, survey, excesses)?;

@@ -6,20 +6,19 @@ ghost use Rattle.recording_lines.specs.RecordingLine.{RecordedLine, line_seen};
 ghost use Rattle.recorded_paths.specs.StandsFor.{KeepsRules};
 ghost use Rattle.recorded_classes.specs.declared.settled.Settled as settleds;
 ghost use Rattle.recorded_classes.specs.Settled.{AreTold, AreAllTold};
-ghost use Rattle.conformance.specs.Lines.{lines_of};
 ghost use Rattle.conformance.specs.FirstKinds.{with_all};
 ghost use Rattle.conformance.specs.Unplanned.{IsNext};
 ghost use Rattle.conformance.specs.Verdicts.{IsVerdictsOf};
 ghost use Rattle.conformance.specs.Survey as spec;
 
 use crate::first_kinds::FirstKinds;
-use crate::good_lines::GoodLines;
 use crate::unplanned::Unplanned;
 use crate::verdicts::Verdicts;
 use job_bodies::Plan;
 use plan_differences::{PoolDeviation, PoolWatch, pools_are_as_planned};
 use recorded_classes::{Classes, Settled};
 use recorded_notes::RecordedNotes;
+use recorded_rules::{RecordingFault, RuledLines};
 use recording_lines::Line;
 use std::alloc::{AllocError, Global};
 
@@ -121,7 +120,7 @@ pub(crate) struct Survey {
     pub(crate) judged: Judged,
 }
 
-/// Surveys a recording that keeps the rules.
+/// Surveys a recording, or tells its first bad line.
 ///
 /// # Errors
 ///
@@ -131,22 +130,24 @@ pub(crate) fn surveyed(
     plan: &Plan,
     recording: &[u8],
     budget: u64,
-) -> Result<Survey, AllocError>
-    ensures { KeepsRules (lines_of recording.now) → IfOk result (spec.IsSurveyOf plan.now budget (lines_of recording.now)) }
+) -> Result<Result<Survey, RecordingFault>, AllocError>
+    ensures { IfOk result (spec.IsSurveyed plan.now budget recording.now) }
 {
     let mut watched = Watched::new(alloc);
     let mut classes = Classes::new(alloc, budget);
     let mut judged = Judged::new(alloc);
-    let mut lines = GoodLines::new(recording);
-    let mut number = 0;
-    while let Some(line) = lines.next() {
-        number += 1;
-        watched.take(plan, number, &line)?;
+    let mut lines = RuledLines::new(alloc, recording);
+    while let Some(line) = lines.next()? {
+        let line = match line {
+            Ok(line) => line,
+            Err(fault) => return Ok(Err(fault)),
+        };
+        watched.take(plan, lines.number(), &line)?;
         take_line(alloc, plan, &line, &mut classes, &mut judged)?;
     }
     watched.finish(plan)?;
     finish(alloc, plan, classes, &mut judged)?;
-    Ok(Survey { watched, judged })
+    Ok(Ok(Survey { watched, judged }))
 }
 
 // It is told of each actor that is settled by the line.

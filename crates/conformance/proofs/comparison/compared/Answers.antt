@@ -9,30 +9,27 @@ use Rattle.conformance.proofs.Conforming.{conforms, actors_do, none_before}
 use Rattle.conformance.proofs.comparison.compared.Goals as goal
 
 pub returns-clause-conforms : goal.returns-clause-conforms
-returns-clause-conforms c = λ keeps none.
+returns-clause-conforms c = λ budget keeps so none.
     let lines = lines_of c.args.recording.now in
     let plan = c.args.plan.now in
-    let so = c.in_ok-survey.ensures keeps in
-    conforms plan c.args.budget lines c.in_ok-survey.survey c.in_ok-excesses.excesses.items c.in_ok-findings.findings.items
+    conforms plan budget lines c.args.survey c.in_ok-excesses.excesses.items c.in_ok-findings.findings.items
     c.pools_are_as_planned.ensures.as_planned c.pools_are_as_planned.ensures.recorded c.rounds_are_within_plan.ensures.within
     so (c.in_ok-excesses.ensures keeps ∙ ap (λ (kinds : List (Option ℕ)). excesses_by_lines plan kinds lines) c.as_slice-kinds.ensures.value) (c.in_ok-findings.ensures so.watched.notes)
     (none_before _ _ c.in_ok-sort_by_key.ensures.permutation none)
 
 pub returns-clause-actors : goal.returns-clause-actors
-returns-clause-actors c = λ keeps none.
+returns-clause-actors c = λ budget keeps so none.
     let lines = lines_of c.args.recording.now in
     let plan = c.args.plan.now in
-    let so = c.in_ok-survey.ensures keeps in
-    actors_do plan c.args.budget lines c.in_ok-survey.survey c.in_ok-excesses.excesses.items c.in_ok-findings.findings.items c.rounds_are_within_plan.ensures.within
+    actors_do plan budget lines c.args.survey c.in_ok-excesses.excesses.items c.in_ok-findings.findings.items c.rounds_are_within_plan.ensures.within
     so (c.in_ok-excesses.ensures keeps ∙ ap (λ (kinds : List (Option ℕ)). excesses_by_lines plan kinds lines) c.as_slice-kinds.ensures.value) (c.in_ok-findings.ensures so.watched.notes)
     (list_any-IsPermutation is_of_actors _ _ c.in_ok-sort_by_key.ensures.permutation ∙ none)
 
 pub returns-clause-found : goal.returns-clause-found
-returns-clause-found c = λ keeps.
+returns-clause-found c = λ budget keeps so.
     let lines = lines_of c.args.recording.now in
     let plan = c.args.plan.now in
-    let so = c.in_ok-survey.ensures keeps in
-    all_found plan c.args.budget lines c.in_ok-survey.survey c.in_ok-excesses.excesses.items c.in_ok-findings.findings.items _
+    all_found plan budget lines c.args.survey c.in_ok-excesses.excesses.items c.in_ok-findings.findings.items _
     so (c.in_ok-excesses.ensures keeps ∙ ap (λ (kinds : List (Option ℕ)). excesses_by_lines plan kinds lines) c.as_slice-kinds.ensures.value) (c.in_ok-findings.ensures so.watched.notes)
     c.in_ok-sort_by_key.ensures.permutation
 

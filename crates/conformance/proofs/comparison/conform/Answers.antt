@@ -1,17 +1,22 @@
 use Rattle.std.proofs.Common.{subst}
-use Rattle.recording_lines.specs.RecordingLine.{lines_read}
-use Rattle.recorded_rules.specs.Faults.{IsFirstFault}
+use Rattle.std.specs.Prelude.{Result}
+use Rattle.recorded_rules.specs.declared.fault.RecordingFault.{RecordingFault}
+use Rattle.conformance.specs.declared.survey.Survey.{Survey}
+use Rattle.conformance.specs.Survey.{IsSurveyed}
 use Rattle.conformance.proofs.Kept.{keeps_rules}
 use Rattle.conformance.proofs.comparison.conform.Goals as goal
 
-pub returns-in_ok-compared-in-None-clause-conforms : goal.returns-in_ok-compared-in-None-clause-conforms
-returns-in_ok-compared-in-None-clause-conforms c =
-    c.in_ok-compared-in-None.ensures.conforms (keeps_rules c.args.recording.now (subst (IsFirstFault (lines_read c.args.recording.now)) c.in-None.is c.in_ok-fault.ensures))
+pub returns-in_ok-compared-in-Ok-clause-conforms : goal.returns-in_ok-compared-in-Ok-clause-conforms
+returns-in_ok-compared-in-Ok-clause-conforms c =
+    let so = subst (λ (found : Result Survey RecordingFault). IsSurveyed c.args.plan.now c.args.budget c.args.recording.now found) c.in-Ok.is c.in_ok-survey.ensures in
+    c.in_ok-compared-in-Ok.ensures.conforms c.args.budget (keeps_rules c.args.recording.now so.0) so.1
 
-pub returns-in_ok-compared-in-None-clause-actors : goal.returns-in_ok-compared-in-None-clause-actors
-returns-in_ok-compared-in-None-clause-actors c =
-    c.in_ok-compared-in-None.ensures.actors (keeps_rules c.args.recording.now (subst (IsFirstFault (lines_read c.args.recording.now)) c.in-None.is c.in_ok-fault.ensures))
+pub returns-in_ok-compared-in-Ok-clause-actors : goal.returns-in_ok-compared-in-Ok-clause-actors
+returns-in_ok-compared-in-Ok-clause-actors c =
+    let so = subst (λ (found : Result Survey RecordingFault). IsSurveyed c.args.plan.now c.args.budget c.args.recording.now found) c.in-Ok.is c.in_ok-survey.ensures in
+    c.in_ok-compared-in-Ok.ensures.actors c.args.budget (keeps_rules c.args.recording.now so.0) so.1
 
-pub returns-in_ok-compared-in-None-clause-found : goal.returns-in_ok-compared-in-None-clause-found
-returns-in_ok-compared-in-None-clause-found c =
-    c.in_ok-compared-in-None.ensures.found (keeps_rules c.args.recording.now (subst (IsFirstFault (lines_read c.args.recording.now)) c.in-None.is c.in_ok-fault.ensures))
+pub returns-in_ok-compared-in-Ok-clause-found : goal.returns-in_ok-compared-in-Ok-clause-found
+returns-in_ok-compared-in-Ok-clause-found c =
+    let so = subst (λ (found : Result Survey RecordingFault). IsSurveyed c.args.plan.now c.args.budget c.args.recording.now found) c.in-Ok.is c.in_ok-survey.ensures in
+    c.in_ok-compared-in-Ok.ensures.found c.args.budget (keeps_rules c.args.recording.now so.0) so.1

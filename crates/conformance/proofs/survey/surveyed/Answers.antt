@@ -1,42 +1,55 @@
-use Rattle.std.proofs.Common.{◌≡◌, ◌≤◌, ◌∷◌, [], ℕ, List, drop, take, length, ap, sym, subst, ◌∙◌, arith}
-use Rattle.recording_lines.specs.RecordingLine.{RecordedLine, line_seen}
+use Rattle.std.proofs.Common.{◌≡◌, ◌+◌, ◌++◌, ◌∷◌, [], ℕ, List, length, Option, Some, Result, Ok, Err, ap, sym, subst, ◌∙◌}
+use Rattle.recording_lines.specs.declared.recording_line.Line.{Line}
+use Rattle.recording_lines.specs.RecordingLine.{RecordedLine, line_seen, lines_read}
+use Rattle.recorded_rules.specs.declared.fault.RecordingFault.{RecordingFault}
+use Rattle.recorded_rules.specs.Faults.{lines_before}
+use Rattle.recorded_rules.specs.RuledLines.{AreUnbroken, AreAllTaken, IsNext, IsTakenNext}
+use Rattle.recorded_paths.specs.StandsFor.{KeepsRules}
 use Rattle.conformance.specs.Lines.{lines_of}
 use Rattle.conformance.specs.Survey.{IsWatchedOf, IsSoFar}
-use Rattle.conformance.proofs.Steps.{rest_next, within_next, front_next, all_taken, number_next}
-use Rattle.conformance.proofs.Kept.{keeps_next}
 use Rattle.conformance.proofs.survey.surveyed.Goals as goal
 
-pub loop-line-init : goal.loop-line-init
-loop-line-init c = record {
-  rest = c.new-lines.ensures.lines;
-  within = omega arith;
-  few = subst (λ (n : ℕ). n ≤ length c.args.recording.now) (ap length c.new-lines.ensures.lines) c.new-lines.ensures.few;
-  watched = λ keeps. c.new-watched.ensures c.args.plan.now;
-  judged = λ keeps. record { told = []; classes_stand = c.new-classes.ensures.stands c.args.plan.now; judged_so = c.new-judged.ensures c.args.plan.now c.args.budget (c.new-classes.ensures.told c.args.plan.now) };
-}
-
-pub loop-line-preserved : goal.loop-line-preserved
-loop-line-preserved c =
-    let lines = lines_of c.args.recording.now in
-    let n = c.loop-line.number in
-    let next : drop n lines ≡ line_seen c.in-Some.line ∷ c.next.new.self = sym c.loop-line.invariant.rest ∙ c.in-Some.ensures in
+pub loop-lines-init : goal.loop-lines-init
+loop-lines-init c =
+    let all = lines_read c.args.recording.now in
+    let nothing : lines_before all c.new-lines.result.number ≡ [] = ap (λ (n : ℕ). lines_before all n) c.new-lines.ensures.number in
     record {
-      rest = rest_next lines _ n _ next;
-      within = within_next lines _ n _ next;
-      few = c.loop-line.invariant.few;
-      watched = λ keeps. subst (λ (ls : List RecordedLine). IsWatchedOf c.args.plan.now ls c.take.new.self) (sym (front_next lines _ n _ next))
-          (c.in_ok-take.ensures (take n lines) (keeps_next lines _ n _ next keeps) (number_next lines _ n _ next) (c.loop-line.invariant.watched keeps));
-      judged = λ keeps. subst (λ (ls : List RecordedLine). IsSoFar c.args.plan.now c.args.budget ls c.take_line.new.classes c.take_line.new.judged) (sym (front_next lines _ n _ next))
-          (c.in_ok-take_line.ensures c.args.budget (take n lines) (keeps_next lines _ n _ next keeps) (c.loop-line.invariant.judged keeps));
+      ruled = c.new-lines.ensures.ruled;
+      watched = subst (λ (ls : List RecordedLine). IsWatchedOf c.args.plan.now ls c.new-watched.result) (sym nothing) (c.new-watched.ensures c.args.plan.now);
+      judged = subst (λ (ls : List RecordedLine). IsSoFar c.args.plan.now c.args.budget ls c.new-classes.result c.new-judged.result) (sym nothing)
+          (record { told = []; classes_stand = c.new-classes.ensures.stands c.args.plan.now; judged_so = c.new-judged.ensures c.args.plan.now c.args.budget (c.new-classes.ensures.told c.args.plan.now) });
+    }
+
+pub loop-lines-preserved : goal.loop-lines-preserved
+loop-lines-preserved c =
+    let all = lines_read c.args.recording.now in
+    let old = c.loop-lines.lines in
+    let new = c.next.new.self in
+    let line = line_seen c.in-Ok.line in
+    let before = lines_before all old.number in
+    let is : c.in_ok-line.field-0 ≡ Some (Ok c.in-Ok.line) = c.in-Some.is ∙ ap (λ (next : Result Line RecordingFault). Some next) c.in-Ok.is in
+    let next : IsTakenNext all old line new = subst (λ (next : Option (Result Line RecordingFault)). IsNext all old next new) is (c.in_ok-line.ensures all c.loop-lines.invariant.ruled) in
+    let keeps : KeepsRules (before ++ line ∷ []) = record { unbroken = subst AreUnbroken next.taken next.ruled.unbroken } in
+    let number : c.number.result ≡ length before + 1 = c.number.ensures ∙ next.number ∙ ap (λ (n : ℕ). n + 1) (sym c.loop-lines.invariant.ruled.counted) in
+    record {
+      ruled = next.ruled;
+      watched = subst (λ (ls : List RecordedLine). IsWatchedOf c.args.plan.now ls c.take.new.self) (sym next.taken) (c.in_ok-take.ensures before keeps number c.loop-lines.invariant.watched);
+      judged = subst (λ (ls : List RecordedLine). IsSoFar c.args.plan.now c.args.budget ls c.take_line.new.classes c.take_line.new.judged) (sym next.taken)
+          (c.in_ok-take_line.ensures c.args.budget before keeps c.loop-lines.invariant.judged);
     }
 
 pub returns : goal.returns
-returns c = λ keeps.
+returns c =
+    let all = lines_read c.args.recording.now in
     let lines = lines_of c.args.recording.now in
-    let n = c.loop-line.number in
-    let rest : drop n lines ≡ [] = sym c.loop-line.invariant.rest ∙ c.in_default.ensures.0 in
-    let all = all_taken lines n rest in
-    record {
-      watched = c.in_ok-finish.ensures lines (subst (λ (ls : List RecordedLine). IsWatchedOf c.args.plan.now ls c.loop-line.watched) all (c.loop-line.invariant.watched keeps));
-      judged = c.in_ok-finish-2.ensures c.args.budget lines keeps (subst (λ (ls : List RecordedLine). IsSoFar c.args.plan.now c.args.budget ls c.loop-line.classes c.loop-line.judged) all (c.loop-line.invariant.judged keeps));
-    }
+    let old = c.loop-lines.lines in
+    let new = c.next.new.self in
+    let so_far = c.loop-lines.invariant in
+    let taken : AreAllTaken all old new = subst (λ (next : Option (Result Line RecordingFault)). IsNext all old next new) c.in_default.is (c.in_ok-line.ensures all so_far.ruled) in
+    let keeps : KeepsRules lines = record { unbroken = subst AreUnbroken taken.taken so_far.ruled.unbroken } in (
+      taken.none,
+      record {
+        watched = c.in_ok-finish.ensures lines (subst (λ (ls : List RecordedLine). IsWatchedOf c.args.plan.now ls c.loop-lines.watched) taken.taken so_far.watched);
+        judged = c.in_ok-finish-2.ensures c.args.budget lines keeps (subst (λ (ls : List RecordedLine). IsSoFar c.args.plan.now c.args.budget ls c.loop-lines.classes c.loop-lines.judged) taken.taken so_far.judged);
+      },
+    )

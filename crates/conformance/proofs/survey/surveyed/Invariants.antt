@@ -1,17 +1,15 @@
-use Rattle.std.proofs.Common.{◌≡◌, ◌≤◌, drop, take, length}
-use Rattle.recorded_paths.specs.StandsFor.{KeepsRules}
-use Rattle.conformance.specs.Lines.{lines_of}
+use Rattle.recording_lines.specs.RecordingLine.{lines_read}
+use Rattle.recorded_rules.specs.Faults.{lines_before}
+use Rattle.recorded_rules.specs.RuledLines.{IsRuled, lines_left}
 use Rattle.conformance.specs.Survey as spec
 use Rattle.conformance.proofs.survey.surveyed.Given as goal
 
-abbrev pub invariant-loop-line : goal.invariant-loop-line
-invariant-loop-line l = record {
-  rest : l.lines ≡ drop l.number (lines_of l.recording);
-  within : l.number ≤ length (lines_of l.recording);
-  few : length (lines_of l.recording) ≤ length l.recording;
-  watched : KeepsRules (lines_of l.recording) → spec.IsWatchedOf l.plan (take l.number (lines_of l.recording)) l.watched;
-  judged : KeepsRules (lines_of l.recording) → spec.IsSoFar l.plan l.budget (take l.number (lines_of l.recording)) l.classes l.judged;
+abbrev pub invariant-loop-lines : goal.invariant-loop-lines
+invariant-loop-lines l = record {
+  ruled : IsRuled (lines_read l.recording) l.lines;
+  watched : spec.IsWatchedOf l.plan (lines_before (lines_read l.recording) l.lines.number) l.watched;
+  judged : spec.IsSoFar l.plan l.budget (lines_before (lines_read l.recording) l.lines.number) l.classes l.judged;
 }
 
-abbrev pub decreases-loop-line : goal.decreases-loop-line
-decreases-loop-line l = length l.lines
+abbrev pub decreases-loop-lines : goal.decreases-loop-lines
+decreases-loop-lines l = lines_left l.lines
