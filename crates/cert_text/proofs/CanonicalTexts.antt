@@ -1,5 +1,5 @@
 -- A canonical text is read as the certificate whose text it is.
-use Rattle.std.proofs.Common.{◌≡◌, ℕ, ◌^◌, ◌<◌, ◌≤◌, ◌&&◌, true, List, ◌++◌, length, codes, Some, Ok, refl, ap, subst, ◌∙◌, arith}
+use Rattle.std.proofs.Common.{◌≡◌, ℕ, ◌^◌, ◌<◌, ◌≤◌, ◌&&◌, true, List, [], ◌∷◌, ◌++◌, length, length-append, append-nil, codes, Some, Ok, refl, sym, ap, subst, ◌∙◌, arith}
 use Rattle.std.specs.List.{list_all}
 use Rattle.std.specs.Str.{is_utf8}
 use Rattle.std.proofs.lemmas.Bool.{and_parts, leb-true}
@@ -14,7 +14,7 @@ use Rattle.weights.specs.declared.bound.Bound.TheVariants.{Standing, Lifetime}
 use Rattle.weights.specs.Vector.{Vector, is_small, has_small_numbers}
 use Rattle.weights.specs.Bound.{bound_vector}
 use Rattle.pool_ranks.specs.Ranks.{Ranks}
-use Rattle.certificates.specs.Cert.{PoolCert, Cert}
+use Rattle.certificates.specs.Cert.{PoolCert, Cert, cert_fits}
 use Rattle.cert_text.specs.declared.document.TheConstants.{MAX_TEXT_BYTES}
 use Rattle.cert_text.specs.Sizes.{pool_has_small_numbers, ranks_have_small_numbers, cert_has_small_numbers}
 use Rattle.cert_text.specs.CertOf.{cert_of}
@@ -112,3 +112,14 @@ canonical_back plan text cert canonical =
     let reads : read whole ≡ Some (cert_data cert) = read_before_blank (cert_text cert) blank canonical.is_text.1 (text_is_compact 6 _ readable) ∙ text_reads 6 _ (omega arith) readable in
     let short : length whole ≤ MAX_TEXT_BYTES = subst (λ (t : List ℕ). length t ≤ MAX_TEXT_BYTES) same canonical.short in
     ap (λ (t : List ℕ). cert_of t plan) same ∙ cert_back whole plan cert utf8 reads canonical.fits short
+
+-- the text of a certificate that fits, and the same with a newline
+pub written_back : (plan : Plan) (text : List ℕ) (cert : Cert) → text ≡ cert_text cert → cert_fits plan cert ≡ true → length text ≤ MAX_TEXT_BYTES → cert_of text plan ≡ Ok cert
+written_back plan text cert same fits within = canonical_back plan text cert (record { is_text = ([], refl, same ∙ sym (append-nil (cert_text cert))); short = within; fits = fits })
+
+pub line_back : (plan : Plan) (text : List ℕ) (cert : Cert) → text ≡ cert_text cert → cert_fits plan cert ≡ true → length text < MAX_TEXT_BYTES → cert_of (text ++ 10 ∷ []) plan ≡ Ok cert
+line_back plan text cert same fits within = canonical_back plan (text ++ 10 ∷ []) cert (record {
+  is_text = (10 ∷ [], refl, ap (λ (t : List ℕ). t ++ 10 ∷ []) same);
+  short = omega (arith, within, length-append text (10 ∷ []));
+  fits = fits;
+})

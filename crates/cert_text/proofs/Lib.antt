@@ -8,4 +8,5 @@ pub mod Blank
 pub mod Readable
 pub mod CanonicalTexts
 pub mod Fronts
+pub mod Pushing
 mod Samples

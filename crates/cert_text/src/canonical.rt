@@ -16,8 +16,8 @@ use crate::canonical_numbers::{
     CanonicalError, behind, behind_byte, behind_comma, leading_numbers, list_for, not_canonical,
 };
 use crate::canonical_vectors::leading_vector;
-use crate::cert_value::version_number;
 use crate::document::MAX_TEXT_BYTES;
+use crate::version::version_number;
 use certificates::{Cert, PoolCert};
 use job_bodies::Plan;
 use pool_ranks::Ranks;

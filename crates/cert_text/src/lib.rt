@@ -7,9 +7,9 @@
 mod canonical;
 mod canonical_numbers;
 mod canonical_vectors;
-mod cert_value;
 mod document;
 mod fault;
+mod parts;
 mod read;
 mod shape;
 mod sizes;

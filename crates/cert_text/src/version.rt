@@ -1,11 +1,16 @@
 //! The version of a certificate's text.
 
+ghost use Rattle.std.specs.Prelude.{◌≡◌};
+ghost use Rattle.std.specs.List.{list_any};
 ghost use Rattle.readings.specs.Given.{Gives};
 ghost use Rattle.serde_json.specs.View.{view};
+ghost use Rattle.weights.specs.Bound.{is_lifetime};
+ghost use Rattle.cert_text.specs.CertText.{version_number};
 ghost use Rattle.cert_text.specs.Version as spec;
 
 use crate::fault::{CertError, fault};
 use crate::values::{number_of, value_at};
+use certificates::{Cert, PoolCert};
 use faults::number::VERSION;
 use serde_json::Value;
 
@@ -36,4 +41,17 @@ pub fn version_of(value: &Value) -> Result<Version, CertError>
     let version = value_at(value, "version")?;
     let number = number_of(version)?;
     version_numbered(number)
+}
+
+fn has_lifetime(pools: &[PoolCert]) -> bool
+    ensures { result ≡ list_any (λ pool. is_lifetime pool.bound) pools.now }
+{
+    pools.iter().any(|pool| pool.bound.is_lifetime())
+}
+
+/// The version that a certificate needs.
+pub fn version_number(cert: &Cert) -> u64
+    ensures { result ≡ version_number cert.now }
+{
+    if has_lifetime(&cert.pools) { 2 } else { 1 }
 }

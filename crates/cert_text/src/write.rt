@@ -5,10 +5,14 @@ ghost use Rattle.job_bodies.specs.Plan.{Plan};
 ghost use Rattle.certificates.specs.Cert.{cert_fits};
 ghost use Rattle.cert_text.specs.declared.document.TheConstants.{MAX_TEXT_BYTES};
 ghost use Rattle.cert_text.specs.CertOf.{cert_of};
+ghost use Rattle.decimals.specs.Pushed.{Pushes};
 ghost use Rattle.cert_text.specs.CertText as spec;
+ghost use Rattle.cert_text.specs.Canonical.{version_text};
 
-use crate::cert_value::cert_value;
+use crate::parts::{push_pools, push_ranks};
+use crate::version::version_number;
 use certificates::Cert;
+use decimals::push_number;
 use std::alloc::{AllocError, Global};
 
 /// The text of a certificate: compact JSON, the keys of each object ascending, with no newline. Its version is 2 where
@@ -26,6 +30,26 @@ pub fn write_cert(alloc: Global, cert: &Cert) -> Result<Vec<u8>, AllocError>
     ensures line_reads_back { IfOk result (λ text. (plan : Plan) → IsTrue (cert_fits plan cert.now) → length text.items < MAX_TEXT_BYTES → cert_of (text.items ++ 10 ∷ []) plan ≡ Ok cert.now) }
     ensures no_separator { IfOk result (λ text. spec.has_percent text.items ≡ false) }
 {
-    let value = cert_value(alloc, cert)?;
-    value.to_vec(alloc)
+    let mut text = String::new(alloc);
+    push_cert(&mut text, cert)?;
+    Ok(text.into_bytes())
+}
+
+fn push_cert(text: &mut String, cert: &Cert) -> Result<(), AllocError>
+    ensures { Pushes result text.old text.new (spec.cert_text cert.now) }
+{
+    text.push_str("{\"pools\":")?;
+    push_pools(text, &cert.pools)?;
+    text.push_str(",\"ranks\":")?;
+    push_ranks(text, &cert.ranks)?;
+    push_version(text, cert)
+}
+
+/// The version that the certificate needs, with its key, and the end of the text.
+fn push_version(text: &mut String, cert: &Cert) -> Result<(), AllocError>
+    ensures { Pushes result text.old text.new (version_text cert.now) }
+{
+    text.push_str(",\"version\":")?;
+    push_number(text, version_number(cert))?;
+    text.push('}')
 }

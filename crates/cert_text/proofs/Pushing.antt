@@ -1,0 +1,117 @@
+-- Lists and objects that are put behind a text, one part after another.
+use Rattle.std.proofs.Common.{◌≡◌, ℕ, ◌+◌, ◌≤◌, Result, Ok, Err, OnOk, is_ok, cond, Bool, true, false, List, [], ◌∷◌, ◌++◌, length, map, drop, slice_get, Some, codes, decimal, refl, sym, ap, ◌∙◌, append_assoc, add-one}
+use Rattle.std.proofs.lemmas.List.{at_drop_all}
+use Rattle.readings.proofs.Loops.{drop_at}
+use Rattle.serde_json.specs.Data.{Data, object, member, no_members}
+use Rattle.serde_json.specs.View.{items_of}
+use Rattle.serde_json.specs.Written.{comma_if, compact_text, items_text}
+use Rattle.serde_json.proofs.OnLiterals.{serde_json_on_literals}
+use Rattle.weights.specs.declared.bound.Bound.{Bound}
+use Rattle.weights.specs.declared.bound.Bound.TheVariants.{Standing, Lifetime}
+use Rattle.weights.specs.Vector.{Vector}
+use Rattle.pool_ranks.specs.Ranks.{Ranks}
+use Rattle.certificates.specs.Cert.{PoolCert, Cert}
+use Rattle.cert_text.specs.CertText.{number_data, list_data, numbers_data, rows_data, vector_data, bounded_data, pool_data, ranks_data, version_number, cert_data, cert_text}
+use Rattle.cert_text.specs.Canonical.{bound_text, version_text}
+use Rattle.cert_text.proofs.Fronts.{first_key, next_key}
+
+-- the text of the elements from this place on, with the bracket at the end
+abbrev rest_text : {X : Type 0} → (X → Data) → List X → ℕ → Bool → List ℕ
+rest_text made xs i later = items_text later (items_of (map made (drop i xs)))
+
+-- the text so far is the whole but for the elements from this place on
+pub record Grows {X : Type 0} (made : X → Data) (xs : List X) (i : ℕ) (later : Bool) (text whole : List ℕ) : Type 0 where
+  pub rest : text ++ rest_text made xs i later ≡ whole
+
+-- a list behind an old text, of which the bracket stands
+pub list_begins : {X : Type 0} (made : X → Data) (xs : List X) (old text : List ℕ) → text ≡ old ++ 91 ∷ [] → Grows made xs 0 false text (old ++ compact_text (list_data (map made xs)))
+list_begins made xs old text opened = record { rest = ap (λ (t : List ℕ). t ++ rest_text made xs 0 false) opened ∙ append_assoc old (91 ∷ []) (rest_text made xs 0 false) }
+
+-- one more element
+pub list_grows : {X : Type 0} (made : X → Data) (xs : List X) (i : ℕ) (later : Bool) (x : X) (text between longer whole : List ℕ) → slice_get xs i ≡ Some x → between ≡ text ++ comma_if later → longer ≡ between ++ compact_text (made x)
+    → Grows made xs i later text whole → Grows made xs (i + 1) true longer whole
+list_grows made xs i later x text between longer whole here comma pushed so_far = record {
+  rest =
+      let behind : List ℕ = rest_text made xs (i + 1) true in
+      let turn : rest_text made xs i later ≡ comma_if later ++ (compact_text (made x) ++ behind) = rw (drop_at xs i x here, add-one) refl in
+      ap (λ (t : List ℕ). t ++ behind) (pushed ∙ ap (λ (t : List ℕ). t ++ compact_text (made x)) comma)
+      ∙ (regroup text (comma_if later) (compact_text (made x)) behind ∙ (ap (λ (t : List ℕ). text ++ t) (sym turn) ∙ so_far.rest));
+}
+  where
+    regroup : (a b c d : List ℕ) → ((a ++ b) ++ c) ++ d ≡ a ++ (b ++ (c ++ d))
+    regroup a b c d = simp append_assoc
+
+-- the bracket behind all elements
+pub list_pushed : {X T E : Type 0} (r : Result T E) (made : X → Data) (xs : List X) (i : ℕ) (later : Bool) (text whole end new : List ℕ) → length xs ≤ i → Grows made xs i later text whole → end ≡ 93 ∷ []
+    → new ≡ cond (is_ok r) (text ++ end) text → OnOk r (new ≡ whole)
+list_pushed (Ok x) made xs i later text whole end new past so_far is_end pushed =
+    pushed ∙ (ap (λ (t : List ℕ). text ++ t) (is_end ∙ sym (at_drop_all (λ (ys : List _). items_text later (items_of (map made ys))) xs i past)) ∙ so_far.rest)
+list_pushed (Err e) made xs i later text whole end new past so_far is_end pushed = tt
+
+-- a text behind a text behind an old one
+pub both_pushed : {T E : Type 0} (r : Result T E) (old middle new first second : List ℕ) → middle ≡ old ++ first → OnOk r (new ≡ middle ++ second) → OnOk r (new ≡ old ++ (first ++ second))
+both_pushed (Ok x) old middle new first second is_first is_second = is_second ∙ (ap (λ (t : List ℕ). t ++ second) is_first ∙ append_assoc old first second)
+both_pushed (Err e) old middle new first second is_first is_second = tt
+
+-- an object of three keys whose parts are put behind an old text, one after another
+pub triple_parts : (j k l : List ℕ) (d e f : Data) (old at_d behind_d at_e behind_e at_f behind_f : List ℕ) → at_d ≡ old ++ first_key j → behind_d ≡ at_d ++ compact_text d → at_e ≡ behind_d ++ next_key k
+    → behind_e ≡ at_e ++ compact_text e → at_f ≡ behind_e ++ next_key l → behind_f ≡ at_f ++ compact_text f → behind_f ++ 125 ∷ [] ≡ old ++ compact_text (object (member j d (member k e (member l f no_members))))
+triple_parts j k l d e f old at_d behind_d at_e behind_e at_f behind_f a b c p q s = simp (a, b, c, p, q, s, append_assoc)
+
+-- and one of two keys, the second of which is put there with its value
+pair_parts : (j k : List ℕ) (d e : Data) (old at_d behind_d behind_e : List ℕ) → at_d ≡ old ++ first_key j → behind_d ≡ at_d ++ compact_text d → behind_e ≡ behind_d ++ (next_key k ++ compact_text e)
+    → behind_e ++ 125 ∷ [] ≡ old ++ compact_text (object (member j d (member k e no_members)))
+pair_parts j k d e old at_d behind_d behind_e a b c = simp (a, b, c, append_assoc)
+
+-- the brace behind all members
+closed : {T E : Type 0} (r : Result T E) (text whole end new : List ℕ) → text ++ 125 ∷ [] ≡ whole → end ≡ 125 ∷ [] → new ≡ cond (is_ok r) (text ++ end) text → OnOk r (new ≡ whole)
+closed (Ok x) text whole end new all is_end pushed = pushed ∙ (ap (λ (t : List ℕ). text ++ t) is_end ∙ all)
+closed (Err e) text whole end new all is_end pushed = tt
+
+pub vector_pushed : {T E : Type 0} (r : Result T E) (v : Vector) (old at_classes behind_classes at_clients behind_clients at_workers behind_workers end new : List ℕ) → at_classes ≡ old ++ codes "{\"classes\":"
+    → behind_classes ≡ at_classes ++ compact_text (rows_data v.classes) → at_clients ≡ behind_classes ++ codes ",\"clients\":" → behind_clients ≡ at_clients ++ compact_text (rows_data v.clients)
+    → at_workers ≡ behind_clients ++ codes ",\"workers\":" → behind_workers ≡ at_workers ++ compact_text (numbers_data v.workers) → end ≡ 125 ∷ [] → new ≡ cond (is_ok r) (behind_workers ++ end) behind_workers
+    → OnOk r (new ≡ old ++ compact_text (vector_data v))
+unfolding vector_data serde_json_on_literals
+vector_pushed r v old at_classes behind_classes at_clients behind_clients at_workers behind_workers end new a b c d e f is_end pushed =
+    closed r behind_workers _ end new
+    (triple_parts (codes "classes") (codes "clients") (codes "workers") (rows_data v.classes) (rows_data v.clients) (numbers_data v.workers) old at_classes behind_classes at_clients behind_clients at_workers behind_workers a b c d e f)
+    is_end pushed
+
+pub ranks_pushed : {T E : Type 0} (r : Result T E) (ranks : Ranks) (old at_levels behind_levels at_pools behind_pools at_reach behind_reach end new : List ℕ) → at_levels ≡ old ++ codes "{\"levels\":"
+    → behind_levels ≡ at_levels ++ compact_text (numbers_data ranks.levels) → at_pools ≡ behind_levels ++ codes ",\"pools\":" → behind_pools ≡ at_pools ++ compact_text (numbers_data ranks.pools)
+    → at_reach ≡ behind_pools ++ codes ",\"reach\":" → behind_reach ≡ at_reach ++ compact_text (numbers_data ranks.reach) → end ≡ 125 ∷ [] → new ≡ cond (is_ok r) (behind_reach ++ end) behind_reach
+    → OnOk r (new ≡ old ++ compact_text (ranks_data ranks))
+unfolding ranks_data serde_json_on_literals
+ranks_pushed r ranks old at_levels behind_levels at_pools behind_pools at_reach behind_reach end new a b c d e f is_end pushed =
+    closed r behind_reach _ end new
+    (triple_parts (codes "levels") (codes "pools") (codes "reach") (numbers_data ranks.levels) (numbers_data ranks.pools) (numbers_data ranks.reach) old at_levels behind_levels at_pools behind_pools at_reach behind_reach a b c d e f)
+    is_end pushed
+
+pool_parts : (blocked : Vector) (bound : Bound) (old at_blocked behind_blocked behind_bound : List ℕ) → at_blocked ≡ old ++ codes "{\"blocked\":" → behind_blocked ≡ at_blocked ++ compact_text (vector_data blocked)
+    → behind_bound ≡ behind_blocked ++ bound_text bound → behind_bound ++ 125 ∷ [] ≡ old ++ compact_text (bounded_data (vector_data blocked) bound)
+unfolding bounded_data serde_json_on_literals
+pool_parts blocked (Standing v) old at_blocked behind_blocked behind_bound a b c = pair_parts (codes "blocked") (codes "standing") (vector_data blocked) (vector_data v) old at_blocked behind_blocked behind_bound a b c
+pool_parts blocked (Lifetime v) old at_blocked behind_blocked behind_bound a b c = pair_parts (codes "blocked") (codes "lifetime") (vector_data blocked) (vector_data v) old at_blocked behind_blocked behind_bound a b c
+
+pub pool_pushed : {T E : Type 0} (r : Result T E) (pool : PoolCert) (old at_blocked behind_blocked behind_bound end new : List ℕ) → at_blocked ≡ old ++ codes "{\"blocked\":"
+    → behind_blocked ≡ at_blocked ++ compact_text (vector_data pool.blocked) → behind_bound ≡ behind_blocked ++ bound_text pool.bound → end ≡ 125 ∷ [] → new ≡ cond (is_ok r) (behind_bound ++ end) behind_bound
+    → OnOk r (new ≡ old ++ compact_text (pool_data pool))
+pool_pushed r pool old at_blocked behind_blocked behind_bound end new a b c is_end pushed = closed r behind_bound _ end new (pool_parts pool.blocked pool.bound old at_blocked behind_blocked behind_bound a b c) is_end pushed
+
+cert_parts : (cert : Cert) (old at_pools behind_pools at_ranks behind_ranks : List ℕ) → at_pools ≡ old ++ codes "{\"pools\":" → behind_pools ≡ at_pools ++ compact_text (list_data (map pool_data cert.pools))
+    → at_ranks ≡ behind_pools ++ codes ",\"ranks\":" → behind_ranks ≡ at_ranks ++ compact_text (ranks_data cert.ranks) → behind_ranks ++ version_text cert ≡ old ++ cert_text cert
+unfolding cert_data serde_json_on_literals
+cert_parts cert old at_pools behind_pools at_ranks behind_ranks a b c d =
+    let version = decimal (version_number cert) in
+    let key = codes ",\"version\":" in
+    sym (append_assoc behind_ranks key (version ++ 125 ∷ []))
+    ∙ (sym (append_assoc (behind_ranks ++ key) version (125 ∷ []))
+    ∙ triple_parts (codes "pools") (codes "ranks") (codes "version") (list_data (map pool_data cert.pools)) (ranks_data cert.ranks) (number_data (version_number cert))
+    old at_pools behind_pools at_ranks behind_ranks (behind_ranks ++ key) ((behind_ranks ++ key) ++ version) a b c d refl refl)
+
+pub cert_pushed : {T E : Type 0} (r : Result T E) (cert : Cert) (old at_pools behind_pools at_ranks behind_ranks new : List ℕ) → at_pools ≡ old ++ codes "{\"pools\":"
+    → behind_pools ≡ at_pools ++ compact_text (list_data (map pool_data cert.pools)) → at_ranks ≡ behind_pools ++ codes ",\"ranks\":" → behind_ranks ≡ at_ranks ++ compact_text (ranks_data cert.ranks)
+    → OnOk r (new ≡ behind_ranks ++ version_text cert) → OnOk r (new ≡ old ++ cert_text cert)
+cert_pushed (Ok x) cert old at_pools behind_pools at_ranks behind_ranks new a b c d pushed = pushed ∙ cert_parts cert old at_pools behind_pools at_ranks behind_ranks a b c d
+cert_pushed (Err e) cert old at_pools behind_pools at_ranks behind_ranks new a b c d pushed = tt

@@ -1,0 +1,111 @@
+//! The parts of a certificate's text, each put behind a text, with no tree of JSON between.
+
+ghost use Rattle.std.specs.Prelude.{◌≡◌, ◌++◌, map, codes};
+ghost use Rattle.serde_json.specs.Written.{comma_if, compact_text};
+ghost use Rattle.decimals.specs.Pushed.{Pushes};
+ghost use Rattle.cert_text.specs.CertText as spec;
+ghost use Rattle.cert_text.specs.Canonical.{bound_text};
+
+use certificates::PoolCert;
+use decimals::push_number;
+use pool_ranks::Ranks;
+use std::alloc::AllocError;
+use weights::{Bound, Vector};
+
+/// The comma before an element of a list that stands behind another.
+#[inline(always)]
+fn push_comma(text: &mut String, later: bool) -> Result<(), AllocError>
+    ensures { Pushes result text.old text.new (comma_if later) }
+{
+    if later { text.push(',') } else { Ok(()) }
+}
+
+fn push_numbers(text: &mut String, numbers: &[u64]) -> Result<(), AllocError>
+    ensures { Pushes result text.old text.new (compact_text (spec.numbers_data numbers.now)) }
+{
+    text.push('[')?;
+    let mut later = false;
+    for number in numbers {
+        push_comma(text, later)?;
+        push_number(text, *number)?;
+        later = true;
+    }
+    text.push(']')
+}
+
+fn push_rows(text: &mut String, rows: &[Vec<u64>]) -> Result<(), AllocError>
+    ensures { Pushes result text.old text.new (compact_text (spec.rows_data (map (λ row. row.items) rows.now))) }
+{
+    text.push('[')?;
+    let mut later = false;
+    for row in rows {
+        push_comma(text, later)?;
+        push_numbers(text, row)?;
+        later = true;
+    }
+    text.push(']')
+}
+
+fn push_vector(text: &mut String, vector: &Vector) -> Result<(), AllocError>
+    ensures { Pushes result text.old text.new (compact_text (spec.vector_data vector.now)) }
+{
+    text.push_str("{\"classes\":")?;
+    push_rows(text, &vector.classes)?;
+    text.push_str(",\"clients\":")?;
+    push_rows(text, &vector.clients)?;
+    text.push_str(",\"workers\":")?;
+    push_numbers(text, &vector.workers)?;
+    text.push('}')
+}
+
+/// A pool's bound with its key, as it stands behind the blocked vector.
+fn push_bound(text: &mut String, bound: &Bound) -> Result<(), AllocError>
+    ensures { Pushes result text.old text.new (bound_text bound.now) }
+{
+    match bound {
+        Bound::Standing(vector) => {
+            text.push_str(",\"standing\":")?;
+            push_vector(text, vector)
+        }
+        Bound::Lifetime(vector) => {
+            text.push_str(",\"lifetime\":")?;
+            push_vector(text, vector)
+        }
+    }
+}
+
+fn push_pool(text: &mut String, pool: &PoolCert) -> Result<(), AllocError>
+    ensures { Pushes result text.old text.new (compact_text (spec.pool_data pool.now)) }
+{
+    text.push_str("{\"blocked\":")?;
+    push_vector(text, &pool.blocked)?;
+    push_bound(text, &pool.bound)?;
+    text.push('}')
+}
+
+/// The pools of a certificate.
+pub fn push_pools(text: &mut String, pools: &[PoolCert]) -> Result<(), AllocError>
+    ensures { Pushes result text.old text.new (compact_text (spec.list_data (map spec.pool_data pools.now))) }
+{
+    text.push('[')?;
+    let mut later = false;
+    for pool in pools {
+        push_comma(text, later)?;
+        push_pool(text, pool)?;
+        later = true;
+    }
+    text.push(']')
+}
+
+/// The ranks of a certificate.
+pub fn push_ranks(text: &mut String, ranks: &Ranks) -> Result<(), AllocError>
+    ensures { Pushes result text.old text.new (compact_text (spec.ranks_data ranks.now)) }
+{
+    text.push_str("{\"levels\":")?;
+    push_numbers(text, &ranks.levels)?;
+    text.push_str(",\"pools\":")?;
+    push_numbers(text, &ranks.pools)?;
+    text.push_str(",\"reach\":")?;
+    push_numbers(text, &ranks.reach)?;
+    text.push('}')
+}
