@@ -1,7 +1,6 @@
 pub mod Lists
 pub mod Fits
 pub mod OnLiterals
-pub mod Plain
 pub mod Percent
 pub mod ReadsBack
 pub mod Blank

@@ -1,10 +1,8 @@
 -- The elements and the members of a value, counted in its data as in memory.
-use Rattle.std.proofs.Common.{◌≡◌, ℕ, zero, suc, ◌+◌, ◌≤◌, Bool, true, List, [], ◌∷◌, ◌++◌, length, map, take, slice_get, Some, refl, sym, ap, subst, ◌∙◌, arith, zero-add}
+use Rattle.std.proofs.Common.{◌≡◌, ℕ, zero, suc, ◌+◌, Bool, true, List, [], ◌∷◌, ◌++◌, length, map, slice_get, Some, refl, sym, ap, subst, ◌∙◌, arith, zero-add}
 use Rattle.std.specs.List.{list_all, enumerate_from}
 use Rattle.std.proofs.lemmas.Bool.{and_parts, and_from}
-use Rattle.std.proofs.lemmas.List.{map_push, length-map}
 use Rattle.job_bodies.proofs.Passing.{EachPlace}
-use Rattle.readings.proofs.Loops.{images_more}
 use Rattle.serde_json.specs.Data.{Data}
 use Rattle.serde_json.specs.View.{items_of, members_view}
 use Rattle.serde_json.proofs.Views.{Entry}
@@ -53,21 +51,6 @@ list_all_enumerated_place_from test n (y ∷ xs) h (suc i) x here =
 -- the same, of elements with their places
 pub list_all_enumerated_place : {X : Type 0} (test : ℕ × X → Bool) (xs : List X) → list_all test (enumerate_from 0 xs) ≡ true → EachPlace xs (λ i x. test (i, x) ≡ true)
 list_all_enumerated_place test xs h i x here = subst (λ (k : ℕ). test (k, x) ≡ true) (zero-add i) (list_all_enumerated_place_from test 0 xs h i x here)
-
--- one more value, which is that of the next element
-pub values_more : {V X Y : Type 0} (view : V → Y) (made : X → Y) (values : List V) (value : V) (xs : List X) (i : ℕ) (x : X) → slice_get xs i ≡ Some x → view value ≡ made x → map view values ≡ take i (map made xs)
-    → map view (values ++ value ∷ []) ≡ take (i + 1) (map made xs)
-values_more view made values value xs i x here seen so_far = map_push view values value ∙ rw (so_far, seen) (sym (images_more made xs i x here))
-
-take_past : {Y : Type 0} (ys : List Y) (i : ℕ) → length ys ≤ i → take i ys ≡ ys
-take_past [] zero past = refl
-take_past [] (suc i) past = refl
-take_past (y ∷ ys) zero past = absurd (omega (arith, past))
-take_past (y ∷ ys) (suc i) past = ap (λ (zs : List _). y ∷ zs) (take_past ys i (omega (arith, past)))
-
--- all values
-pub values_whole : {V X Y : Type 0} (view : V → Y) (made : X → Y) (values : List V) (xs : List X) (i : ℕ) → length xs ≤ i → map view values ≡ take i (map made xs) → map view values ≡ map made xs
-values_whole view made values xs i past so_far = so_far ∙ take_past (map made xs) i (rw (length-map xs made) past)
 
 pub map_twice : {X Y Z : Type 0} (f : Y → Z) (g : X → Y) (xs : List X) → map (λ x. f (g x)) xs ≡ map f (map g xs)
 map_twice f g [] = refl

@@ -1,10 +1,9 @@
 -- Lists and objects that are put behind a text, one part after another.
-use Rattle.std.proofs.Common.{◌≡◌, ℕ, ◌+◌, ◌≤◌, Result, Ok, Err, OnOk, is_ok, cond, Bool, true, false, List, [], ◌∷◌, ◌++◌, length, map, drop, slice_get, Some, codes, decimal, refl, sym, ap, ◌∙◌, append_assoc, add-one}
+use Rattle.std.proofs.Common.{◌≡◌, ℕ, ◌≤◌, Result, Ok, Err, OnOk, is_ok, cond, Bool, true, false, List, [], ◌∷◌, ◌++◌, length, map, drop, codes, decimal, refl, sym, ap, ◌∙◌, append_assoc}
 use Rattle.std.proofs.lemmas.List.{at_drop_all}
-use Rattle.readings.proofs.Loops.{drop_at}
 use Rattle.serde_json.specs.Data.{Data, object, member, no_members}
 use Rattle.serde_json.specs.View.{items_of}
-use Rattle.serde_json.specs.Written.{comma_if, compact_text, items_text}
+use Rattle.serde_json.specs.Written.{compact_text, items_text}
 use Rattle.serde_json.proofs.OnLiterals.{serde_json_on_literals}
 use Rattle.weights.specs.declared.bound.Bound.{Bound}
 use Rattle.weights.specs.declared.bound.Bound.TheVariants.{Standing, Lifetime}
@@ -23,24 +22,6 @@ rest_text made xs i later = items_text later (items_of (map made (drop i xs)))
 pub record Grows {X : Type 0} (made : X → Data) (xs : List X) (i : ℕ) (later : Bool) (text whole : List ℕ) : Type 0 where
   pub rest : text ++ rest_text made xs i later ≡ whole
 
--- a list behind an old text, of which the bracket stands
-pub list_begins : {X : Type 0} (made : X → Data) (xs : List X) (old text : List ℕ) → text ≡ old ++ 91 ∷ [] → Grows made xs 0 false text (old ++ compact_text (list_data (map made xs)))
-list_begins made xs old text opened = record { rest = ap (λ (t : List ℕ). t ++ rest_text made xs 0 false) opened ∙ append_assoc old (91 ∷ []) (rest_text made xs 0 false) }
-
--- one more element
-pub list_grows : {X : Type 0} (made : X → Data) (xs : List X) (i : ℕ) (later : Bool) (x : X) (text between longer whole : List ℕ) → slice_get xs i ≡ Some x → between ≡ text ++ comma_if later → longer ≡ between ++ compact_text (made x)
-    → Grows made xs i later text whole → Grows made xs (i + 1) true longer whole
-list_grows made xs i later x text between longer whole here comma pushed so_far = record {
-  rest =
-      let behind : List ℕ = rest_text made xs (i + 1) true in
-      let turn : rest_text made xs i later ≡ comma_if later ++ (compact_text (made x) ++ behind) = rw (drop_at xs i x here, add-one) refl in
-      ap (λ (t : List ℕ). t ++ behind) (pushed ∙ ap (λ (t : List ℕ). t ++ compact_text (made x)) comma)
-      ∙ (regroup text (comma_if later) (compact_text (made x)) behind ∙ (ap (λ (t : List ℕ). text ++ t) (sym turn) ∙ so_far.rest));
-}
-  where
-    regroup : (a b c d : List ℕ) → ((a ++ b) ++ c) ++ d ≡ a ++ (b ++ (c ++ d))
-    regroup a b c d = simp append_assoc
-
 -- the bracket behind all elements
 pub list_pushed : {X T E : Type 0} (r : Result T E) (made : X → Data) (xs : List X) (i : ℕ) (later : Bool) (text whole end new : List ℕ) → length xs ≤ i → Grows made xs i later text whole → end ≡ 93 ∷ []
     → new ≡ cond (is_ok r) (text ++ end) text → OnOk r (new ≡ whole)
@@ -54,7 +35,7 @@ both_pushed (Ok x) old middle new first second is_first is_second = is_second �
 both_pushed (Err e) old middle new first second is_first is_second = tt
 
 -- an object of three keys whose parts are put behind an old text, one after another
-pub triple_parts : (j k l : List ℕ) (d e f : Data) (old at_d behind_d at_e behind_e at_f behind_f : List ℕ) → at_d ≡ old ++ first_key j → behind_d ≡ at_d ++ compact_text d → at_e ≡ behind_d ++ next_key k
+triple_parts : (j k l : List ℕ) (d e f : Data) (old at_d behind_d at_e behind_e at_f behind_f : List ℕ) → at_d ≡ old ++ first_key j → behind_d ≡ at_d ++ compact_text d → at_e ≡ behind_d ++ next_key k
     → behind_e ≡ at_e ++ compact_text e → at_f ≡ behind_e ++ next_key l → behind_f ≡ at_f ++ compact_text f → behind_f ++ 125 ∷ [] ≡ old ++ compact_text (object (member j d (member k e (member l f no_members))))
 triple_parts j k l d e f old at_d behind_d at_e behind_e at_f behind_f a b c p q s = simp (a, b, c, p, q, s, append_assoc)
 
@@ -98,6 +79,13 @@ pub pool_pushed : {T E : Type 0} (r : Result T E) (pool : PoolCert) (old at_bloc
     → behind_blocked ≡ at_blocked ++ compact_text (vector_data pool.blocked) → behind_bound ≡ behind_blocked ++ bound_text pool.bound → end ≡ 125 ∷ [] → new ≡ cond (is_ok r) (behind_bound ++ end) behind_bound
     → OnOk r (new ≡ old ++ compact_text (pool_data pool))
 pool_pushed r pool old at_blocked behind_blocked behind_bound end new a b c is_end pushed = closed r behind_bound _ end new (pool_parts pool.blocked pool.bound old at_blocked behind_blocked behind_bound a b c) is_end pushed
+
+pub version_pushed : {T E : Type 0} (r : Result T E) (cert : Cert) (old at_version behind_version end new : List ℕ) → at_version ≡ old ++ codes ",\"version\":" → behind_version ≡ at_version ++ decimal (version_number cert)
+    → end ≡ 125 ∷ [] → new ≡ cond (is_ok r) (behind_version ++ end) behind_version → OnOk r (new ≡ old ++ version_text cert)
+version_pushed r cert old at_version behind_version end new a b is_end pushed = closed r behind_version _ end new (together (codes ",\"version\":") (decimal (version_number cert)) old at_version behind_version a b) is_end pushed
+  where
+    together : (key value old at_value behind : List ℕ) → at_value ≡ old ++ key → behind ≡ at_value ++ value → behind ++ 125 ∷ [] ≡ old ++ (key ++ (value ++ 125 ∷ []))
+    together key value old at_value behind a b = simp (a, b, append_assoc)
 
 cert_parts : (cert : Cert) (old at_pools behind_pools at_ranks behind_ranks : List ℕ) → at_pools ≡ old ++ codes "{\"pools\":" → behind_pools ≡ at_pools ++ compact_text (list_data (map pool_data cert.pools))
     → at_ranks ≡ behind_pools ++ codes ",\"ranks\":" → behind_ranks ≡ at_ranks ++ compact_text (ranks_data cert.ranks) → behind_ranks ++ version_text cert ≡ old ++ cert_text cert

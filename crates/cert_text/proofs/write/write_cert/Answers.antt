@@ -4,9 +4,6 @@ use Rattle.cert_text.proofs.Percent.{cert_bare}
 use Rattle.cert_text.proofs.CanonicalTexts.{written_back, line_back}
 use Rattle.cert_text.proofs.write.write_cert.Goals as goal
 
-pub returns-clause-text : goal.returns-clause-text
-returns-clause-text c = ?
-
 pub returns-clause-reads_back : goal.returns-clause-reads_back
 returns-clause-reads_back c =
     let same : c.into_bytes.result.items ≡ cert_text c.args.cert.now = search rules in
