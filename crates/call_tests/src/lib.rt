@@ -14,8 +14,6 @@ mod help_texts;
 #[cfg(test)]
 mod judged_plans;
 #[cfg(test)]
-mod learned;
-#[cfg(test)]
 mod limits;
 #[cfg(test)]
 mod pools;
