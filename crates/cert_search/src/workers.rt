@@ -1,4 +1,4 @@
-//! The workers of a round, each on a thread of its own.
+//! The workers of a round: the calling thread, and each other one on a thread of its own.
 
 ghost use Rattle.std.specs.Prelude.{IfOk, IsTrue};
 ghost use Rattle.cert_search.specs.Results.{are_complete};
@@ -15,7 +15,8 @@ use std::sync::atomic::{AtomicBool, Ordering};
 use std::thread;
 use std::thread::{JoinHandle, Threads};
 
-/// Looks at each pool that has no rank yet with so many workers, and gives what they found, in no order.
+/// Looks at each pool that has no rank yet with so many workers, of which the calling thread is one, and gives what they found,
+/// in no order.
 ///
 /// # Errors
 ///
@@ -43,7 +44,7 @@ pub(crate) fn look_at_all<R: Threads + Wait + Sync, G: PoolGate>(
         move |scope| -> Result<Vec<PoolVectors>, SearchFault> {
             let mut threads = Vec::with_capacity(alloc, workers)?;
             let mut refused = false;
-            for _ in 0..workers {
+            for _ in 1..workers {
                 let worker = scope.spawn(move || round.work(rt, alloc, shared, stops, gate));
                 refused = match worker {
                     Ok(thread) => threads.push(thread).is_err(),
@@ -54,7 +55,8 @@ pub(crate) fn look_at_all<R: Threads + Wait + Sync, G: PoolGate>(
                     break;
                 }
             }
-            let found = join_all(rt, alloc, threads);
+            let own = round.work(rt, alloc, shared, stops, gate);
+            let found = join_all(rt, own, threads);
             if refused {
                 Err(SearchFault::Memory)
             } else {
@@ -69,13 +71,13 @@ pub(crate) fn look_at_all<R: Threads + Wait + Sync, G: PoolGate>(
     }
 }
 
-/// Waits for each worker, and puts together what they found. The first worker that met a fault tells it.
+/// Waits for each other worker, and puts together what all found. The first one that met a fault tells it.
 fn join_all<R: Threads>(
     rt: &R,
-    alloc: Global,
+    own: Result<Vec<PoolVectors>, SearchFault>,
     threads: Vec<JoinHandle<Result<Vec<PoolVectors>, SearchFault>>>,
 ) -> Result<Vec<PoolVectors>, SearchFault> {
-    let mut all = Ok(Vec::new(alloc));
+    let mut all = own;
     for thread in threads {
         all = both(all, thread.join(rt));
     }

@@ -20,8 +20,11 @@ use std::alloc::{AllocError, Global};
 use std::sync::Wait;
 use std::thread::Threads;
 
-/// What the search for a certificate finds, in so many threads; or else what the search for sizes finds, where it changes none.
-/// So `certify` finds a certificate where `fit` changes nothing.
+/// So many pools are worth a thread to look at them. For fewer it costs more memory than it saves time.
+const POOLS_OF_A_WORKER: usize = 16;
+
+/// What the search for a certificate finds, in so many threads at most; or else what the search for sizes finds, where it
+/// changes none. So `certify` finds a certificate where `fit` changes nothing.
 ///
 /// # Errors
 ///
@@ -38,10 +41,19 @@ pub(crate) fn certificate_of<R: Threads + Wait + Sync>(
     ensures none { IfOk result (λ found. IfNone found (IsUncertified plan.now)) }
     ensures fault { IfErr result (λ fault. IsTrue (is_of_search fault.number)) }
 {
-    match search(rt, alloc, plan, workers, &AtOnce)? {
+    match search(rt, alloc, plan, workers_of(plan, workers), &AtOnce)? {
         Some(cert) => Ok(Some(cert)),
         None => Ok(certificate_of_sizes(alloc, plan)?),
     }
+}
+
+/// How many threads, of at most so many, are worth a plan's pools.
+fn workers_of(plan: &Plan, most: usize) -> usize
+    requires { 1 ≤ most }
+    ensures some { 1 ≤ result }
+    ensures most { result ≤ most }
+{
+    most.min(plan.pools().len() / POOLS_OF_A_WORKER).max(1)
 }
 
 /// What the search for sizes finds, where it changes none.
