@@ -67,6 +67,9 @@ impl From<IoFault> for InputError {
 /// The room that is made for the first bytes of an input.
 const FIRST_ROOM: usize = 4096;
 
+/// The most room that is made at once. It is filled with zeros, so that a long input needs little room beside itself.
+const MOST_ROOM: usize = 65_536;
+
 /// Reads until the end of the input, or until `limit` bytes are there.
 ///
 /// Each turn but the last reads at least one byte. Fails with `Memory` where the bytes find no room,
@@ -98,8 +101,8 @@ pub fn read_up_to<S: Source>(
     Ok(bytes)
 }
 
-// Makes `bytes` longer than `filled`, by zeros, and no longer than `limit`. It doubles, so that all
-// growths together write at most a few times the input's length.
+// Makes `bytes` longer than `filled`, by zeros, and no longer than `limit`. It doubles up to the most room
+// that is made at once, so that a short input takes few calls and all zeros are as many as its bytes.
 fn make_room(bytes: &mut Vec<u8>, filled: usize, limit: usize) -> Result<(), AllocError>
     requires filled { filled ≤ vec_len bytes.old }
     requires below { filled < limit }
@@ -110,7 +113,8 @@ fn make_room(bytes: &mut Vec<u8>, filled: usize, limit: usize) -> Result<(), All
     ensures kept { take filled bytes.new.items ≡ take filled bytes.old.items }
 {
     if filled == bytes.len() {
-        let end = filled.saturating_mul(2).max(FIRST_ROOM).min(limit);
+        let room = filled.max(FIRST_ROOM).min(MOST_ROOM);
+        let end = filled.saturating_add(room).min(limit);
         bytes.resize(end, 0)?;
     }
     Ok(())
