@@ -20,7 +20,7 @@ from services import VOID, VOIDS, deviations, other_plans, plan_of, put
 from small_plans import Plan, text_of
 
 SERVICES = [name for name in VOIDS if name != "example"]
-HEAD = re.compile(r"# Learned from a recording\. Rounds: (\d+)\. Jobs: (\d+)\.\n# What was not taken is not here: .*\n")
+HEAD = re.compile(r"# Learned from a recording\. Rounds: (\d+)\. Jobs: (\d+)\.\n# What was not taken is not here: .*\n(?:# Not at their ends yet\. .*\n)?")
 POOL = re.compile(r"pool (\w+): core (\d+)(?: \(now \d+\))?, max (\d+)(?: \(now \d+\))?, queue (\d+)(?: \(now \d+\))?")
 ROUNDS = 1000
 # How many rounds one run has, where it is not all of them: clients that do not repeat have one each in the life of a service.

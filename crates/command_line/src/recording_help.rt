@@ -17,8 +17,8 @@ pools, a line for each event, as the recorder in `java/` writes it (docs/RECORDI
 The answer is `conforms`: each pool has the plan's sizes, each job and each round outside did what
 its body says, where submits may be left out, each with its get, and never were more rounds of a
 kind about than its `count`. It is so of the recorded run, and says nothing of the next one. Else the
-answer has a line for each thing that is not as the plan says, the first of each pool, class and
-kind, with the recording's line, as
+answer has a line for each thing that is not as the plan says, of each class and kind the first, with
+the recording's line, as
   line 812: job 44 of class order submitted price; its body has no such submit behind get stock
   line 903: kind tomcat: 31 at once, count is 30
   line 3: pool db: max 20, plan 10
@@ -84,7 +84,8 @@ with a body that covers what its jobs did where leaving out submits does, each w
 else NAME, NAME_2 and so on; and a kind of client for each label of rounds. `count` is the most
 rounds of it that were about at once, and it repeats where more began in all. `sizing conform` says
 `conforms` to the plan and the recording, unless a comment at the head of the plan says what of the
-recording no plan says, or what voids a yes for it.
+recording no plan says, or what voids a yes for it. Another one tells how many rounds and jobs were not
+at their ends: what these wait for is not in the plan.
 
 A path that was not taken is not in the plan, nor is a pool or a class that was not used, and
 `count` is what was seen: look each over before you ask about the plan.

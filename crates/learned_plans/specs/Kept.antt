@@ -7,12 +7,16 @@ use Rattle.learned_plans.specs.declared.seen_names.SeenNames.{SeenNames}
 use Rattle.learned_plans.specs.declared.counts.KindCount.{KindCount}
 use Rattle.learned_plans.specs.Counts.{Kinds, is_kind, begun_of, ended_of, IsMostAtOnce}
 use Rattle.learned_plans.specs.Pools.{pools_seen}
+use Rattle.learned_plans.specs.Unfinished.{round_ends, job_starts, job_ends}
 
 -- ---- what the lines name
 pub record AreNamesOf (names : SeenNames) (lines : List RecordedLine) : Type 0 where
   pub pools : names.pools.items ≡ pools_seen lines
   pub rounds : names.rounds ≡ begins lines
   pub jobs : names.jobs ≡ submits lines
+  pub ended_rounds : names.ended_rounds ≡ round_ends lines
+  pub started_jobs : names.started_jobs ≡ job_starts lines
+  pub ended_jobs : names.ended_jobs ≡ job_ends lines
 
 -- ---- the rounds of each kind
 -- the kind that stands at the number of a round

@@ -23,4 +23,8 @@ pub struct SeenPlan {
     pub rounds: usize,
     /// How many jobs were submitted, refused ones too.
     pub jobs: usize,
+    /// How many rounds began and have not ended.
+    pub unfinished_rounds: usize,
+    /// How many jobs started and have not ended.
+    pub unfinished_jobs: usize,
 }

@@ -8,6 +8,7 @@ ghost use Rattle.learned_plans.specs.Counts.{AreCounted, Kinds, IsCounted};
 ghost use Rattle.learned_plans.specs.Kept.{IsCountOf};
 ghost use Rattle.learned_plans.specs.Learned.{lines_of, fault_of, IfSeen};
 ghost use Rattle.learned_plans.specs.Pools.{pools_seen};
+ghost use Rattle.learned_plans.specs.Unfinished.{unfinished_rounds, unfinished_jobs};
 
 use crate::counts::{KindCount, kind_counts};
 use crate::covering::cover_all;
@@ -32,6 +33,8 @@ pub fn learn(alloc: Global, recording: &[u8], budget: u64) -> Result<Learned, Al
     ensures counts { IfOk result (IfSeen (λ seen. AreCounted (lines_of recording.now) seen.plan.clients)) }
     ensures rounds { IfOk result (IfSeen (λ seen. seen.rounds ≡ begins (lines_of recording.now))) }
     ensures jobs { IfOk result (IfSeen (λ seen. seen.jobs ≡ submits (lines_of recording.now))) }
+    ensures unfinished_rounds { IfOk result (IfSeen (λ seen. seen.unfinished_rounds ≡ unfinished_rounds (lines_of recording.now))) }
+    ensures unfinished_jobs { IfOk result (IfSeen (λ seen. seen.unfinished_jobs ≡ unfinished_jobs (lines_of recording.now))) }
 {
     if let Some(fault) = first_fault(alloc, recording)? {
         return Ok(Learned::Bad(fault));
@@ -48,6 +51,8 @@ fn seen_plan(alloc: Global, recording: &[u8], budget: u64) -> Result<SeenPlan, S
     ensures counts { IfOk result (λ seen. AreCounted (lines_of recording.now) seen.plan.clients) }
     ensures rounds { IfOk result (λ seen. seen.rounds ≡ begins (lines_of recording.now)) }
     ensures jobs { IfOk result (λ seen. seen.jobs ≡ submits (lines_of recording.now)) }
+    ensures unfinished_rounds { IfOk result (λ seen. seen.unfinished_rounds ≡ unfinished_rounds (lines_of recording.now)) }
+    ensures unfinished_jobs { IfOk result (λ seen. seen.unfinished_jobs ≡ unfinished_jobs (lines_of recording.now)) }
 {
     let mut names = seen_names(alloc, recording)?;
     let kinds = cover_all(alloc, recording, &names.pools, budget, &mut names.working)?;
@@ -58,6 +63,8 @@ fn seen_plan(alloc: Global, recording: &[u8], budget: u64) -> Result<SeenPlan, S
             plan,
             rounds: names.rounds,
             jobs: names.jobs,
+            unfinished_rounds: names.rounds.saturating_sub(names.ended_rounds),
+            unfinished_jobs: names.started_jobs.saturating_sub(names.ended_jobs),
         }),
         Err(_) => Err(Stop::TooMuch(TooMuch::Paths)),
     }

@@ -5,6 +5,7 @@ ghost use Rattle.recorded_rules.specs.LineParts as parts;
 ghost use Rattle.recording_lines.specs.RecordingLine.{RecordedLine, line_seen};
 ghost use Rattle.learned_plans.specs.Learned.{lines_of};
 ghost use Rattle.learned_plans.specs.Kept.{AreNamesOf};
+ghost use Rattle.learned_plans.specs.Unfinished as unfinished;
 
 use crate::pools::note_pool;
 use crate::stop::Stop;
@@ -13,13 +14,17 @@ use job_bodies::Pool;
 use recording_lines::{Line, RecordingLines};
 use std::alloc::{AllocError, Global};
 
-/// The pools, the classes of jobs and the kinds of clients that the lines name, and how many rounds and jobs there are.
+/// The pools, the classes of jobs and the kinds of clients that the lines name, and how many rounds and jobs there are and have
+/// come to their ends.
 #[derive(Debug, Drop)]
 pub(crate) struct SeenNames {
     pub(crate) pools: Vec<Pool>,
     pub(crate) working: Working,
     pub(crate) rounds: usize,
     pub(crate) jobs: usize,
+    pub(crate) ended_rounds: usize,
+    pub(crate) started_jobs: usize,
+    pub(crate) ended_jobs: usize,
     alloc: Global,
 }
 
@@ -36,6 +41,9 @@ pub(crate) fn seen_names(alloc: Global, recording: &[u8]) -> Result<SeenNames, S
         working: Working::new(alloc),
         rounds: 0,
         jobs: 0,
+        ended_rounds: 0,
+        started_jobs: 0,
+        ended_jobs: 0,
         alloc,
     };
     let mut lines = RecordingLines::new(recording);
@@ -55,6 +63,9 @@ impl SeenNames {
         note_pool(self.alloc, &mut self.pools, line)?;
         self.rounds = counted(self.rounds, is_begin(line))?;
         self.jobs = counted(self.jobs, is_submit(line))?;
+        self.ended_rounds = counted(self.ended_rounds, is_round_end(line))?;
+        self.started_jobs = counted(self.started_jobs, is_job_start(line))?;
+        self.ended_jobs = counted(self.ended_jobs, is_job_end(line))?;
         Ok(())
     }
 }
@@ -84,6 +95,33 @@ fn is_submit(line: &Line<'_>) -> bool
 {
     match *line {
         Line::Submits { .. } => true,
+        _ => false,
+    }
+}
+
+fn is_round_end(line: &Line<'_>) -> bool
+    ensures { result ≡ unfinished.is_round_end (line_seen line.now) }
+{
+    match *line {
+        Line::RoundEnds { .. } => true,
+        _ => false,
+    }
+}
+
+fn is_job_start(line: &Line<'_>) -> bool
+    ensures { result ≡ unfinished.is_job_start (line_seen line.now) }
+{
+    match *line {
+        Line::JobStarts { .. } => true,
+        _ => false,
+    }
+}
+
+fn is_job_end(line: &Line<'_>) -> bool
+    ensures { result ≡ unfinished.is_job_end (line_seen line.now) }
+{
+    match *line {
+        Line::JobEnds { .. } | Line::JobThrew { .. } => true,
         _ => false,
     }
 }

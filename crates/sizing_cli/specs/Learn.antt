@@ -1,5 +1,5 @@
 -- What `learn` may answer to a recording: a relation, since nothing is said of which bodies are found.
-use Rattle.std.specs.Prelude.{◌≡◌, ◌⊎◌, ℕ, false, nat_lt, List, [], ◌∷◌, ◌++◌, length, flat_map, codes, decimal, None, Some, Ok, MatchBool}
+use Rattle.std.specs.Prelude.{◌≡◌, ◌⊎◌, ◌&&◌, ℕ, false, if◌then◌else◌, nat_lt, nat_eq, List, [], ◌∷◌, ◌++◌, length, flat_map, codes, decimal, None, Some, Ok, MatchBool}
 use Rattle.std.specs.List.{list_any}
 use Rattle.job_bodies.specs.Plan.{Plan}
 use Rattle.plan_text.specs.PlanOf.{plan_of}
@@ -13,9 +13,11 @@ use Rattle.conformance.specs.Conforms.{DoAsPlanned}
 use Rattle.conformance.specs.Findings.{AreFindingsOf, is_of_actors}
 use Rattle.conformance.specs.FindingText.{finding_line}
 use Rattle.conformance.specs.Lines.{lines_of}
+use Rattle.conformance.specs.Outcome.{AreInOrder}
 use Rattle.learned_plans.specs.Counts.{AreCounted}
 use Rattle.learned_plans.specs.Pools.{pools_seen}
 use Rattle.learned_plans.specs.TooMuch.{too_much_text}
+use Rattle.learned_plans.specs.Unfinished.{unfinished_rounds, unfinished_jobs}
 use Rattle.learned_plans.specs.declared.learned.SeenPlan.{SeenPlan}
 use Rattle.learned_plans.specs.declared.too_much.TooMuch.{TooMuch}
 use Rattle.sizing_cli.specs.declared.limits.TheConstants.{MAX_PATH_STEPS, MAX_RECORDED_BYTES}
@@ -24,11 +26,22 @@ use Rattle.sizing_cli.specs.Answer.{Answer, input_too_long}
 use Rattle.sizing_cli.specs.Conform.{AreAllFindings, bad_recording}
 
 -- ---- the comments at the head of a plan
--- of how much it was seen, and what no recording shows
-abbrev pub head_comment : ℕ → ℕ → List ℕ
-head_comment rounds jobs =
-    (codes "# Learned from a recording. Rounds: " ++ (decimal rounds ++ (codes ". Jobs: " ++ (decimal jobs ++ (codes "." ++ 10 ∷ [])))))
-    ++ (codes "# What was not taken is not here: another path, class, kind or pool. Each count is what was seen at once." ++ 10 ∷ [])
+-- of how much it was seen
+abbrev pub seen_comment : ℕ → ℕ → List ℕ
+seen_comment rounds jobs = codes "# Learned from a recording. Rounds: " ++ (decimal rounds ++ (codes ". Jobs: " ++ (decimal jobs ++ (codes "." ++ 10 ∷ []))))
+
+-- what no recording shows
+abbrev pub not_taken_comment : List ℕ
+not_taken_comment = codes "# What was not taken is not here: another path, class, kind or pool. Each count is what was seen at once." ++ 10 ∷ []
+
+-- how many were not at their ends, where there are such
+abbrev pub unfinished_comment : ℕ → ℕ → List ℕ
+unfinished_comment rounds jobs =
+    if nat_eq rounds 0 && nat_eq jobs 0 then [] else
+    (codes "# Not at their ends yet. Rounds: " ++ (decimal rounds ++ (codes ". Jobs: " ++ (decimal jobs ++ (codes ". What they wait for, and what comes behind it, is not here." ++ 10 ∷ [])))))
+
+abbrev pub head_comment : SeenPlan → List ℕ
+head_comment seen = seen_comment seen.rounds seen.jobs ++ (not_taken_comment ++ unfinished_comment seen.unfinished_rounds seen.unfinished_jobs)
 
 -- a thing that the recording has and no plan says
 abbrev pub comment_line : Plan → Finding → List ℕ
@@ -38,28 +51,31 @@ abbrev pub comments : Plan → List Finding → List ℕ
 comments plan findings = flat_map (comment_line plan) findings
 
 -- ---- what is answered
--- its pools and the counts of its clients are those of the lines, and so many rounds and jobs were seen
+-- its pools and the counts of its clients are those of the lines, and so many rounds and jobs were seen, or not at their ends
 pub record IsSeen (lines : List RecordedLine) (seen : SeenPlan) : Type 0 where
   pub pools : seen.plan.pools ≡ pools_seen lines
   pub counts : AreCounted lines seen.plan.clients
   pub rounds : seen.rounds ≡ begins lines
   pub jobs : seen.jobs ≡ submits lines
+  pub unfinished_rounds : seen.unfinished_rounds ≡ unfinished_rounds lines
+  pub unfinished_jobs : seen.unfinished_jobs ≡ unfinished_jobs lines
 
 -- The text is this plan's. At its head stands of how much it was learned, and each thing that was found, in a comment.
 pub record IsTextOf (seen : SeenPlan) (findings : List Finding) (text : List ℕ) : Type 0 where
   pub is_plan : plan_of text ≡ Ok seen.plan
   pub written : List ℕ
   pub is_written : IsPlanText seen.plan written
-  pub text_is : text ≡ head_comment seen.rounds seen.jobs ++ (comments seen.plan findings ++ 10 ∷ written)
+  pub text_is : text ≡ head_comment seen ++ (comments seen.plan findings ++ 10 ∷ written)
 
 -- The text is a plan's. Its pools are those of the recording, and the count of each kind is what was seen at once. What the jobs
 -- and the rounds did is of its bodies, and it has enough clients. All else that is found of the recording stands at its head,
--- each thing in a comment; where nothing is, the recording conforms to the plan.
+-- each thing in a comment, in the order of its lines; where nothing is, the recording conforms to the plan.
 pub record IsLearnedText (recording text : List ℕ) : Type 0 where
   pub seen : SeenPlan
   pub is_seen : IsSeen (lines_of recording) seen
   pub findings : List Finding
   pub found : AreFindingsOf seen.plan MAX_PATH_STEPS (lines_of recording) findings
+  pub in_order : AreInOrder findings
   pub beside_actors : list_any is_of_actors findings ≡ false
   pub actors : DoAsPlanned seen.plan (lines_of recording)
   pub conforms : AreAllFindings seen.plan recording findings

@@ -73,7 +73,7 @@ fn seen_text(
     ensures { IfOk result (λ found. IfSome found (λ text. spec.IsTextOf seen.now findings.now (string_bytes text))) }
 {
     let plan = write_plan(alloc, &seen.plan)?;
-    let mut text = head_of(alloc, seen.rounds, seen.jobs, &seen.plan, findings)?;
+    let mut text = head_of(alloc, seen, findings)?;
     text.push('\n')?;
     text.push_str(&plan)?;
     if reads_as(alloc, text.as_bytes(), plan.as_bytes())? {
@@ -98,30 +98,47 @@ fn reads_as(alloc: Global, text: &[u8], written: &[u8]) -> Result<bool, AllocErr
 }
 
 /// The comments at the head of a plan.
-fn head_of(
-    alloc: Global,
-    rounds: usize,
-    jobs: usize,
-    plan: &Plan,
-    findings: &[Finding],
-) -> Result<String, AllocError>
-    ensures { IfOk result (λ text. string_bytes text ≡ spec.head_comment rounds jobs ++ spec.comments plan.now findings.now) }
+fn head_of(alloc: Global, seen: &SeenPlan, findings: &[Finding]) -> Result<String, AllocError>
+    ensures { IfOk result (λ text. string_bytes text ≡ spec.head_comment seen.now ++ spec.comments seen.now.plan findings.now) }
 {
-    let mut text = head_comment(alloc, rounds, jobs)?;
-    push_comments(&mut text, plan, findings)?;
+    let mut text = String::new(alloc);
+    push_head(&mut text, seen)?;
+    push_comments(&mut text, &seen.plan, findings)?;
     Ok(text)
 }
 
-fn head_comment(alloc: Global, rounds: usize, jobs: usize) -> Result<String, AllocError>
-    ensures { IfOk result (λ text. string_bytes text ≡ spec.head_comment rounds jobs) }
+/// Of how much the plan was learned, and what is not in it.
+fn push_head(text: &mut String, seen: &SeenPlan) -> Result<(), AllocError>
+    ensures { Pushes result text.old text.new (spec.head_comment seen.now) }
 {
-    let mut text = format!(in alloc;
-        "# Learned from a recording. Rounds: {rounds}. Jobs: {jobs}.\n"
-    )?;
+    push_seen(text, seen.rounds, seen.jobs)?;
     text.push_str(
         "# What was not taken is not here: another path, class, kind or pool. Each count is what was seen at once.\n",
     )?;
-    Ok(text)
+    push_unfinished(text, seen.unfinished_rounds, seen.unfinished_jobs)
+}
+
+/// Of how much the plan was learned.
+fn push_seen(text: &mut String, rounds: usize, jobs: usize) -> Result<(), AllocError>
+    ensures { Pushes result text.old text.new (spec.seen_comment rounds jobs) }
+{
+    write!(
+        text,
+        "# Learned from a recording. Rounds: {rounds}. Jobs: {jobs}.\n"
+    )
+}
+
+/// How many rounds and jobs were not at their ends, where there are such. A service that hung has some.
+fn push_unfinished(text: &mut String, rounds: usize, jobs: usize) -> Result<(), AllocError>
+    ensures { Pushes result text.old text.new (spec.unfinished_comment rounds jobs) }
+{
+    if rounds == 0 && jobs == 0 {
+        return Ok(());
+    }
+    write!(
+        text,
+        "# Not at their ends yet. Rounds: {rounds}. Jobs: {jobs}. What they wait for, and what comes behind it, is not here.\n"
+    )
 }
 
 fn push_comments(text: &mut String, plan: &Plan, findings: &[Finding]) -> Result<(), AllocError>

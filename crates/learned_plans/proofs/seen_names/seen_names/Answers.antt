@@ -6,7 +6,7 @@ use Rattle.learned_plans.proofs.Rest.{Rest, good, at_first, next_good}
 use Rattle.learned_plans.proofs.seen_names.seen_names.Goals as goal
 
 pub loop-line-init : goal.loop-line-init
-loop-line-init c = subst (Rest _ (good (lines_read c.args.recording.now))) (sym c.new-lines.ensures.lines) (at_first _ (lines_read c.args.recording.now) (none_named _ c.new.ensures.items refl refl))
+loop-line-init c = subst (Rest _ (good (lines_read c.args.recording.now))) (sym c.new-lines.ensures.lines) (at_first _ (lines_read c.args.recording.now) (none_named _ c.new.ensures.items refl refl refl refl refl))
 
 pub loop-line-preserved-in-Continue-1 : goal.loop-line-preserved-in-Continue-1
 loop-line-preserved-in-Continue-1 c = next_good (AreNamesOf c.loop-line.names) (AreNamesOf c.note.new.self) (good (lines_read c.args.recording.now)) c.loop-line.lines c.next.new.self (line_seen c.in-Ok.line)

@@ -1,0 +1,36 @@
+-- How many rounds and jobs are not at their ends where the lines end.
+use Rattle.std.specs.Prelude.{ℕ, ◌-◌, Bool, true, false, List, count_by}
+use Rattle.recording_lines.specs.RecordingLine.{RecordedLine, RoundEnds, JobStarts, JobEnds, JobThrew}
+use Rattle.recorded_rules.specs.Before.{begins}
+
+-- ---- what kind of line it is
+abbrev pub is_round_end : RecordedLine → Bool
+is_round_end (RoundEnds round) = true
+is_round_end line = false
+
+abbrev pub is_job_start : RecordedLine → Bool
+is_job_start (JobStarts job) = true
+is_job_start line = false
+
+abbrev pub is_job_end : RecordedLine → Bool
+is_job_end (JobEnds job) = true
+is_job_end (JobThrew job) = true
+is_job_end line = false
+
+-- ---- all lines
+unfoldable pub round_ends : List RecordedLine → ℕ
+round_ends lines = count_by is_round_end lines
+
+unfoldable pub job_starts : List RecordedLine → ℕ
+job_starts lines = count_by is_job_start lines
+
+unfoldable pub job_ends : List RecordedLine → ℕ
+job_ends lines = count_by is_job_end lines
+
+-- the rounds that began and have not ended
+abbrev pub unfinished_rounds : List RecordedLine → ℕ
+unfinished_rounds lines = begins lines - round_ends lines
+
+-- the jobs that started and have not ended
+abbrev pub unfinished_jobs : List RecordedLine → ℕ
+unfinished_jobs lines = job_starts lines - job_ends lines
