@@ -12,6 +12,11 @@ const PLAN: &str = "pool = [{ name = 'p', core = 1, max = 1, queue = 2 }]
 class = [{ name = 'a', pool = 'p', body = ['work 1'] }]
 client = [{ name = 'c', count = 2, repeat = true, body = ['submit a as x', 'get x'] }]";
 
+// The same with a place less in the queue than its clients need.
+const SMALL_QUEUE: &str = "pool = [{ name = 'p', core = 1, max = 1, queue = 1 }]
+class = [{ name = 'a', pool = 'p', body = ['work 1'] }]
+client = [{ name = 'c', count = 2, repeat = true, body = ['submit a as x', 'get x'] }]";
+
 const CERT: &str = r#"{"version": 1, "pools": [
     {"standing": {"workers": [0], "classes": [[1, 1, 1, 1]], "clients": [[1, 0, 1]]},
      "blocked": {"workers": [0], "classes": [[0, 0, 0, 0]], "clients": [[0, 0, 0]]}}],
@@ -47,6 +52,20 @@ impl TextFiles for Kept {
         };
         let bytes = text.as_bytes();
         Ok(Vec::from_slice(alloc, &bytes[..bytes.len().min(limit)])?)
+    }
+
+    fn read_stored(
+        &self,
+        alloc: Global,
+        name: &str,
+        limit: usize,
+    ) -> Result<Option<Vec<u8>>, InputError> {
+        match self.read(alloc, name, limit) {
+            Ok(text) => Ok(Some(text)),
+            Err(InputError::Fault) if name == "locked.json" => Err(InputError::Fault),
+            Err(InputError::Fault) => Ok(None),
+            Err(error) => Err(error),
+        }
     }
 
     fn write(&self, name: &str, bytes: &[u8]) -> Result<(), IoFault> {
@@ -102,6 +121,12 @@ const ANSWERS: &[Case] = &[
         "",
         Status::Done,
         "failing 0\n",
+    ),
+    (
+        &["sizing", "explain", "-", "cert.json"],
+        SMALL_QUEUE,
+        Status::Refused,
+        "pool p standing, total: S2 2 above 1\nfailing 1\n",
     ),
     (
         &["sizing", "replay", "plan.toml", "events"],
@@ -187,6 +212,27 @@ const NO_ANSWERS: &[(&[&str], &str, u8)] = &[
     (&["sizing", "check", "-", "-"], "input twice", 2),
     (&["sizing", "fit", "--bundle", "--", "-x"], "unread -x", 3),
     (&["sizing"], "no command", 2),
+    // a word that is missing or misplaced makes no file that is there a certificate
+    (
+        &["sizing", "ask", "--certificate", "plan.toml", "plan.toml"],
+        "occupied plan.toml",
+        2,
+    ),
+    (
+        &["sizing", "ask", "--certificate", "plan.toml"],
+        "occupied plan.toml",
+        2,
+    ),
+    (
+        &["sizing", "ask", "--certificate", "events", "plan.toml"],
+        "occupied events",
+        2,
+    ),
+    (
+        &["sizing", "ask", "--certificate", "locked.json", "plan.toml"],
+        "unread locked.json",
+        3,
+    ),
     (
         &["sizing", "chek", "plan.toml"],
         "words InvalidSubcommand",
@@ -215,6 +261,7 @@ fn words_without_an_answer(rt: HostRuntime) -> Result<(), Fail> {
             WordsFault::NoCommand => String::from_str(rt.alloc(), "no command")?,
             WordsFault::InputTwice => String::from_str(rt.alloc(), "input twice")?,
             WordsFault::Unread(name) => format!(in rt.alloc(); "unread {name}")?,
+            WordsFault::Occupied(name) => format!(in rt.alloc(); "occupied {name}")?,
             WordsFault::Unwritten(name) => format!(in rt.alloc(); "unwritten {name}")?,
             WordsFault::Served(ServeFault { number }) => format!(in rt.alloc(); "fault {number}")?,
         };
@@ -225,21 +272,17 @@ fn words_without_an_answer(rt: HostRuntime) -> Result<(), Fail> {
     Ok(())
 }
 
-/// A certificate that cannot be kept is told behind the whole answer.
+/// A certificate that cannot be kept is told behind the whole answer, where there is no file, or one with a certificate.
 #[test]
 fn an_unwritten_certificate(rt: HostRuntime) -> Result<(), Fail> {
-    let words = [
-        "sizing",
-        "ask",
-        "--certificate",
-        "none/kept.json",
-        "plan.toml",
-    ];
-    let mut source = MemorySource::new(b"");
-    let mut sink = MemorySink::new(rt.alloc());
-    let ended = serve_words(&rt, rt.alloc(), &words, &Kept, &mut source, &mut sink);
-    let text = String::from_utf8_lossy(rt.alloc(), sink.written())?;
-    assert_eq!(rt; text.as_str(), ASKED);
-    assert!(rt; matches!(ended, Err(WordsFault::Unwritten("none/kept.json"))));
+    for name in ["none/kept.json", "cert.json"] {
+        let words = ["sizing", "ask", "--certificate", name, "plan.toml"];
+        let mut source = MemorySource::new(b"");
+        let mut sink = MemorySink::new(rt.alloc());
+        let ended = serve_words(&rt, rt.alloc(), &words, &Kept, &mut source, &mut sink);
+        let text = String::from_utf8_lossy(rt.alloc(), sink.written())?;
+        assert_eq!(rt; text.as_str(), ASKED);
+        assert!(rt; matches!(ended, Err(WordsFault::Unwritten(told)) if told == name));
+    }
     Ok(())
 }

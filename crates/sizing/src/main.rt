@@ -69,6 +69,11 @@ fn tell(rt: &impl Eprint, fault: &WordsFault<'_>) -> io::Result<()> {
                 "standard input has one of the two texts, not both: name a file for the other"
             )
         }
+        WordsFault::Occupied(name) => {
+            eprintln!(rt;
+                "{name} is there and no certificate, so it stays as it is: name another file for --certificate"
+            )
+        }
         WordsFault::Unwritten(name) => eprintln!(rt; "{} at {name}", Head(WRITE_FAILED)),
         WordsFault::Unread(name) => eprintln!(rt; "{} at {name}", Head(READ_FAILED)),
         WordsFault::Served(fault) => eprintln!(rt; "{fault}"),

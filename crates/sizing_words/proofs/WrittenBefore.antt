@@ -7,7 +7,7 @@ use Rattle.command_line.specs.declared.command.Command.{Command}
 use Rattle.faults.specs.declared.number.TheConstants.{WRITE_FAILED}
 use Rattle.sizing_words.specs.WordsFault.{IsOfFile, IsWrittenBefore, is_of_reading, is_of_sink}
 use Rattle.sizing_words.specs.declared.fault.WordsFault.{WordsFault}
-use Rattle.sizing_words.specs.declared.fault.WordsFault.TheVariants.{Words, NoCommand, InputTwice, Unread, Unwritten, Served}
+use Rattle.sizing_words.specs.declared.fault.WordsFault.TheVariants.{Words, NoCommand, InputTwice, Unread, Occupied, Unwritten, Served}
 
 -- where the sink did not fail, no more is said of it
 pub not_of_sink : (fault : WordsFault) (command : Command) (input : List ℕ) (old new : Option (List ℕ)) → is_of_sink fault ≡ false → IsWrittenBefore fault command input old new
@@ -15,6 +15,7 @@ not_of_sink (Words error) command input old new calm = tt
 not_of_sink NoCommand command input old new calm = tt
 not_of_sink InputTwice command input old new calm = tt
 not_of_sink (Unread name) command input old new calm = tt
+not_of_sink (Occupied name) command input old new calm = tt
 not_of_sink (Unwritten name) command input old new calm = absurd (false≢true (sym calm))
 not_of_sink (Served fault) command input old new calm = λ is. absurd (false≢true (sym calm ∙ ap (λ n. n == WRITE_FAILED) is))
 
@@ -24,6 +25,7 @@ of_file name (Words error) command input old new of = absurd of
 of_file name NoCommand command input old new of = absurd of
 of_file name InputTwice command input old new of = absurd of
 of_file name (Unread other) command input old new of = tt
+of_file name (Occupied other) command input old new of = absurd of
 of_file name (Unwritten other) command input old new of = absurd of
 of_file name (Served fault) command input old new of = λ is. absurd (false≢true (subst (λ (n : ℕ). IsTrue (is_of_reading n)) is of))
 

@@ -1,9 +1,19 @@
 -- The certificate that is kept in a file.
-use Rattle.std.specs.Prelude.{ℕ, List, Option, IfSome}
+use Rattle.std.specs.Prelude.{◌≡◌, ◌==◌, ℕ, Bool, true, List, [], ◌∷◌, Option, IfSome}
 use Rattle.clap.specs.Words.{Text}
 use Rattle.command_line.specs.declared.command.Command.{Command}
 use Rattle.sizing_cli.specs.Served.{Leaves}
 use Rattle.sizing_cli.specs.declared.status.Status.{Status}
+
+-- as the first byte tells, a text is a certificate, which is an object of JSON, or there is none: a certificate may be written
+-- in its place
+abbrev pub may_be_certificate : List ℕ → Bool
+may_be_certificate [] = true
+may_be_certificate (byte ∷ bytes) = byte == 123
+
+-- so it is of the file that is named, where its text is known
+abbrev pub IsSpared : (Text → Option (List ℕ)) → Option Text → Type 0
+IsSpared content named = IfSome named (λ name. IfSome (content name) (λ text. may_be_certificate text ≡ true))
 
 -- where a file is named and a text is left, the file was made of the text
 abbrev pub IsKept : (Text → List ℕ → Type 0) → Option Text → Option (List ℕ) → Type 0

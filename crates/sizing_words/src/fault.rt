@@ -27,6 +27,8 @@ pub enum WordsFault<'a> {
     InputTwice,
     /// The file of this name could not be read: fault 60.
     Unread(&'a str),
+    /// The file of this name, which is named for the certificate, has a text that is none. It stays as it is.
+    Occupied(&'a str),
     /// The certificate could not be written into the file of this name: fault 61. The whole answer was written.
     Unwritten(&'a str),
     /// The command was not served.
@@ -40,7 +42,10 @@ impl WordsFault<'_> {
     {
         match self {
             WordsFault::Words(error) if error.kind() == ErrorKind::OutOfMemory => NO_ANSWER,
-            WordsFault::Words(_) | WordsFault::NoCommand | WordsFault::InputTwice => USAGE,
+            WordsFault::Words(_)
+            | WordsFault::NoCommand
+            | WordsFault::InputTwice
+            | WordsFault::Occupied(_) => USAGE,
             WordsFault::Unread(_) | WordsFault::Unwritten(_) | WordsFault::Served(_) => NO_ANSWER,
         }
     }

@@ -5,9 +5,10 @@ ghost use Rattle.std.specs.Io.KnownBytes.{Keeps};
 ghost use Rattle.command_line.specs.Command.{IsInRange, certificate_of, command_of, faults_of, files_asked, files_of};
 ghost use Rattle.sizing_cli.specs.Served.{Leaves, MeansSafe, WritesAnswer};
 ghost use Rattle.command_line.specs.declared.command.Command.{Command as CommandValue};
-ghost use Rattle.sizing_words.specs.Kept.{IsKept, LeavesKept};
+ghost use Rattle.sizing_words.specs.Kept.{IsKept, IsSpared, LeavesKept};
+ghost use Rattle.sizing_words.specs.Kept as spared;
 ghost use Rattle.sizing_words.specs.Texts as spec;
-ghost use Rattle.sizing_words.specs.WordsFault.{IsFaultOf, IsOfFile, IsOfReading, IsOfTexts, IsUnwritten, IsWrittenBefore, is_of_sink};
+ghost use Rattle.sizing_words.specs.WordsFault.{IsFaultOf, IsOccupied, IsOfFile, IsOfReading, IsOfSparing, IsOfTexts, IsUnwritten, IsWrittenBefore, is_of_sink};
 
 use crate::fault::WordsFault;
 use crate::joining::joined;
@@ -15,7 +16,7 @@ use crate::text_files::TextFiles;
 use byte_streams::{InputError, MemorySource, Sink, Source, read_up_to};
 use command_line::{Asked, Command};
 use sizing_cli::{ServeFault, Status, most_bytes, read_words, serve_named};
-use std::alloc::Global;
+use std::alloc::{AllocError, Global};
 use std::sync::Wait;
 use std::thread::Threads;
 
@@ -27,7 +28,7 @@ const NO_FILE: &str = "<stdin>";
 
 /// Reads the words of a command line, of which the first is the program's name, then the texts that they name, and writes the
 /// answer of the command that they name. Where they name a file for the certificate that the answer rests on, it is written
-/// last. Texts are those of standard input, `input`, where no file is named or its name is
+/// last, in the place of no text but a certificate, as the first byte tells. Texts are those of standard input, `input`, where no file is named or its name is
 /// `-`, and else of `files`: one file has all that standard input would have; of two, the first one is the plan and the second
 /// one what comes after the line `%%`.
 ///
@@ -50,6 +51,8 @@ pub fn serve_words<'a, R: Threads + Wait + Sync, F: TextFiles, S: Source, K: Sin
 
     // The file that the words name for a certificate was made of the text of the one that the answer rests on.
     ensures kept { IfOk result (λ status. IfSome (command_of (map (λ word. word.now) words.now)) (λ command. IfSome (spec.input_named command (F.content files.now) (S.remaining input.old) (files_of (map (λ word. word.now) words.now))) (λ text. LeavesKept (F.made files.now) (certificate_of (map (λ word. word.now) words.now)) command text status (K.written sink.old) (K.written sink.new)))) }
+    ensures spared { IfOk result (λ _. IsSpared (F.content files.now) (certificate_of (map (λ word. word.now) words.now))) }
+    ensures occupied { IfErr result (IsOccupied (F.content files.now)) }
     ensures fault { IfErr result (IsFaultOf (map (λ word. word.now) words.now)) }
     ensures nothing { IfErr result (λ fault. is_of_sink fault ≡ false → Keeps (K.written sink.old) (K.written sink.new)) }
 
@@ -59,10 +62,49 @@ pub fn serve_words<'a, R: Threads + Wait + Sync, F: TextFiles, S: Source, K: Sin
     let Some(asked) = read_words(alloc, words)? else {
         return Err(WordsFault::NoCommand);
     };
+    spare(alloc, files, asked.certificate)?;
     let mut found = None;
     let status = serve_asked(rt, alloc, asked, files, &mut found, input, sink)?;
     keep(files, asked.certificate, &found)?;
     Ok(status)
+}
+
+/// Refuses the file that is named for the certificate where it has another text: no plan is lost to a word too many.
+fn spare<'a, F: TextFiles>(
+    alloc: Global,
+    files: &F,
+    name: Option<&'a str>,
+) -> Result<(), WordsFault<'a>>
+    ensures spared { IfOk result (λ _. IsSpared (F.content files.now) (option_map (λ name. name.now) name.entry)) }
+    ensures occupied { IfErr result (IsOccupied (F.content files.now)) }
+    ensures fault { IfErr result (IsOfSparing (option_map (λ name. name.now) name.entry)) }
+    ensures before { IfErr result (λ fault. is_of_sink fault ≡ false) }
+{
+    let Some(name) = name else {
+        return Ok(());
+    };
+    match files.read_stored(alloc, name, 1) {
+        Ok(Some(text)) => {
+            if may_be_certificate(&text) {
+                Ok(())
+            } else {
+                Err(WordsFault::Occupied(name))
+            }
+        }
+        Ok(None) => Ok(()),
+        Err(InputError::Fault) => Err(WordsFault::Unread(name)),
+        Err(InputError::Memory) => Err(WordsFault::from(AllocError)),
+    }
+}
+
+/// Whether a text that begins so is a certificate, or empty.
+fn may_be_certificate(text: &[u8]) -> bool
+    ensures { result ≡ spared.may_be_certificate text.now }
+{
+    match text.first() {
+        Some(byte) => *byte == b'{',
+        None => true,
+    }
 }
 
 /// Writes the certificate that was found into the file that is named for it.

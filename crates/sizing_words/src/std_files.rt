@@ -5,6 +5,7 @@ ghost use Rattle.std.specs.Prelude.{None};
 use crate::text_files::TextFiles;
 use byte_streams::{InputError, IoFault, StdSink, StdSource, read_up_to, write_all};
 use std::alloc::Global;
+use std::fs;
 use std::fs::{File, Files};
 
 /// The files of the system, of which contracts know nothing.
@@ -29,6 +30,18 @@ impl<R: Files> TextFiles for StdFiles<'_, R> {
         match File::open(self.files, name) {
             Ok(file) => read_up_to(alloc, &mut StdSource::new(file), limit),
             Err(_) => Err(InputError::Fault),
+        }
+    }
+
+    fn read_stored(
+        &self,
+        alloc: Global,
+        name: &str,
+        limit: usize,
+    ) -> Result<Option<Vec<u8>>, InputError> {
+        match fs::metadata(self.files, name) {
+            Ok(found) if found.is_file() => Ok(Some(self.read(alloc, name, limit)?)),
+            _ => Ok(None),
         }
     }
 

@@ -1,6 +1,6 @@
 //! Where files are read from.
 
-ghost use Rattle.std.specs.Prelude.{◌≡◌, ℕ, List, Option, IfOk, IfSome, take};
+ghost use Rattle.std.specs.Prelude.{◌≡◌, ℕ, List, Option, Some, IfOk, IfSome, option_map, take};
 
 use byte_streams::{InputError, IoFault};
 use std::alloc::Global;
@@ -21,6 +21,20 @@ pub trait TextFiles {
     /// where its bytes find no room.
     fn read(&self, alloc: Global, name: &str, limit: usize) -> Result<Vec<u8>, InputError>
         ensures { IfOk result (λ bytes. IfSome (content self.now name.now) (λ known. bytes.items ≡ take limit known)) };
+
+    /// Reads the first bytes of a file that is stored, at most `limit`. None where there is none of this name, or what has it
+    /// keeps nothing, as a pipe or a terminal.
+    ///
+    /// # Errors
+    ///
+    /// Those of [`read`](TextFiles::read), where there is such a file.
+    fn read_stored(
+        &self,
+        alloc: Global,
+        name: &str,
+        limit: usize,
+    ) -> Result<Option<Vec<u8>>, InputError>
+        ensures { IfOk result (λ found. IfSome (content self.now name.now) (λ known. option_map (λ bytes. bytes.items) found ≡ Some (take limit known))) };
 
     /// Makes a file of these bytes, in place of one that is there.
     ///
