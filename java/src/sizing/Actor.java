@@ -40,6 +40,11 @@ final class Actor {
         return new Actor(new Names.OfThread(thread.getName()), null, false);
     }
 
+    /** Of a job: the thread that offers it runs it, as by CallerRunsPolicy, and no thread of its pool. */
+    boolean isRunWhereOffered() {
+        return offering == Thread.currentThread();
+    }
+
     boolean hasLabel() {
         return hasLabel;
     }
