@@ -59,12 +59,12 @@ class Comparison:
         for actor, act in sorted(((actor, act) for actor in self.paths for act in actor.acts), key=lambda one: one[1].line):
             if act.word == "submit" and not act.job.refused:
                 self.paths[actor].append(Step(act.line, "submit", act.job))
-            elif act.word == "got" and act.job not in got and not act.job.refused:
-                if act.job.submitter is actor:
-                    got.add(act.job)
-                    self.paths[actor].append(Step(act.line, "get", act.job))
-                else:
+            elif act.word == "got" and act.job not in got:
+                if act.job.submitter is not actor:
                     self.foreign.append((act.line, actor, act.job))
+                else:
+                    got.add(act.job)
+                    self.paths[actor] += [] if act.job.refused else [Step(act.line, "get", act.job)]
 
     def family(self, entries, name):
         """The entries of the plan that a label may be: NAME itself, NAME_2, NAME_3, and so on."""
@@ -128,10 +128,8 @@ class Comparison:
                 self.finds(("pool", name), lines[0].line, f"pool {name}: not in the plan")
                 continue
             for sizes in lines:
-                found = [f"line {sizes.line}: pool {name}: {difference}" for difference in differences(sizes, planned[name])]
-                self.findings += [(sizes.line, text) for text in found]
-                if found:
-                    break
+                for difference in differences(sizes, planned[name], sizes is lines[0]):
+                    self.finds(("pool", name, difference), sizes.line, f"pool {name}: {difference}")
 
     def jobs(self):
         """The last ones first: a job's own jobs are behind it, and what they can be must be known."""
@@ -210,7 +208,8 @@ def described(actor):
     return f"{actor} of {'class' if actor.sort == 'job' else 'kind'} {actor.name}"
 
 
-def differences(sizes, pool):
+def differences(sizes, pool, is_first):
+    """In what the pool is not the plan's. How many threads were prestarted its first line says alone."""
     if sizes.core != pool.core:
         yield f"core {sizes.core}, plan {pool.core}"
     if sizes.max != pool.max:
@@ -221,7 +220,7 @@ def differences(sizes, pool):
         yield f"queue {sizes.queue}, plan {pool.queue}"
     if sizes.timeout:
         yield "core threads may time out"
-    if sizes.prestarted != (pool.core if pool.prestart else 0):
+    if is_first and sizes.prestarted != (pool.core if pool.prestart else 0):
         yield f"{sizes.prestarted} threads prestarted, plan {pool.core if pool.prestart else 0}"
 
 

@@ -1,6 +1,12 @@
-"""Small recordings with what `conform.py` must say of them, by hand."""
+"""Small recordings with what `conform.py` must say of them, by hand, and the rows of tests of `sizing conform`."""
+
+import sys
+from pathlib import Path
+
+sys.path.insert(0, str(Path(__file__).resolve().parent.parent))
 
 from conform import compared
+from row_files import rows_of
 
 POOL = "pool p core 1 max 1 queue array 2 timeout no prestarted 0 handler abort"
 # A client gets two jobs, one after the other; a job of class a gets one of class b.
@@ -74,7 +80,16 @@ ROWS = [
     ("a job that threw", PLAN.replace(', "get y"', ""), round_of("round 0 submit 0 b p", "job 0 start", "job 0 threw"), [],
      ["line 6: a yes is void from here on: job 0 ended its thread by an exception"]),
     ("jobs that nobody recorded", PLAN, ["unseen p 3"], [], ["line 3: a yes is void from here on: 3 jobs were run of which no line tells"]),
-    ("another size, and one more later", PLAN, [POOL.replace("max 1", "max 2")], ["line 3: pool p: max 2, plan 1"], []),
+    ("another one's refused job", PLAN.replace("count = 1", "count = 2"),
+     ["round 0 begin c", "round 0 submit 0 b p", "round 0 refused 0", "job 0 start", "job 0 end", *round_of("round 1 got 0", number=1), "round 0 end"],
+     ["line 9: round 1 of kind c got job 0, which it did not submit"], ["line 5: a yes is void from here on: job 0 was refused"]),
+    ("a refused job that its submitter got, and then another one", PLAN.replace("count = 1", "count = 2"),
+     ["round 0 begin c", "round 0 submit 0 b p", "round 0 refused 0", "job 0 start", "job 0 end", "round 0 got 0", *round_of("round 1 got 0", number=1), "round 0 end"],
+     [], ["line 5: a yes is void from here on: job 0 was refused"]),
+    ("another size", PLAN, [POOL.replace("max 1", "max 2")], ["line 3: pool p: max 2, plan 1"], []),
+    ("another size, and one more later", PLAN, [POOL.replace("max 1", max) for max in ("max 2", "max 2", "max 3", "max 2")],
+     ["line 3: pool p: max 2, plan 1", "line 5: pool p: max 3, plan 1"], []),
+    ("prestarted in a further line", PLAN, [POOL.replace("prestarted 0", "prestarted 1")], [], []),
     ("another handler", PLAN, [POOL.replace("abort", "discard")], [], []),
     ("core threads that may time out", PLAN, [POOL.replace("timeout no", "timeout yes")], ["line 3: pool p: core threads may time out"], []),
     ("a plan that prestarts", PLAN.replace("queue = 2", "queue = 2, prestart = true"), [], ["line 2: pool p: 0 threads prestarted, plan 1"], []),
@@ -95,4 +110,37 @@ def wrong_rows():
         if found != in_order(deviations + voids):
             wrong.append(f"conform, {name}: {found}, wanted {deviations + voids}")
     print(f"conform: {len(ROWS)} rows by hand, of which {len(wrong)} are answered otherwise", flush=True)
+    return wrong
+
+
+def wrong_stored_rows():
+    """Where `conform.py` says otherwise than a row of tests, of those of good recordings that are decided."""
+    wrong, rows = [], 0
+    for name, given, answer in rows_of("recorded_conforms", "conform"):
+        plan, bar, recording = given.partition("%%\n")
+        told, _, status = answer.rpartition("\nstatus ")
+        if not bar or status not in ("0", "1") or "not decided" in told:
+            continue
+        rows += 1
+        found = compared(plan, recording) or ["conforms"]
+        if found != told.split("\n"):
+            wrong.append(f"conform, row {name}: {found}, the row says {told}")
+    print(f"conform: {rows} rows of tests, of which {len(wrong)} are answered otherwise", flush=True)
+    return wrong
+
+
+def wrong_learned_rows():
+    """Where `conform.py` finds something else of a plan that was learned than the comments at its head say, in the rows of tests."""
+    wrong, rows = [], 0
+    for name, recording, answer in rows_of("recorded_learns", "learn"):
+        plan, _, status = answer.rpartition("\nstatus ")
+        if status != "0":
+            continue
+        rows += 1
+        head = plan.partition("\n\n")[0].splitlines()
+        comments = [line.removeprefix("# ") for line in head[2:] if not line.startswith("# Not at their ends yet.")]
+        found = compared(plan, recording)
+        if found != comments:
+            wrong.append(f"conform, row {name}: {found}, the comments of the plan that was learned are {comments}")
+    print(f"conform: {rows} rows of tests of learned plans, of which {len(wrong)} are answered otherwise", flush=True)
     return wrong

@@ -12,7 +12,7 @@ from collections import Counter
 from pathlib import Path
 
 from conform import Comparison, compared
-from conform_rows import wrong_rows
+from conform_rows import wrong_learned_rows, wrong_rows, wrong_stored_rows
 from read_plans import read_plan
 from recording import BadLine, read
 
@@ -48,7 +48,7 @@ def part(tools):
         tools.run_java("services.Services", *(word for run, file in files.items() for word in (run[0], run[1], file)))
         texts = {run: file.read_text() for run, file in files.items()}
     texts["example", "none", "checked in"] = EXAMPLE.with_suffix(".recording").read_text()
-    return [*wrong_rows(), *as_planned(texts), *slips_of_services(texts), *slips_of_plans(texts), *slips_of_recordings(texts), *certified(tools)]
+    return [*wrong_rows(), *wrong_stored_rows(), *wrong_learned_rows(), *as_planned(texts), *slips_of_services(texts), *slips_of_plans(texts), *slips_of_recordings(texts), *certified(tools)]
 
 
 def deviations(found):
