@@ -35,7 +35,7 @@ abbrev pub is_classless_in : List Settled → ℕ → Bool
 is_classless_in told job = list_any (is_classless_job job) told
 
 -- Each thing in which the recording is not of the plan, or after which a yes is void, once, and nothing else: of each pool all
--- in which its first such line is not as the plan says, and each pool that is missing, each label that the plan has not, of each
+-- in which it is not as the plan says, by the first line that says so, and each pool that is missing, each label that the plan has not, of each
 -- label that it has the first actor that is of no body and the first that is not decided, where there are first too many rounds
 -- of a kind, the first get of another one's job, and the first line of each word that voids a yes.
 pub record AreFindingsOf (plan : Plan) (budget : ℕ) (lines : List RecordedLine) (findings : List Finding) : Type 0 where

@@ -33,12 +33,12 @@ pub enum Conformance {
 /// Whether the service of a recording still is its plan. Each body of the plan has a budget of steps for each path that it is
 /// asked of.
 ///
-/// What is found is told once, and nothing else is: of each pool all in which its first such line is not as the plan says, and
-/// each pool that is missing; each label that the plan has not, with the first line that has it; of each label that it has the
-/// actor with the smallest number that is of no body, with what it did behind the most of its path that one explains, and the
-/// first line of that; likewise the one with the smallest number of which that is not decided, and where the budget is enough
-/// for the plan there is none; where there are first too many rounds of a kind; the first get of another one's job; and the
-/// first line of each word that voids a yes.
+/// What is found is told once, and nothing else is: of each pool all in which it is not as the plan says, each with the first
+/// line that says so, and each pool that is missing; each label that the plan has not, with the first line that has it; of
+/// each label that it has the actor with the smallest number that is of no body, with what it did behind the most of its path
+/// that one explains, and the first line of that; likewise the one with the smallest number of which that is not decided, and
+/// where the budget is enough for the plan there is none; where there are first too many rounds of a kind, each round counted
+/// as the first kind that it can be of; the first get of another one's job; and the first line of each word that voids a yes.
 ///
 /// Where no finding is of a label, a job or a round by itself, or of how many rounds there are, these do as planned, whatever
 /// the pools are.
