@@ -19,7 +19,7 @@ help:
 demo:
 	@examples/demo
 
-# Proves and builds the program: some 25 minutes on four cores, and nothing where it is built and no source is newer.
+# Proves and builds the program: 25 to 50 minutes on four cores, and nothing where it is built and no source is newer.
 program: $(PROGRAM)
 
 $(PROGRAM): $(PROGRAM_SOURCES)
