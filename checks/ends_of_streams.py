@@ -73,6 +73,7 @@ def cases(program, folder):
         yield f"help of {title}", lambda: ends([*words, "--help"], given), None
     for options in BAD_ROUNDS:
         yield " ".join(["run", *options]), lambda: ends([program, "run", *options], folder / "run"), None
+    yield from cases_of_certificates(program, folder)
     given = folder / "check"
     yield "no command", lambda: ends([program], given), NO_COMMAND
     yield "a bad word", lambda: ends([program, "chek"], given), None
@@ -90,6 +91,30 @@ def cases_of_files(title, words, parts, folder):
             yield f"{title}, {what} as a file", lambda named=named: ends([*words, *named], folder), told
     if len(parts) == 2:
         yield f"{title}, standard input as both files", lambda: ends([*words, "-", "-"], files[0]), TWICE
+
+
+def cases_of_certificates(program, folder):
+    """What is there under the name of the certificate's file, what `ask` then ends with, and what is there behind it."""
+    plan = (EXAMPLES / "two-clients-queue-of-two.toml").read_bytes()
+    occupied = b"%s is there and no certificate, so it stays as it is: name another file for --certificate\n"
+    for what, before, is_kept in (
+        ("its own plan", plan, True), ("a recording", b"recording 1\n", True), ("a blank", b" {}", True),
+        ("nothing", None, False), ("an empty file", b"", False), ("an older certificate", b'{"version":1}\n', False),
+    ):
+        path = folder / f"certificate-{what.replace(' ', '-')}"
+        if before is not None:
+            path.write_bytes(before)
+        given = folder / "asked"
+        given.write_bytes(plan)
+        wanted = (2, b"", occupied % bytes(path), before) if is_kept else (0, b"SAFE", b"", b'{"pools"')
+        yield f"ask, {what} as the certificate's file", lambda path=path: ask_for(program, given, path), wanted
+
+
+def ask_for(program, given, path):
+    """The status, the first word that was printed, what was complained of, and what the file has: its beginning, where that changed."""
+    status, printed, complained = ends([program, "ask", "--certificate", path], given)
+    text = path.read_bytes()
+    return status, printed[:4], complained, text[:8] if status == 0 else text
 
 
 def shown(name, run, wanted):
