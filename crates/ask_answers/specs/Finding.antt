@@ -9,8 +9,8 @@ use Rattle.size_search.specs.Sized.{IsFound}
 use Rattle.size_search.specs.Decided.{IsDecided}
 use Rattle.size_search.specs.declared.found.SizesFound.{SizesFound}
 use Rattle.size_search.specs.declared.found.SizesFound.TheVariants.{Found}
-use Rattle.ask_answers.specs.declared.finding.Finding.{Finding}
-use Rattle.ask_answers.specs.declared.finding.Finding.TheVariants.{Safe, NotSafe, NotDecided}
+use Rattle.ask_answers.specs.declared.finding.PlanFinding.{PlanFinding}
+use Rattle.ask_answers.specs.declared.finding.PlanFinding.TheVariants.{Safe, NotSafe, NotDecided}
 
 -- what was found of the plan's sizes is so, and decides whether there are any
 pub record IsKnown (plan : Plan) (sizes : SizesFound) : Type 0 where
@@ -26,7 +26,7 @@ pub record IsOpen (plan : Plan) (sizes : SizesFound) : Type 0 where
 
 -- it is so of the plan: a certificate accepts it; or it has a witness, and what was found of its sizes holds; or neither was found,
 -- and that holds
-abbrev pub IsFinding : Plan → Finding → Type 0
+abbrev pub IsFinding : Plan → PlanFinding → Type 0
 IsFinding plan (Safe cert) = IsTrue (accepted plan cert)
 IsFinding plan (NotSafe witness sizes) = IsWitness plan witness.events.items witness.ending × IsKnown plan sizes
 IsFinding plan (NotDecided sizes) = IsOpen plan sizes

@@ -10,8 +10,8 @@ use Rattle.size_lines.specs.Sizes.{sizes_text}
 use Rattle.size_lines.specs.Cause.{no_sizes_text}
 use Rattle.ask_answers.specs.SafeText.{safe_text}
 use Rattle.ask_answers.specs.AdviceText.{advice_text, open_text}
-use Rattle.ask_answers.specs.declared.finding.Finding.{Finding}
-use Rattle.ask_answers.specs.declared.finding.Finding.TheVariants.{Safe, NotSafe, NotDecided}
+use Rattle.ask_answers.specs.declared.finding.PlanFinding.{PlanFinding}
+use Rattle.ask_answers.specs.declared.finding.PlanFinding.TheVariants.{Safe, NotSafe, NotDecided}
 
 abbrev pub safe_head : List ℕ
 safe_head = codes "SAFE" ++ 10 ∷ []
@@ -46,7 +46,7 @@ abbrev pub TellsNotDecided : Plan → SizesFound → List ℕ → Type 0
 TellsNotDecided plan sizes text = text ≡ ((not_decided_head ++ sizes_part plan sizes) ++ advice_text plan sizes) ++ open_text sizes
 
 -- the text tells the finding
-abbrev pub Tells : Plan → Finding → List ℕ → Type 0
+abbrev pub Tells : Plan → PlanFinding → List ℕ → Type 0
 Tells plan (Safe cert) text = TellsSafe plan cert text
 Tells plan (NotSafe witness sizes) text = TellsNotSafe plan witness sizes text
 Tells plan (NotDecided sizes) text = TellsNotDecided plan sizes text

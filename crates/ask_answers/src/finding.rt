@@ -6,7 +6,7 @@ use size_search::SizesFound;
 
 /// What is found of a plan with its declared sizes.
 #[derive(Debug, Drop)]
-pub enum Finding {
+pub enum PlanFinding {
     /// This certificate accepts the plan.
     Safe(Cert),
     /// The plan has this witness, and this was found of other sizes.

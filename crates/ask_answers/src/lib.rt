@@ -10,7 +10,7 @@ mod text;
 mod unsafe_sizes;
 mod waits;
 
-pub use finding::Finding;
+pub use finding::PlanFinding;
 pub use payers::{Payers, payers_of};
 pub use picture::picture_of;
 pub use safe::{needed_places, total_of};

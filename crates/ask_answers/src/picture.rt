@@ -6,7 +6,7 @@ ghost use Rattle.ask_answers.specs.Picture as spec;
 
 mod arrows;
 
-use crate::finding::Finding;
+use crate::finding::PlanFinding;
 use crate::picture::arrows::push_arrows;
 use crate::safe::{push_most, push_threads, total_of};
 use certificates::Cert;
@@ -19,12 +19,12 @@ use weights::Bound;
 /// # Errors
 ///
 /// [`AllocError`] where memory runs out.
-pub fn picture_of(alloc: Global, plan: &Plan, finding: &Finding) -> Result<String, AllocError>
+pub fn picture_of(alloc: Global, plan: &Plan, finding: &PlanFinding) -> Result<String, AllocError>
     ensures { IfOk result (λ text. spec.IsPicture (string_bytes text)) }
 {
     let cert = match finding {
-        Finding::Safe(cert) => Some(cert),
-        Finding::NotSafe(_, _) | Finding::NotDecided(_) => None,
+        PlanFinding::Safe(cert) => Some(cert),
+        PlanFinding::NotSafe(_, _) | PlanFinding::NotDecided(_) => None,
     };
     let inside = inside_of(alloc, plan, cert)?;
     let mut text = String::from_str(alloc, "digraph plan {\n")?;

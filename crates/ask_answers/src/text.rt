@@ -4,7 +4,7 @@ ghost use Rattle.std.specs.Prelude.{IfOk, string_bytes};
 ghost use Rattle.decimals.specs.Pushed.{Pushes};
 ghost use Rattle.ask_answers.specs.Told as spec;
 
-use crate::finding::Finding;
+use crate::finding::PlanFinding;
 use crate::safe::push_safe;
 use crate::unsafe_sizes::{push_advice, push_open};
 use certificates::Cert;
@@ -20,13 +20,13 @@ use std::alloc::{AllocError, Global};
 /// # Errors
 ///
 /// [`AllocError`] where memory runs out.
-pub fn told(alloc: Global, plan: &Plan, finding: &Finding) -> Result<String, AllocError>
+pub fn told(alloc: Global, plan: &Plan, finding: &PlanFinding) -> Result<String, AllocError>
     ensures { IfOk result (λ text. spec.Tells plan.now finding.now (string_bytes text)) }
 {
     match finding {
-        Finding::Safe(cert) => safe(alloc, plan, cert),
-        Finding::NotSafe(witness, sizes) => not_safe(alloc, plan, witness, sizes),
-        Finding::NotDecided(sizes) => not_decided(alloc, plan, sizes),
+        PlanFinding::Safe(cert) => safe(alloc, plan, cert),
+        PlanFinding::NotSafe(witness, sizes) => not_safe(alloc, plan, witness, sizes),
+        PlanFinding::NotDecided(sizes) => not_decided(alloc, plan, sizes),
     }
 }
 

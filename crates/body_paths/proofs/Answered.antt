@@ -4,8 +4,8 @@ use Rattle.job_bodies.specs.declared.action.Action.{Action}
 use Rattle.body_paths.specs.declared.deed.Deed.{Deed}
 use Rattle.body_paths.specs.declared.deed.Course.{Course}
 use Rattle.body_paths.specs.declared.deed.Course.TheVariants.{Whole, Begun}
-use Rattle.body_paths.specs.declared.answer.Answer.{Answer}
-use Rattle.body_paths.specs.declared.answer.Answer.TheVariants.{Fits, Deviates, Undecided}
+use Rattle.body_paths.specs.declared.answer.PathFit.{PathFit}
+use Rattle.body_paths.specs.declared.answer.PathFit.TheVariants.{Fits, Deviates, Undecided}
 use Rattle.body_paths.specs.Path.{IsPathOf}
 use Rattle.body_paths.specs.Answer.{OnFits, OnDeviates, IfDeviates, IsExplained}
 use Rattle.body_paths.specs.Walk.{Walks, IsToldOfWalk}
@@ -24,17 +24,17 @@ pub walk_from_path : (course : Course) (body : List Action) (path : List Deed) �
 walk_from_path Whole body path of = walked of.0 [] [] body 0 path made_nothing refl (agrees_nothing of.0) of.1
 walk_from_path Begun body path of = begun_before [] body 0 path of.0 (walked of.1.0 [] [] body 0 (path ++ of.0) made_nothing refl (agrees_nothing of.1.0) of.1.1)
 
-pub fits_told : (course : Course) (body : List Action) (path : List Deed) (r : Answer) → IsToldOfWalk course [] body 0 path r → OnFits r (IsPathOf course body path)
+pub fits_told : (course : Course) (body : List Action) (path : List Deed) (r : PathFit) → IsToldOfWalk course [] body 0 path r → OnFits r (IsPathOf course body path)
 fits_told course body path Fits told = path_from_walk course body path told
 fits_told course body path (Deviates explained) told = tt
 fits_told course body path Undecided told = tt
 
-pub deviates_told : (course : Course) (body : List Action) (path : List Deed) (r : Answer) → IsToldOfWalk course [] body 0 path r → OnDeviates r (¬ IsPathOf course body path)
+pub deviates_told : (course : Course) (body : List Action) (path : List Deed) (r : PathFit) → IsToldOfWalk course [] body 0 path r → OnDeviates r (¬ IsPathOf course body path)
 deviates_told course body path Fits told = tt
 deviates_told course body path (Deviates explained) told = λ of. told.0 (walk_from_path course body path of)
 deviates_told course body path Undecided told = tt
 
-pub explained_told : (course : Course) (body : List Action) (path : List Deed) (r : Answer) → IsToldOfWalk course [] body 0 path r → IfDeviates r (IsExplained body path)
+pub explained_told : (course : Course) (body : List Action) (path : List Deed) (r : PathFit) → IsToldOfWalk course [] body 0 path r → IfDeviates r (IsExplained body path)
 explained_told course body path Fits told = tt
 explained_told course body path Undecided told = tt
 explained_told course body path (Deviates explained) told = record {

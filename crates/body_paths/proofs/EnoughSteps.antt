@@ -8,8 +8,8 @@ use Rattle.std.proofs.Math.Nat.{pow-suc, one-le-pow}
 use Rattle.job_bodies.specs.declared.action.Action.{Action}
 use Rattle.job_bodies.specs.declared.action.Action.TheVariants.{Work, Submit, Get}
 use Rattle.body_paths.specs.declared.deed.Deed.{Deed}
-use Rattle.body_paths.specs.declared.answer.Answer.{Answer}
-use Rattle.body_paths.specs.declared.answer.Answer.TheVariants.{Fits, Deviates, Undecided}
+use Rattle.body_paths.specs.declared.answer.PathFit.{PathFit}
+use Rattle.body_paths.specs.declared.answer.PathFit.TheVariants.{Fits, Deviates, Undecided}
 use Rattle.body_paths.specs.declared.way.Way.{Way}
 use Rattle.body_paths.specs.declared.way.Way.TheVariants as way
 use Rattle.body_paths.specs.Deed.{gets}
@@ -56,24 +56,24 @@ most_steps-first : (body : List Action) (position : ℕ) → position < length b
 most_steps-first body position l = ap most_steps (drop_more body position (Work 0) l)
 
 -- ---- answers
-pub decided_not_begun : (actions : List Action) (before after : ℕ) (r : Answer) → before ≡ 0 → IsDecidedWithin actions before after r
+pub decided_not_begun : (actions : List Action) (before after : ℕ) (r : PathFit) → before ≡ 0 → IsDecidedWithin actions before after r
 decided_not_begun actions before after r none = λ enough. absurd (omega (arith, most_steps-some actions))
 
-pub decided_at_once : (actions : List Action) (before : ℕ) (r : Answer) → before ≢ 0 → IsDecided r → IsDecidedWithin actions before (before - 1) r
+pub decided_at_once : (actions : List Action) (before : ℕ) (r : PathFit) → before ≢ 0 → IsDecided r → IsDecidedWithin actions before (before - 1) r
 decided_at_once actions before r some decided = λ enough. (decided, omega (arith, most_steps-some actions))
 
-pub decided_behind : (body : List Action) (position before after : ℕ) (r : Answer) → position < length body → before ≢ 0 → IsDecidedWithin (drop (position + 1) body) (before - 1) after r → IsDecidedWithin (drop position body) before after r
+pub decided_behind : (body : List Action) (position before after : ℕ) (r : PathFit) → position < length body → before ≢ 0 → IsDecidedWithin (drop (position + 1) body) (before - 1) after r → IsDecidedWithin (drop position body) before after r
 decided_behind body position before after r l some within = λ enough.
     let first = most_steps-first body position l in
     let more = most_steps-more (get_or body position (Work 0)) (drop (position + 1) body) in
     let rest = within (omega (arith, first, more)) in (rest.0, omega (arith, first, more, rest.1))
 
-or_explained-decided : (r : Answer) (other : ℕ) → IsDecided r → IsDecided (or_explained r other)
+or_explained-decided : (r : PathFit) (other : ℕ) → IsDecided r → IsDecided (or_explained r other)
 or_explained-decided Fits other h = h
 or_explained-decided (Deviates explained) other h = h
 or_explained-decided Undecided other h = h
 
-pub decided_either : (body : List Action) (path : List Deed) (places : Places) (position place before between after submitted : ℕ) (r : Answer) → position < length body → before ≢ 0 → way.SubmitsOrPasses ≡ way_on (take position places) (get_or body position (Work 0)) (slice_get path place)
+pub decided_either : (body : List Action) (path : List Deed) (places : Places) (position place before between after submitted : ℕ) (r : PathFit) → position < length body → before ≢ 0 → way.SubmitsOrPasses ≡ way_on (take position places) (get_or body position (Work 0)) (slice_get path place)
     → IsDecidedWithin (drop (position + 1) body) (before - 1) between (Deviates submitted) → IsDecidedWithin (drop (position + 1) body) between after r → IsDecidedWithin (drop position body) before after (or_explained r submitted)
 decided_either body path places position place before between after submitted r l some is within again = λ enough.
     let first = most_steps-first body position l in
@@ -98,5 +98,5 @@ most_steps-bound (Get submit ∷ body) = most_steps-more_actions (length body) (
 most_steps-bound (Submit class ∷ body) = subst (λ (k : ℕ). 1 + 2 * most_steps body ≤ (suc (length body) + 1) * 2 ^ k) (sym (sum_by-cons (λ (action : Action). cond (submits (Some action)) 1 0) (Submit class) body))
     (most_steps-more_submits (length body) (most_steps body) (submit_count body) (most_steps-bound body))
 
-pub decided_by_budget : (body : List Action) (budget after : ℕ) (r : Answer) → IsDecidedWithin body budget after r → (length body + 1) * 2 ^ submit_count body ≤ budget → IsDecided r
+pub decided_by_budget : (body : List Action) (budget after : ℕ) (r : PathFit) → IsDecidedWithin body budget after r → (length body + 1) * 2 ^ submit_count body ≤ budget → IsDecided r
 decided_by_budget body budget after r within enough = (within (omega (arith, most_steps-bound body, enough))).0

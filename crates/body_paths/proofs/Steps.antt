@@ -7,8 +7,8 @@ use Rattle.job_bodies.specs.declared.action.Action.TheVariants as action
 use Rattle.body_paths.specs.declared.deed.Deed.{Deed}
 use Rattle.body_paths.specs.declared.deed.Course.{Course}
 use Rattle.body_paths.specs.declared.deed.Course.TheVariants.{Whole, Begun}
-use Rattle.body_paths.specs.declared.answer.Answer.{Answer}
-use Rattle.body_paths.specs.declared.answer.Answer.TheVariants.{Fits, Deviates, Undecided}
+use Rattle.body_paths.specs.declared.answer.PathFit.{PathFit}
+use Rattle.body_paths.specs.declared.answer.PathFit.TheVariants.{Fits, Deviates, Undecided}
 use Rattle.body_paths.specs.declared.way.Way.{Way}
 use Rattle.body_paths.specs.declared.way.Way.TheVariants as way
 use Rattle.body_paths.specs.Answer.{or_explained}
@@ -106,7 +106,7 @@ passes_longest places a actions place deeds furthest is f zero within walks = om
 passes_longest places a actions place [] furthest is f (suc k) within walks = absurd (omega arith)
 passes_longest places a actions place (deed ∷ deeds) furthest is f (suc k) within walks = f.longest (suc k) within (follows_along Begun places a actions place (deed ∷ take k deeds) way.Passes refl is walks)
 
-pub told_passes : (course : Course) (places : Places) (a : Action) (actions : List Action) (place : ℕ) (deeds : List Deed) (r : Answer) → ends course deeds ≡ false → way_on places a (slice_get deeds 0) ≡ way.Passes → IsToldOfWalk course (places ++ None ∷ []) actions place deeds r → IsToldOfWalk course places (a ∷ actions) place deeds r
+pub told_passes : (course : Course) (places : Places) (a : Action) (actions : List Action) (place : ℕ) (deeds : List Deed) (r : PathFit) → ends course deeds ≡ false → way_on places a (slice_get deeds 0) ≡ way.Passes → IsToldOfWalk course (places ++ None ∷ []) actions place deeds r → IsToldOfWalk course places (a ∷ actions) place deeds r
 told_passes course places a actions place deeds Fits e is told = walks_along course places a actions place deeds way.Passes e is told
 told_passes course places a actions place deeds Undecided e is told = tt
 told_passes course places a actions place deeds (Deviates furthest) e is told = (
@@ -124,7 +124,7 @@ told_passes course places a actions place deeds (Deviates furthest) e is told = 
 take_behind : (place furthest : ℕ) (deed : Deed) (deeds : List Deed) → place + 1 ≤ furthest → take (furthest - place) (deed ∷ deeds) ≡ deed ∷ take (furthest - (place + 1)) deeds
 take_behind place furthest deed deeds l = let e : furthest - place ≡ suc (furthest - (place + 1)) = omega arith in rw e refl
 
-pub told_gets : (course : Course) (places : Places) (a : Action) (actions : List Action) (place : ℕ) (deeds : List Deed) (r : Answer) → way_on places a (slice_get deeds 0) ≡ way.Gets → IsToldOfWalk course (places ++ None ∷ []) actions (place + 1) (drop 1 deeds) r → IsToldOfWalk course places (a ∷ actions) place deeds r
+pub told_gets : (course : Course) (places : Places) (a : Action) (actions : List Action) (place : ℕ) (deeds : List Deed) (r : PathFit) → way_on places a (slice_get deeds 0) ≡ way.Gets → IsToldOfWalk course (places ++ None ∷ []) actions (place + 1) (drop 1 deeds) r → IsToldOfWalk course places (a ∷ actions) place deeds r
 told_gets course places a actions place [] r is told = absurd (subst IsWithoutDeed is (without_deed places a))
 told_gets course places a actions place (deed ∷ deeds) Fits is told = walks_along course places a actions place (deed ∷ deeds) way.Gets (ends_not course deed deeds) is told
 told_gets course places a actions place (deed ∷ deeds) Undecided is told = tt
@@ -149,7 +149,7 @@ told_submits course places a actions place (deed ∷ deeds) is walks = walks_alo
 max_cases : (m n : ℕ) → (max m n ≡ m) ⊎ (max m n ≡ n)
 max_cases m n = elim (cases_lt m n) [ inl l ↦ inr (omega arith) | inr l ↦ inl (omega arith) ]
 
-pub told_either : (course : Course) (places : Places) (a : Action) (actions : List Action) (place : ℕ) (deeds : List Deed) (submitted : ℕ) (r : Answer) → way_on places a (slice_get deeds 0) ≡ way.SubmitsOrPasses → IsToldOfWalk course (places ++ Some place ∷ []) actions (place + 1) (drop 1 deeds) (Deviates submitted) → IsToldOfWalk course (places ++ None ∷ []) actions place deeds r → IsToldOfWalk course places (a ∷ actions) place deeds (or_explained r submitted)
+pub told_either : (course : Course) (places : Places) (a : Action) (actions : List Action) (place : ℕ) (deeds : List Deed) (submitted : ℕ) (r : PathFit) → way_on places a (slice_get deeds 0) ≡ way.SubmitsOrPasses → IsToldOfWalk course (places ++ Some place ∷ []) actions (place + 1) (drop 1 deeds) (Deviates submitted) → IsToldOfWalk course (places ++ None ∷ []) actions place deeds r → IsToldOfWalk course places (a ∷ actions) place deeds (or_explained r submitted)
 told_either course places a actions place [] submitted r is told passed = absurd (subst IsWithoutDeed is (without_deed places a))
 told_either course places a actions place (deed ∷ deeds) submitted Fits is told passed = walks_along course places a actions place (deed ∷ deeds) way.SubmitsOrPasses (ends_not course deed deeds) is (inr passed)
 told_either course places a actions place (deed ∷ deeds) submitted Undecided is told passed = tt

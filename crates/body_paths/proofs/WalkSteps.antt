@@ -7,8 +7,8 @@ use Rattle.job_bodies.specs.declared.action.Action.TheVariants.{Work}
 use Rattle.body_paths.specs.declared.deed.Deed.{Deed}
 use Rattle.body_paths.specs.declared.deed.Course.{Course}
 use Rattle.body_paths.specs.declared.deed.Course.TheVariants.{Whole, Begun}
-use Rattle.body_paths.specs.declared.answer.Answer.{Answer}
-use Rattle.body_paths.specs.declared.answer.Answer.TheVariants.{Fits, Deviates}
+use Rattle.body_paths.specs.declared.answer.PathFit.{PathFit}
+use Rattle.body_paths.specs.declared.answer.PathFit.TheVariants.{Fits, Deviates}
 use Rattle.body_paths.specs.declared.way.Way.{Way}
 use Rattle.body_paths.specs.declared.way.Way.TheVariants as way
 use Rattle.body_paths.specs.Answer.{or_explained}
@@ -40,7 +40,7 @@ walks_ended course places [] place deeds e = nil_from_ends course deeds e
 walks_ended course places (a ∷ actions) place deeds e = rw e tt
 
 -- nothing is left of the body
-pub at_body_end : (course : Course) (body : List Action) (path : List Deed) (places : Places) (position place : ℕ) (r : Answer) → length body ≤ position → IsToldOfWalk course (take position places) [] place (drop place path) r → IsToldOfWalk course (take position places) (drop position body) place (drop place path) r
+pub at_body_end : (course : Course) (body : List Action) (path : List Deed) (places : Places) (position place : ℕ) (r : PathFit) → length body ≤ position → IsToldOfWalk course (take position places) [] place (drop place path) r → IsToldOfWalk course (take position places) (drop position body) place (drop place path) r
 at_body_end course body path places position place r l told = subst (λ (actions : List Action). IsToldOfWalk course (take position places) actions place (drop place path) r) (sym (drop_all position body l)) told
 
 -- the way on from the action at a position
@@ -48,34 +48,34 @@ way_there : (body : List Action) (path : List Deed) (places : Places) (position 
 way_there body path places position place w is = rw (first_of_drop path place) (sym is)
 
 -- what is told of the actions from a position on, by the first of them
-by_first : (course : Course) (body : List Action) (path : List Deed) (places : Places) (position place : ℕ) (r : Answer) → position < length body → IsToldOfWalk course (take position places) (get_or body position (Work 0) ∷ drop (position + 1) body) place (drop place path) r → IsToldOfWalk course (take position places) (drop position body) place (drop place path) r
+by_first : (course : Course) (body : List Action) (path : List Deed) (places : Places) (position place : ℕ) (r : PathFit) → position < length body → IsToldOfWalk course (take position places) (get_or body position (Work 0) ∷ drop (position + 1) body) place (drop place path) r → IsToldOfWalk course (take position places) (drop position body) place (drop place path) r
 by_first course body path places position place r l told = subst (λ (actions : List Action). IsToldOfWalk course (take position places) actions place (drop place path) r) (sym (drop_more body position (Work 0) l)) told
 
 -- the places once one more is written
-written : (course : Course) (actions : List Action) (place : ℕ) (deeds : List Deed) (r : Answer) (places : Places) (position : ℕ) (kept : Option ℕ) → position < length places → IsToldOfWalk course (take (position + 1) (set places position kept)) actions place deeds r → IsToldOfWalk course (take position places ++ kept ∷ []) actions place deeds r
+written : (course : Course) (actions : List Action) (place : ℕ) (deeds : List Deed) (r : PathFit) (places : Places) (position : ℕ) (kept : Option ℕ) → position < length places → IsToldOfWalk course (take (position + 1) (set places position kept)) actions place deeds r → IsToldOfWalk course (take position places ++ kept ∷ []) actions place deeds r
 written course actions place deeds r places position kept l told = subst (λ (before : Places). IsToldOfWalk course before actions place deeds r) (take_more_set places position kept l) told
 
 -- the deeds behind the next one
-next_place : (course : Course) (before : Places) (actions : List Action) (path : List Deed) (place : ℕ) (r : Answer) → IsToldOfWalk course before actions (place + 1) (drop (place + 1) path) r → IsToldOfWalk course before actions (place + 1) (drop 1 (drop place path)) r
+next_place : (course : Course) (before : Places) (actions : List Action) (path : List Deed) (place : ℕ) (r : PathFit) → IsToldOfWalk course before actions (place + 1) (drop (place + 1) path) r → IsToldOfWalk course before actions (place + 1) (drop 1 (drop place path)) r
 next_place course before actions path place r told = subst (λ (deeds : List Deed). IsToldOfWalk course before actions (place + 1) deeds r) (sym (drop-drop 1 place path)) told
 
 pub stops_there : (course : Course) (body : List Action) (path : List Deed) (places : Places) (position place : ℕ) → position < length body → ends course (drop place path) ≡ false → way.Stops ≡ way_on (take position places) (get_or body position (Work 0)) (slice_get path place) → IsToldOfWalk course (take position places) (drop position body) place (drop place path) (Deviates place)
 stops_there course body path places position place l e is = by_first course body path places position place (Deviates place) l
     (told_stops course (take position places) (get_or body position (Work 0)) (drop (position + 1) body) place (drop place path) e (way_there body path places position place way.Stops is))
 
-pub passes_there : (course : Course) (body : List Action) (path : List Deed) (places : Places) (position place : ℕ) (r : Answer) → position < length body → length body ≤ length places → ends course (drop place path) ≡ false → way.Passes ≡ way_on (take position places) (get_or body position (Work 0)) (slice_get path place) → IsToldOfWalk course (take (position + 1) (set places position None)) (drop (position + 1) body) place (drop place path) r → IsToldOfWalk course (take position places) (drop position body) place (drop place path) r
+pub passes_there : (course : Course) (body : List Action) (path : List Deed) (places : Places) (position place : ℕ) (r : PathFit) → position < length body → length body ≤ length places → ends course (drop place path) ≡ false → way.Passes ≡ way_on (take position places) (get_or body position (Work 0)) (slice_get path place) → IsToldOfWalk course (take (position + 1) (set places position None)) (drop (position + 1) body) place (drop place path) r → IsToldOfWalk course (take position places) (drop position body) place (drop place path) r
 passes_there course body path places position place r l room e is told = by_first course body path places position place r l
     (told_passes course (take position places) (get_or body position (Work 0)) (drop (position + 1) body) place (drop place path) r e (way_there body path places position place way.Passes is)
     (written course (drop (position + 1) body) place (drop place path) r places position None (omega arith) told))
 
-pub gets_there : (course : Course) (body : List Action) (path : List Deed) (places : Places) (position place : ℕ) (r : Answer) → position < length body → length body ≤ length places → way.Gets ≡ way_on (take position places) (get_or body position (Work 0)) (slice_get path place) → IsToldOfWalk course (take (position + 1) (set places position None)) (drop (position + 1) body) (place + 1) (drop (place + 1) path) r → IsToldOfWalk course (take position places) (drop position body) place (drop place path) r
+pub gets_there : (course : Course) (body : List Action) (path : List Deed) (places : Places) (position place : ℕ) (r : PathFit) → position < length body → length body ≤ length places → way.Gets ≡ way_on (take position places) (get_or body position (Work 0)) (slice_get path place) → IsToldOfWalk course (take (position + 1) (set places position None)) (drop (position + 1) body) (place + 1) (drop (place + 1) path) r → IsToldOfWalk course (take position places) (drop position body) place (drop place path) r
 gets_there course body path places position place r l room is told = by_first course body path places position place r l
     (told_gets course (take position places) (get_or body position (Work 0)) (drop (position + 1) body) place (drop place path) r (way_there body path places position place way.Gets is)
     (next_place course (take position places ++ None ∷ []) (drop (position + 1) body) path place r
     (written course (drop (position + 1) body) (place + 1) (drop (place + 1) path) r places position None (omega arith) told)))
 
 -- the walk that makes the submit
-submitted_there : (course : Course) (body : List Action) (path : List Deed) (places : Places) (position place : ℕ) (r : Answer) → position < length body → length body ≤ length places → IsToldOfWalk course (take (position + 1) (set places position (Some place))) (drop (position + 1) body) (place + 1) (drop (place + 1) path) r → IsToldOfWalk course (take position places ++ Some place ∷ []) (drop (position + 1) body) (place + 1) (drop 1 (drop place path)) r
+submitted_there : (course : Course) (body : List Action) (path : List Deed) (places : Places) (position place : ℕ) (r : PathFit) → position < length body → length body ≤ length places → IsToldOfWalk course (take (position + 1) (set places position (Some place))) (drop (position + 1) body) (place + 1) (drop (place + 1) path) r → IsToldOfWalk course (take position places ++ Some place ∷ []) (drop (position + 1) body) (place + 1) (drop 1 (drop place path)) r
 submitted_there course body path places position place r l room told = next_place course (take position places ++ Some place ∷ []) (drop (position + 1) body) path place r
     (written course (drop (position + 1) body) (place + 1) (drop (place + 1) path) r places position (Some place) (omega arith) told)
 
@@ -84,7 +84,7 @@ submits_there course body path places position place l room is told = by_first c
     (told_submits course (take position places) (get_or body position (Work 0)) (drop (position + 1) body) place (drop place path) (way_there body path places position place way.SubmitsOrPasses is)
     (submitted_there course body path places position place Fits l room told))
 
-pub either_there : (course : Course) (body : List Action) (path : List Deed) (places later : Places) (position place submitted : ℕ) (r : Answer) → position < length body → length body ≤ length places → length later ≡ length places → way.SubmitsOrPasses ≡ way_on (take position places) (get_or body position (Work 0)) (slice_get path place)
+pub either_there : (course : Course) (body : List Action) (path : List Deed) (places later : Places) (position place submitted : ℕ) (r : PathFit) → position < length body → length body ≤ length places → length later ≡ length places → way.SubmitsOrPasses ≡ way_on (take position places) (get_or body position (Work 0)) (slice_get path place)
     → IsToldOfWalk course (take (position + 1) (set places position (Some place))) (drop (position + 1) body) (place + 1) (drop (place + 1) path) (Deviates submitted)
     → take position later ≡ take position places
     → IsToldOfWalk course (take (position + 1) (set later position None)) (drop (position + 1) body) place (drop place path) r

@@ -3,24 +3,24 @@ use Rattle.std.specs.Prelude.{◌≤◌, ◌<◌, ℕ, List, ⊤, length, take, 
 use Rattle.job_bodies.specs.declared.action.Action.{Action}
 use Rattle.body_paths.specs.declared.deed.Deed.{Deed}
 use Rattle.body_paths.specs.declared.deed.Course.TheVariants.{Begun}
-use Rattle.body_paths.specs.declared.answer.Answer.{Answer}
-use Rattle.body_paths.specs.declared.answer.Answer.TheVariants.{Fits, Deviates, Undecided}
+use Rattle.body_paths.specs.declared.answer.PathFit.{PathFit}
+use Rattle.body_paths.specs.declared.answer.PathFit.TheVariants.{Fits, Deviates, Undecided}
 use Rattle.body_paths.specs.Path.{IsPathOf}
 
 -- a fact of a path that fits
-abbrev pub OnFits : Answer → Type 0 → Type 0
+abbrev pub OnFits : PathFit → Type 0 → Type 0
 OnFits Fits P = P
 OnFits (Deviates explained) P = ⊤
 OnFits Undecided P = ⊤
 
 -- a fact of how much is explained of a path that does not
-abbrev pub IfDeviates : Answer → (ℕ → Type 0) → Type 0
+abbrev pub IfDeviates : PathFit → (ℕ → Type 0) → Type 0
 IfDeviates Fits P = ⊤
 IfDeviates (Deviates explained) P = P explained
 IfDeviates Undecided P = ⊤
 
 -- a fact of a path that does not fit
-abbrev pub OnDeviates : Answer → Type 0 → Type 0
+abbrev pub OnDeviates : PathFit → Type 0 → Type 0
 OnDeviates answer P = IfDeviates answer (λ explained. P)
 
 -- so many of the first deeds of the path, and no more, are the first part of a path of the body
@@ -30,13 +30,13 @@ pub record IsExplained (body : List Action) (path : List Deed) (explained : ℕ)
   pub longest : (more : ℕ) → explained < more → more ≤ length path → ¬ IsPathOf Begun body (take more path)
 
 -- the same, where so many were explained in another way
-abbrev pub or_explained : Answer → ℕ → Answer
+abbrev pub or_explained : PathFit → ℕ → PathFit
 or_explained Fits other = Fits
 or_explained (Deviates explained) other = Deviates (max explained other)
 or_explained Undecided other = Undecided
 
 -- it says whether the path is of the body
-abbrev pub IsDecided : Answer → Type 0
+abbrev pub IsDecided : PathFit → Type 0
 IsDecided Fits = ⊤
 IsDecided (Deviates explained) = ⊤
 IsDecided Undecided = ⊥

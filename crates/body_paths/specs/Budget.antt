@@ -3,7 +3,7 @@ use Rattle.std.specs.Prelude.{◌≤◌, ℕ, ◌+◌, ◌*◌, List, [], ◌∷
 use Rattle.job_bodies.specs.declared.action.Action.{Action}
 use Rattle.job_bodies.specs.declared.action.Action.TheVariants.{Work, Submit, Get}
 use Rattle.job_bodies.specs.Plan.{submits}
-use Rattle.body_paths.specs.declared.answer.Answer.{Answer}
+use Rattle.body_paths.specs.declared.answer.PathFit.{PathFit}
 use Rattle.body_paths.specs.Answer.{IsDecided}
 
 -- how many submits a body has
@@ -19,5 +19,5 @@ most_steps (Work units ∷ actions) = 1 + most_steps actions
 most_steps (Get submit ∷ actions) = 1 + most_steps actions
 
 -- where there are enough steps for these actions, so that the second number is left of the first, the answer is decided
-abbrev pub IsDecidedWithin : List Action → ℕ → ℕ → Answer → Type 0
+abbrev pub IsDecidedWithin : List Action → ℕ → ℕ → PathFit → Type 0
 IsDecidedWithin actions before after answer = most_steps actions ≤ before → IsDecided answer × (before ≤ after + most_steps actions)

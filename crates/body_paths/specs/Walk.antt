@@ -5,8 +5,8 @@ use Rattle.job_bodies.specs.declared.action.Action.{Action}
 use Rattle.body_paths.specs.declared.deed.Deed.{Deed}
 use Rattle.body_paths.specs.declared.deed.Course.{Course}
 use Rattle.body_paths.specs.declared.deed.Course.TheVariants.{Whole, Begun}
-use Rattle.body_paths.specs.declared.answer.Answer.{Answer}
-use Rattle.body_paths.specs.declared.answer.Answer.TheVariants.{Fits, Deviates, Undecided}
+use Rattle.body_paths.specs.declared.answer.PathFit.{PathFit}
+use Rattle.body_paths.specs.declared.answer.PathFit.TheVariants.{Fits, Deviates, Undecided}
 use Rattle.body_paths.specs.declared.way.Way.{Way}
 use Rattle.body_paths.specs.declared.way.Way.TheVariants as way
 use Rattle.body_paths.specs.Way.{way_on}
@@ -41,7 +41,7 @@ pub record IsFurthest (places : List (Option ℕ)) (actions : List Action) (plac
   pub longest : (more : ℕ) → more ≤ length deeds → Walks Begun places actions place (take more deeds) → place + more ≤ furthest
 
 -- what an answer says of the walks that begin there
-abbrev pub IsToldOfWalk : Course → List (Option ℕ) → List Action → ℕ → List Deed → Answer → Type 0
+abbrev pub IsToldOfWalk : Course → List (Option ℕ) → List Action → ℕ → List Deed → PathFit → Type 0
 IsToldOfWalk course places actions place deeds Fits = Walks course places actions place deeds
 IsToldOfWalk course places actions place deeds (Deviates furthest) = (¬ Walks course places actions place deeds) × IsFurthest places actions place deeds furthest
 IsToldOfWalk course places actions place deeds Undecided = ⊤

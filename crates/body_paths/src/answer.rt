@@ -5,7 +5,7 @@ ghost use Rattle.body_paths.specs.Answer as spec;
 
 /// Whether a path is of a body.
 #[derive(Clone, Copy, Debug, PartialEq, Eq)]
-pub enum Answer {
+pub enum PathFit {
     /// It is.
     Fits,
     /// It is not. So many of its first deeds, and no more, are the first part of a path of the body: the deed at this place
@@ -15,14 +15,14 @@ pub enum Answer {
     Undecided,
 }
 
-impl Answer {
+impl PathFit {
     /// The same, where so many of the first deeds were explained in another way.
-    pub(crate) fn or_explained(self, other: usize) -> Answer
+    pub(crate) fn or_explained(self, other: usize) -> PathFit
         ensures { result ≡ spec.or_explained self other }
     {
         match self {
-            Answer::Deviates(explained) => Answer::Deviates(explained.max(other)),
-            Answer::Fits | Answer::Undecided => self,
+            PathFit::Deviates(explained) => PathFit::Deviates(explained.max(other)),
+            PathFit::Fits | PathFit::Undecided => self,
         }
     }
 }

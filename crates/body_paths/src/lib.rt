@@ -11,6 +11,6 @@ mod path;
 mod walk;
 mod way;
 
-pub use answer::Answer;
+pub use answer::PathFit;
 pub use deed::{Course, Deed};
 pub use path::path_fits;

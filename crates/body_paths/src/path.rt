@@ -6,7 +6,7 @@ ghost use Rattle.body_paths.specs.Path.{IsPathOf};
 ghost use Rattle.body_paths.specs.Answer.{OnFits, OnDeviates, IfDeviates, IsExplained, IsDecided};
 ghost use Rattle.body_paths.specs.Budget.{submit_count};
 
-use crate::answer::Answer;
+use crate::answer::PathFit;
 use crate::deed::{Course, Deed};
 use crate::walk::walk;
 use job_bodies::{Action, MAX_ACTIONS};
@@ -19,7 +19,7 @@ const FEW_ACTIONS: usize = 16;
 /// It walks along the path through the body, and takes a step for each action that it comes to. Where a job may be of
 /// several submits of the body, the first one is tried first; if that leads nowhere, the next one. So it mostly takes no
 /// more steps than the body has actions, and one for their end. In the worst case each submit makes them twice as many.
-pub fn path_fits(body: &[Action], path: &[Deed], course: Course, budget: u64) -> Answer
+pub fn path_fits(body: &[Action], path: &[Deed], course: Course, budget: u64) -> PathFit
     requires { length body.now ≤ MAX_ACTIONS }
     ensures fits { OnFits result (IsPathOf course body.now path.now) }
     ensures deviates { OnDeviates result (¬ IsPathOf course body.now path.now) }
@@ -44,7 +44,7 @@ fn walk_whole(
     course: Course,
     places: &mut [Option<usize>],
     budget: u64,
-) -> Answer
+) -> PathFit
     requires { length body.now ≤ length places.old }
     ensures fits { OnFits result (IsPathOf course body.now path.now) }
     ensures deviates { OnDeviates result (¬ IsPathOf course body.now path.now) }

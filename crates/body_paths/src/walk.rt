@@ -8,7 +8,7 @@ ghost use Rattle.body_paths.specs.Walk.{ends, IsToldOfWalk};
 ghost use Rattle.body_paths.specs.Answer.{IsDecided};
 ghost use Rattle.body_paths.specs.Budget.{IsDecidedWithin};
 
-use crate::answer::Answer;
+use crate::answer::PathFit;
 use crate::deed::{Course, Deed};
 use crate::way::{Way, way_on};
 use job_bodies::Action;
@@ -23,7 +23,7 @@ pub(crate) fn walk(
     position: usize,
     place: usize,
     steps: &mut u64,
-) -> Answer
+) -> PathFit
     requires position { position ≤ length body.now }
     requires place { place ≤ length path.now }
     requires room { length body.now ≤ length places.old }
@@ -32,17 +32,17 @@ pub(crate) fn walk(
     ensures decided { IsDecidedWithin (drop position body.now) steps.old steps.new result }
 {
     if *steps == 0 {
-        return Answer::Undecided;
+        return PathFit::Undecided;
     }
     *steps -= 1;
     if may_end(path, course, place) {
-        return Answer::Fits;
+        return PathFit::Fits;
     }
     if position == body.len() {
         return at_end(path, place);
     }
     match way_at(body, path, places, position, place) {
-        Way::Stops => Answer::Deviates(place),
+        Way::Stops => PathFit::Deviates(place),
         Way::Passes => {
             places[position] = None;
             walk(body, path, course, places, position + 1, place, steps)
@@ -55,9 +55,9 @@ pub(crate) fn walk(
             places[position] = Some(place);
             let submitted = walk(body, path, course, places, position + 1, place + 1, steps);
             match submitted {
-                Answer::Fits => Answer::Fits,
-                Answer::Undecided => Answer::Undecided,
-                Answer::Deviates(explained) => {
+                PathFit::Fits => PathFit::Fits,
+                PathFit::Undecided => PathFit::Undecided,
+                PathFit::Deviates(explained) => {
                     places[position] = None;
                     let passed = walk(body, path, course, places, position + 1, place, steps);
                     passed.or_explained(explained)
@@ -78,15 +78,15 @@ fn may_end(path: &[Deed], course: Course, place: usize) -> bool
 }
 
 /// What is told of the deeds from a place on, where nothing is left of the body.
-fn at_end(path: &[Deed], place: usize) -> Answer
+fn at_end(path: &[Deed], place: usize) -> PathFit
     requires { place ≤ length path.now }
     ensures told { (course : Course) (places : List (Option ℕ)) → IsToldOfWalk course places [] place (drop place path.now) result }
     ensures decided { IsDecided result }
 {
     if place == path.len() {
-        Answer::Fits
+        PathFit::Fits
     } else {
-        Answer::Deviates(place)
+        PathFit::Deviates(place)
     }
 }
 

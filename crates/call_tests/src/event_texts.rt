@@ -1,7 +1,7 @@
 //! Texts of events, and the lines that answer them.
 
 use decimals::Counter;
-use event_lines::{BadLine, EventLine, EventLines, Reply, push_reply, push_summary};
+use event_lines::{BadEventLine, EventLine, EventLines, Reply, push_reply, push_summary};
 use job_bodies::{Plan, Pool};
 use std::alloc::Global;
 use std::test::Fail;
@@ -64,7 +64,7 @@ fn lines_that_are_read(rt: HostRuntime) -> Result<(), Fail> {
         let text = format!(in rt.alloc(); "client 0\n{line}\nclient 0\n")?;
         let mut lines = EventLines::new(&plan, text.as_bytes());
         assert!(rt; matches!(lines.next(), Some(Ok(_))), "{line}");
-        assert!(rt; matches!(lines.next(), Some(Err(BadLine))), "{line}");
+        assert!(rt; matches!(lines.next(), Some(Err(BadEventLine))), "{line}");
         assert!(rt; matches!(lines.next(), Some(Ok(_))), "{line}");
         assert!(rt; lines.next().is_none(), "{line}");
     }

@@ -4,11 +4,10 @@ ghost use Rattle.std.specs.Prelude.{◌≡◌, ◌≢◌, IfOk, IfErr, IsTrue, O
 ghost use Rattle.cert_check.specs.declared.from_bytes.CheckFault.TheVariants.{Memory};
 ghost use Rattle.cert_check.specs.Check as spec;
 
+use crate::texts::read_texts;
 use crate::{Verdict, verdict};
-use cert_text::{CertFault, read_cert};
-use faults::number::MEMORY;
-use job_bodies::{Plan, PlanFault};
-use plan_text::read_plan;
+use cert_text::CertFault;
+use job_bodies::PlanFault;
 use std::alloc::{AllocError, Global};
 
 /// Why there is no verdict.
@@ -46,21 +45,6 @@ pub fn check(alloc: Global, plan_text: &[u8], cert_text: &[u8]) -> Result<Verdic
     // What a yes means.
     ensures safe { IfOk result (λ verdict. IsTrue verdict.yes → spec.IsSafeToRun plan_text.now cert_text.now) }
 {
-    match read_plan(alloc, plan_text) {
-        Ok(plan) => check_plan(alloc, &plan, cert_text),
-        Err(fault) if fault == PlanFault::at_text(MEMORY) => Err(CheckFault::Memory),
-        Err(fault) => Err(CheckFault::Plan(fault)),
-    }
-}
-
-fn check_plan(alloc: Global, plan: &Plan, cert_text: &[u8]) -> Result<Verdict, CheckFault>
-    ensures verdict { IfOk result (λ verdict. spec.checked_plan cert_text.now (Ok plan.now) ≡ Ok verdict) }
-    ensures fault { IfErr result (λ fault. fault ≢ Memory → spec.checked_plan cert_text.now (Ok plan.now) ≡ Err fault) }
-    ensures safe { IfOk result (λ verdict. IsTrue verdict.yes → spec.IsSafeWith plan.now cert_text.now) }
-{
-    match read_cert(alloc, cert_text, plan) {
-        Ok(cert) => Ok(verdict(alloc, plan, &cert)?),
-        Err(fault) if fault.number == MEMORY => Err(CheckFault::Memory),
-        Err(fault) => Err(CheckFault::Cert(fault)),
-    }
+    let (plan, cert) = read_texts(alloc, plan_text, cert_text)?;
+    Ok(verdict(alloc, &plan, &cert)?)
 }

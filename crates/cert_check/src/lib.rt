@@ -13,6 +13,7 @@ mod judge;
 mod on_threads;
 mod pool_gate;
 mod text;
+mod texts;
 
 pub use acceptance::{accepts, accepts_standing};
 pub use answer::{PoolLine, Verdict};

@@ -1,21 +1,20 @@
 //! The check on several threads, each pool by itself.
 
 ghost use Rattle.std.specs.Prelude.{◌≡◌, ◌≢◌, ◌≤◌, ◌<◌, ℕ, slice_index_or, IfOk, IfErr, IfSome, IsTrue, Ok, Err, length, vec_len};
+ghost use Rattle.job_bodies.specs.declared.limits.TheConstants.{MAX_WORKERS};
 ghost use Rattle.certificates.specs.Cert.{cert_fits};
 ghost use Rattle.headline.specs.Headline.{Promises};
 ghost use Rattle.cert_check.specs.declared.from_bytes.CheckFault.TheVariants.{Memory, Gate};
 ghost use Rattle.cert_check.specs.Check as check_spec;
 ghost use Rattle.cert_check.specs.Verdict.{verdict};
-ghost use Rattle.cert_check.specs.OnThreads.{AreChecked, IsRead, IsReadWith, pool_check};
+ghost use Rattle.cert_check.specs.OnThreads.{AreChecked, IsRead, pool_check};
 
 use crate::acceptance::pool_holds;
 use crate::judge::pool_line;
+use crate::texts::read_texts;
 use crate::{CheckFault, PoolGate, PoolLine, Verdict};
-use cert_text::read_cert;
 use certificates::Cert;
-use faults::number::MEMORY;
-use job_bodies::{Plan, PlanFault};
-use plan_text::read_plan;
+use job_bodies::Plan;
 use std::alloc::{AllocError, Global};
 use std::thread;
 use std::thread::Threads;
@@ -29,7 +28,8 @@ pub(crate) struct PoolCheck {
     pub(crate) holds: bool,
 }
 
-/// Answers as [`check`](crate::check) does, and looks at the pools in at most `workers` threads, 1 to 64. Each of them asks
+/// Answers as [`check`](crate::check) does, and looks at the pools in at most `workers` threads, 1 to
+/// [`MAX_WORKERS`](job_bodies::MAX_WORKERS). Each of them asks
 /// the gate before it looks at a pool, and holds no lock then. Where no thread can be started, the calling one looks at
 /// the pools.
 ///
@@ -46,7 +46,7 @@ pub fn check_on<R: Threads + Sync, G: PoolGate>(
     gate: &G,
 ) -> Result<Verdict, CheckFault>
     requires some { 1 ≤ workers }
-    requires most { workers ≤ 64 }
+    requires most { workers ≤ MAX_WORKERS }
     ensures verdict { IfOk result (λ verdict. check_spec.checked plan_text.now cert_text.now ≡ Ok verdict) }
     ensures fault { IfErr result (λ fault. fault ≢ Memory → fault ≢ Gate → check_spec.checked plan_text.now cert_text.now ≡ Err fault) }
     // Gate comes only where there is a pool to look at.
@@ -54,32 +54,8 @@ pub fn check_on<R: Threads + Sync, G: PoolGate>(
     // What a yes means.
     ensures safe { IfOk result (λ verdict. IsTrue verdict.yes → check_spec.IsSafeToRun plan_text.now cert_text.now) }
 {
-    match read_plan(alloc, plan_text) {
-        Ok(plan) => check_plan_on(rt, alloc, workers, &plan, cert_text, gate),
-        Err(fault) if fault == PlanFault::at_text(MEMORY) => Err(CheckFault::Memory),
-        Err(fault) => Err(CheckFault::Plan(fault)),
-    }
-}
-
-fn check_plan_on<R: Threads + Sync, G: PoolGate>(
-    rt: &R,
-    alloc: Global,
-    workers: usize,
-    plan: &Plan,
-    cert_text: &[u8],
-    gate: &G,
-) -> Result<Verdict, CheckFault>
-    requires { 1 ≤ workers }
-    ensures verdict { IfOk result (λ verdict. check_spec.checked_plan cert_text.now (Ok plan.now) ≡ Ok verdict) }
-    ensures fault { IfErr result (λ fault. fault ≢ Memory → fault ≢ Gate → check_spec.checked_plan cert_text.now (Ok plan.now) ≡ Err fault) }
-    ensures gate { IfErr result (λ fault. fault ≡ Gate → IsReadWith plan.now cert_text.now) }
-    ensures safe { IfOk result (λ verdict. IsTrue verdict.yes → check_spec.IsSafeWith plan.now cert_text.now) }
-{
-    match read_cert(alloc, cert_text, plan) {
-        Ok(cert) => verdict_on(rt, alloc, workers, plan, &cert, gate),
-        Err(fault) if fault.number == MEMORY => Err(CheckFault::Memory),
-        Err(fault) => Err(CheckFault::Cert(fault)),
-    }
+    let (plan, cert) = read_texts(alloc, plan_text, cert_text)?;
+    verdict_on(rt, alloc, workers, &plan, &cert, gate)
 }
 
 fn verdict_on<R: Threads + Sync, G: PoolGate>(

@@ -1,6 +1,7 @@
 //! The search for a certificate.
 
 ghost use Rattle.std.specs.Prelude.{◌≡◌, ◌≢◌, ◌<◌, ◌≤◌, false, IfErr, IfOk, IfSome, IfNone, IsTrue, length};
+ghost use Rattle.job_bodies.specs.declared.limits.TheConstants.{MAX_WORKERS};
 ghost use Rattle.headline.specs.Accepted.{accepted};
 ghost use Rattle.steady_certificates.specs.Steady.{steady_cert};
 ghost use Rattle.cert_search.specs.declared.finding.SearchFault.TheVariants.{Memory};
@@ -59,7 +60,7 @@ pub fn search<R: Threads + Wait + Sync, G: PoolGate>(
     gate: &G,
 ) -> Result<Option<Cert>, SearchFault>
     requires some { 1 ≤ workers }
-    requires few { workers ≤ 64 }
+    requires few { workers ≤ MAX_WORKERS }
     ensures accepted { IfOk result (λ found. IfSome found (λ cert. IsTrue (accepted plan.now cert))) }
     ensures steady { IfOk result (λ found. IfNone found (accepted plan.now (steady_cert plan.now) ≡ false)) }
     // Mixed and Gate come only where there is a pool to look at.

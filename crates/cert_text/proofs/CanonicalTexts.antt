@@ -8,14 +8,13 @@ use Rattle.json.proofs.Printed.Utf8.{IsUtf8-are_ascii}
 use Rattle.serde_json.specs.Read.{read}
 use Rattle.serde_json.proofs.OnLiterals.{serde_json_on_literals}
 use Rattle.job_bodies.specs.Plan.{Plan}
-use Rattle.weights.specs.declared.limits.TheConstants.{MAX_WEIGHT}
+use Rattle.job_bodies.specs.declared.limits.TheConstants.{MAX_WEIGHT, MAX_CERT_BYTES}
 use Rattle.weights.specs.declared.bound.Bound.{Bound}
 use Rattle.weights.specs.declared.bound.Bound.TheVariants.{Standing, Lifetime}
 use Rattle.weights.specs.Vector.{Vector, is_small, has_small_numbers}
 use Rattle.weights.specs.Bound.{bound_vector}
 use Rattle.pool_ranks.specs.Ranks.{Ranks}
 use Rattle.certificates.specs.Cert.{PoolCert, Cert, cert_fits}
-use Rattle.cert_text.specs.declared.document.TheConstants.{MAX_TEXT_BYTES}
 use Rattle.cert_text.specs.Sizes.{pool_has_small_numbers, ranks_have_small_numbers, cert_has_small_numbers}
 use Rattle.cert_text.specs.CertOf.{cert_of}
 use Rattle.cert_text.specs.CertText.{number_data, numbers_data, rows_data, vector_data, bounded_data, pool_data, ranks_data, version_number, cert_data, cert_text}
@@ -110,14 +109,14 @@ canonical_back plan text cert canonical =
     let readable = cert_readable cert (fits_small plan cert canonical.fits) in
     let utf8 : is_utf8 whole ≡ true = is_utf8-from_IsUtf8 whole (IsUtf8-append (cert_text cert) blank readable.utf8 (blank_is_utf8 blank canonical.is_text.1)) in
     let reads : read whole ≡ Some (cert_data cert) = read_before_blank (cert_text cert) blank canonical.is_text.1 (text_is_compact 6 _ readable) ∙ text_reads 6 _ (omega arith) readable in
-    let short : length whole ≤ MAX_TEXT_BYTES = subst (λ (t : List ℕ). length t ≤ MAX_TEXT_BYTES) same canonical.short in
+    let short : length whole ≤ MAX_CERT_BYTES = subst (λ (t : List ℕ). length t ≤ MAX_CERT_BYTES) same canonical.short in
     ap (λ (t : List ℕ). cert_of t plan) same ∙ cert_back whole plan cert utf8 reads canonical.fits short
 
 -- the text of a certificate that fits, and the same with a newline
-pub written_back : (plan : Plan) (text : List ℕ) (cert : Cert) → text ≡ cert_text cert → cert_fits plan cert ≡ true → length text ≤ MAX_TEXT_BYTES → cert_of text plan ≡ Ok cert
+pub written_back : (plan : Plan) (text : List ℕ) (cert : Cert) → text ≡ cert_text cert → cert_fits plan cert ≡ true → length text ≤ MAX_CERT_BYTES → cert_of text plan ≡ Ok cert
 written_back plan text cert same fits within = canonical_back plan text cert (record { is_text = ([], refl, same ∙ sym (append-nil (cert_text cert))); short = within; fits = fits })
 
-pub line_back : (plan : Plan) (text : List ℕ) (cert : Cert) → text ≡ cert_text cert → cert_fits plan cert ≡ true → length text < MAX_TEXT_BYTES → cert_of (text ++ 10 ∷ []) plan ≡ Ok cert
+pub line_back : (plan : Plan) (text : List ℕ) (cert : Cert) → text ≡ cert_text cert → cert_fits plan cert ≡ true → length text < MAX_CERT_BYTES → cert_of (text ++ 10 ∷ []) plan ≡ Ok cert
 line_back plan text cert same fits within = canonical_back plan (text ++ 10 ∷ []) cert (record {
   is_text = (10 ∷ [], refl, ap (λ (t : List ℕ). t ++ 10 ∷ []) same);
   short = omega (arith, within, length-append text (10 ∷ []));

@@ -16,7 +16,7 @@ use Rattle.weights.specs.Vector.{Vector, has_shape, vector_fits, is_small}
 use Rattle.weights.specs.Bound.{bound_vector, is_lifetime}
 use Rattle.pool_ranks.specs.Ranks.{Ranks, ranks_fit}
 use Rattle.certificates.specs.Cert.{PoolCert, Cert, pool_cert_fits, cert_fits}
-use Rattle.cert_text.specs.declared.document.TheConstants.{MAX_TEXT_BYTES}
+use Rattle.job_bodies.specs.declared.limits.TheConstants.{MAX_CERT_BYTES}
 use Rattle.cert_text.specs.declared.version.Version.{Version}
 use Rattle.cert_text.specs.declared.version.Version.TheVariants.{One, Two}
 use Rattle.cert_text.specs.Values.{number_of, elements_of, check_keys}
@@ -176,6 +176,6 @@ value_back false plan cert e fits =
     rw (version_one cert e, back, fits_small plan cert fits) refl
 
 -- a text that reads as the data of a certificate
-pub cert_back : (text : List ℕ) (plan : Plan) (cert : Cert) → is_utf8 text ≡ true → read text ≡ Some (cert_data cert) → cert_fits plan cert ≡ true → length text ≤ MAX_TEXT_BYTES → cert_of text plan ≡ Ok cert
+pub cert_back : (text : List ℕ) (plan : Plan) (cert : Cert) → is_utf8 text ≡ true → read text ≡ Some (cert_data cert) → cert_fits plan cert ≡ true → length text ≤ MAX_CERT_BYTES → cert_of text plan ≡ Ok cert
 unfolding cert_of document_of
 cert_back text plan cert utf8 reads fits within = rw (le-leb _ _ within, utf8, reads) (value_back _ plan cert refl fits)

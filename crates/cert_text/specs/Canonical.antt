@@ -8,7 +8,7 @@ use Rattle.job_bodies.specs.Plan.{Plan}
 use Rattle.weights.specs.declared.bound.Bound.{Bound}
 use Rattle.weights.specs.declared.bound.Bound.TheVariants.{Standing, Lifetime}
 use Rattle.certificates.specs.Cert.{Cert, cert_fits}
-use Rattle.cert_text.specs.declared.document.TheConstants.{MAX_TEXT_BYTES}
+use Rattle.job_bodies.specs.declared.limits.TheConstants.{MAX_CERT_BYTES}
 use Rattle.cert_text.specs.CertText.{vector_data, version_number, cert_text}
 
 -- the text of a value stands at the front of a text, and this rest behind it
@@ -39,5 +39,5 @@ IsTextOf text cert = (rest : List ℕ) × IsBlank rest × (text ≡ cert_text ce
 -- a text that is not too long, of a certificate that fits the plan
 pub record IsCanonical (plan : Plan) (text : List ℕ) (cert : Cert) : Type 0 where
   pub is_text : IsTextOf text cert
-  pub short : length text ≤ MAX_TEXT_BYTES
+  pub short : length text ≤ MAX_CERT_BYTES
   pub fits : IsTrue (cert_fits plan cert)

@@ -8,7 +8,7 @@ use Rattle.readings.specs.Reading.{◌>>=◌, holds_or, some_or}
 use Rattle.job_bodies.specs.Plan.{Plan}
 use Rattle.certificates.specs.Cert.{Cert}
 use Rattle.cert_text.specs.declared.fault.CertFault.{CertFault}
-use Rattle.cert_text.specs.declared.document.TheConstants.{MAX_TEXT_BYTES}
+use Rattle.job_bodies.specs.declared.limits.TheConstants.{MAX_CERT_BYTES}
 use Rattle.cert_text.specs.Values.{fault}
 use Rattle.cert_text.specs.Version.{version_of}
 use Rattle.cert_text.specs.Shape.{shape_of}
@@ -25,7 +25,7 @@ json_of text = some_or (read text) (fault NOT_JSON)
 -- the value of bytes that are not too many
 unfoldable pub document_of : List ℕ → Result Data CertFault
 document_of bytes =
-    holds_or (nat_le (length bytes) MAX_TEXT_BYTES) (fault CERT_TOO_LONG) >>= λ _.
+    holds_or (nat_le (length bytes) MAX_CERT_BYTES) (fault CERT_TOO_LONG) >>= λ _.
     text_of bytes >>= λ text.
     json_of text
 

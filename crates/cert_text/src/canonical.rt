@@ -16,10 +16,9 @@ use crate::canonical_numbers::{
     CanonicalError, behind, behind_byte, behind_comma, leading_numbers, list_for, not_canonical,
 };
 use crate::canonical_vectors::leading_vector;
-use crate::document::MAX_TEXT_BYTES;
 use crate::version::version_number;
 use certificates::{Cert, PoolCert};
-use job_bodies::Plan;
+use job_bodies::{MAX_CERT_BYTES, Plan};
 use pool_ranks::Ranks;
 use std::alloc::Global;
 use weights::Bound;
@@ -146,7 +145,7 @@ fn is_blank(text: &[u8]) -> bool
 pub fn canonical_cert(alloc: Global, text: &[u8], plan: &Plan) -> Result<Cert, CanonicalError>
     ensures { IfOk result (IsCanonical plan.now text.now) }
 {
-    if text.len() > MAX_TEXT_BYTES {
+    if text.len() > MAX_CERT_BYTES {
         return Err(not_canonical());
     }
     let (cert, rest) = leading_cert(alloc, plan, text)?;

@@ -7,9 +7,9 @@ ghost use Rattle.weights.specs.Vector.{is_small};
 ghost use Rattle.cert_text.specs.CertText.{numbers_data};
 ghost use Rattle.cert_text.specs.Canonical.{BeginsAs};
 
+use job_bodies::MAX_WEIGHT;
 use readings::ReadError;
 use std::alloc::Global;
-use weights::MAX_WEIGHT;
 
 /// The text is not as it is written of a certificate. Nothing more is said of it.
 #[derive(Clone, Copy, Debug, PartialEq, Eq)]

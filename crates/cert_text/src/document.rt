@@ -6,19 +6,17 @@ ghost use Rattle.cert_text.specs.CertOf as spec;
 
 use crate::fault::{CertError, fault};
 use faults::number::{CERT_TOO_LONG, NOT_JSON};
+use job_bodies::MAX_CERT_BYTES;
 use readings::ReadError;
 use serde_json::Value;
 use std::alloc::Global;
-
-/// The most bytes of a certificate's text.
-pub const MAX_TEXT_BYTES: usize = 1_048_576;
 
 /// The value that the bytes are.
 #[tactic(auto, unfolding(crate::specs::CertOf::document_of))]
 pub fn document_of(alloc: Global, bytes: &[u8]) -> Result<Value, CertError>
     ensures { Gives view result (spec.document_of bytes.now) }
 {
-    if bytes.len() > MAX_TEXT_BYTES {
+    if bytes.len() > MAX_CERT_BYTES {
         return Err(fault(CERT_TOO_LONG));
     }
     let text = text_of(bytes)?;

@@ -18,7 +18,6 @@ mod vectors;
 mod version;
 mod write;
 
-pub use document::MAX_TEXT_BYTES;
 pub use fault::CertFault;
 pub use read::read_cert;
 pub use write::write_cert;

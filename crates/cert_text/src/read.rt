@@ -26,7 +26,7 @@ use std::alloc::Global;
 ///
 /// In this order:
 ///
-/// 1. 34: the text has more than [`MAX_TEXT_BYTES`](crate::MAX_TEXT_BYTES) bytes.
+/// 1. 34: the text has more than [`MAX_CERT_BYTES`](job_bodies::MAX_CERT_BYTES) bytes.
 /// 2. 30: it is not UTF-8, or not JSON.
 /// 3. 31: it is no object with a whole number at `version`.
 /// 4. 33: the version is neither 1 nor 2.

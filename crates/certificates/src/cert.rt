@@ -56,7 +56,7 @@ impl Cert {
     }
 
     /// Whether there is a part for each pool, each list has the plan's shape, and no number is above
-    /// [`MAX_WEIGHT`](weights::MAX_WEIGHT). It takes no memory.
+    /// [`MAX_WEIGHT`](job_bodies::MAX_WEIGHT). It takes no memory.
     pub fn fits(&self, plan: &Plan) -> bool
         ensures { result ≡ spec.cert_fits plan.now self.now }
     {

@@ -1,9 +1,11 @@
 //! What a held world of a certified plan is, whatever events it made.
 
-ghost use Rattle.std.specs.Prelude.{◌≡◌};
+ghost use Rattle.std.specs.Prelude.{◌≡◌, List};
+ghost use Rattle.written_machine.specs.declared.event.Event.{Event};
 ghost use Rattle.certified_worlds.specs.HeldWorld.{IsReachedBy, RefusesNothing};
 
-use crate::CertifiedWorld;
+use crate::{CertifiedWorld, SeenWorld};
+use cert_check::Certified;
 use held_machines::Held;
 
 /// The world is the live view of the state that its history reaches, in which nothing was refused; and no event of that
@@ -14,4 +16,13 @@ pub fn held_worlds_refuse_nothing(held: &Held<CertifiedWorld<'_>>)
     ensures refuses_nothing { RefusesNothing held.now.machine.certified.now.plan held.now.history }
 {
     let _history = held.history();
+}
+
+/// In a world that a history of the plan leads to nothing was refused.
+pub fn reached_worlds_refuse_nothing(certified: &Certified, world: &SeenWorld)
+    ensures { (history : List Event) → IsReachedBy certified.now.plan history world.now → world.now.refusals ≡ 0 }
+{
+    let _pools = certified.plan().pools();
+    let _cert = certified.cert();
+    let _world = world.world();
 }

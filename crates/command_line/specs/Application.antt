@@ -3,7 +3,7 @@ use Rattle.std.specs.Prelude.{ℕ, [], ◌∷◌, true, Some, codes, decimal}
 use Rattle.clap.specs.Words.{App, Rule, Shape, Text, new_app, new_rule, with_rule, with_subcommand}
 use Rattle.clap.specs.declared.builder.action.ArgAction.TheVariants.{Set, SetTrue}
 use Rattle.clap.specs.declared.builder.value_parser.ValueParser.TheVariants as parser
-use Rattle.command_line.specs.declared.command.TheConstants.{DEFAULT_WORKERS, MAX_ROUNDS, MAX_STATES, MAX_WORKERS}
+use Rattle.job_bodies.specs.declared.limits.TheConstants.{DEFAULT_WORKERS, MAX_ROUNDS, MAX_STATES, MAX_WORKERS}
 
 -- an argument that names a file
 abbrev pub file_argument : Text → Rule

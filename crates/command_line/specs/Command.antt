@@ -9,7 +9,7 @@ use Rattle.clap.specs.ValueTests.{accepts}
 use Rattle.clap.specs.declared.builder.value_parser.ValueParser.TheVariants as parser
 use Rattle.clap.specs.declared.error.kind.ErrorKind.TheVariants.{ValueValidation}
 use Rattle.command_line.specs.Application.{sizing}
-use Rattle.command_line.specs.declared.command.TheConstants.{MAX_ROUNDS, MAX_STATES, MAX_WORKERS}
+use Rattle.job_bodies.specs.declared.limits.TheConstants.{MAX_ROUNDS, MAX_STATES, MAX_WORKERS}
 use Rattle.command_line.specs.declared.command.Asked.{Asked}
 use Rattle.command_line.specs.declared.command.Command.{Command}
 use Rattle.command_line.specs.declared.command.Command.TheVariants.{Alone, OnRecording, OnThreads}

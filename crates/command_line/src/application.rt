@@ -4,10 +4,10 @@ ghost use Rattle.clap.specs.Words.{app_of, new_app, rule_of, shape_of};
 ghost use Rattle.clap.specs.declared.builder.command.Command.TheViews.{out-Command as fields_of};
 ghost use Rattle.command_line.specs.Application.{ask_shape, bundle_option, certificate_option, certify_shape, check_shape, conform_shape, dot_option, explain_shape, file_argument, fit_shape, json_option, learn_shape, number_option, of_both, refute_shape, replay_shape, rounds_option, run_shape, sizing, states_option, strict_option, workers_option};
 
-use crate::command::{MAX_ROUNDS, MAX_STATES, MAX_WORKERS};
 use crate::{ask_help, help, recording_help, search_help};
 use clap::builder::ValueParser;
 use clap::{Arg, ArgAction, Command};
+use job_bodies::{MAX_ROUNDS, MAX_STATES, MAX_WORKERS};
 use std::alloc::{AllocError, Global};
 
 /// The program `sizing`, with its subcommands.

@@ -8,19 +8,8 @@ use crate::flag::is_set;
 use crate::number::number_of;
 use clap::error::ErrorKind;
 use clap::{ArgMatches, Error};
+use job_bodies::{MAX_ROUNDS, MAX_STATES, MAX_WORKERS};
 use std::alloc::Global;
-
-/// The most threads that a search may have.
-pub const MAX_WORKERS: u64 = 64;
-
-/// How many threads a search has where it is not said.
-pub const DEFAULT_WORKERS: u64 = 4;
-
-/// The most rounds that a run may have.
-pub const MAX_ROUNDS: u64 = 1_000_000;
-
-/// The most states that a search for a witness may be given.
-pub const MAX_STATES: u64 = 10_000_000;
 
 /// What the program is asked to do.
 #[derive(Clone, Copy, Debug, PartialEq, Eq)]

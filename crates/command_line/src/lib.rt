@@ -15,6 +15,5 @@ mod recording_help;
 mod search_help;
 
 pub use command::{
-    Asked, Command, DEFAULT_WORKERS, Form, Given, MAX_ROUNDS, MAX_STATES, MAX_WORKERS, Manner,
-    Reading, Review, Shown, SizesForm, Task, read_words,
+    Asked, Command, Form, Given, Manner, Reading, Review, Shown, SizesForm, Task, read_words,
 };

@@ -40,7 +40,7 @@ front_is : (before behind : List RecordedLine) (line : RecordedLine) → lines_b
 front_is [] behind line = refl
 front_is (one ∷ before) behind line = ap (λ (more : List RecordedLine). one ∷ more) (front_is before behind line)
 
-no_rule : (before : List RecordedLine) (line : RecordedLine) → option_map breach.Rule (broken_of before line) ≡ None → broken_of before line ≡ None
+no_rule : (before : List RecordedLine) (line : RecordedLine) → option_map breach.LineRule (broken_of before line) ≡ None → broken_of before line ≡ None
 no_rule before line h = grind (arith, h)
 
 pub keeps_rules : (text : List ℕ) → IsFirstFault (lines_read text) None → KeepsRules (lines_of text)

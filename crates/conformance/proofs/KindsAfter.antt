@@ -9,8 +9,8 @@ use Rattle.recording_lines.specs.declared.recording_line.Line.{Line}
 use Rattle.recording_lines.specs.declared.recording_line.Line.TheVariants as code
 use Rattle.recording_lines.specs.RecordingLine.{line_seen}
 use Rattle.std.proofs.Common.{Bor}
-use Rattle.recorded_rules.specs.declared.rule.Rule.{Rule}
-use Rattle.recorded_rules.specs.declared.rule.Rule.TheVariants as rule
+use Rattle.recorded_rules.specs.declared.rule.LineRule.{LineRule}
+use Rattle.recorded_rules.specs.declared.rule.LineRule.TheVariants as rule
 use Rattle.recorded_rules.specs.LineParts.{is_begin}
 use Rattle.recorded_rules.specs.Before.{begins}
 use Rattle.recorded_rules.specs.Rules.{keeps_frame, keeps_pools, keeps_numbers, has_next_number}
@@ -38,7 +38,7 @@ elsewhere (y ∷ xs) (suc i) (suc k) x other = elsewhere xs i k x (λ same. othe
 
 -- ---- a line
 -- a rule that the first tests pass leaves the others
-passes : (holds : Bool) (one : Rule) (rest : Option Rule) → (cond (not holds) (Some one) rest) ≡ None → (holds ≡ true) × (rest ≡ None)
+passes : (holds : Bool) (one : LineRule) (rest : Option LineRule) → (cond (not holds) (Some one) rest) ≡ None → (holds ≡ true) × (rest ≡ None)
 passes true one rest h = (refl, h)
 passes false one rest h = absurd (grind (arith, h))
 

@@ -13,6 +13,7 @@ pub mod KindsAfter
 pub mod VerdictsAfter
 pub mod ToldKinds
 pub mod WatchedAfter
+pub mod CountedAfter
 pub mod GatheredAll
 pub mod Deeds
 pub mod AllFound

@@ -1,5 +1,5 @@
 -- The labels that the plan has not, behind one more line.
-use Rattle.std.proofs.Common.{◌≡◌, ◌≤◌, ◌+◌, ℕ, Bool, true, false, ◌||◌, List, [], ◌∷◌, ◌++◌, length, All, Contains, refl, ap, sym, subst, ◌∙◌, inl, inr, string_bytes, count_by, arith}
+use Rattle.std.proofs.Common.{◌≡◌, ◌≤◌, ◌+◌, ℕ, Bool, true, false, ◌||◌, List, [], ◌∷◌, ◌++◌, length, All, Contains, refl, ap, sym, subst, ◌∙◌, inl, inr, string_bytes, count_by, is_some, not, slice_get, arith}
 use Rattle.std.specs.Prelude.{◌⊎◌}
 use Rattle.std.specs.List.{list_any}
 use Rattle.std.specs.Str.{bytes_eq}
@@ -268,13 +268,17 @@ behind_other plan before line old so other = stays_behind plan before line old s
 })
 
 -- ---- families
-pub filled : (numbers : List ℕ) → is_empty numbers ≡ false → numbers ≡ [] → ⊥
+pub filled : (numbers : List ℕ) → is_some (slice_get numbers 0) ≡ true → numbers ≡ [] → ⊥
 filled [] h none = grind (arith, h)
 filled (n ∷ more) h none = grind (arith, none)
 
-pub emptied : (numbers : List ℕ) → is_empty numbers ≡ true → numbers ≡ []
+pub emptied : (numbers : List ℕ) → is_some (slice_get numbers 0) ≡ false → numbers ≡ []
 emptied [] h = refl
 emptied (n ∷ more) h = absurd (grind (arith, h))
+
+pub is_filled : (numbers : List ℕ) → is_some (slice_get numbers 0) ≡ not (is_empty numbers)
+is_filled [] = refl
+is_filled (n ∷ more) = refl
 
 -- ---- lines as the program keeps them
 pub submit_seen : (plan : Plan) (before : List RecordedLine) (number : ℕ) (line : Line) (actor : RecordedActor) (job : ℕ) (class pool : Bor (List ℕ)) (old new : Unplanned) → line ≡ read.Submits actor job class pool

@@ -1,5 +1,5 @@
 -- The kind that each round is counted as.
-use Rattle.std.specs.Prelude.{◌≡◌, ℕ, List, [], ◌∷◌, length, slice_get, slice_set, Contains, Option, Some, None}
+use Rattle.std.specs.Prelude.{◌≡◌, ℕ, false, List, [], ◌∷◌, ◌++◌, length, slice_get, slice_set, Contains, Option, Some, None}
 use Rattle.recording_lines.specs.declared.recording_line.RecordedActor.{RecordedActor}
 use Rattle.recording_lines.specs.declared.recording_line.RecordedActor.TheVariants.{Job, Round}
 use Rattle.recording_lines.specs.RecordingLine.{RecordedLine}
@@ -8,6 +8,7 @@ use Rattle.job_bodies.specs.Plan.{Plan}
 use Rattle.plan_families.specs.Family.{client_family}
 use Rattle.recorded_classes.specs.declared.settled.Settled.{Settled}
 use Rattle.recorded_classes.specs.Label.{kind_of}
+use Rattle.conformance.specs.declared.first_kinds.FirstKinds.{FirstKinds}
 
 -- the round with which it is told of one that can be of a kind
 abbrev pub has_kind : List ℕ → RecordedActor → Option (ℕ × ℕ)
@@ -41,3 +42,9 @@ pub record AreFirstKinds (plan : Plan) (lines : List RecordedLine) (told : List 
   pub told_of : (one : Settled) (round kind : ℕ) → Contains told one → round_told one ≡ Some (round, kind) → slice_get kinds round ≡ Some (Some kind)
   pub others : (round : ℕ) (label : List ℕ) → kind_of lines round ≡ Some label → ((one : Settled) (kind : ℕ) → Contains told one → ¬ (round_told one ≡ Some (round, kind)))
       → slice_get kinds round ≡ Some (slice_get (client_family plan label) 0)
+
+-- no round is of another kind than before, though there may be more rounds
+pub record Continues (old new : FirstKinds) : Type 0 where
+  pub more : List (Option ℕ)
+  pub behind : new.kinds.items ≡ old.kinds.items ++ more
+  pub was : old.corrected ≡ false

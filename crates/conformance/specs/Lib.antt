@@ -9,6 +9,7 @@ pub mod FindingText
 pub mod Firsts
 pub mod Verdicts
 pub mod FirstKinds
+pub mod Counted
 pub mod Survey
 pub mod Described
 pub mod Conforms

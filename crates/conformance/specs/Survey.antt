@@ -18,6 +18,7 @@ use Rattle.conformance.specs.Lines.{lines_of}
 use Rattle.conformance.specs.Unplanned.{IsUnplannedOf}
 use Rattle.conformance.specs.Verdicts.{IsVerdictsOf}
 use Rattle.conformance.specs.FirstKinds.{AreFirstKinds}
+use Rattle.conformance.specs.Counted.{IsCountedOf}
 
 -- ---- line by line
 pub record IsWatchedOf (plan : Plan) (lines : List RecordedLine) (watched : Watched) : Type 0 where
@@ -55,6 +56,7 @@ pub record IsJudged (plan : Plan) (budget : ℕ) (lines : List RecordedLine) (ju
 pub record IsSurveyOf (plan : Plan) (budget : ℕ) (lines : List RecordedLine) (survey : Survey) : Type 0 where
   pub watched : IsWatched plan lines survey.watched
   pub judged : IsJudged plan budget lines survey.judged
+  pub counted : IsCountedOf plan survey.judged.kinds lines survey.counted
 
 -- ---- of a text
 -- where the lines of the text keep the rules, they are surveyed; else it is told which is the first that does not

@@ -5,6 +5,7 @@ ghost use Rattle.std.specs.List.{list_any};
 ghost use Rattle.recording_lines.specs.RecordingLine.{lines_read};
 ghost use Rattle.recorded_rules.specs.Faults.{IsFirstFault};
 ghost use Rattle.recorded_paths.specs.StandsFor.{KeepsRules};
+ghost use Rattle.plan_differences.specs.RoundExcesses.{excesses_by_lines};
 ghost use Rattle.conformance.specs.Lines.{lines_of};
 ghost use Rattle.conformance.specs.Conforms.{Conforms, DoAsPlanned, IsNotVoid};
 ghost use Rattle.conformance.specs.Findings.{AreFindingsOf, is_of_actors};
@@ -16,7 +17,7 @@ use crate::finding::Finding;
 use crate::gathered::gathered;
 use crate::survey::{Survey, surveyed};
 use job_bodies::Plan;
-use plan_differences::{pools_are_as_planned, rounds_are_within_plan};
+use plan_differences::{RoundExcess, pools_are_as_planned, rounds_are_within_plan};
 use recorded_rules::RecordingFault;
 use std::alloc::{AllocError, Global};
 
@@ -81,9 +82,26 @@ fn compared(
 {
     pools_are_as_planned();
     rounds_are_within_plan();
-    let kinds = survey.judged.kinds.kinds.as_slice();
-    let excesses = excesses(alloc, plan, recording, kinds)?;
+    let excesses = counted(alloc, plan, recording, &survey)?;
     let mut findings = gathered(alloc, recording, survey, excesses)?;
     findings.sort_by_key(Finding::place)?;
     Ok(findings)
+}
+
+// Where there are first more rounds of a kind than the plan says. Only where a round turned out to be of another kind than it
+// was counted as, the rounds are counted once more.
+fn counted(
+    alloc: Global,
+    plan: &Plan,
+    recording: &[u8],
+    survey: &Survey,
+) -> Result<Vec<RoundExcess>, AllocError>
+    ensures { (budget : ℕ) → KeepsRules (lines_of recording.now) → IsSurveyOf plan.now budget (lines_of recording.now) survey.now → IfOk result (λ found. found.items ≡ excesses_by_lines plan.now survey.now.judged.kinds.kinds.items (lines_of recording.now)) }
+{
+    let kinds = &survey.judged.kinds;
+    if kinds.corrected {
+        excesses(alloc, plan, recording, &kinds.kinds)
+    } else {
+        Vec::from_slice(alloc, &survey.counted.found)
+    }
 }

@@ -1,6 +1,6 @@
 //! The kind that each round is counted as.
 
-ghost use Rattle.std.specs.Prelude.{◌≡◌, ◌++◌, ◌∷◌, [], ℕ, List, OnOk, slice_get};
+ghost use Rattle.std.specs.Prelude.{◌≡◌, ◌++◌, ◌∷◌, [], ℕ, List, OnOk, false, slice_get};
 ghost use Rattle.job_bodies.specs.Plan as plans;
 ghost use Rattle.recorded_classes.specs.declared.settled.Settled as settleds;
 ghost use Rattle.recording_lines.specs.RecordingLine.{RecordedLine, line_seen};
@@ -9,7 +9,7 @@ ghost use Rattle.plan_families.specs.Family.{client_family as clients_of};
 ghost use Rattle.conformance.specs.FirstKinds as spec;
 
 use job_bodies::Plan;
-use plan_families::client_family;
+use plan_families::first_client;
 use recorded_classes::Settled;
 use recording_lines::{Line, RecordedActor};
 use std::alloc::{AllocError, Global};
@@ -18,7 +18,8 @@ use std::alloc::{AllocError, Global};
 #[derive(Debug, Drop)]
 pub(crate) struct FirstKinds {
     pub(crate) kinds: Vec<Option<usize>>,
-    alloc: Global,
+    /// Whether some round turned out to be of another kind than the first of its label.
+    pub(crate) corrected: bool,
 }
 
 impl FirstKinds {
@@ -28,7 +29,7 @@ impl FirstKinds {
     {
         FirstKinds {
             kinds: Vec::new(alloc),
-            alloc,
+            corrected: false,
         }
     }
 
@@ -38,7 +39,8 @@ impl FirstKinds {
     ///
     /// `AllocError` where there is no memory for a round.
     pub(crate) fn take(&mut self, plan: &Plan, line: &Line<'_>) -> Result<(), AllocError>
-        ensures { (before : List RecordedLine) (told : List settleds.Settled) → KeepsRules (before ++ line_seen line.now ∷ []) → spec.AreFirstKinds plan.now before told self.old.kinds.items → OnOk result (spec.AreFirstKinds plan.now (before ++ line_seen line.now ∷ []) told self.new.kinds.items) }
+        ensures continued { OnOk result (self.new.corrected ≡ false → spec.Continues self.old self.new) }
+        ensures kinds { (before : List RecordedLine) (told : List settleds.Settled) → KeepsRules (before ++ line_seen line.now ∷ []) → spec.AreFirstKinds plan.now before told self.old.kinds.items → OnOk result (spec.AreFirstKinds plan.now (before ++ line_seen line.now ∷ []) told self.new.kinds.items) }
     {
         match *line {
             Line::RoundBegins { kind, .. } => self.push(plan, kind),
@@ -48,17 +50,17 @@ impl FirstKinds {
 
     // A round with this label.
     fn push(&mut self, plan: &Plan, label: &str) -> Result<(), AllocError>
-        ensures { OnOk result (self.new.kinds.items ≡ self.old.kinds.items ++ slice_get (clients_of plan.now label.now) 0 ∷ []) }
+        ensures corrected { self.new.corrected ≡ self.old.corrected }
+        ensures kinds { OnOk result (self.new.kinds.items ≡ self.old.kinds.items ++ slice_get (clients_of plan.now label.now) 0 ∷ []) }
     {
-        let family = client_family(self.alloc, plan, label)?;
-        let first = family.first().copied();
-        self.kinds.push(first)?;
+        self.kinds.push(first_client(plan, label))?;
         Ok(())
     }
 
     /// It is told of one more actor.
     pub(crate) fn note(&mut self, settled: &Settled)
-        ensures { self.new.kinds.items ≡ spec.with_told settled.now self.old.kinds.items }
+        ensures kinds { self.new.kinds.items ≡ spec.with_told settled.now self.old.kinds.items }
+        ensures continued { self.new.corrected ≡ false → spec.Continues self.old self.new }
     {
         if let RecordedActor::Round(round) = settled.actor {
             if let Some(kind) = settled.family.members.first() {
@@ -68,7 +70,19 @@ impl FirstKinds {
     }
 
     fn set(&mut self, round: usize, kind: usize)
-        ensures { self.new.kinds.items ≡ spec.with_kind round kind self.old.kinds.items }
+        ensures kinds { self.new.kinds.items ≡ spec.with_kind round kind self.old.kinds.items }
+        ensures continued { self.new.corrected ≡ false → spec.Continues self.old self.new }
+    {
+        if self.kinds.get(round).copied() == Some(Some(kind)) {
+            return;
+        }
+        self.corrected = true;
+        self.write(round, kind);
+    }
+
+    fn write(&mut self, round: usize, kind: usize)
+        ensures kinds { self.new.kinds.items ≡ spec.with_kind round kind self.old.kinds.items }
+        ensures corrected { self.new.corrected ≡ self.old.corrected }
     {
         if let Some(place) = self.kinds.get_mut(round) {
             *place = Some(kind);

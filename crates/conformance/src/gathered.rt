@@ -34,7 +34,11 @@ pub(crate) fn gathered(
 ) -> Result<Vec<Finding>, AllocError>
     ensures { IsNotesOf survey.watched.notes (lines_of recording.now) → IfOk result (λ found. spec.AreGathered (lines_of recording.now) survey excesses.items found.items) }
 {
-    let Survey { watched, judged } = survey;
+    let Survey {
+        watched,
+        judged,
+        ..
+    } = survey;
     let Watched {
         deviations,
         notes,

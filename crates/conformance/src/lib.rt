@@ -7,9 +7,10 @@
 //! These three hold already where only pools, gets of another one's job and voids are found. [`push_findings`] writes each
 //! finding as a line.
 //!
-//! The text is gone along twice, and once more for each look-up of an actor that strays, of which there are no more than
-//! labels of the plan. What is kept is what [`recorded_classes`], [`recorded_notes`] and [`plan_differences`] keep, the kind of
-//! each round, and the labels and jobs that are of no class of the plan. That is seen in the code and is in no contract.
+//! The text is gone along once, once more where a round turns out to be of another kind than the first of its label, and once
+//! for each look-up of an actor that strays, of which there are no more than labels of the plan. What is kept is what
+//! [`recorded_classes`], [`recorded_notes`] and [`plan_differences`] keep, the kind of each round, and the labels and jobs
+//! that are of no class of the plan. That is seen in the code and is in no contract.
 #![tactic(auto)]
 
 mod comparison;

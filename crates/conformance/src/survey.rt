@@ -1,16 +1,17 @@
-//! What the lines of a recording say, beside a plan: all but how many rounds there are at once.
+//! What the lines of a recording say, beside a plan.
 
-ghost use Rattle.std.specs.Prelude.{◌≡◌, ◌++◌, ◌∷◌, [], ℕ, List, OnOk, IfOk};
+ghost use Rattle.std.specs.Prelude.{◌≡◌, ◌++◌, ◌∷◌, [], ℕ, false, List, OnOk, IfOk};
 ghost use Rattle.job_bodies.specs.Plan as plans;
 ghost use Rattle.recording_lines.specs.RecordingLine.{RecordedLine, line_seen};
 ghost use Rattle.recorded_paths.specs.StandsFor.{KeepsRules};
 ghost use Rattle.recorded_classes.specs.declared.settled.Settled as settleds;
 ghost use Rattle.recorded_classes.specs.Settled.{AreTold, AreAllTold};
-ghost use Rattle.conformance.specs.FirstKinds.{with_all};
+ghost use Rattle.conformance.specs.FirstKinds.{with_all, Continues};
 ghost use Rattle.conformance.specs.Unplanned.{IsNext};
 ghost use Rattle.conformance.specs.Verdicts.{IsVerdictsOf};
 ghost use Rattle.conformance.specs.Survey as spec;
 
+use crate::counted::Counted;
 use crate::first_kinds::FirstKinds;
 use crate::unplanned::Unplanned;
 use crate::verdicts::Verdicts;
@@ -96,16 +97,25 @@ impl Judged {
         Judged { verdicts, kinds }
     }
 
-    /// It is told of these actors.
+    /// It is told of these actors, which go.
     ///
     /// # Errors
     ///
     /// `AllocError` where there is no memory for them.
-    pub(crate) fn note_all(&mut self, plan: &Plan, told: Vec<Settled>) -> Result<(), AllocError>
-        ensures verdicts { (earlier : List settleds.Settled) → IsVerdictsOf plan.now earlier self.old.verdicts → OnOk result (IsVerdictsOf plan.now (earlier ++ told.items) self.new.verdicts) }
-        ensures kinds { OnOk result (self.new.kinds.kinds.items ≡ with_all told.items self.old.kinds.kinds.items) }
+    pub(crate) fn note_all(
+        &mut self,
+        plan: &Plan,
+        told: &mut Vec<Settled>,
+    ) -> Result<(), AllocError>
+        ensures verdicts { (earlier : List settleds.Settled) → IsVerdictsOf plan.now earlier self.old.verdicts → OnOk result (IsVerdictsOf plan.now (earlier ++ told.old.items) self.new.verdicts) }
+        ensures kinds { OnOk result (self.new.kinds.kinds.items ≡ with_all told.old.items self.old.kinds.kinds.items) }
+        ensures continued { OnOk result (self.new.kinds.corrected ≡ false → Continues self.old.kinds self.new.kinds) }
+        ensures emptied { OnOk result (told.new.items ≡ []) }
     {
-        for settled in told {
+        if told.is_empty() {
+            return Ok(());
+        }
+        for settled in told.drain(..) {
             self.kinds.note(&settled);
             self.verdicts.note(plan, settled)?;
         }
@@ -118,6 +128,7 @@ impl Judged {
 pub(crate) struct Survey {
     pub(crate) watched: Watched,
     pub(crate) judged: Judged,
+    pub(crate) counted: Counted,
 }
 
 /// Surveys a recording, or tells its first bad line.
@@ -136,6 +147,8 @@ pub(crate) fn surveyed(
     let mut watched = Watched::new(alloc);
     let mut classes = Classes::new(alloc, budget);
     let mut judged = Judged::new(alloc);
+    let mut counted = Counted::new(alloc, plan)?;
+    let mut told = Vec::new(alloc);
     let mut lines = RuledLines::new(alloc, recording);
     while let Some(line) = lines.next()? {
         let line = match line {
@@ -143,25 +156,31 @@ pub(crate) fn surveyed(
             Err(fault) => return Ok(Err(fault)),
         };
         watched.take(plan, lines.number(), &line)?;
-        take_line(alloc, plan, &line, &mut classes, &mut judged)?;
+        take_line(plan, &line, &mut classes, &mut judged, &mut told)?;
+        counted.take(&judged.kinds, lines.number(), &line)?;
     }
     watched.finish(plan)?;
     finish(alloc, plan, classes, &mut judged)?;
-    Ok(Ok(Survey { watched, judged }))
+    Ok(Ok(Survey {
+        watched,
+        judged,
+        counted,
+    }))
 }
 
-// It is told of each actor that is settled by the line.
+// It is told of each actor that is settled by the line. The list is for those, and is empty before and behind it.
 fn take_line(
-    alloc: Global,
     plan: &Plan,
     line: &Line<'_>,
     classes: &mut Classes,
     judged: &mut Judged,
+    told: &mut Vec<Settled>,
 ) -> Result<(), AllocError>
-    ensures { (budget : ℕ) (before : List RecordedLine) → KeepsRules (before ++ line_seen line.now ∷ []) → spec.IsSoFar plan.now budget before classes.old judged.old → OnOk result (spec.IsSoFar plan.now budget (before ++ line_seen line.now ∷ []) classes.new judged.new) }
+    ensures emptied { OnOk result (told.new.items ≡ []) }
+    ensures continued { OnOk result (judged.new.kinds.corrected ≡ false → Continues judged.old.kinds judged.new.kinds) }
+    ensures so_far { (budget : ℕ) (before : List RecordedLine) → KeepsRules (before ++ line_seen line.now ∷ []) → told.old.items ≡ [] → spec.IsSoFar plan.now budget before classes.old judged.old → OnOk result (spec.IsSoFar plan.now budget (before ++ line_seen line.now ∷ []) classes.new judged.new) }
 {
-    let mut told = Vec::new(alloc);
-    classes.take(plan, line, &mut told)?;
+    classes.take(plan, line, told)?;
     judged.kinds.take(plan, line)?;
     judged.note_all(plan, told)
 }
@@ -173,9 +192,10 @@ fn finish(
     classes: Classes,
     judged: &mut Judged,
 ) -> Result<(), AllocError>
-    ensures { (budget : ℕ) (lines : List RecordedLine) → KeepsRules lines → spec.IsSoFar plan.now budget lines classes judged.old → OnOk result (spec.IsJudged plan.now budget lines judged.new) }
+    ensures continued { OnOk result (judged.new.kinds.corrected ≡ false → Continues judged.old.kinds judged.new.kinds) }
+    ensures all { (budget : ℕ) (lines : List RecordedLine) → KeepsRules lines → spec.IsSoFar plan.now budget lines classes judged.old → OnOk result (spec.IsJudged plan.now budget lines judged.new) }
 {
     let mut told = Vec::new(alloc);
     classes.finish(plan, &mut told)?;
-    judged.note_all(plan, told)
+    judged.note_all(plan, &mut told)
 }

@@ -6,9 +6,8 @@ ghost use Rattle.recording_lines.specs.RecordingLine.{RecordedLine, line_seen};
 ghost use Rattle.conformance.specs.Unplanned as spec;
 
 use crate::labels::{Labels, pair};
-use crate::numbers::is_none;
 use job_bodies::Plan;
-use plan_families::{class_family, client_family};
+use plan_families::{first_class, first_client};
 use recording_lines::Line;
 use std::alloc::{AllocError, Global};
 
@@ -79,12 +78,11 @@ impl Unplanned {
     ) -> Result<(), AllocError>
         ensures { OnOk result (spec.TakesClass plan.now number class.now pool.now self.old self.new) }
     {
-        let label = pair(self.alloc, class, pool)?;
-        if self.classes.contains(&label) {
+        if first_class(plan, class, pool).is_some() {
             return Ok(());
         }
-        let family = class_family(self.alloc, plan, class, pool)?;
-        if !is_none(&family) {
+        let label = pair(self.alloc, class, pool)?;
+        if self.classes.contains(&label) {
             return Ok(());
         }
         let class = String::from_str(self.alloc, class)?;
@@ -101,11 +99,10 @@ impl Unplanned {
     fn take_kind(&mut self, plan: &Plan, number: usize, kind: &str) -> Result<(), AllocError>
         ensures { OnOk result (spec.TakesKind plan.now number kind.now self.old self.new) }
     {
-        if self.kinds.contains(kind) {
+        if first_client(plan, kind).is_some() {
             return Ok(());
         }
-        let family = client_family(self.alloc, plan, kind)?;
-        if !is_none(&family) {
+        if self.kinds.contains(kind) {
             return Ok(());
         }
         let label = String::from_str(self.alloc, kind)?;

@@ -1,6 +1,6 @@
 //! What is kept of the actors of which is told.
 
-ghost use Rattle.std.specs.Prelude.{◌≡◌, ◌++◌, ◌∷◌, [], ℕ, List, OnOk, IfOk};
+ghost use Rattle.std.specs.Prelude.{◌≡◌, ◌++◌, ◌∷◌, [], ℕ, List, OnOk};
 ghost use Rattle.job_bodies.specs.Plan as plans;
 ghost use Rattle.recorded_classes.specs.declared.settled.Settled as settleds;
 ghost use Rattle.conformance.specs.Firsts.{AreFirsts};
@@ -11,7 +11,7 @@ use crate::firsts::Firsts;
 use crate::job_set::JobSet;
 use crate::numbers::is_none;
 use job_bodies::Plan;
-use plan_families::{class_family, client_family};
+use plan_families::{first_class, first_client};
 use recorded_classes::Settled;
 use recording_lines::RecordedActor;
 use std::alloc::{AllocError, Global};
@@ -24,7 +24,6 @@ pub(crate) struct Verdicts {
     pub(crate) undecided: Firsts,
     /// The jobs that are of no class of the plan.
     pub(crate) classless: JobSet,
-    alloc: Global,
 }
 
 impl Verdicts {
@@ -36,7 +35,6 @@ impl Verdicts {
             strays: Firsts::new(alloc),
             undecided: Firsts::new(alloc),
             classless: JobSet::new(alloc),
-            alloc,
         }
     }
 
@@ -62,7 +60,7 @@ impl Verdicts {
         ensures strays { self.new.strays ≡ self.old.strays }
         ensures classless { self.new.classless ≡ self.old.classless }
     {
-        if is_planned(self.alloc, plan, &settled)? {
+        if is_planned(plan, &settled) {
             self.undecided.note(settled)?;
         }
         Ok(())
@@ -74,7 +72,7 @@ impl Verdicts {
         ensures classless { OnOk result ((job : ℕ) → has_job self.new.classless job ≡ spec.with_job settled.actor (has_job self.old.classless job) job) }
     {
         self.note_job(settled.actor)?;
-        if is_planned(self.alloc, plan, &settled)? {
+        if is_planned(plan, &settled) {
             self.strays.note(settled)?;
         }
         Ok(())
@@ -93,12 +91,12 @@ impl Verdicts {
 }
 
 /// Whether the plan has the actor's label.
-fn is_planned(alloc: Global, plan: &Plan, settled: &Settled) -> Result<bool, AllocError>
-    ensures { IfOk result (λ is. is ≡ spec.is_planned plan.now settled.now) }
+#[tactic(auto, using(crate::proofs::UnplannedAfter::is_filled))]
+fn is_planned(plan: &Plan, settled: &Settled) -> bool
+    ensures { result ≡ spec.is_planned plan.now settled.now }
 {
-    let family = match settled.actor {
-        RecordedActor::Job(_) => class_family(alloc, plan, &settled.label, &settled.pool)?,
-        RecordedActor::Round(_) => client_family(alloc, plan, &settled.label)?,
-    };
-    Ok(!family.is_empty())
+    match settled.actor {
+        RecordedActor::Job(_) => first_class(plan, &settled.label, &settled.pool).is_some(),
+        RecordedActor::Round(_) => first_client(plan, &settled.label).is_some(),
+    }
 }

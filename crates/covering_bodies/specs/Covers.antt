@@ -2,13 +2,12 @@
 use Rattle.std.specs.Prelude.{◌≡◌, ◌≤◌, ◌+◌, ◌*◌, ◌^◌, Bool, true, false, List, length, filter}
 use Rattle.job_bodies.specs.declared.action.Action.{Action}
 use Rattle.job_bodies.specs.declared.action.Action.TheVariants.{Work, Submit, Get}
-use Rattle.job_bodies.specs.declared.limits.TheConstants.{MAX_ACTIONS}
+use Rattle.job_bodies.specs.declared.limits.TheConstants.{MAX_ACTIONS, MAX_PATH_STEPS}
 use Rattle.body_paths.specs.declared.deed.Deed.{Deed}
 use Rattle.body_paths.specs.declared.deed.Course.{Course}
 use Rattle.body_paths.specs.declared.deed.Course.TheVariants.{Whole}
 use Rattle.body_paths.specs.Path.{IsPathOf}
 use Rattle.body_paths.specs.Budget.{submit_count}
-use Rattle.covering_bodies.specs.declared.cover.TheConstants.{BUDGET}
 use Rattle.covering_bodies.specs.Lawful.{HasLawfulGets}
 
 -- each path of the body is one of the other body too
@@ -34,4 +33,4 @@ pub record IsSurelyOf (body : List Action) (path : List Deed) : Type 0 where
   pub of : IsPathOf Whole body path
   pub short : length body ≤ MAX_ACTIONS
   pub lawful : HasLawfulGets body
-  pub few : (length body + 1) * 2 ^ submit_count body ≤ BUDGET
+  pub few : (length body + 1) * 2 ^ submit_count body ≤ MAX_PATH_STEPS

@@ -11,12 +11,9 @@ use crate::common::partners_of;
 use crate::lawful::has_lawful_gets;
 use crate::merge::merged;
 use crate::stands::stands_at;
-use body_paths::{Answer, Course, Deed, path_fits};
-use job_bodies::{Action, MAX_ACTIONS};
+use body_paths::{Course, Deed, PathFit, path_fits};
+use job_bodies::{Action, MAX_ACTIONS, MAX_PATH_STEPS};
 use std::alloc::{AllocError, Global};
-
-/// How many steps are spent on whether the path is of the body as it is.
-const BUDGET: u64 = 1_000_000;
 
 /// A body of which the path is, and every path of the given body too: the given one, with the submits and gets of the
 /// path put in that it does not have in the same order. Where the path is of the given body, that is it.
@@ -70,9 +67,9 @@ fn is_path_of(body: &[Action], path: &[Deed]) -> bool
     ensures yes { IsTrue result → IsPathOf Whole body.now path.now }
     ensures sure { IsSurelyOf body.now path.now → IsTrue result }
 {
-    match path_fits(body, path, Course::Whole, BUDGET) {
-        Answer::Fits => true,
-        Answer::Deviates(_) | Answer::Undecided => false,
+    match path_fits(body, path, Course::Whole, MAX_PATH_STEPS) {
+        PathFit::Fits => true,
+        PathFit::Deviates(_) | PathFit::Undecided => false,
     }
 }
 

@@ -10,7 +10,7 @@ use Rattle.event_lines.specs.EventLine.{Line, Happens, Stuck, pool_named, event_
 use Rattle.event_lines.specs.LineText.{line_text}
 use Rattle.line_words.proofs.Splits.{has_no}
 use Rattle.line_words.proofs.FirstPieces.{place, first_behind, first_and_more}
-use Rattle.event_lines.proofs.WrittenLines.{by_verb, line_read}
+use Rattle.event_lines.proofs.WrittenLines.{by_verb, read_line_is_text}
 
 -- ---- a whole line
 client_line : (plan : Plan) (number : List ℕ) → line_of plan (codes "client " ++ number) ≡ option_map Happens (option_map (λ n. Client n) (number_of number))
@@ -47,12 +47,12 @@ no_line plan line client job take retire stuck = by_read (line_of plan line) ref
     by_text (Happens (Job n)) read is = job _ is
     by_text (Happens (Take p)) read is = take _ is
     by_text (Happens (Retire p)) read is = retire _ is
-    by_text (Stuck []) read is = absurd (cc ((line_read plan line (Stuck []) read).0))
+    by_text (Stuck []) read is = absurd (cc ((read_line_is_text plan line (Stuck []) read).0))
     by_text (Stuck (n ∷ members)) read is = stuck _ is
 
     by_read : (o : Option Line) → line_of plan line ≡ o → None ≡ o
     by_read None read = refl
-    by_read (Some said) read = absurd (by_text said read (line_read plan line said read).1)
+    by_read (Some said) read = absurd (by_text said read (read_line_is_text plan line said read).1)
 
 -- ---- the first line
 -- an actor's line, by the number that its first line writes

@@ -168,9 +168,9 @@ verb_read plan verb rest line read =
 
 -- ---- lines
 -- a text that writes a line is the line's text, and the line is lawful
-pub line_read : (plan : Plan) (text : List ℕ) (line : Line) → line_of plan text ≡ Some line → (is_lawful_line plan line ≡ true) × (text ≡ line_text plan line)
+pub read_line_is_text : (plan : Plan) (text : List ℕ) (line : Line) → line_of plan text ≡ Some line → (is_lawful_line plan line ≡ true) × (text ≡ line_text plan line)
 unfolding line_of
-line_read plan text line read =
+read_line_is_text plan text line read =
     option_and_then_some (λ words. line_of_verb plan words.0 words.1) (split_space text) line read (λ words split verb.
     let found = verb_read plan words.0 words.1 line verb in
     (found.0, split_parts text words split ∙ found.1))
@@ -180,14 +180,14 @@ unfolding line_of
 by_verb plan verb rest none = ap (λ o. option_and_then (λ words. line_of_verb plan words.0 words.1) o) (splits verb rest none)
 
 -- the text of a lawful line writes that line, among distinct names
-pub line_written : (plan : Plan) (line : Line) → are_distinct (pool_names plan) ≡ true → is_lawful_line plan line ≡ true → line_of plan (line_text plan line) ≡ Some line
+pub text_reads_as_line : (plan : Plan) (line : Line) → are_distinct (pool_names plan) ≡ true → is_lawful_line plan line ≡ true → line_of plan (line_text plan line) ≡ Some line
 unfolding line_of_verb event_of stuck_of
-line_written plan (Happens (Client c)) distinct lawful = by_verb plan (codes "client") (decimal c) refl ∙ ap (λ o. option_map Happens (option_map (λ n. Client n) o)) (number_written c lawful)
-line_written plan (Happens (Job j)) distinct lawful = by_verb plan (codes "job") (decimal j) refl ∙ ap (λ o. option_map Happens (option_map (λ n. Job n) o)) (number_written j lawful)
-line_written plan (Happens (Take p)) distinct lawful = by_verb plan (codes "take") ((pool_at plan p).name) refl ∙ ap (λ o. option_map Happens (option_map (λ n. Take n) o)) (name_written plan p distinct lawful)
-line_written plan (Happens (Retire p)) distinct lawful = by_verb plan (codes "retire") ((pool_at plan p).name) refl ∙ ap (λ o. option_map Happens (option_map (λ n. Retire n) o)) (name_written plan p distinct lawful)
-line_written plan (Stuck []) distinct lawful = absurd cc
-line_written plan (Stuck (n ∷ members)) distinct lawful =
+text_reads_as_line plan (Happens (Client c)) distinct lawful = by_verb plan (codes "client") (decimal c) refl ∙ ap (λ o. option_map Happens (option_map (λ n. Client n) o)) (number_written c lawful)
+text_reads_as_line plan (Happens (Job j)) distinct lawful = by_verb plan (codes "job") (decimal j) refl ∙ ap (λ o. option_map Happens (option_map (λ n. Job n) o)) (number_written j lawful)
+text_reads_as_line plan (Happens (Take p)) distinct lawful = by_verb plan (codes "take") ((pool_at plan p).name) refl ∙ ap (λ o. option_map Happens (option_map (λ n. Take n) o)) (name_written plan p distinct lawful)
+text_reads_as_line plan (Happens (Retire p)) distinct lawful = by_verb plan (codes "retire") ((pool_at plan p).name) refl ∙ ap (λ o. option_map Happens (option_map (λ n. Retire n) o)) (name_written plan p distinct lawful)
+text_reads_as_line plan (Stuck []) distinct lawful = absurd cc
+text_reads_as_line plan (Stuck (n ∷ members)) distinct lawful =
     let parts = and_parts (nat_le 1 (length (n ∷ members))) (list_all is_lawful_number (n ∷ members)) lawful in
     by_verb plan (codes "stuck") (decimal n ++ flat_map (λ m. 32 ∷ decimal m) members) refl
     ∙ ap (λ (words : List (List ℕ)). option_map Stuck (all_of number_of words)) (words_written n members parts.1)

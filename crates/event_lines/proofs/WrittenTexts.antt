@@ -14,7 +14,7 @@ use Rattle.event_lines.specs.LineText.{line_text, lines_text, is_lawful_line}
 use Rattle.event_lines.specs.Laws.{EventLinesAreCanonical}
 use Rattle.line_words.proofs.LastNewline.{last_newline, cut_off, stays, lines_of_some}
 use Rattle.line_words.proofs.Splits.{has_no, cut_at, cut_joined, joined_before, flat_map-map, is_piece, joined_ends}
-use Rattle.event_lines.proofs.WrittenLines.{line_read, line_written, has_plain_name, line_on_one_line}
+use Rattle.event_lines.proofs.WrittenLines.{read_line_is_text, text_reads_as_line, has_plain_name, line_on_one_line}
 
 -- ---- one line after another
 then_ok : {A B F : Type 0} (r : Result A F) (f : A → Result B F) (y : B) → (r >>= f) ≡ Ok y → (x : A) × (r ≡ Ok x) × (f x ≡ Ok y)
@@ -29,23 +29,23 @@ some_of_ok None fault x e = absurd cc
 abbrev AreLines : Plan → List (List ℕ) → List Line → Type 0
 AreLines plan texts lines = (list_all (is_lawful_line plan) lines ≡ true) × (texts ≡ map (line_text plan) lines)
 
-lines_read : (plan : Plan) (i : ℕ) (texts : List (List ℕ)) (lines : List Line) → read_each (line_at plan) i texts ≡ Ok lines → AreLines plan texts lines
-lines_read plan i [] [] read = (refl, refl)
-lines_read plan i [] (line ∷ lines) read = absurd cc
-lines_read plan i (text ∷ texts) lines read =
+read_texts_are_lines : (plan : Plan) (i : ℕ) (texts : List (List ℕ)) (lines : List Line) → read_each (line_at plan) i texts ≡ Ok lines → AreLines plan texts lines
+read_texts_are_lines plan i [] [] read = (refl, refl)
+read_texts_are_lines plan i [] (line ∷ lines) read = absurd cc
+read_texts_are_lines plan i (text ∷ texts) lines read =
     let first = then_ok (line_at plan i text) _ lines read in
     let others = then_ok (read_each (line_at plan) (i + 1) texts) _ lines first.2 in
-    let one = line_read plan text first.0 (some_of_ok (line_of plan text) (i + 1) first.0 first.1) in
-    let more = lines_read plan (i + 1) texts others.0 others.1 in
+    let one = read_line_is_text plan text first.0 (some_of_ok (line_of plan text) (i + 1) first.0 first.1) in
+    let more = read_texts_are_lines plan (i + 1) texts others.0 others.1 in
     let whole : first.0 ∷ others.0 ≡ lines = cc (others.2) in
     subst (λ (ls : List Line). AreLines plan (text ∷ texts) ls) whole (and_from _ _ one.0 more.0, ap₂ (λ (x : List ℕ) (xs : List (List ℕ)). x ∷ xs) one.1 more.1)
 
-lines_written : (plan : Plan) (i : ℕ) (lines : List Line) → are_distinct (pool_names plan) ≡ true → list_all (is_lawful_line plan) lines ≡ true
+texts_read_as_lines : (plan : Plan) (i : ℕ) (lines : List Line) → are_distinct (pool_names plan) ≡ true → list_all (is_lawful_line plan) lines ≡ true
     → read_each (line_at plan) i (map (line_text plan) lines) ≡ Ok lines
-lines_written plan i [] distinct lawful = refl
-lines_written plan i (line ∷ lines) distinct lawful =
+texts_read_as_lines plan i [] distinct lawful = refl
+texts_read_as_lines plan i (line ∷ lines) distinct lawful =
     let parts = and_parts (is_lawful_line plan line) (list_all (is_lawful_line plan) lines) lawful in
-    rw (line_written plan line distinct parts.0, lines_written plan (i + 1) lines distinct parts.1) refl
+    rw (text_reads_as_line plan line distinct parts.0, texts_read_as_lines plan (i + 1) lines distinct parts.1) refl
 
 pieces_of_lines : (plan : Plan) (lines : List Line) → list_all has_plain_name plan.pools ≡ true → list_all (is_lawful_line plan) lines ≡ true
     → list_all (is_piece 10) (map (line_text plan) lines) ≡ true
@@ -79,9 +79,9 @@ same_fronts (x ∷ xs) (y ∷ ys) c e =
 
 -- ---- whole texts
 -- some lines are read of a text that is not empty
-some_lines_read : (plan : Plan) (text : List ℕ) (lines : List Line) → 0 < length text → read_each (line_at plan) 0 (lines_of text) ≡ Ok lines
+read_lines_are_text : (plan : Plan) (text : List ℕ) (lines : List Line) → 0 < length text → read_each (line_at plan) 0 (lines_of text) ≡ Ok lines
     → (list_all (is_lawful_line plan) lines ≡ true) × ((text ≡ lines_text plan lines) ⊎ (text ++ 10 ∷ [] ≡ lines_text plan lines))
-some_lines_read plan text lines some read = by_lines lines (lines_read plan 0 (lines_of text) lines read)
+read_lines_are_text plan text lines some read = by_lines lines (read_texts_are_lines plan 0 (lines_of text) lines read)
   where
     by_lines : (lines : List Line) → AreLines plan (lines_of text) lines
         → (list_all (is_lawful_line plan) lines ≡ true) × ((text ≡ lines_text plan lines) ⊎ (text ++ 10 ∷ [] ≡ lines_text plan lines))
@@ -98,7 +98,7 @@ texts_read : (plan : Plan) (text : List ℕ) (lines : List Line) → event_lines
 unfolding event_lines lines_of
 texts_read plan [] [] read = (refl, inl refl)
 texts_read plan [] (line ∷ lines) read = absurd cc
-texts_read plan (b ∷ text) lines read = some_lines_read plan (b ∷ text) lines (omega arith) read
+texts_read plan (b ∷ text) lines read = read_lines_are_text plan (b ∷ text) lines (omega arith) read
 
 -- a text whose lines, without the last newline, are those put together
 read_back : (plan : Plan) (text : List ℕ) (line : Line) (lines : List Line) → are_distinct (pool_names plan) ≡ true → list_all has_plain_name plan.pools ≡ true → list_all (is_lawful_line plan) (line ∷ lines) ≡ true
@@ -109,7 +109,7 @@ read_back plan text line lines distinct names lawful some same =
     lines_of_some text some ∙ ap (cut_at 10) same
     ∙ cut_joined 10 (line_text plan line) (map (line_text plan) lines) (whole_pieces (map (line_text plan) (line ∷ lines)) (pieces_of_lines plan (line ∷ lines) names lawful))
     in
-    ap (λ (texts : List (List ℕ)). read_each (line_at plan) 0 texts) cut ∙ lines_written plan 0 (line ∷ lines) distinct lawful
+    ap (λ (texts : List (List ℕ)). read_each (line_at plan) 0 texts) cut ∙ texts_read_as_lines plan 0 (line ∷ lines) distinct lawful
 
 texts_written : (plan : Plan) (text : List ℕ) (lines : List Line) → are_distinct (pool_names plan) ≡ true → list_all has_plain_name plan.pools ≡ true → list_all (is_lawful_line plan) lines ≡ true
     → (text ≡ lines_text plan lines) ⊎ (text ++ 10 ∷ [] ≡ lines_text plan lines) → event_lines plan text ≡ Ok lines

@@ -7,7 +7,7 @@ use Rattle.written_machine.specs.declared.event.Event.{Event}
 use Rattle.written_machine.specs.declared.event.Event.TheVariants as event
 use Rattle.event_lines.specs.declared.event_line.EventLine.{EventLine}
 use Rattle.event_lines.specs.declared.event_line.EventLine.TheVariants as code
-use Rattle.event_lines.specs.declared.lines.BadLine.{BadLine}
+use Rattle.event_lines.specs.declared.lines.BadEventLine.{BadEventLine}
 use Rattle.line_words.specs.Pieces.{lines_of, split_space, first_line, behind_line}
 use Rattle.line_words.specs.Number.{number_of}
 use Rattle.event_lines.specs.Words.{members_in}
@@ -62,7 +62,7 @@ event_lines plan text = read_each (line_at plan) 0 (lines_of text)
 -- ---- one line after another
 
 -- what a line says, as the program reads it
-abbrev pub line_read : Result EventLine BadLine → Option Line
+abbrev pub line_read : Result EventLine BadEventLine → Option Line
 line_read (Ok line) = Some (line_seen line)
 line_read (Err bad) = None
 

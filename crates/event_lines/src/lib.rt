@@ -13,7 +13,6 @@ mod reply;
 
 pub use event_line::EventLine;
 pub use laws::event_lines_are_canonical;
-pub use line_words::MAX_NUMBER;
-pub use lines::{BadLine, EventLines};
+pub use lines::{BadEventLine, EventLines};
 pub use named_jobs::NamedJobs;
 pub use reply::{Reply, push_reply, push_summary};

@@ -18,7 +18,7 @@ pub struct EventLines<'a> {
 
 /// A line that is none of the forms of a line of events.
 #[derive(Clone, Copy, Debug, PartialEq, Eq)]
-pub struct BadLine;
+pub struct BadEventLine;
 
 impl<'a> Model for EventLines<'a> {
     ghost use Rattle.std.specs.Prelude.{List, Option};
@@ -31,7 +31,7 @@ impl<'a> Model for EventLines<'a> {
 
 impl<'a> EventLines<'a> {
     /// The lines of a text, each `client N`, `job N`, `take POOL`, `retire POOL` or `stuck N N ..`. A number is at most
-    /// [`MAX_NUMBER`](crate::MAX_NUMBER), and has no leading zero; a pool is one of the plan's, by its name. The last
+    /// [`MAX_LINE_NUMBER`](job_bodies::MAX_LINE_NUMBER), and has no leading zero; a pool is one of the plan's, by its name. The last
     /// newline may be missing.
     pub fn new(plan: &'a Plan, text: &'a [u8]) -> EventLines<'a>
         ensures lines { result ≡ lines_read plan.now text.now }
@@ -44,9 +44,9 @@ impl<'a> EventLines<'a> {
     ///
     /// # Errors
     ///
-    /// [`BadLine`] in the place of a line that is none of the forms. The lines behind it can be read.
+    /// [`BadEventLine`] in the place of a line that is none of the forms. The lines behind it can be read.
     #[inline(always)]
-    pub fn next(&mut self) -> Option<Result<EventLine<'a>, BadLine>>
+    pub fn next(&mut self) -> Option<Result<EventLine<'a>, BadEventLine>>
         ensures { MatchOption result ((self.old ≡ []) × (self.new ≡ [])) (λ line. self.old ≡ line_read line ∷ self.new) }
     {
         if self.rest.is_empty() {
@@ -60,7 +60,7 @@ impl<'a> EventLines<'a> {
             None => {
                 let (_, behind) = split_line(self.rest);
                 self.rest = behind;
-                Some(Err(BadLine))
+                Some(Err(BadEventLine))
             }
         }
     }

@@ -3,8 +3,10 @@
 #![tactic(auto)]
 
 mod head;
+mod laws;
 mod name;
 pub mod number;
 
 pub use head::Head;
+pub use laws::fault_numbers_are_stated;
 pub use name::name_of;

@@ -4,11 +4,10 @@ use Rattle.std.specs.List.{list_all, enumerate_from}
 use Rattle.std.proofs.lemmas.Bool.{and_parts}
 use Rattle.std.proofs.lemmas.List.Sums.{sum_by-cons}
 use Rattle.std.proofs.lemmas.Nat.{mul-le}
-use Rattle.job_bodies.specs.declared.limits.TheConstants.{MAX_POOLS, MAX_CLIENT_KINDS, MAX_SIZE}
+use Rattle.job_bodies.specs.declared.limits.TheConstants.{MAX_POOLS, MAX_CLIENT_KINDS, MAX_SIZE, MAX_WEIGHT}
 use Rattle.job_bodies.specs.Plan.{Pool, Client, Plan}
 use Rattle.job_bodies.specs.WellFormed.{is_lawful_name, is_within, has_lawful_sizes, is_lawful_body, is_lawful_client, IsWellFormed}
 use Rattle.job_bodies.proofs.Bodies.{within_bounds}
-use Rattle.weights.specs.declared.limits.TheConstants.{MAX_WEIGHT}
 use Rattle.weights.specs.Vector.{Vector, workers_weight, client_weight, vector_fits, total}
 use Rattle.weights.proofs.Fitting.{fits}
 use Rattle.fitted_sizes.proofs.Changes.{has_sizes, all_sized}

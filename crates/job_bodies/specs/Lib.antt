@@ -5,3 +5,4 @@ pub mod Got
 pub mod Checks
 pub mod Build
 pub mod FaultText
+pub mod Limits

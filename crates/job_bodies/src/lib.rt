@@ -11,15 +11,20 @@ mod checks;
 mod copies;
 mod fault;
 mod fault_text;
+mod laws;
 mod limits;
 mod names;
 mod plan;
 
 pub use action::{Action, is_got};
 pub use fault::{Part, PlanFault};
+pub use laws::limits_are_stated;
 pub use limits::{
-    MAX_ACTIONS, MAX_CLASSES, MAX_CLIENT_KINDS, MAX_NAME_BYTES, MAX_POOLS, MAX_SIZE, MAX_WORK,
-    is_within,
+    DEFAULT_STATES, DEFAULT_WORKERS, MAX_ACTIONS, MAX_CERT_BYTES, MAX_CLASSES, MAX_CLIENT_KINDS,
+    MAX_EVENT_BYTES, MAX_INPUT_BYTES, MAX_LINE_NUMBER, MAX_NAME_BYTES, MAX_PATH_STEPS,
+    MAX_PLAN_BYTES, MAX_POOLS, MAX_RECORDED_BYTES, MAX_RECORDED_ROUNDS, MAX_ROUNDS,
+    MAX_RUN_CARRIERS, MAX_RUN_CLIENTS, MAX_RUN_EVENTS, MAX_SIZE, MAX_STATES, MAX_WEIGHT, MAX_WORK,
+    MAX_WORKERS, is_within,
 };
 pub use names::is_lawful_name;
 pub use plan::{Class, Client, Plan, Pool};

@@ -4,8 +4,8 @@ use Rattle.serde_json.specs.Data.{Data, number, unsigned, string, array, object,
 use Rattle.serde_json.specs.Written.{IsInOrder}
 use Rattle.serde_json.specs.View.{view}
 use Rattle.json_answers.specs.declared.answers.AnswerParts.{AnswerParts}
-use Rattle.ask_answers.specs.declared.finding.Finding.{Finding}
-use Rattle.ask_answers.specs.declared.finding.Finding.TheVariants.{Safe, NotSafe, NotDecided}
+use Rattle.ask_answers.specs.declared.finding.PlanFinding.{PlanFinding}
+use Rattle.ask_answers.specs.declared.finding.PlanFinding.TheVariants.{Safe, NotSafe, NotDecided}
 
 -- what an answer says beside itself
 pub record Rest : Type 0 where
@@ -36,13 +36,13 @@ pub record IsLineOf (value : Data) (text : List ℕ) : Type 0 where
   pub in_order : IsInOrder json value
   pub is : text ≡ json ++ 10 ∷ []
 
-abbrev pub word_of : Finding → List ℕ
+abbrev pub word_of : PlanFinding → List ℕ
 word_of (Safe cert) = codes "SAFE"
 word_of (NotSafe witness sizes) = codes "NOT SAFE"
 word_of (NotDecided sizes) = codes "NOT DECIDED"
 
 -- the answer is what was found
-pub record TellsFinding (finding : Finding) (text : List ℕ) : Type 0 where
+pub record TellsFinding (finding : PlanFinding) (text : List ℕ) : Type 0 where
   pub rest : Rest
   pub is_line : IsLineOf (answer_data (word_of finding) rest) text
 

@@ -11,7 +11,7 @@ use crate::pools::{bounded_pools, no_pools};
 use crate::sizes::sizes_value;
 use crate::warnings::warnings_value;
 use crate::witness::witness_value;
-use ask_answers::Finding;
+use ask_answers::PlanFinding;
 use job_bodies::Plan;
 use plan_advice::{Faults, Warning};
 use serde_json::{Value, json};
@@ -37,7 +37,7 @@ pub fn finding_json(
     alloc: Global,
     file: &str,
     plan: &Plan,
-    finding: &Finding,
+    finding: &PlanFinding,
     warnings: &[Warning],
 ) -> Result<String, AllocError>
     ensures { IfOk result (λ text. spec.TellsFinding finding.now (string_bytes text)) }
@@ -76,13 +76,13 @@ pub fn fault_json(alloc: Global, file: &str, number: u8, words: &str) -> Result<
 }
 
 /// The word for what was found.
-fn word_of(finding: &Finding) -> &'static str
+fn word_of(finding: &PlanFinding) -> &'static str
     ensures { result.now ≡ spec.word_of finding.now }
 {
     match finding {
-        Finding::Safe(_) => "SAFE",
-        Finding::NotSafe(_, _) => "NOT SAFE",
-        Finding::NotDecided(_) => "NOT DECIDED",
+        PlanFinding::Safe(_) => "SAFE",
+        PlanFinding::NotSafe(_, _) => "NOT SAFE",
+        PlanFinding::NotDecided(_) => "NOT DECIDED",
     }
 }
 
@@ -124,17 +124,17 @@ fn rest_of(
     alloc: Global,
     file: &str,
     plan: &Plan,
-    finding: &Finding,
+    finding: &PlanFinding,
     warnings: &[Warning],
 ) -> Result<AnswerParts, AllocError> {
     let (pools, sizes, witness) = match finding {
-        Finding::Safe(cert) => (bounded_pools(alloc, plan, cert)?, Value::Null, Value::Null),
-        Finding::NotSafe(witness, sizes) => (
+        PlanFinding::Safe(cert) => (bounded_pools(alloc, plan, cert)?, Value::Null, Value::Null),
+        PlanFinding::NotSafe(witness, sizes) => (
             no_pools(alloc, plan)?,
             sizes_value(alloc, plan, sizes)?,
             witness_value(alloc, plan, witness)?,
         ),
-        Finding::NotDecided(sizes) => (
+        PlanFinding::NotDecided(sizes) => (
             no_pools(alloc, plan)?,
             sizes_value(alloc, plan, sizes)?,
             Value::Null,

@@ -1,13 +1,14 @@
 -- The first pool of each name, where one more pool comes.
-use Rattle.std.proofs.Common.{◌≡◌, ℕ, Bool, true, false, if◌then◌else◌, List, [], ◌∷◌, ◌++◌, Option, Some, None, refl, ap, ◌∙◌, arith}
+use Rattle.std.proofs.Common.{◌≡◌, ◌≤◌, ℕ, zero, suc, Bool, true, false, if◌then◌else◌, List, [], ◌∷◌, ◌++◌, length, length-append, slice_get, Option, Some, None, refl, ap, sym, ◌∙◌, arith}
 use Rattle.std.specs.List.{filter, filter_map, cons_option}
 use Rattle.std.specs.Option.{option_to_list}
 use Rattle.std.specs.Str.{bytes_eq}
 use Rattle.std.proofs.lemmas.List.Elements.{filter_map-append}
-use Rattle.std.proofs.lemmas.List.{append-nil}
+use Rattle.std.proofs.lemmas.List.{append-nil, append_assoc}
 use Rattle.std.proofs.lemmas.Slice.Eq.{bytes_eq-Decides}
 use Rattle.job_bodies.specs.Plan.{Pool}
 use Rattle.recording_lines.specs.RecordingLine.{RecordedLine}
+use Rattle.learned_plans.specs.Kept.{AreFirstPools}
 use Rattle.learned_plans.specs.Pools.{pool_of_line, has_other_name, firsts, pools_seen, has_name, with_first, with_first_of}
 
 -- of two names, the second of which is a third one, the first is the third one or not as it is the second one
@@ -51,3 +52,40 @@ as_list (Some pool) = refl
 pub pools_more : (before : List RecordedLine) (line : RecordedLine) → pools_seen (before ++ line ∷ []) ≡ with_first_of (pool_of_line line) (pools_seen before)
 unfolding pools_seen
 pools_more before line = ap firsts (filter_map-append pool_of_line before (line ∷ []) ∙ ap (λ more. filter_map pool_of_line before ++ more) (as_list (pool_of_line line))) ∙ behind_all (pool_of_line line) (filter_map pool_of_line before)
+
+-- ---- the pools of the first lines
+first_begins : (has : Bool) (pools : List Pool) (p : Pool) → has_name p.name pools ≡ has → (more : List Pool) × (with_first pools p ≡ pools ++ more)
+first_begins true pools p has = ([], grind (arith, has, append-nil pools))
+first_begins false pools p has = (p ∷ [], grind (arith, has))
+
+one_begins : (one : Option Pool) (pools : List Pool) → (more : List Pool) × (with_first_of one pools ≡ pools ++ more)
+one_begins None pools = ([], sym (append-nil pools))
+one_begins (Some pool) pools = first_begins (has_name pool.name pools) pools pool refl
+
+-- the pools of some lines are the first ones of those of more lines
+pools_begin : (before behind : List RecordedLine) → (more : List Pool) × (pools_seen (before ++ behind) ≡ pools_seen before ++ more)
+pools_begin before [] = ([], ap pools_seen (append-nil before) ∙ sym (append-nil (pools_seen before)))
+pools_begin before (line ∷ behind) =
+    let rest = pools_begin (before ++ line ∷ []) behind in
+    let one = one_begins (pool_of_line line) (pools_seen before) in (
+      one.0 ++ rest.0,
+      ap pools_seen (sym (append_assoc before (line ∷ []) behind)) ∙ rest.1 ∙ ap (λ pools. pools ++ rest.0) (pools_more before line ∙ one.1) ∙ append_assoc (pools_seen before) one.0 rest.0,
+    )
+
+still_there : (pools more : List Pool) (n : ℕ) (pool : Pool) → slice_get pools n ≡ Some pool → slice_get (pools ++ more) n ≡ Some pool
+still_there [] more n pool there = absurd (grind (arith, there))
+still_there (first ∷ pools) more zero pool there = there
+still_there (first ∷ pools) more (suc n) pool there = still_there pools more n pool there
+
+pub first_pools : (before behind : List RecordedLine) (pools : List Pool) → pools ≡ pools_seen before → AreFirstPools (before ++ behind) pools
+first_pools before behind pools same n pool there =
+    let more = pools_begin before behind in
+    ap (λ ps. slice_get ps n) more.1 ∙ still_there (pools_seen before) more.0 n pool (ap (λ ps. slice_get ps n) (sym same) ∙ there)
+
+pub no_fewer_pools : (before behind : List RecordedLine) (line : RecordedLine) (pools : List Pool) → pools ≡ pools_seen before
+    → length (with_first_of (pool_of_line line) pools) ≤ length (pools_seen (before ++ line ∷ behind))
+no_fewer_pools before behind line pools same =
+    let more = pools_begin (before ++ line ∷ []) behind in
+    let now : with_first_of (pool_of_line line) pools ≡ pools_seen (before ++ line ∷ []) = ap (with_first_of (pool_of_line line)) same ∙ sym (pools_more before line) in
+    let all : pools_seen (before ++ line ∷ behind) ≡ pools_seen (before ++ line ∷ []) ++ more.0 = ap pools_seen (sym (append_assoc before (line ∷ []) behind)) ∙ more.1 in
+    omega (arith, ap (λ (ps : List Pool). length ps) now, ap (λ (ps : List Pool). length ps) all, length-append (pools_seen (before ++ line ∷ [])) more.0)

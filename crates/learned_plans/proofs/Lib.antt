@@ -3,3 +3,4 @@ pub mod Firsts
 pub mod Named
 pub mod Tallies
 pub mod Pushed
+pub mod Entered

@@ -1,6 +1,9 @@
 -- How many clients there are of a kind, by the rounds that are of it.
-use Rattle.std.specs.Prelude.{◌≡◌, ◌≤◌, ℕ, ◌-◌, ◌==◌, Bool, false, max, nat_lt, List, take, slice_get, Option, Some, None, count_by}
+use Rattle.std.specs.Prelude.{◌≡◌, ◌≤◌, ◌<◌, ℕ, ◌-◌, ◌==◌, Bool, false, max, nat_lt, List, map, take, slice_get, Option, Some, None, count_by, ⊤}
+use Rattle.std.specs.List.{All}
+use Rattle.job_bodies.specs.declared.limits.TheConstants.{MAX_SIZE}
 use Rattle.job_bodies.specs.Plan.{Client}
+use Rattle.plan_families.specs.Family.{IsOfFamily}
 use Rattle.recording_lines.specs.RecordingLine.{RecordedLine, RoundBegins, RoundEnds}
 
 -- the kind of each round, by its number
@@ -37,6 +40,34 @@ pub record IsMostAtOnce (kinds : Kinds) (kind : ℕ) (lines : List RecordedLine)
   pub never_more : (n : ℕ) → open_of kinds kind (take n lines) ≤ most
   pub once : (n : ℕ) × (open_of kinds kind (take n lines) ≡ most)
 
+-- ---- the names of the kinds
+-- the round is of a kind, whose name, of these, is of the label's family
+pub record IsOfKind (kinds : Kinds) (names : List (List ℕ)) (round : ℕ) (label : List ℕ) : Type 0 where
+  pub kind : ℕ
+  pub is_kind : kinds round ≡ Some kind
+  pub name : List ℕ
+  pub is_name : slice_get names kind ≡ Some name
+  pub named : IsOfFamily label name
+
+-- where the line begins a round, it is so of the round
+abbrev pub BeginsOfKind : Kinds → List (List ℕ) → RecordedLine → Type 0
+BeginsOfKind kinds names (RoundBegins round label) = IsOfKind kinds names round label
+BeginsOfKind kinds names line = ⊤
+
+-- each round that began is of one of the kinds of these names, as its label says
+abbrev pub AreOfKinds : Kinds → List (List ℕ) → List RecordedLine → Type 0
+AreOfKinds kinds names lines = All (BeginsOfKind kinds names) lines
+
+-- by such kinds, more of one kind were at once than a plan may have clients
+pub record IsCrowded (lines : List RecordedLine) : Type 0 where
+  pub kinds : Kinds
+  pub names : List (List ℕ)
+  pub of_kinds : AreOfKinds kinds names lines
+  pub kind : ℕ
+  pub most : ℕ
+  pub at_once : IsMostAtOnce kinds kind lines most
+  pub beyond : MAX_SIZE < most
+
 -- ---- the clients of a kind
 -- as many as were ever at once, and one at least; they repeat where more began in all
 pub record IsCounted (kinds : Kinds) (lines : List RecordedLine) (kind : ℕ) (client : Client) : Type 0 where
@@ -45,6 +76,11 @@ pub record IsCounted (kinds : Kinds) (lines : List RecordedLine) (kind : ℕ) (c
   pub count : client.count ≡ max most 1
   pub repeat : client.repeat ≡ nat_lt most (begun_of kinds kind lines)
 
--- each kind is counted, for some kinds that the rounds may be of
-abbrev pub AreCounted : List RecordedLine → List Client → Type 0
-AreCounted lines clients = (kinds : Kinds) × ((kind : ℕ) (client : Client) → slice_get clients kind ≡ Some client → IsCounted kinds lines kind client)
+abbrev pub client_names : List Client → List (List ℕ)
+client_names clients = map (λ client. client.name) clients
+
+-- each round is of a kind, as its label and the kind's name say, and each kind is counted by the rounds that are of it
+pub record AreCounted (lines : List RecordedLine) (clients : List Client) : Type 0 where
+  pub kinds : Kinds
+  pub of_kinds : AreOfKinds kinds (client_names clients) lines
+  pub each : (kind : ℕ) (client : Client) → slice_get clients kind ≡ Some client → IsCounted kinds lines kind client

@@ -1,12 +1,25 @@
 -- What is kept of the lines so far, and how it stands for them.
-use Rattle.std.specs.Prelude.{◌≡◌, ℕ, ◌+◌, ◌-◌, max, if◌then◌else◌, List, slice_get, Option, Some}
+use Rattle.std.specs.Prelude.{◌≡◌, ◌≤◌, ℕ, ◌+◌, ◌-◌, max, if◌then◌else◌, List, map, slice_get, string_bytes, Option, Some, ⊤}
+use Rattle.std.specs.List.{All}
 use Rattle.std.specs.Option.{option_map, option_and_then}
+use Rattle.job_bodies.specs.declared.limits.TheConstants.{MAX_CLASSES}
+use Rattle.job_bodies.specs.Plan.{Pool}
+use Rattle.plan_families.specs.Family.{IsOfFamily}
 use Rattle.recording_lines.specs.RecordingLine.{RecordedLine}
 use Rattle.recorded_rules.specs.Before.{begins, submits}
 use Rattle.learned_plans.specs.declared.seen_names.SeenNames.{SeenNames}
 use Rattle.learned_plans.specs.declared.counts.KindCount.{KindCount}
 use Rattle.learned_plans.specs.Counts.{Kinds, is_kind, begun_of, ended_of, IsMostAtOnce}
+use Rattle.learned_plans.specs.declared.entries.Entry.{Entry}
+use Rattle.learned_plans.specs.declared.entries.Entries.{Entries}
+use Rattle.learned_plans.specs.declared.stop.Stop.{Stop}
+use Rattle.learned_plans.specs.declared.stop.Stop.TheVariants as stop
+use Rattle.learned_plans.specs.declared.too_much.TooMuch.{TooMuch}
+use Rattle.learned_plans.specs.declared.too_much.TooMuch.TheVariants as reason
+use Rattle.learned_plans.specs.declared.working.Working.{Working}
+use Rattle.learned_plans.specs.Names.{HasBegun, WasSubmitted, IsLong}
 use Rattle.learned_plans.specs.Pools.{pools_seen}
+use Rattle.learned_plans.specs.TooMuch.{IsReason}
 use Rattle.learned_plans.specs.Unfinished.{round_ends, job_starts, job_ends}
 
 -- ---- what the lines name
@@ -41,3 +54,46 @@ with_end count = record count { ended = count.ended + 1 }
 -- the count of this kind, where there is one, is changed, and no other one
 abbrev pub ChangesOne : Option ℕ → (KindCount → KindCount) → List KindCount → List KindCount → Type 0
 ChangesOne kind change old new = (one : ℕ) → slice_get new one ≡ (if is_kind one kind then option_map change (slice_get old one) else slice_get old one)
+
+-- ---- classes and kinds, while their bodies are learned
+-- these are the first ones of the pools of the lines
+abbrev pub AreFirstPools : List RecordedLine → List Pool → Type 0
+AreFirstPools lines pools = (n : ℕ) (pool : Pool) → slice_get pools n ≡ Some pool → slice_get (pools_seen lines) n ≡ Some pool
+
+-- the lines give the label to a job that is submitted to the pool of this number
+pub record IsJobLabel (lines : List RecordedLine) (label : List ℕ) (number : ℕ) : Type 0 where
+  pub pool : Pool
+  pub is_pool : slice_get (pools_seen lines) number ≡ Some pool
+  pub submitted : WasSubmitted lines label pool.name
+
+-- the lines give the label to what is one too many where that is the reason
+abbrev pub IsGiven : List RecordedLine → TooMuch → List ℕ → ℕ → Type 0
+IsGiven lines reason.Classes label pool = IsJobLabel lines label pool
+IsGiven lines reason.Kinds label pool = HasBegun lines label
+IsGiven lines other label pool = ⊥
+
+pub record IsEntryOf (lines : List RecordedLine) (beyond : TooMuch) (entry : Entry) : Type 0 where
+  pub given : IsGiven lines beyond (string_bytes entry.label) entry.pool
+  pub named : IsOfFamily (string_bytes entry.label) (string_bytes entry.name)
+
+pub record AreEntriesOf (lines : List RecordedLine) (beyond : TooMuch) (entries : Entries) : Type 0 where
+  pub each : All (IsEntryOf lines beyond) entries.entries.items
+  pub few : entries.limit ≤ MAX_CLASSES
+  pub told : entries.beyond ≡ beyond
+
+pub record AreWorkingOf (lines : List RecordedLine) (working : Working) : Type 0 where
+  pub classes : AreEntriesOf lines reason.Classes working.classes
+  pub kinds : AreEntriesOf lines reason.Kinds working.kinds
+
+abbrev pub names_of : List Entry → List (List ℕ)
+names_of entries = map (λ entry. string_bytes entry.name) entries
+
+-- ---- why learning ends early
+abbrev pub IsStop : List RecordedLine → Stop → Type 0
+IsStop lines (stop.Memory error) = ⊤
+IsStop lines (stop.TooMuch why) = IsReason lines why
+
+-- no name was found for the label
+abbrev pub IsNoName : List ℕ → Stop → Type 0
+IsNoName label (stop.Memory error) = ⊤
+IsNoName label (stop.TooMuch why) = (why ≡ reason.Names) × IsLong label

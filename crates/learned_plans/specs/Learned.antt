@@ -6,6 +6,7 @@ use Rattle.recorded_rules.specs.declared.fault.RecordingFault.{RecordingFault}
 use Rattle.learned_plans.specs.declared.learned.Learned.{Learned}
 use Rattle.learned_plans.specs.declared.learned.Learned.TheVariants.{Bad, Seen, TooMuch}
 use Rattle.learned_plans.specs.declared.learned.SeenPlan.{SeenPlan}
+use Rattle.learned_plans.specs.declared.too_much.TooMuch.{TooMuch as TooMuchReason}
 
 -- the lines of a recording, those that have none of the forms left out
 abbrev pub lines_of : List ℕ → List RecordedLine
@@ -22,3 +23,9 @@ abbrev pub IfSeen : (SeenPlan → Type 0) → Learned → Type 0
 IfSeen P (Seen seen) = P seen
 IfSeen P (Bad fault) = ⊤
 IfSeen P (TooMuch reason) = ⊤
+
+-- where it is too much, this holds of the reason
+abbrev pub IfTooMuch : (TooMuchReason → Type 0) → Learned → Type 0
+IfTooMuch P (TooMuch reason) = P reason
+IfTooMuch P (Seen seen) = ⊤
+IfTooMuch P (Bad fault) = ⊤

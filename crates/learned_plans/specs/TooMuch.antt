@@ -1,7 +1,30 @@
--- The words for why no plan was learned.
-use Rattle.std.specs.Prelude.{ℕ, List, codes}
+-- Why no plan was learned of a good recording: when, and in which words.
+use Rattle.std.specs.Prelude.{◌<◌, ◌⊎◌, ℕ, List, length, codes, ⊤}
+use Rattle.job_bodies.specs.declared.limits.TheConstants.{MAX_POOLS}
+use Rattle.recording_lines.specs.RecordingLine.{RecordedLine}
 use Rattle.learned_plans.specs.declared.too_much.TooMuch.{TooMuch}
 use Rattle.learned_plans.specs.declared.too_much.TooMuch.TheVariants.{Pools, Classes, Kinds, Names, Rounds, Paths, Text}
+use Rattle.learned_plans.specs.Counts.{IsCrowded}
+use Rattle.learned_plans.specs.Names.{HasBegun, WasSubmitted, IsLong}
+use Rattle.learned_plans.specs.Pools.{pools_seen}
+
+-- ---- when
+-- the lines give the label to a round or to a job
+abbrev pub IsLabel : List RecordedLine → List ℕ → Type 0
+IsLabel lines label = HasBegun lines label ⊎ ((pool : List ℕ) × WasSubmitted lines label pool)
+
+-- what the lines have where this is the reason. There may be too many classes, or kinds, once there are jobs, or rounds: how
+-- many bodies they need is not said, nor which of their paths have none. No text is written here, and so none is too long.
+abbrev pub IsReason : List RecordedLine → TooMuch → Type 0
+IsReason lines Pools = MAX_POOLS < length (pools_seen lines)
+IsReason lines Classes = (label : List ℕ) × (pool : List ℕ) × WasSubmitted lines label pool
+IsReason lines Kinds = (label : List ℕ) × HasBegun lines label
+IsReason lines Names = (label : List ℕ) × IsLabel lines label × IsLong label
+IsReason lines Rounds = IsCrowded lines
+IsReason lines Paths = ⊤
+IsReason lines Text = ⊥
+
+-- ---- in which words
 
 abbrev pub too_much_text : TooMuch → List ℕ
 too_much_text Pools = codes "more pools than a plan may have"

@@ -1,11 +1,16 @@
 //! How many clients there are of each kind.
 
-ghost use Rattle.std.specs.Prelude.{◌≡◌, ◌++◌, ◌∷◌, [], ℕ, List, length, OnOk, IfOk};
+ghost use Rattle.std.specs.Prelude.{◌≡◌, ◌++◌, ◌∷◌, [], ℕ, List, Some, length, slice_get, OnOk, IfOk, IfErr, IsTrue};
+ghost use Rattle.plan_families.specs.Family.{IsOfFamily};
 ghost use Rattle.recording_lines.specs.RecordingLine.{RecordedLine, line_seen};
-ghost use Rattle.learned_plans.specs.Counts.{Kinds, is_kind, begins_one, ends_one};
-ghost use Rattle.learned_plans.specs.Kept.{IsCountOf, AreCountsOf, ChangesOne, kinds_in, with_begin, with_end};
+ghost use Rattle.learned_plans.specs.Counts.{AreOfKinds, BeginsOfKind, IsOfKind, Kinds, is_kind, begins_one, ends_one};
+ghost use Rattle.learned_plans.specs.Kept.{IsCountOf, AreCountsOf, ChangesOne, IsStop, kinds_in, names_of, with_begin, with_end};
 ghost use Rattle.learned_plans.specs.Learned.{lines_of};
 
+use crate::entries::Entry;
+use crate::stop::Stop;
+use crate::too_much::TooMuch;
+use plan_families::is_of_family;
 use recording_lines::{Line, RecordingLines};
 use std::alloc::{AllocError, Global};
 
@@ -46,27 +51,62 @@ impl KindCount {
     }
 }
 
-/// The rounds of each kind, where each round is of the kind that stands at its number.
+/// The rounds of each of these kinds, where each round is of the kind that stands at its number.
 ///
 /// # Errors
 ///
-/// `AllocError` where there is no memory for them.
+/// [`Stop::TooMuch`] where a round is of no kind, or of one whose name is not of its label's family; [`Stop::Memory`] where
+/// there is no memory for them.
 pub(crate) fn kind_counts(
     alloc: Global,
     recording: &[u8],
     kinds: &[Option<usize>],
-    count: usize,
-) -> Result<Vec<KindCount>, AllocError>
-    ensures { IfOk result (λ counts. AreCountsOf (kinds_in kinds.now) (lines_of recording.now) counts.items) }
+    entries: &[Entry],
+) -> Result<Vec<KindCount>, Stop>
+    ensures counts { IfOk result (λ counts. AreCountsOf (kinds_in kinds.now) (lines_of recording.now) counts.items) }
+    ensures of_kinds { IfOk result (λ counts. AreOfKinds (kinds_in kinds.now) (names_of entries.now) (lines_of recording.now)) }
+    ensures err { (lines : List RecordedLine) → IfErr result (IsStop lines) }
 {
-    let mut counts = no_counts(alloc, count)?;
+    let mut counts = no_counts(alloc, entries.len())?;
     let mut lines = RecordingLines::new(recording);
     while let Some(line) = lines.next() {
         if let Ok(line) = line {
+            if !begins_of_kind(kinds, entries, &line) {
+                return Err(Stop::TooMuch(TooMuch::Paths));
+            }
             note(&mut counts, kinds, &line)?;
         }
     }
     Ok(counts)
+}
+
+// Where the line begins a round, whether that is of a kind whose name is of the label's family.
+fn begins_of_kind(kinds: &[Option<usize>], entries: &[Entry], line: &Line<'_>) -> bool
+    ensures { IsTrue result → BeginsOfKind (kinds_in kinds.now) (names_of entries.now) (line_seen line.now) }
+{
+    match *line {
+        Line::RoundBegins { round, kind } => is_of_kind(kinds, entries, round, kind),
+        _ => true,
+    }
+}
+
+fn is_of_kind(kinds: &[Option<usize>], entries: &[Entry], round: usize, label: &str) -> bool
+    ensures { IsTrue result → IsOfKind (kinds_in kinds.now) (names_of entries.now) round label.now }
+{
+    match kind_of(kinds, round) {
+        Some(kind) => has_name_of(entries, kind, label),
+        None => false,
+    }
+}
+
+// Whether the name of the one of this number is of the label's family.
+fn has_name_of(entries: &[Entry], number: usize, label: &str) -> bool
+    ensures { IsTrue result → (name : List ℕ) × (slice_get (names_of entries.now) number ≡ Some name) × IsOfFamily label.now name }
+{
+    match entries.get(number) {
+        Some(entry) => is_of_family(label, &entry.name),
+        None => false,
+    }
 }
 
 // So many kinds, of which there are no rounds.

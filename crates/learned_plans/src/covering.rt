@@ -1,5 +1,9 @@
 //! Passes over a recording, until each of its actors is of a class or a kind of the plan.
 
+ghost use Rattle.std.specs.Prelude.{◌≡◌, List, OnOk, IfErr};
+ghost use Rattle.recording_lines.specs.RecordingLine.{RecordedLine};
+ghost use Rattle.learned_plans.specs.Kept.{AreWorkingOf, IsStop};
+
 use crate::pass::pass_over;
 use crate::stop::Stop;
 use crate::too_much::TooMuch;
@@ -22,7 +26,10 @@ pub(crate) fn cover_all(
     pools: &[Pool],
     budget: u64,
     working: &mut Working,
-) -> Result<Vec<Option<usize>>, Stop> {
+) -> Result<Vec<Option<usize>>, Stop>
+    ensures ok { (lines : List RecordedLine) → AreWorkingOf lines working.old → OnOk result (AreWorkingOf lines working.new) }
+    ensures err { (lines : List RecordedLine) → AreWorkingOf lines working.old → IfErr result (IsStop lines) }
+{
     for _ in 0..MAX_PASSES {
         let plan = working.plan(pools)?;
         let pass = pass_over(alloc, recording, pools, &plan, budget, working)?;

@@ -1,5 +1,13 @@
 //! The classes of a plan, or its kinds of clients, while their bodies are learned.
 
+ghost use Rattle.std.specs.Prelude.{◌≡◌, ◌≤◌, ◌&&◌, ◌==◌, ◌++◌, ◌∷◌, IsTrue, List, [], OnOk, IfErr, string_bytes};
+ghost use Rattle.std.specs.List.{list_any};
+ghost use Rattle.std.specs.Str.{bytes_eq};
+ghost use Rattle.job_bodies.specs.declared.limits.TheConstants.{MAX_CLASSES};
+ghost use Rattle.recording_lines.specs.RecordingLine.{RecordedLine};
+ghost use Rattle.learned_plans.specs.declared.too_much.TooMuch.{TooMuch as Reason};
+ghost use Rattle.learned_plans.specs.Kept.{AreEntriesOf, IsGiven, IsStop};
+
 use crate::names::free_name;
 use crate::stop::Stop;
 use crate::too_much::TooMuch;
@@ -30,7 +38,9 @@ pub(crate) struct Entries {
 
 impl Entries {
     /// None so far.
-    pub(crate) fn new(alloc: Global, limit: usize, beyond: TooMuch) -> Entries {
+    pub(crate) fn new(alloc: Global, limit: usize, beyond: TooMuch) -> Entries
+        ensures { (lines : List RecordedLine) → limit ≤ MAX_CLASSES → AreEntriesOf lines beyond result }
+    {
         Entries {
             entries: Vec::new(alloc),
             limit,
@@ -44,14 +54,20 @@ impl Entries {
     /// # Errors
     ///
     /// As [`add`](Entries::add).
-    pub(crate) fn note(&mut self, label: &str, pool: usize) -> Result<(), Stop> {
+    pub(crate) fn note(&mut self, label: &str, pool: usize) -> Result<(), Stop>
+        ensures ok { (lines : List RecordedLine) (beyond : Reason) → IsGiven lines beyond label.now pool → AreEntriesOf lines beyond self.old → OnOk result (AreEntriesOf lines beyond self.new) }
+        ensures err { (lines : List RecordedLine) (beyond : Reason) → IsGiven lines beyond label.now pool → AreEntriesOf lines beyond self.old → IfErr result (IsStop lines) }
+    {
         if self.has(label, pool) {
             return Ok(());
         }
         self.add(label, pool, Vec::new(self.alloc))
     }
 
-    fn has(&self, label: &str, pool: usize) -> bool {
+    /// Whether there is one of this label, in this pool.
+    pub(crate) fn has(&self, label: &str, pool: usize) -> bool
+        ensures { (lines : List RecordedLine) (beyond : Reason) → AreEntriesOf lines beyond self.now → IsTrue result → IsGiven lines beyond label.now pool }
+    {
         self.entries.iter().any(|entry| entry.is_of(label, pool))
     }
 
@@ -61,20 +77,30 @@ impl Entries {
     ///
     /// [`Stop::TooMuch`] where a plan may not have one more, or not one of such a name; [`Stop::Memory`] where there is
     /// no memory for it.
-    pub(crate) fn add(&mut self, label: &str, pool: usize, body: Vec<Action>) -> Result<(), Stop> {
+    pub(crate) fn add(&mut self, label: &str, pool: usize, body: Vec<Action>) -> Result<(), Stop>
+        ensures ok { (lines : List RecordedLine) (beyond : Reason) → IsGiven lines beyond label.now pool → AreEntriesOf lines beyond self.old → OnOk result (AreEntriesOf lines beyond self.new) }
+        ensures err { (lines : List RecordedLine) (beyond : Reason) → IsGiven lines beyond label.now pool → AreEntriesOf lines beyond self.old → IfErr result (IsStop lines) }
+    {
         if self.entries.len() >= self.limit {
             return Err(Stop::TooMuch(self.beyond));
         }
         let name = free_name(self.alloc, &self.entries, label)?;
         let label = String::from_str(self.alloc, label)?;
-        self.entries
-            .push(Entry {
-                label,
-                pool,
-                name,
-                body,
-            })
-            .map_err(AllocError::from)?;
+        self.push(Entry {
+            label,
+            pool,
+            name,
+            body,
+        })?;
+        Ok(())
+    }
+
+    fn push(&mut self, entry: Entry) -> Result<(), AllocError>
+        ensures entries { OnOk result (self.new.entries.items ≡ self.old.entries.items ++ entry ∷ []) }
+        ensures limit { self.new.limit ≡ self.old.limit }
+        ensures beyond { self.new.beyond ≡ self.old.beyond }
+    {
+        self.entries.push(entry)?;
         Ok(())
     }
 
@@ -87,7 +113,9 @@ impl Entries {
     }
 
     /// The one of this number, where there is one, has this body from here on.
-    pub(crate) fn put(&mut self, number: usize, body: Vec<Action>) {
+    pub(crate) fn put(&mut self, number: usize, body: Vec<Action>)
+        ensures { (lines : List RecordedLine) (beyond : Reason) → AreEntriesOf lines beyond self.old → AreEntriesOf lines beyond self.new }
+    {
         if let Some(entry) = self.entries.get_mut(number) {
             entry.body = body;
         }
@@ -96,7 +124,9 @@ impl Entries {
 
 impl Entry {
     /// Whether the recording calls it so, in this pool.
-    pub(crate) fn is_of(&self, label: &str, pool: usize) -> bool {
+    pub(crate) fn is_of(&self, label: &str, pool: usize) -> bool
+        ensures { result ≡ (bytes_eq (string_bytes self.now.label) label.now && self.now.pool == pool) }
+    {
         self.label.as_str() == label && self.pool == pool
     }
 }

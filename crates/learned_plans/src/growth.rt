@@ -1,14 +1,16 @@
 //! Bodies that grow by what was done.
 
+ghost use Rattle.std.specs.Prelude.{◌≡◌, List, OnOk, IfErr};
+ghost use Rattle.recording_lines.specs.RecordingLine.{RecordedLine};
+ghost use Rattle.learned_plans.specs.declared.too_much.TooMuch.{TooMuch as Reason};
+ghost use Rattle.learned_plans.specs.Kept.{AreEntriesOf, IsGiven, IsStop};
+
 use crate::entries::Entries;
 use crate::stop::Stop;
-use body_paths::{Answer, Course, Deed, path_fits};
+use body_paths::{Course, Deed, PathFit, path_fits};
 use covering_bodies::{body_of_path, covering_body};
-use job_bodies::{Action, MAX_ACTIONS};
+use job_bodies::{Action, MAX_ACTIONS, MAX_PATH_STEPS};
 use std::alloc::{AllocError, Global};
-
-/// How many steps are spent on whether a path is of a body.
-const BUDGET: u64 = 1_000_000;
 
 /// What an actor did, with the class that each of its jobs is taken for.
 #[derive(Debug, Drop)]
@@ -49,7 +51,10 @@ impl Entries {
         pool: usize,
         did: &Did,
         reached: &[bool],
-    ) -> Result<Option<Taken>, Stop> {
+    ) -> Result<Option<Taken>, Stop>
+        ensures ok { (lines : List RecordedLine) (beyond : Reason) → AreEntriesOf lines beyond self.old → OnOk result (AreEntriesOf lines beyond self.new) }
+        ensures err { (lines : List RecordedLine) (beyond : Reason) → AreEntriesOf lines beyond self.old → IfErr result (IsStop lines) }
+    {
         for number in 0..self.entries.len() {
             if self.is_free(number, label, pool, reached) {
                 if let Some(body) = covering_body(self.alloc, self.body(number), &did.deeds)? {
@@ -59,17 +64,31 @@ impl Entries {
                 }
             }
         }
-        let number = self.entries.len();
+        if !self.has(label, pool) {
+            return Ok(None);
+        }
         match body_of_path(self.alloc, &did.deeds)? {
-            Some(body) => {
-                self.add(label, pool, body)?;
-                Ok(Some(Taken {
-                    number,
-                    is_changed: true,
-                }))
-            }
+            Some(body) => self.add_grown(label, pool, body),
             None => Ok(None),
         }
+    }
+
+    // One more of a label that there is.
+    fn add_grown(
+        &mut self,
+        label: &str,
+        pool: usize,
+        body: Vec<Action>,
+    ) -> Result<Option<Taken>, Stop>
+        ensures ok { (lines : List RecordedLine) (beyond : Reason) → IsGiven lines beyond label.now pool → AreEntriesOf lines beyond self.old → OnOk result (AreEntriesOf lines beyond self.new) }
+        ensures err { (lines : List RecordedLine) (beyond : Reason) → IsGiven lines beyond label.now pool → AreEntriesOf lines beyond self.old → IfErr result (IsStop lines) }
+    {
+        let number = self.entries.len();
+        self.add(label, pool, body)?;
+        Ok(Some(Taken {
+            number,
+            is_changed: true,
+        }))
     }
 
     // Whether the one of this number is of this label, in this pool, and may grow.
@@ -82,7 +101,8 @@ impl Entries {
 }
 
 fn is_path_of(body: &[Action], did: &Did) -> bool {
-    body.len() <= MAX_ACTIONS && path_fits(body, &did.deeds, did.course, BUDGET) == Answer::Fits
+    body.len() <= MAX_ACTIONS
+        && path_fits(body, &did.deeds, did.course, MAX_PATH_STEPS) == PathFit::Fits
 }
 
 /// By the number of each class, whether jobs of it are submitted by these deeds, or by jobs that they submit, and so on.

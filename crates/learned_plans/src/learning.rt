@@ -1,25 +1,28 @@
 //! The plan that a recording shows.
 
-ghost use Rattle.std.specs.Prelude.{◌≡◌, ◌++◌, ◌∷◌, [], ℕ, List, slice_get, OnOk, IfOk};
+ghost use Rattle.std.specs.Prelude.{◌≡◌, ◌++◌, ◌∷◌, [], ℕ, List, Ok, slice_get, string_bytes, OnOk, IfOk, IfErr};
+ghost use Rattle.std.specs.List.{All};
 ghost use Rattle.recording_lines.specs.RecordingLine.{RecordedLine, lines_read};
 ghost use Rattle.recorded_rules.specs.Faults.{IsFirstFault};
 ghost use Rattle.recorded_rules.specs.Before.{begins, submits};
-ghost use Rattle.learned_plans.specs.Counts.{AreCounted, Kinds, IsCounted};
-ghost use Rattle.learned_plans.specs.Kept.{IsCountOf};
-ghost use Rattle.learned_plans.specs.Learned.{lines_of, fault_of, IfSeen};
+ghost use Rattle.learned_plans.specs.Counts.{AreCounted, AreOfKinds, Kinds, IsCounted, client_names};
+ghost use Rattle.learned_plans.specs.Kept.{IsCountOf, IsStop, names_of};
+ghost use Rattle.learned_plans.specs.Learned.{lines_of, fault_of, IfSeen, IfTooMuch};
+ghost use Rattle.learned_plans.specs.Named.{AreNamesOfAll, IsStopAt, IsToldOf, IsSeenOf};
+ghost use Rattle.learned_plans.specs.Names.{IsNamedClass, IsNamedClient};
 ghost use Rattle.learned_plans.specs.Pools.{pools_seen};
+ghost use Rattle.learned_plans.specs.TooMuch.{IsReason};
 ghost use Rattle.learned_plans.specs.Unfinished.{unfinished_rounds, unfinished_jobs};
 
 use crate::counts::{KindCount, kind_counts};
 use crate::covering::cover_all;
 use crate::entries::Entry;
 use crate::learned::{Learned, SeenPlan};
-use crate::seen_names::seen_names;
+use crate::seen_names::{SeenNames, seen_names};
 use crate::stop::Stop;
 use crate::too_much::TooMuch;
-use crate::working::{Working, client_of};
+use crate::working::client_of;
 use job_bodies::{Client, MAX_SIZE, Plan};
-use recorded_rules::first_fault;
 use std::alloc::{AllocError, Global};
 
 /// The plan that the recording shows. Each body has so many steps for each path that it is asked of.
@@ -31,33 +34,43 @@ pub fn learn(alloc: Global, recording: &[u8], budget: u64) -> Result<Learned, Al
     ensures bad { IfOk result (λ told. IsFirstFault (lines_read recording.now) (fault_of told)) }
     ensures pools { IfOk result (IfSeen (λ seen. seen.plan.pools ≡ pools_seen (lines_of recording.now))) }
     ensures counts { IfOk result (IfSeen (λ seen. AreCounted (lines_of recording.now) seen.plan.clients)) }
+    ensures classes { IfOk result (IfSeen (λ seen. All (IsNamedClass (lines_of recording.now)) seen.plan.classes)) }
+    ensures clients { IfOk result (IfSeen (λ seen. All (IsNamedClient (lines_of recording.now)) seen.plan.clients)) }
     ensures rounds { IfOk result (IfSeen (λ seen. seen.rounds ≡ begins (lines_of recording.now))) }
     ensures jobs { IfOk result (IfSeen (λ seen. seen.jobs ≡ submits (lines_of recording.now))) }
     ensures unfinished_rounds { IfOk result (IfSeen (λ seen. seen.unfinished_rounds ≡ unfinished_rounds (lines_of recording.now))) }
     ensures unfinished_jobs { IfOk result (IfSeen (λ seen. seen.unfinished_jobs ≡ unfinished_jobs (lines_of recording.now))) }
+    ensures too_much { IfOk result (IfTooMuch (IsReason (lines_of recording.now))) }
 {
-    if let Some(fault) = first_fault(alloc, recording)? {
-        return Ok(Learned::Bad(fault));
-    }
-    match seen_plan(alloc, recording, budget) {
-        Ok(seen) => Ok(Learned::Seen(seen)),
+    match learned(alloc, recording, budget) {
+        Ok(told) => Ok(told),
         Err(Stop::TooMuch(reason)) => Ok(Learned::TooMuch(reason)),
         Err(Stop::Memory(error)) => Err(error),
     }
 }
 
-fn seen_plan(alloc: Global, recording: &[u8], budget: u64) -> Result<SeenPlan, Stop>
-    ensures pools { IfOk result (λ seen. seen.plan.pools ≡ pools_seen (lines_of recording.now)) }
-    ensures counts { IfOk result (λ seen. AreCounted (lines_of recording.now) seen.plan.clients) }
-    ensures rounds { IfOk result (λ seen. seen.rounds ≡ begins (lines_of recording.now)) }
-    ensures jobs { IfOk result (λ seen. seen.jobs ≡ submits (lines_of recording.now)) }
-    ensures unfinished_rounds { IfOk result (λ seen. seen.unfinished_rounds ≡ unfinished_rounds (lines_of recording.now)) }
-    ensures unfinished_jobs { IfOk result (λ seen. seen.unfinished_jobs ≡ unfinished_jobs (lines_of recording.now)) }
+fn learned(alloc: Global, recording: &[u8], budget: u64) -> Result<Learned, Stop>
+    ensures ok { IfOk result (IsToldOf recording.now) }
+    ensures err { IfErr result (IsStopAt (lines_read recording.now)) }
 {
-    let mut names = seen_names(alloc, recording)?;
+    match seen_names(alloc, recording)? {
+        Err(fault) => Ok(Learned::Bad(fault)),
+        Ok(names) => Ok(Learned::Seen(seen_plan(alloc, recording, budget, names)?)),
+    }
+}
+
+fn seen_plan(
+    alloc: Global,
+    recording: &[u8],
+    budget: u64,
+    mut names: SeenNames,
+) -> Result<SeenPlan, Stop>
+    ensures ok { AreNamesOfAll (lines_read recording.now) names → IfOk result (IsSeenOf (lines_of recording.now)) }
+    ensures err { AreNamesOfAll (lines_read recording.now) names → IfErr result (IsStop (lines_of recording.now)) }
+{
     let kinds = cover_all(alloc, recording, &names.pools, budget, &mut names.working)?;
     let classes = names.working.copied_classes()?;
-    let clients = counted_clients(alloc, recording, &kinds, &names.working)?;
+    let clients = counted_clients(alloc, recording, &kinds, &names.working.kinds.entries)?;
     match Plan::build(alloc, names.pools, classes, clients) {
         Ok(plan) => Ok(SeenPlan {
             plan,
@@ -74,17 +87,17 @@ fn counted_clients(
     alloc: Global,
     recording: &[u8],
     kinds: &[Option<usize>],
-    working: &Working,
+    entries: &[Entry],
 ) -> Result<Vec<Client>, Stop>
-    ensures { IfOk result (λ clients. AreCounted (lines_of recording.now) clients.items) }
+    ensures counts { IfOk result (λ clients. AreCounted (lines_of recording.now) clients.items) }
+    ensures names { IfOk result (λ clients. client_names clients.items ≡ names_of entries.now) }
+    ensures err { IfErr result (IsStop (lines_of recording.now)) }
 {
-    let entries = &working.kinds.entries;
-    let counts = kind_counts(alloc, recording, kinds, entries.len())?;
+    let counts = kind_counts(alloc, recording, kinds, entries)?;
     let mut clients = Vec::new(alloc);
-    for _ in 0..entries.len() {
-        let kind = clients.len();
+    for kind in 0..entries.len() {
         let (Some(entry), Some(count)) = (entries.get(kind), count_at(&counts, kind)) else {
-            return Err(Stop::TooMuch(TooMuch::Kinds));
+            return Err(Stop::TooMuch(TooMuch::Paths));
         };
         let client = counted_client(alloc, entry, count)?;
         push_client(&mut clients, client)?;
@@ -106,7 +119,9 @@ fn push_client(clients: &mut Vec<Client>, client: Client) -> Result<(), AllocErr
 }
 
 fn counted_client(alloc: Global, entry: &Entry, count: KindCount) -> Result<Client, Stop>
-    ensures { (kinds : Kinds) (lines : List RecordedLine) (kind : ℕ) → IsCountOf kinds lines kind count → IfOk result (IsCounted kinds lines kind) }
+    ensures counted { (kinds : Kinds) (lines : List RecordedLine) (kind : ℕ) → IsCountOf kinds lines kind count → IfOk result (IsCounted kinds lines kind) }
+    ensures name { IfOk result (λ client. client.name ≡ string_bytes entry.now.name) }
+    ensures err { (kinds : Kinds) (names : List (List ℕ)) (lines : List RecordedLine) (kind : ℕ) → AreOfKinds kinds names lines → IsCountOf kinds lines kind count → IfErr result (IsStop lines) }
 {
     if count.most > MAX_SIZE {
         return Err(Stop::TooMuch(TooMuch::Rounds));

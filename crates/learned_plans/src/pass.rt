@@ -1,5 +1,9 @@
 //! A pass over a recording, along which bodies grow.
 
+ghost use Rattle.std.specs.Prelude.{◌≡◌, List, OnOk, IfErr};
+ghost use Rattle.recording_lines.specs.RecordingLine.{RecordedLine};
+ghost use Rattle.learned_plans.specs.Kept.{AreWorkingOf, IsStop};
+
 use crate::ended::Ended;
 use crate::growth::{Did, Taken};
 use crate::members::Members;
@@ -40,7 +44,10 @@ pub(crate) fn pass_over(
     plan: &Plan,
     budget: u64,
     working: &mut Working,
-) -> Result<Pass, Stop> {
+) -> Result<Pass, Stop>
+    ensures ok { (lines : List RecordedLine) → AreWorkingOf lines working.old → OnOk result (AreWorkingOf lines working.new) }
+    ensures err { (lines : List RecordedLine) → AreWorkingOf lines working.old → IfErr result (IsStop lines) }
+{
     let mut pass = Pass::new(alloc);
     let mut classes = Classes::new(alloc, budget);
     let mut told = Vec::new(alloc);
@@ -85,7 +92,10 @@ impl Pass {
         pools: &[Pool],
         told: &[Settled],
         working: &mut Working,
-    ) -> Result<(), Stop> {
+    ) -> Result<(), Stop>
+        ensures ok { (lines : List RecordedLine) → AreWorkingOf lines working.old → OnOk result (AreWorkingOf lines working.new) }
+        ensures err { (lines : List RecordedLine) → AreWorkingOf lines working.old → IfErr result (IsStop lines) }
+    {
         for one in told {
             self.ended.remove(one.actor);
             let class = self.learn(pools, one, Course::Whole, working)?;
@@ -101,7 +111,10 @@ impl Pass {
         pools: &[Pool],
         told: &[Settled],
         working: &mut Working,
-    ) -> Result<(), Stop> {
+    ) -> Result<(), Stop>
+        ensures ok { (lines : List RecordedLine) → AreWorkingOf lines working.old → OnOk result (AreWorkingOf lines working.new) }
+        ensures err { (lines : List RecordedLine) → AreWorkingOf lines working.old → IfErr result (IsStop lines) }
+    {
         for one in told {
             let class = if self.ended.contains(one.actor) {
                 self.learn(pools, one, Course::Whole, working)?
@@ -145,7 +158,10 @@ impl Pass {
         one: &Settled,
         course: Course,
         working: &mut Working,
-    ) -> Result<Option<usize>, Stop> {
+    ) -> Result<Option<usize>, Stop>
+        ensures ok { (lines : List RecordedLine) → AreWorkingOf lines working.old → OnOk result (AreWorkingOf lines working.new) }
+        ensures err { (lines : List RecordedLine) → AreWorkingOf lines working.old → IfErr result (IsStop lines) }
+    {
         let member = one.family.members.first().copied();
         if !one.family.is_decided || member.is_some() {
             return Ok(member);
@@ -168,7 +184,10 @@ fn learn_of(
     one: &Settled,
     did: &Did,
     working: &mut Working,
-) -> Result<Option<Taken>, Stop> {
+) -> Result<Option<Taken>, Stop>
+    ensures ok { (lines : List RecordedLine) → AreWorkingOf lines working.old → OnOk result (AreWorkingOf lines working.new) }
+    ensures err { (lines : List RecordedLine) → AreWorkingOf lines working.old → IfErr result (IsStop lines) }
+{
     match one.actor {
         RecordedActor::Round(_) => working.learn_round(&one.label, did),
         RecordedActor::Job(_) => match pool_number(pools, &one.pool) {

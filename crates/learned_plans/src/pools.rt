@@ -1,7 +1,10 @@
 //! The pools of a recording, as a plan has them.
 
-ghost use Rattle.std.specs.Prelude.{◌≡◌, IfOk, OnOk};
-ghost use Rattle.recording_lines.specs.RecordingLine.{line_seen};
+ghost use Rattle.std.specs.Prelude.{◌≡◌, ◌≤◌, ◌<◌, ◌++◌, ◌∷◌, List, Some, length, slice_get, IfOk, IfErr, IfSome, OnOk};
+ghost use Rattle.recording_lines.specs.RecordingLine.{RecordedLine, line_seen};
+ghost use Rattle.std.specs.List.{position};
+ghost use Rattle.std.specs.Str.{bytes_eq};
+ghost use Rattle.learned_plans.specs.Kept.{IsStop};
 ghost use Rattle.learned_plans.specs.Pools as spec;
 
 use crate::stop::Stop;
@@ -47,7 +50,8 @@ fn has_core_threads(sizes: PoolSizes) -> bool
 ///
 /// [`Stop::TooMuch`] where a plan may not have one more; [`Stop::Memory`] where there is no memory for it.
 pub(crate) fn note_pool(alloc: Global, pools: &mut Vec<Pool>, line: &Line<'_>) -> Result<(), Stop>
-    ensures { OnOk result (pools.new.items ≡ spec.with_first_of (spec.pool_of_line (line_seen line.now)) pools.old.items) }
+    ensures ok { OnOk result (pools.new.items ≡ spec.with_first_of (spec.pool_of_line (line_seen line.now)) pools.old.items) }
+    ensures err { (before behind : List RecordedLine) → pools.old.items ≡ spec.pools_seen before → IfErr result (IsStop (before ++ line_seen line.now ∷ behind)) }
 {
     match *line {
         Line::Pool { name, sizes } => add_pool(alloc, pools, name, sizes),
@@ -56,7 +60,8 @@ pub(crate) fn note_pool(alloc: Global, pools: &mut Vec<Pool>, line: &Line<'_>) -
 }
 
 fn add_pool(alloc: Global, pools: &mut Vec<Pool>, name: &str, sizes: PoolSizes) -> Result<(), Stop>
-    ensures { OnOk result (pools.new.items ≡ spec.with_first pools.old.items (spec.pool_seen name.now sizes)) }
+    ensures ok { OnOk result (pools.new.items ≡ spec.with_first pools.old.items (spec.pool_seen name.now sizes)) }
+    ensures err { (lines : List RecordedLine) → (length (spec.with_first pools.old.items (spec.pool_seen name.now sizes)) ≤ length (spec.pools_seen lines)) → IfErr result (IsStop lines) }
 {
     if has_name(pools, name) {
         return Ok(());
@@ -76,6 +81,8 @@ fn has_name(pools: &[Pool], name: &str) -> bool
 }
 
 /// The number of the pool of this name.
-pub(crate) fn pool_number(pools: &[Pool], name: &str) -> Option<usize> {
+pub(crate) fn pool_number(pools: &[Pool], name: &str) -> Option<usize>
+    ensures { result ≡ position (λ pool. bytes_eq pool.name name.now) pools.now }
+{
     pools.iter().position(|pool| pool.name.as_str() == name)
 }

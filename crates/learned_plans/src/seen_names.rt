@@ -1,17 +1,18 @@
 //! What the lines of a recording name.
 
-ghost use Rattle.std.specs.Prelude.{◌≡◌, ◌+◌, ◌++◌, ◌∷◌, [], List, OnOk, IfOk, if◌then◌else◌};
+ghost use Rattle.std.specs.Prelude.{◌≡◌, ◌+◌, ◌++◌, ◌∷◌, [], List, OnOk, IfOk, IfErr, if◌then◌else◌};
 ghost use Rattle.recorded_rules.specs.LineParts as parts;
-ghost use Rattle.recording_lines.specs.RecordingLine.{RecordedLine, line_seen};
-ghost use Rattle.learned_plans.specs.Learned.{lines_of};
-ghost use Rattle.learned_plans.specs.Kept.{AreNamesOf};
+ghost use Rattle.recording_lines.specs.RecordingLine.{RecordedLine, line_seen, lines_read};
+ghost use Rattle.learned_plans.specs.Kept.{AreNamesOf, AreWorkingOf, IsStop};
+ghost use Rattle.learned_plans.specs.Named.{IsNamed, IsStopAt, Counts, good};
 ghost use Rattle.learned_plans.specs.Unfinished as unfinished;
 
 use crate::pools::note_pool;
 use crate::stop::Stop;
 use crate::working::Working;
 use job_bodies::Pool;
-use recording_lines::{Line, RecordingLines};
+use recorded_rules::{RecordingFault, RuledLines, first_fault};
+use recording_lines::Line;
 use std::alloc::{AllocError, Global};
 
 /// The pools, the classes of jobs and the kinds of clients that the lines name, and how many rounds and jobs there are and have
@@ -28,39 +29,80 @@ pub(crate) struct SeenNames {
     alloc: Global,
 }
 
-/// What the lines name, each class and kind with an empty body.
+/// What the lines name, each class and kind with an empty body; or the first bad line.
 ///
 /// # Errors
 ///
-/// [`Stop::TooMuch`] where that is more than a plan may have; [`Stop::Memory`] where there is no memory for it.
-pub(crate) fn seen_names(alloc: Global, recording: &[u8]) -> Result<SeenNames, Stop>
-    ensures { IfOk result (λ names. AreNamesOf names (lines_of recording.now)) }
+/// [`Stop::TooMuch`] where no line is bad, and they name more than a plan may have; [`Stop::Memory`] where there is no memory
+/// for it.
+pub(crate) fn seen_names(
+    alloc: Global,
+    recording: &[u8],
+) -> Result<Result<SeenNames, RecordingFault>, Stop>
+    ensures ok { IfOk result (IsNamed (lines_read recording.now)) }
+    ensures err { IfErr result (IsStopAt (lines_read recording.now)) }
 {
-    let mut names = SeenNames {
-        pools: Vec::new(alloc),
-        working: Working::new(alloc),
-        rounds: 0,
-        jobs: 0,
-        ended_rounds: 0,
-        started_jobs: 0,
-        ended_jobs: 0,
-        alloc,
-    };
-    let mut lines = RecordingLines::new(recording);
-    while let Some(line) = lines.next() {
-        if let Ok(line) = line {
-            names.note(&line)?;
+    let mut names = SeenNames::new(alloc);
+    let mut lines = RuledLines::new(alloc, recording);
+    while let Some(line) = lines.next()? {
+        let line = match line {
+            Ok(line) => line,
+            Err(fault) => return Ok(Err(fault)),
+        };
+        if let Err(stop) = names.note(&line) {
+            return stopped(alloc, recording, stop);
         }
     }
-    Ok(names)
+    Ok(Ok(names))
+}
+
+// Where there is too much, a line behind it may still be bad.
+fn stopped(
+    alloc: Global,
+    recording: &[u8],
+    stop: Stop,
+) -> Result<Result<SeenNames, RecordingFault>, Stop>
+    ensures ok { IfOk result (IsNamed (lines_read recording.now)) }
+    ensures err { IsStop (good (lines_read recording.now)) stop → IfErr result (IsStopAt (lines_read recording.now)) }
+{
+    match first_fault(alloc, recording)? {
+        Some(fault) => Ok(Err(fault)),
+        None => Err(stop),
+    }
 }
 
 impl SeenNames {
+    // None so far.
+    fn new(alloc: Global) -> SeenNames
+        ensures names { AreNamesOf result [] }
+        ensures working { (lines : List RecordedLine) → AreWorkingOf lines result.working }
+    {
+        SeenNames {
+            pools: Vec::new(alloc),
+            working: Working::new(alloc),
+            rounds: 0,
+            jobs: 0,
+            ended_rounds: 0,
+            started_jobs: 0,
+            ended_jobs: 0,
+            alloc,
+        }
+    }
+
     fn note(&mut self, line: &Line<'_>) -> Result<(), Stop>
-        ensures { (before : List RecordedLine) → AreNamesOf self.old before → OnOk result (AreNamesOf self.new (before ++ line_seen line.now ∷ [])) }
+        ensures names { (before : List RecordedLine) → AreNamesOf self.old before → OnOk result (AreNamesOf self.new (before ++ line_seen line.now ∷ [])) }
+        ensures working { (before behind : List RecordedLine) → AreNamesOf self.old before → AreWorkingOf (before ++ line_seen line.now ∷ behind) self.old.working → OnOk result (AreWorkingOf (before ++ line_seen line.now ∷ behind) self.new.working) }
+        ensures err { (before behind : List RecordedLine) → AreNamesOf self.old before → AreWorkingOf (before ++ line_seen line.now ∷ behind) self.old.working → IfErr result (IsStop (before ++ line_seen line.now ∷ behind)) }
     {
         self.working.note(&self.pools, line)?;
         note_pool(self.alloc, &mut self.pools, line)?;
+        self.count(line)?;
+        Ok(())
+    }
+
+    fn count(&mut self, line: &Line<'_>) -> Result<(), AllocError>
+        ensures { OnOk result (Counts self.old (line_seen line.now) self.new) }
+    {
         self.rounds = counted(self.rounds, is_begin(line))?;
         self.jobs = counted(self.jobs, is_submit(line))?;
         self.ended_rounds = counted(self.ended_rounds, is_round_end(line))?;

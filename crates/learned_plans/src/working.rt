@@ -1,6 +1,11 @@
 //! The plan, while its bodies are learned.
 
-ghost use Rattle.std.specs.Prelude.{◌≡◌, IfOk};
+ghost use Rattle.std.specs.Prelude.{◌≡◌, List, OnOk, IfOk, IfErr, string_bytes};
+ghost use Rattle.std.specs.List.{All, Contains};
+ghost use Rattle.recording_lines.specs.RecordingLine.{RecordedLine, line_seen};
+ghost use Rattle.learned_plans.specs.Kept.{AreFirstPools, AreWorkingOf, IsEntryOf, IsStop};
+ghost use Rattle.learned_plans.specs.Names.{IsNamedClass};
+ghost use Rattle.learned_plans.specs.declared.too_much.TooMuch.TheVariants as reason;
 
 use crate::entries::{Entries, Entry};
 use crate::growth::{Did, Taken, reached_from};
@@ -21,7 +26,9 @@ pub(crate) struct Working {
 
 impl Working {
     /// None so far.
-    pub(crate) fn new(alloc: Global) -> Working {
+    pub(crate) fn new(alloc: Global) -> Working
+        ensures { (lines : List RecordedLine) → AreWorkingOf lines result }
+    {
         Working {
             classes: Entries::new(alloc, MAX_CLASSES, TooMuch::Classes),
             kinds: Entries::new(alloc, MAX_CLIENT_KINDS, TooMuch::Kinds),
@@ -34,7 +41,10 @@ impl Working {
     /// # Errors
     ///
     /// [`Stop::TooMuch`] where a plan may not have one more; [`Stop::Memory`] where there is no memory for it.
-    pub(crate) fn note(&mut self, pools: &[Pool], line: &Line<'_>) -> Result<(), Stop> {
+    pub(crate) fn note(&mut self, pools: &[Pool], line: &Line<'_>) -> Result<(), Stop>
+        ensures ok { (lines : List RecordedLine) → Contains lines (line_seen line.now) → AreFirstPools lines pools.now → AreWorkingOf lines self.old → OnOk result (AreWorkingOf lines self.new) }
+        ensures err { (lines : List RecordedLine) → Contains lines (line_seen line.now) → AreFirstPools lines pools.now → AreWorkingOf lines self.old → IfErr result (IsStop lines) }
+    {
         match *line {
             Line::RoundBegins { kind, .. } => self.kinds.note(kind, 0),
             Line::Submits { class, pool, .. } => match pool_number(pools, pool) {
@@ -50,7 +60,9 @@ impl Working {
     /// # Errors
     ///
     /// [`Stop::TooMuch`] where that is no plan; [`Stop::Memory`] where there is no memory for it.
-    pub(crate) fn plan(&self, pools: &[Pool]) -> Result<Plan, Stop> {
+    pub(crate) fn plan(&self, pools: &[Pool]) -> Result<Plan, Stop>
+        ensures { (lines : List RecordedLine) → IfErr result (IsStop lines) }
+    {
         let pools = copied_pools(self.alloc, pools)?;
         let classes = self.copied_classes()?;
         let clients = self.copied_clients()?;
@@ -60,7 +72,9 @@ impl Working {
         }
     }
 
-    pub(crate) fn copied_classes(&self) -> Result<Vec<Class>, AllocError> {
+    pub(crate) fn copied_classes(&self) -> Result<Vec<Class>, AllocError>
+        ensures { (lines : List RecordedLine) → AreWorkingOf lines self.now → IfOk result (λ classes. All (IsNamedClass lines) classes.items) }
+    {
         let mut classes = Vec::new(self.alloc);
         for entry in &self.classes.entries {
             classes.push(class_of(self.alloc, entry)?)?;
@@ -86,7 +100,10 @@ impl Working {
         label: &str,
         pool: usize,
         did: &Did,
-    ) -> Result<Option<Taken>, Stop> {
+    ) -> Result<Option<Taken>, Stop>
+        ensures ok { (lines : List RecordedLine) → AreWorkingOf lines self.old → OnOk result (AreWorkingOf lines self.new) }
+        ensures err { (lines : List RecordedLine) → AreWorkingOf lines self.old → IfErr result (IsStop lines) }
+    {
         if let Some(taken) = self.classes.explaining(label, pool, did) {
             return Ok(Some(taken));
         }
@@ -99,7 +116,10 @@ impl Working {
     /// # Errors
     ///
     /// [`Stop::TooMuch`] where a plan may not have one more kind; [`Stop::Memory`] where there is no memory for it.
-    pub(crate) fn learn_round(&mut self, label: &str, did: &Did) -> Result<Option<Taken>, Stop> {
+    pub(crate) fn learn_round(&mut self, label: &str, did: &Did) -> Result<Option<Taken>, Stop>
+        ensures ok { (lines : List RecordedLine) → AreWorkingOf lines self.old → OnOk result (AreWorkingOf lines self.new) }
+        ensures err { (lines : List RecordedLine) → AreWorkingOf lines self.old → IfErr result (IsStop lines) }
+    {
         if let Some(taken) = self.kinds.explaining(label, 0, did) {
             return Ok(Some(taken));
         }
@@ -115,7 +135,9 @@ fn copied_pools(alloc: Global, pools: &[Pool]) -> Result<Vec<Pool>, AllocError> 
     Ok(copies)
 }
 
-fn class_of(alloc: Global, entry: &Entry) -> Result<Class, AllocError> {
+fn class_of(alloc: Global, entry: &Entry) -> Result<Class, AllocError>
+    ensures { (lines : List RecordedLine) → IsEntryOf lines reason.Classes entry.now → IfOk result (IsNamedClass lines) }
+{
     Ok(Class {
         name: String::from_str(alloc, &entry.name)?,
         pool: entry.pool,
@@ -134,6 +156,7 @@ pub(crate) fn client_of(
     count: u64,
     repeat: bool,
 ) -> Result<Client, AllocError>
+    ensures name { IfOk result (λ client. client.name ≡ string_bytes entry.now.name) }
     ensures count { IfOk result (λ client. client.count ≡ count) }
     ensures repeat { IfOk result (λ client. client.repeat ≡ repeat) }
 {

@@ -4,9 +4,9 @@ use crate::Levels;
 use crate::numbers::{number_at, put_at};
 use crate::target::Target;
 use crate::weight::Weight;
-use job_bodies::{Action, Class, Client, Plan};
+use job_bodies::{Action, Class, Client, MAX_WEIGHT, Plan};
 use std::alloc::{AllocError, Global};
-use weights::{MAX_WEIGHT, class_got};
+use weights::class_got;
 
 /// What is said of a vector that is too heavy for every bound, or that there is not.
 pub(crate) const TOO_HEAVY: u64 = u64::MAX;

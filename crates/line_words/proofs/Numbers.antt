@@ -10,7 +10,7 @@ use Rattle.std.proofs.lemmas.List.Folds.{list_all_more}
 use Rattle.std.proofs.lemmas.List.Sums.{prefix_len_passes, prefix_len_stops, prefix_len-le-length, passes_at_first, fails_before_first}
 use Rattle.std.proofs.lemmas.Int.Digits.{digits_value_more}
 use Rattle.std.proofs.lemmas.Str.Parse.{digits_value-take-le}
-use Rattle.line_words.specs.declared.number.TheConstants.{MAX_NUMBER}
+use Rattle.job_bodies.specs.declared.limits.TheConstants.{MAX_LINE_NUMBER}
 use Rattle.line_words.specs.Pieces.{is_newline, first_line, behind_line}
 use Rattle.line_words.specs.Number.{has_leading_zero, is_whole_number, number_of, digit_count, leading_number, split_number_line}
 use Rattle.line_words.proofs.FirstPieces.{place, no_more_before}
@@ -56,13 +56,13 @@ counted text i inside digits stops =
     ]
 
 -- a number whose first digits are above the limit gives none
-past_limit : (text : List ℕ) (i value : ℕ) → value ≡ digits_value 10 (take i text) → MAX_NUMBER < value → number_of text ≡ None
+past_limit : (text : List ℕ) (i value : ℕ) → value ≡ digits_value 10 (take i text) → MAX_LINE_NUMBER < value → number_of text ≡ None
 unfolding number_of
 past_limit text i value e past =
     let le = digits_value-take-le 10 text i (omega arith) in
     grind (arith, nat_tests)
 
-pub none_past : (text : List ℕ) (i value : ℕ) → i ≤ length text → list_all is_ascii_digit (take i text) ≡ true → value ≡ digits_value 10 (take i text) → MAX_NUMBER < value → None ≡ leading_number text
+pub none_past : (text : List ℕ) (i value : ℕ) → i ≤ length text → list_all is_ascii_digit (take i text) ≡ true → value ≡ digits_value 10 (take i text) → MAX_LINE_NUMBER < value → None ≡ leading_number text
 unfolding leading_number
 none_past text i value inside digits e past =
     let n : ℕ = digit_count text in
@@ -76,7 +76,7 @@ none_begun text i all begins = rw (all, begins) refl
 
 -- all digits are read
 pub some_read : (text : List ℕ) (i value : ℕ) → digit_count text ≡ i → list_all is_ascii_digit (take i text) ≡ true → (not (length (take i text) == 0) && not (has_leading_zero (take i text))) ≡ true
-    → value ≡ digits_value 10 (take i text) → value ≤ MAX_NUMBER → Some (value, drop i text) ≡ leading_number text
+    → value ≡ digits_value 10 (take i text) → value ≤ MAX_LINE_NUMBER → Some (value, drop i text) ≡ leading_number text
 unfolding leading_number number_of is_whole_number
 some_read text i value all digits begins e within = rw (all, begins, digits, ← e) (grind (arith, nat_tests))
 

@@ -8,7 +8,7 @@ use Rattle.std.proofs.lemmas.Bool.Decides.{nat_tests}
 use Rattle.std.proofs.lemmas.Option.{cond_some}
 use Rattle.std.proofs.lemmas.Str.Parse.{IsNumeralModel, numerals_by_value}
 use Rattle.std.proofs.lemmas.Fmt.{decimal_nonempty, first_decimal, digits_decimal, digits_value-decimal, decimal_digit, decimal-digits_value}
-use Rattle.line_words.specs.declared.number.TheConstants.{MAX_NUMBER}
+use Rattle.job_bodies.specs.declared.limits.TheConstants.{MAX_LINE_NUMBER}
 use Rattle.line_words.specs.Number.{has_leading_zero, is_whole_number, number_of, is_lawful_number}
 use Rattle.line_words.proofs.Splits.{has_no}
 
@@ -23,7 +23,7 @@ leading_alone text none some leads = grind (arith, nat_tests)
 pub number_read : (text : List ℕ) (n : ℕ) → number_of text ≡ Some n → (is_lawful_number n ≡ true) × (text ≡ decimal n)
 unfolding number_of is_whole_number
 number_read text n read =
-    let found = cond_some (is_whole_number text && nat_le (digits_value 10 text) MAX_NUMBER) _ _ read in
+    let found = cond_some (is_whole_number text && nat_le (digits_value 10 text) MAX_LINE_NUMBER) _ _ read in
     let tests = and_parts (is_whole_number text) _ found.0 in
     let shape = and_parts (not (length text == 0) && not (has_leading_zero text)) (list_all is_ascii_digit text) tests.0 in
     let ends = and_parts (not (length text == 0)) (not (has_leading_zero text)) shape.0 in
@@ -49,7 +49,7 @@ number_written n lawful =
     let filled : not (length (decimal n) == 0) ≡ true = not_from_false _ (ne_eqb _ 0 (λ e. omega (arith, decimal_nonempty n small))) in
     let leading : not (has_leading_zero (decimal n)) ≡ true = not_from_false _ (leads_lawfully n small) in
     let full : is_whole_number (decimal n) ≡ true = and_from _ _ (and_from _ _ filled leading) (digits_decimal digits_are n small) in
-    let fits : nat_le (digits_value 10 (decimal n)) MAX_NUMBER ≡ true = subst (λ (m : ℕ). nat_le m MAX_NUMBER ≡ true) (sym value) lawful in
+    let fits : nat_le (digits_value 10 (decimal n)) MAX_LINE_NUMBER ≡ true = subst (λ (m : ℕ). nat_le m MAX_LINE_NUMBER ≡ true) (sym value) lawful in
     cond-true _ _ _ (and_from _ _ full fits) ∙ ap (λ (m : ℕ). Some m) value
 
 -- a digit is no space and no newline

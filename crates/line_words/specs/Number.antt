@@ -4,11 +4,11 @@ use Rattle.std.specs.Char.{is_ascii_digit}
 use Rattle.std.specs.List.{list_all, prefix_len}
 use Rattle.std.specs.Str.Parse.{digits_value}
 use Rattle.line_words.specs.Pieces.{first_line, behind_line}
-use Rattle.line_words.specs.declared.number.TheConstants.{MAX_NUMBER}
+use Rattle.job_bodies.specs.declared.limits.TheConstants.{MAX_LINE_NUMBER}
 
 -- a number within the limit
 abbrev pub is_lawful_number : ℕ → Bool
-is_lawful_number n = nat_le n MAX_NUMBER
+is_lawful_number n = nat_le n MAX_LINE_NUMBER
 
 -- a 0 with something behind it
 abbrev pub has_leading_zero : List ℕ → Bool
@@ -20,7 +20,7 @@ is_whole_number text = not (length text == 0) && not (has_leading_zero text) && 
 
 -- the number that a text writes
 unfoldable pub number_of : List ℕ → Option ℕ
-number_of text = if is_whole_number text && nat_le (digits_value 10 text) MAX_NUMBER then Some (digits_value 10 text) else None
+number_of text = if is_whole_number text && nat_le (digits_value 10 text) MAX_LINE_NUMBER then Some (digits_value 10 text) else None
 
 -- how many digits stand at the front of a text
 abbrev pub digit_count : List ℕ → ℕ

@@ -4,5 +4,5 @@
 mod number;
 mod pieces;
 
-pub use number::{MAX_NUMBER, leading_number, number_of};
+pub use number::{leading_number, number_of};
 pub use pieces::{split_line, split_space};

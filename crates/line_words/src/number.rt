@@ -3,10 +3,9 @@
 ghost use Rattle.std.specs.Prelude.{◌≡◌, ◌==◌, ◌&&◌, not, length, option_map};
 ghost use Rattle.line_words.specs.Number as spec;
 
-/// The greatest number that a line may name.
-pub const MAX_NUMBER: usize = 1_000_000_000;
+use job_bodies::MAX_LINE_NUMBER;
 
-/// The number that a text writes: decimal digits without a leading zero other than `0` itself, at most [`MAX_NUMBER`].
+/// The number that a text writes: decimal digits without a leading zero other than `0` itself, at most [`MAX_LINE_NUMBER`].
 pub fn number_of(text: &[u8]) -> Option<usize>
     ensures { result ≡ spec.number_of text.now }
 {
@@ -26,7 +25,7 @@ pub fn leading_number(text: &[u8]) -> Option<(usize, &[u8])>
     let mut count = 0;
     while count < text.len() && text[count].is_ascii_digit() {
         value = value * 10 + usize::from(text[count] - b'0');
-        if value > MAX_NUMBER {
+        if value > MAX_LINE_NUMBER {
             return None;
         }
         count += 1;

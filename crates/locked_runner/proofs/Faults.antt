@@ -6,21 +6,21 @@ use Rattle.job_bodies.specs.Plan.{Plan}
 use Rattle.written_machine.specs.declared.event.Event.{Event}
 use Rattle.held_machines.specs.declared.held.Receipt.{Receipt}
 use Rattle.run_histories.specs.Run.{IsAnswerTo}
-use Rattle.run_histories.specs.declared.report.Cause.{Cause}
-use Rattle.run_histories.specs.declared.report.Cause.TheVariants as cause
+use Rattle.run_histories.specs.declared.report.ThreadFault.{ThreadFault}
+use Rattle.run_histories.specs.declared.report.ThreadFault.TheVariants as cause
 use Rattle.run_histories.specs.declared.report.RunFault.{RunFault}
 use Rattle.locked_runner.specs.Faults.{IsFaultOf}
 
-answer_of : (plan : Plan) (rounds jobs : ℕ) (history : List Event) (lists : List (List (Receipt Event))) (met : Option Cause) (fault : RunFault) → IsAnswerTo plan rounds jobs history lists met fault → IsFaultOf false fault
-answer_of plan rounds jobs history lists (Some cause.Memory) fault is = inr (inr (inl is))
-answer_of plan rounds jobs history lists (Some cause.Gate) fault is = inr (inr (inr is))
-answer_of plan rounds jobs history lists None fault (inl strange) = inl strange.number
-answer_of plan rounds jobs history lists None fault (inr mixed) = inr (inl mixed.number)
+answer_of : (plan : Plan) (rounds jobs units : ℕ) (history : List Event) (lists : List (List (Receipt Event))) (met : Option ThreadFault) (fault : RunFault) → IsAnswerTo plan rounds jobs units history lists met fault → IsFaultOf false fault
+answer_of plan rounds jobs units history lists (Some cause.Memory) fault is = inr (inr (inl is))
+answer_of plan rounds jobs units history lists (Some cause.Gate) fault is = inr (inr (inr is))
+answer_of plan rounds jobs units history lists None fault (inl strange) = inl strange.number
+answer_of plan rounds jobs units history lists None fault (inr mixed) = inr (inl mixed.number)
 
-pub answered : (plan : Plan) (rounds jobs : ℕ) (history : List Event) (lists : List (List (Receipt Event))) (met : Option Cause) (fault : RunFault) → (fault.number ≢ MEMORY → IsAnswerTo plan rounds jobs history lists met fault) → IsFaultOf false fault
-answered plan rounds jobs history lists met fault is = elim (cases_eq fault.number MEMORY) [
+pub answered : (plan : Plan) (rounds jobs units : ℕ) (history : List Event) (lists : List (List (Receipt Event))) (met : Option ThreadFault) (fault : RunFault) → (fault.number ≢ MEMORY → IsAnswerTo plan rounds jobs units history lists met fault) → IsFaultOf false fault
+answered plan rounds jobs units history lists met fault is = elim (cases_eq fault.number MEMORY) [
   | inl memory ↦ inr (inr (inl memory))
-  | inr other ↦ answer_of plan rounds jobs history lists met fault (is other)
+  | inr other ↦ answer_of plan rounds jobs units history lists met fault (is other)
 ]
 
 -- what is answered where nothing was started

@@ -3,7 +3,7 @@ use Rattle.std.specs.Prelude.{ℕ, Bool, ◌||◌, nat_lt, sum_by}
 use Rattle.job_bodies.specs.Plan.{Plan}
 use Rattle.pool_ranks.specs.Ranks.{Ranks}
 use Rattle.run_histories.specs.RunNumbers.{bound}
-use Rattle.locked_runner.specs.declared.limits.TheConstants.{MAX_RUN_CLIENTS, MAX_RUN_CARRIERS, MAX_RUN_EVENTS}
+use Rattle.job_bodies.specs.declared.limits.TheConstants.{MAX_RUN_CLIENTS, MAX_RUN_CARRIERS, MAX_RUN_EVENTS}
 
 -- the clients of all kinds
 abbrev pub clients : Plan → ℕ

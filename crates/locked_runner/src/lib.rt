@@ -15,6 +15,5 @@ mod threads;
 pub use certified_worlds::{CertifiedWorld, TracedWorld, held_worlds_refuse_nothing};
 pub use gate::{Actor, Gate, GateFault};
 pub use held_machines::{Held, Locked, Machine, Receipt};
-pub use limits::{MAX_RUN_CARRIERS, MAX_RUN_CLIENTS, MAX_RUN_EVENTS};
-pub use run_histories::{RunFault, RunReport};
+pub use run_histories::{KeptReceipt, RunFault, RunReport};
 pub use running::run;

@@ -1,17 +1,10 @@
-//! The limits of a run.
+//! Whether a run is within its limits.
 
 ghost use Rattle.std.specs.Prelude.{◌≡◌, ◌-◌, ◌^◌, min};
 ghost use Rattle.job_bodies.specs.WellFormed.{IsWellFormed};
 ghost use Rattle.locked_runner.specs.Limits as spec;
 
-use job_bodies::Plan;
-
-/// The most clients of a run.
-pub const MAX_RUN_CLIENTS: u64 = 64;
-/// The most threads that the pools of a run may have together.
-pub const MAX_RUN_CARRIERS: u64 = 64;
-/// The greatest bound on the events of a run.
-pub const MAX_RUN_EVENTS: u64 = 1_000_000;
+use job_bodies::{MAX_RUN_CARRIERS, MAX_RUN_CLIENTS, MAX_RUN_EVENTS, Plan};
 
 /// Whether a limit of a run is passed, where it has so many events at most.
 pub(crate) fn is_beyond(plan: &Plan, events: u64) -> bool

@@ -1,6 +1,6 @@
 //! How far a run is.
 
-use run_histories::Cause;
+use run_histories::ThreadFault;
 
 /// How far a run is.
 #[derive(Drop)]
@@ -10,7 +10,7 @@ pub(crate) struct Progress {
     /// Whether no thread is to make another event, before all is done.
     is_over: bool,
     /// The fault that a thread has met, of several the one with the least number.
-    fault: Option<Cause>,
+    fault: Option<ThreadFault>,
 }
 
 impl Progress {
@@ -44,15 +44,15 @@ impl Progress {
     }
 
     /// Ends the run for a fault. Of several the one with the least number is kept, which is that of memory.
-    pub(crate) fn note(&mut self, cause: Cause) {
+    pub(crate) fn note(&mut self, cause: ThreadFault) {
         self.end();
-        if self.fault != Some(Cause::Memory) {
+        if self.fault != Some(ThreadFault::Memory) {
             self.fault = Some(cause);
         }
     }
 
     /// The fault that was met.
-    pub(crate) fn fault(&self) -> Option<Cause> {
+    pub(crate) fn fault(&self) -> Option<ThreadFault> {
         self.fault
     }
 }

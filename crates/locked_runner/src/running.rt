@@ -1,7 +1,7 @@
 //! A run of a certified plan on threads.
 
 ghost use Rattle.std.specs.Prelude.{◌≡◌, IfOk, IfErr, false};
-ghost use Rattle.run_histories.specs.Run.{IsRun, Makes, IsLengthOfLegal};
+ghost use Rattle.run_histories.specs.Run.{IsRun, Makes, Works, IsLengthOfLegal};
 ghost use Rattle.run_histories.specs.RunNumbers.{jobs, units};
 ghost use Rattle.locked_runner.specs.Limits.{is_too_large};
 ghost use Rattle.locked_runner.specs.Faults.{IsFaultOf};
@@ -41,6 +41,7 @@ pub fn run<R: Threads + Wait + Sync, G: Gate>(
     ensures jobs { IfOk result (λ report. report.jobs ≡ jobs certified.now.plan certified.now.cert.ranks rounds) }
     ensures made { IfOk result (λ report. Makes certified.now.plan report.history report.jobs) }
     ensures units { IfOk result (λ report. report.units ≡ units certified.now.plan certified.now.cert.ranks rounds) }
+    ensures worked { IfOk result (λ report. Works certified.now.plan report.history report.units) }
     ensures none_refused { IfOk result (λ report. report.refused ≡ 0) }
     ensures within { IfOk result (λ _. is_too_large certified.now.plan certified.now.cert.ranks rounds ≡ false) }
     ensures fault { IfErr result (IsFaultOf (is_too_large certified.now.plan certified.now.cert.ranks rounds)) }

@@ -5,7 +5,7 @@ use certified_worlds::CertifiedWorld;
 use held_machines::{Held, Locked, Receipt};
 use interleaving::{Event, Outcome};
 use job_bodies::Plan;
-use run_histories::Cause;
+use run_histories::ThreadFault;
 use std::alloc::{AllocError, Global};
 use std::collections::VecDeque;
 use std::sync::{Condvar, Mutex, MutexGuard, Wait};
@@ -81,7 +81,7 @@ impl<'a> Shared<'a> {
     }
 
     /// The history that was made, and the least fault that a thread met.
-    pub(crate) fn into_history(self) -> (Vec<Event>, Option<Cause>) {
+    pub(crate) fn into_history(self) -> (Vec<Event>, Option<ThreadFault>) {
         let Shared {
             machine,
             progress,
@@ -110,7 +110,7 @@ impl<'a> Shared<'a> {
                 Ok(None) => turn = self.machine.wait(rt, turn),
                 Err(AllocError) => {
                     drop(turn);
-                    self.fail(rt, Cause::Memory);
+                    self.fail(rt, ThreadFault::Memory);
                     return None;
                 }
             }
@@ -143,7 +143,7 @@ impl<'a> Shared<'a> {
                 Ok(None) => turn = desk.called.wait(rt, turn),
                 Err(AllocError) => {
                     drop(turn);
-                    self.fail(rt, Cause::Memory);
+                    self.fail(rt, ThreadFault::Memory);
                     return None;
                 }
             }
@@ -172,7 +172,7 @@ impl<'a> Shared<'a> {
     }
 
     /// Notes a fault, and lets every thread end.
-    pub(crate) fn fail<R: Wait>(&self, rt: &R, cause: Cause) {
+    pub(crate) fn fail<R: Wait>(&self, rt: &R, cause: ThreadFault) {
         let turn = self.machine.lock(rt);
         self.progress.lock(rt).note(cause);
         drop(turn);
@@ -226,7 +226,7 @@ impl<'a> Shared<'a> {
         };
         // A desk has room for as many jobs as its pool may have threads, so none is lost.
         if desk.started.lock(rt).push_back(job).is_err() {
-            self.progress.lock(rt).note(Cause::Memory);
+            self.progress.lock(rt).note(ThreadFault::Memory);
             return Whom::All;
         }
         Whom::Carrier(pool)

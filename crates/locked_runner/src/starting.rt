@@ -5,10 +5,9 @@ use crate::shared::Shared;
 use crate::threads::Runner;
 use cert_check::Certified;
 use certified_worlds::CertifiedWorld;
-use held_machines::{Held, Receipt};
-use interleaving::Event;
+use held_machines::Held;
 use job_bodies::{Client, Plan};
-use run_histories::{Cause, Met, Owner, kinds_of, lists_of, rounds_of_client};
+use run_histories::{KeptReceipt, Met, Owner, ThreadFault, kinds_of, lists_of, rounds_of_client};
 use std::alloc::{AllocError, Global};
 use std::sync::Wait;
 use std::thread;
@@ -40,7 +39,7 @@ pub(crate) fn on_threads<R: Threads + Wait + Sync, G: Gate>(
     thread::scope(thread::scope_env(), rt, |scope| {
         let mut handles = Vec::new(alloc);
         if handles.reserve(all.len()).is_err() {
-            lent.fail(rt, Cause::Memory);
+            lent.fail(rt, ThreadFault::Memory);
             return;
         }
         for owner in all {
@@ -48,18 +47,18 @@ pub(crate) fn on_threads<R: Threads + Wait + Sync, G: Gate>(
             match scope.spawn(move || run_one(rt, alloc, lent, gate, kinds, owner, rounds)) {
                 Ok(handle) => {
                     if handles.push(handle).is_err() {
-                        lent.fail(rt, Cause::Memory);
+                        lent.fail(rt, ThreadFault::Memory);
                     }
                 }
                 Err(_) => {
-                    lent.fail(rt, Cause::Memory);
+                    lent.fail(rt, ThreadFault::Memory);
                     break;
                 }
             }
         }
         for handle in handles {
             if lists.push(handle.join(rt)).is_err() {
-                lent.fail(rt, Cause::Memory);
+                lent.fail(rt, ThreadFault::Memory);
             }
         }
     });
@@ -80,8 +79,11 @@ fn run_one<R: Wait, G: Gate>(
     kinds: &[usize],
     owner: Owner,
     rounds: u64,
-) -> Vec<Receipt<Event>> {
-    let runner = Runner::new(alloc, rt, shared, gate);
+) -> Vec<KeptReceipt> {
+    let Ok(runner) = Runner::new(alloc, rt, shared, gate) else {
+        shared.fail(rt, ThreadFault::Memory);
+        return Vec::new(alloc);
+    };
     match owner {
         Owner::Client(number) => match client_of(shared.plan, kinds, number) {
             Some(client) => runner.run_client(client, number, rounds_of_client(client, rounds)),

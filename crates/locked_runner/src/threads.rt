@@ -5,9 +5,13 @@ use crate::{Actor, Gate};
 use held_machines::Receipt;
 use interleaving::Event;
 use job_bodies::{Action, Client};
-use run_histories::Cause;
-use std::alloc::Global;
+use run_histories::{KeptReceipt, ThreadFault};
+use std::alloc::{AllocError, Global};
 use std::sync::Wait;
+
+/// How many receipts a list has room for from the start: 192 KiB, which the C library's heap takes in memory of its own
+/// kind, page by page as it is written. So a list that stays below is never moved, and leaves no gaps in the heap.
+const FIRST_ROOM: usize = 16_384;
 
 /// One thread of a run, with the receipts of its events.
 #[derive(Drop)]
@@ -15,22 +19,27 @@ pub(crate) struct Runner<'a, 'b, R, G> {
     pub(crate) rt: &'b R,
     pub(crate) shared: &'b Shared<'a>,
     pub(crate) gate: &'b G,
-    pub(crate) receipts: Vec<Receipt<Event>>,
+    pub(crate) receipts: Vec<KeptReceipt>,
 }
 
 impl<'a, 'b, R: Wait, G: Gate> Runner<'a, 'b, R, G> {
+    /// A thread before its first event.
+    ///
+    /// # Errors
+    ///
+    /// `AllocError` where there is no memory for its first receipts.
     pub(crate) fn new(
         alloc: Global,
         rt: &'b R,
         shared: &'b Shared<'a>,
         gate: &'b G,
-    ) -> Runner<'a, 'b, R, G> {
-        Runner {
+    ) -> Result<Runner<'a, 'b, R, G>, AllocError> {
+        Ok(Runner {
             rt,
             shared,
             gate,
-            receipts: Vec::new(alloc),
-        }
+            receipts: Vec::with_capacity(alloc, FIRST_ROOM)?,
+        })
     }
 
     /// A client's thread: it goes through its body so many times, and leaves.
@@ -39,7 +48,7 @@ impl<'a, 'b, R: Wait, G: Gate> Runner<'a, 'b, R, G> {
         client: &Client,
         number: usize,
         rounds: u64,
-    ) -> Vec<Receipt<Event>> {
+    ) -> Vec<KeptReceipt> {
         for round in 0..rounds {
             if !self.follow(&client.body, Actor::Client(number)) {
                 return self.receipts;
@@ -53,7 +62,7 @@ impl<'a, 'b, R: Wait, G: Gate> Runner<'a, 'b, R, G> {
     }
 
     /// A carrier's thread: it carries out one job of its pool after another, until the run is at its end.
-    pub(crate) fn run_carrier(mut self, pool: usize) -> Vec<Receipt<Event>> {
+    pub(crate) fn run_carrier(mut self, pool: usize) -> Vec<KeptReceipt> {
         for _ in self.rt.forever() {
             let Some(work) = self.shared.next_job(self.rt, pool) else {
                 break;
@@ -84,7 +93,7 @@ impl<'a, 'b, R: Wait, G: Gate> Runner<'a, 'b, R, G> {
         for action in body {
             if let Action::Work(units) = action {
                 if self.gate.work(actor, *units).is_err() {
-                    self.shared.fail(self.rt, Cause::Gate);
+                    self.shared.fail(self.rt, ThreadFault::Gate);
                     return false;
                 }
             }
@@ -103,10 +112,15 @@ impl<'a, 'b, R: Wait, G: Gate> Runner<'a, 'b, R, G> {
         }
     }
 
+    /// Keeps the receipt. False where the run is to end.
     fn note(&mut self, receipt: Receipt<Event>) -> bool {
-        let noted = self.receipts.push(receipt).is_ok();
+        let Some(kept) = KeptReceipt::new(receipt) else {
+            self.shared.end(self.rt);
+            return false;
+        };
+        let noted = self.receipts.push(kept).is_ok();
         if !noted {
-            self.shared.fail(self.rt, Cause::Memory);
+            self.shared.fail(self.rt, ThreadFault::Memory);
         }
         noted
     }

@@ -8,3 +8,4 @@ pub mod RoundsFound
 pub mod WatchAfter
 pub mod Unrecorded
 pub mod KindSet
+pub mod AlikeKinds

@@ -2,8 +2,8 @@
 use Rattle.std.proofs.Common.{◌≡◌, ℕ, ◌+◌, ◌<◌, ◌==◌, ◌&&◌, ◌||◌, not, Bool, true, false, if◌then◌else◌, List, [], ◌∷◌, ◌++◌, count_by, Option, Some, None, refl, ap, sym, ◌∙◌, ◌≢◌, append_assoc, subst, suc, ⊎_elim, ◌⊎◌, inl, inr, arith}
 use Rattle.std.proofs.lemmas.Bool.{eqb-true, and_parts, not-true}
 use Rattle.recording_lines.specs.RecordingLine.{RecordedLine, RoundBegins, RoundEnds}
-use Rattle.recorded_rules.specs.declared.rule.Rule.{Rule}
-use Rattle.recorded_rules.specs.declared.rule.Rule.TheVariants.{Frame, Pools, Numbers, Rounds}
+use Rattle.recorded_rules.specs.declared.rule.LineRule.{LineRule}
+use Rattle.recorded_rules.specs.declared.rule.LineRule.TheVariants.{Frame, Pools, Numbers, Rounds}
 use Rattle.recorded_rules.specs.LineParts.{is_begin, begins_round, ends_round}
 use Rattle.recorded_rules.specs.Before.{begins, is_begun, is_ended}
 use Rattle.recorded_rules.specs.Rules.{broken_of, keeps_frame, keeps_pools, keeps_numbers, keeps_rounds}
@@ -17,7 +17,7 @@ record Keeps (before : List RecordedLine) (line : RecordedLine) : Type 0 where
   numbers : keeps_numbers before line ≡ true
   rounds : keeps_rounds before line ≡ true
 
-passes : (holds : Bool) (rule : Rule) (rest : Option Rule) → (if not holds then Some rule else rest) ≡ None → (holds ≡ true) × (rest ≡ None)
+passes : (holds : Bool) (rule : LineRule) (rest : Option LineRule) → (if not holds then Some rule else rest) ≡ None → (holds ≡ true) × (rest ≡ None)
 passes true rule rest h = grind arith
 passes false rule rest h = grind arith
 
@@ -29,7 +29,7 @@ keeps_both before line unbroken =
     let p4 = passes (keeps_rounds before line) Rounds _ p3.1 in
     record { numbers = p3.0; rounds = p4.0 }
 
-keeps_before : (before : List RecordedLine) (line : RecordedLine) → KeepsRules (before ++ line ∷ []) → KeepsRules before
+pub keeps_before : (before : List RecordedLine) (line : RecordedLine) → KeepsRules (before ++ line ∷ []) → KeepsRules before
 keeps_before before line kept = record {
   unbroken = λ front one behind is. kept.unbroken front one (behind ++ line ∷ []) (ap (λ (lines : List RecordedLine). lines ++ line ∷ []) is ∙ append_assoc front (one ∷ behind) (line ∷ []));
 }
@@ -195,3 +195,17 @@ is_open kinds kind before round kept here =
     = tally_below (ended_of_kind kinds kind before) (of_kind kinds kind) (begins before) round (λ one h. (and_parts (of_kind kinds kind one) _ h).0) (n.begun_below round is.0)
     (ap (λ b. of_kind kinds kind round && b) is.1 ∙ and_false _) here in
     grind (arith, n.begun, n.ended, less)
+
+-- ---- rounds that have begun
+pub more_begins : (before : List RecordedLine) (line : RecordedLine) (round : ℕ) → round < begins before → round < begins (before ++ line ∷ [])
+more_begins before line round below = omega (arith, begins_more before line, below)
+
+pub begin_within : (before : List RecordedLine) (round : ℕ) (name : List ℕ) → KeepsRules (before ++ RoundBegins round name ∷ []) → round < begins (before ++ RoundBegins round name ∷ [])
+begin_within before round name kept =
+    let n = numbered [] 0 (before ++ RoundBegins round name ∷ []) kept in
+    n.begun_below round (begun_more before (RoundBegins round name) round ∙ (ap (λ b. is_begun before round || b) (same_number round) ∙ or_true _))
+
+pub end_within : (before : List RecordedLine) (round : ℕ) → KeepsRules (before ++ RoundEnds round ∷ []) → round < begins (before ++ RoundEnds round ∷ [])
+end_within before round kept =
+    let n = numbered [] 0 (before ++ RoundEnds round ∷ []) kept in
+    n.ended_below round (ended_more before (RoundEnds round) round ∙ (ap (λ b. is_ended before round || b) (same_number round) ∙ or_true _))

@@ -20,7 +20,7 @@ mod watch_laws;
 pub use difference::Difference;
 pub use excess::Excess;
 pub use pool_watch::{PoolDeviation, PoolWatch};
-pub use round_count::{MAX_RECORDED_ROUNDS, RoundCount};
+pub use round_count::RoundCount;
 pub use round_watch::{RoundExcess, RoundWatch};
 pub use sizes::differences;
 pub use watch_laws::{pools_are_as_planned, rounds_are_within_plan};

@@ -4,11 +4,8 @@ ghost use Rattle.std.specs.Prelude.{◌≡◌, ◌↔◌, ◌+◌, ◌<◌, IsTr
 ghost use Rattle.plan_differences.specs.Rounds as spec;
 
 use crate::Excess;
-use job_bodies::Client;
+use job_bodies::{Client, MAX_RECORDED_ROUNDS};
 use std::marker::Model;
-
-/// The most rounds of a recording: their numbers are from 0 to 1,000,000,000.
-pub const MAX_RECORDED_ROUNDS: u64 = 1_000_000_001;
 
 /// The rounds of one kind of clients, counted while they begin and end, and what the plan says of the kind.
 ///
@@ -23,7 +20,7 @@ pub struct RoundCount {
 
 impl Model for RoundCount {
     ghost use Rattle.std.specs.Prelude.{◌≤◌};
-    ghost use Rattle.plan_differences.specs.declared.round_count.TheConstants.{MAX_RECORDED_ROUNDS};
+    ghost use Rattle.job_bodies.specs.declared.limits.TheConstants.{MAX_RECORDED_ROUNDS};
     ghost use Rattle.plan_differences.specs.Rounds.{Rounds};
 
     ghost Value = { Rounds };

@@ -1,4 +1,5 @@
 pub mod Names
+pub mod OneByOne
 pub mod Explained
 pub mod Asked
 pub mod ToldClasses

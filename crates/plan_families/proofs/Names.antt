@@ -5,15 +5,15 @@ use Rattle.std.specs.Str.{bytes_eq}
 use Rattle.std.proofs.lemmas.Bool.{and_parts, and_from, leb-true, le-leb, eqb-true}
 use Rattle.std.proofs.lemmas.List.{take-append-drop, take_at, drop_at}
 use Rattle.std.proofs.lemmas.Slice.Eq.{bytes_eq-Decides}
-use Rattle.line_words.specs.declared.number.TheConstants.{MAX_NUMBER}
+use Rattle.job_bodies.specs.declared.limits.TheConstants.{MAX_LINE_NUMBER}
 use Rattle.line_words.specs.Number.{number_of}
 use Rattle.line_words.proofs.WrittenNumbers.{number_read, number_written}
 use Rattle.plan_families.specs.Family.{is_family_end, is_of_family, IsOfFamily}
 
 -- digits that write a number from 2 on are those of this number
-from_two : (digits : List ℕ) (read : Option ℕ) → number_of digits ≡ read → option_map_or (nat_le 2) read false ≡ true → (n : ℕ) × (2 ≤ n) × (n ≤ MAX_NUMBER) × (digits ≡ decimal n)
+from_two : (digits : List ℕ) (read : Option ℕ) → number_of digits ≡ read → option_map_or (nat_le 2) read false ≡ true → (n : ℕ) × (2 ≤ n) × (n ≤ MAX_LINE_NUMBER) × (digits ≡ decimal n)
 from_two digits None reads test = cc
-from_two digits (Some n) reads test = let found = number_read digits n reads in (n, leb-true 2 n test, leb-true n MAX_NUMBER found.0, found.1)
+from_two digits (Some n) reads test = let found = number_read digits n reads in (n, leb-true 2 n test, leb-true n MAX_LINE_NUMBER found.0, found.1)
 
 end_read : (label end : List ℕ) → is_family_end end ≡ true → IsOfFamily label (label ++ end)
 end_read label [] test = inl (append-nil label)
@@ -38,8 +38,8 @@ unfolding is_of_family
 end_written label end test =
     and_from _ _ ((bytes_eq-Decides _ label).1 (take_at label end (length label) refl)) (ap is_family_end (drop_at label end (length label) refl) ∙ test)
 
-number_ends : (n : ℕ) → 2 ≤ n → n ≤ MAX_NUMBER → is_family_end (95 ∷ decimal n) ≡ true
-number_ends n two most = ap (λ (read : Option ℕ). option_map_or (nat_le 2) read false) (number_written n (le-leb n MAX_NUMBER most)) ∙ le-leb 2 n two
+number_ends : (n : ℕ) → 2 ≤ n → n ≤ MAX_LINE_NUMBER → is_family_end (95 ∷ decimal n) ≡ true
+number_ends n two most = ap (λ (read : Option ℕ). option_map_or (nat_le 2) read false) (number_written n (le-leb n MAX_LINE_NUMBER most)) ∙ le-leb 2 n two
 
 -- and each of these passes the test
 pub name_written : (label name : List ℕ) → IsOfFamily label name → is_of_family label name ≡ true

@@ -1,6 +1,6 @@
 -- The classes that a path is of, where all of the family were asked.
-use Rattle.std.proofs.Common.{ℕ, Bool, List, length, IsTrue}
-use Rattle.std.specs.List.{All}
+use Rattle.std.proofs.Common.{◌≡◌, ℕ, Bool, List, length, filter, subst, IsTrue}
+use Rattle.std.specs.List.{All, range_with_len}
 use Rattle.std.specs.List.Sorted.{IsStrictlyIncreasing}
 use Rattle.std.proofs.lemmas.List.Elements.{All-weaker, All-contains}
 use Rattle.job_bodies.specs.Plan.{Plan}
@@ -8,7 +8,8 @@ use Rattle.body_paths.specs.declared.deed.Deed.{Deed}
 use Rattle.body_paths.specs.declared.deed.Course.{Course}
 use Rattle.plan_families.specs.Family.{is_class_in_family, class_family}
 use Rattle.plan_families.specs.PathFamily.{IsClassOf, AreExactly, class_body}
-use Rattle.plan_families.specs.Told.{IsTold}
+use Rattle.plan_families.specs.Told.{IsTold, Tells}
+use Rattle.plan_families.specs.declared.path_family.PathFamily.{PathFamily}
 use Rattle.plan_families.proofs.Asked.{IsMember, told_complete, told_ascending, range_ascends}
 
 pub class_sound : (plan : Plan) (label pool : List ℕ) (course : Course) (path : List Deed) (budget : ℕ) (members : List ℕ) (longest : ℕ) (is_decided : Bool) → IsTold (class_body plan) course path budget (class_family plan label pool) members longest is_decided → All (IsClassOf plan label pool course path) members
@@ -25,3 +26,8 @@ pub class_ascending : (plan : Plan) (label pool : List ℕ) (course : Course) (p
 unfolding class_family
 class_ascending plan label pool course path budget members longest is_decided told =
     told_ascending (class_body plan) course path budget (class_family plan label pool) members longest is_decided told (range_ascends (is_class_in_family plan label pool) (length plan.classes))
+
+-- all of the plan were looked at
+pub class_whole : (plan : Plan) (label pool : List ℕ) (course : Course) (path : List Deed) (budget : ℕ) (told : PathFamily) (count : ℕ) → count ≡ length plan.classes → Tells told (class_body plan) course path budget (filter (is_class_in_family plan label pool) (range_with_len 0 count)) → Tells told (class_body plan) course path budget (class_family plan label pool)
+unfolding class_family
+class_whole plan label pool course path budget told count all tells = subst (λ (n : ℕ). Tells told (class_body plan) course path budget (filter (is_class_in_family plan label pool) (range_with_len 0 n))) all tells

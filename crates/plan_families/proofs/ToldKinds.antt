@@ -1,6 +1,6 @@
 -- The kinds of clients that a path is of, where all of the family were asked.
-use Rattle.std.proofs.Common.{ℕ, Bool, List, length, IsTrue}
-use Rattle.std.specs.List.{All}
+use Rattle.std.proofs.Common.{◌≡◌, ℕ, Bool, List, length, filter, subst, IsTrue}
+use Rattle.std.specs.List.{All, range_with_len}
 use Rattle.std.specs.List.Sorted.{IsStrictlyIncreasing}
 use Rattle.std.proofs.lemmas.List.Elements.{All-weaker, All-contains}
 use Rattle.job_bodies.specs.Plan.{Plan}
@@ -8,7 +8,8 @@ use Rattle.body_paths.specs.declared.deed.Deed.{Deed}
 use Rattle.body_paths.specs.declared.deed.Course.{Course}
 use Rattle.plan_families.specs.Family.{is_client_in_family, client_family}
 use Rattle.plan_families.specs.PathFamily.{IsKindOf, AreExactly, client_body}
-use Rattle.plan_families.specs.Told.{IsTold}
+use Rattle.plan_families.specs.Told.{IsTold, Tells}
+use Rattle.plan_families.specs.declared.path_family.PathFamily.{PathFamily}
 use Rattle.plan_families.proofs.Asked.{IsMember, told_complete, told_ascending, range_ascends}
 
 pub kind_sound : (plan : Plan) (label : List ℕ) (course : Course) (path : List Deed) (budget : ℕ) (members : List ℕ) (longest : ℕ) (is_decided : Bool) → IsTold (client_body plan) course path budget (client_family plan label) members longest is_decided → All (IsKindOf plan label course path) members
@@ -25,3 +26,8 @@ pub kind_ascending : (plan : Plan) (label : List ℕ) (course : Course) (path : 
 unfolding client_family
 kind_ascending plan label course path budget members longest is_decided told =
     told_ascending (client_body plan) course path budget (client_family plan label) members longest is_decided told (range_ascends (is_client_in_family plan label) (length plan.clients))
+
+-- all of the plan were looked at
+pub kind_whole : (plan : Plan) (label : List ℕ) (course : Course) (path : List Deed) (budget : ℕ) (told : PathFamily) (count : ℕ) → count ≡ length plan.clients → Tells told (client_body plan) course path budget (filter (is_client_in_family plan label) (range_with_len 0 count)) → Tells told (client_body plan) course path budget (client_family plan label)
+unfolding client_family
+kind_whole plan label course path budget told count all tells = subst (λ (n : ℕ). Tells told (client_body plan) course path budget (filter (is_client_in_family plan label) (range_with_len 0 n))) all tells

@@ -3,7 +3,7 @@ use Rattle.std.specs.Prelude.{◌≡◌, ◌≤◌, ◌⊎◌, ℕ, Bool, true, 
 use Rattle.std.specs.List.{range_with_len}
 use Rattle.std.specs.Option.{option_map_or}
 use Rattle.std.specs.Str.{bytes_eq}
-use Rattle.line_words.specs.declared.number.TheConstants.{MAX_NUMBER}
+use Rattle.job_bodies.specs.declared.limits.TheConstants.{MAX_LINE_NUMBER}
 use Rattle.line_words.specs.Number.{number_of}
 use Rattle.job_bodies.specs.Plan.{Plan, pool_at, class_at, client_at}
 
@@ -19,7 +19,7 @@ is_of_family label name = bytes_eq (take (length label) name) label && is_family
 
 -- the same in other words: the name is the label, or the label, `_` and a number from 2 on
 abbrev pub IsOfFamily : List ℕ → List ℕ → Type 0
-IsOfFamily label name = (name ≡ label) ⊎ ((n : ℕ) × (2 ≤ n) × (n ≤ MAX_NUMBER) × (name ≡ label ++ codes "_" ++ decimal n))
+IsOfFamily label name = (name ≡ label) ⊎ ((n : ℕ) × (2 ≤ n) × (n ≤ MAX_LINE_NUMBER) × (name ≡ label ++ codes "_" ++ decimal n))
 
 -- ---- classes and kinds
 -- the class of this number has a name of the family, and a pool of this name

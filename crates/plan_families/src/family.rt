@@ -1,6 +1,6 @@
 //! Which entries of a plan a label of a recording may stand for.
 
-ghost use Rattle.std.specs.Prelude.{◌≡◌, ◌↔◌, false, nat_le, IsTrue, IfOk};
+ghost use Rattle.std.specs.Prelude.{◌≡◌, ◌↔◌, false, nat_le, slice_get, IsTrue, IfOk};
 ghost use Rattle.std.specs.Option.{option_map_or};
 ghost use Rattle.job_bodies.specs.Plan.{pool_at, class_at};
 ghost use Rattle.plan_families.specs.Family as spec;
@@ -60,7 +60,19 @@ pub fn class_family(
         .collect(alloc)
 }
 
-fn is_class_in_family(plan: &Plan, label: &str, pool: &str, class: usize) -> bool
+/// The first of the classes that jobs of this label may be of, in the pool of this name. It needs no memory.
+pub fn first_class(plan: &Plan, label: &str, pool: &str) -> Option<usize>
+    ensures { result ≡ slice_get (spec.class_family plan.now label.now pool.now) 0 }
+{
+    for class in 0..plan.classes().len() {
+        if is_class_in_family(plan, label, pool, class) {
+            return Some(class);
+        }
+    }
+    None
+}
+
+pub(crate) fn is_class_in_family(plan: &Plan, label: &str, pool: &str, class: usize) -> bool
     ensures { result ≡ spec.is_class_in_family plan.now label.now pool.now class }
 {
     is_of_family(label, plan.class_name(class)) && pool_of_class(plan, class) == pool
@@ -83,6 +95,24 @@ pub fn client_family(alloc: Global, plan: &Plan, label: &str) -> Result<Vec<usiz
     ensures { IfOk result (λ family. family.items ≡ spec.client_family plan.now label.now) }
 {
     (0..plan.clients().len())
-        .filter(|client| is_of_family(label, plan.client_name(*client)))
+        .filter(|client| is_client_in_family(plan, label, *client))
         .collect(alloc)
+}
+
+/// The first of the kinds of clients that rounds of this label may be of. It needs no memory.
+pub fn first_client(plan: &Plan, label: &str) -> Option<usize>
+    ensures { result ≡ slice_get (spec.client_family plan.now label.now) 0 }
+{
+    for client in 0..plan.clients().len() {
+        if is_client_in_family(plan, label, client) {
+            return Some(client);
+        }
+    }
+    None
+}
+
+pub(crate) fn is_client_in_family(plan: &Plan, label: &str, client: usize) -> bool
+    ensures { result ≡ spec.is_client_in_family plan.now label.now client }
+{
+    is_of_family(label, plan.client_name(client))
 }

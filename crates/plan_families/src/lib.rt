@@ -11,6 +11,6 @@ mod family;
 mod members;
 mod path_family;
 
-pub use family::{class_family, client_family, is_of_family};
+pub use family::{class_family, client_family, first_class, first_client, is_of_family};
 pub use members::{classes_of_path, kinds_of_path};
 pub use path_family::PathFamily;

@@ -5,7 +5,7 @@ ghost use Rattle.std.specs.List.Sorted.{IsStrictlyIncreasing};
 ghost use Rattle.plan_families.specs.PathFamily.{IsClassOf, IsKindOf, AreExactly, IsMostExplained, IsEnoughFor, class_bodies, client_bodies};
 
 use crate::bodies::{class_body, client_body};
-use crate::family::{class_family, client_family};
+use crate::family::{is_class_in_family, is_client_in_family};
 use crate::path_family::PathFamily;
 use body_paths::{Course, Deed};
 use job_bodies::Plan;
@@ -32,10 +32,11 @@ pub fn classes_of_path(
     ensures explained { IfOk result (λ told. IsTrue told.is_decided → IsMostExplained (class_bodies plan.now label.now pool.now) path.now told.explained) }
     ensures decided { IfOk result (λ told. All (IsEnoughFor budget) (class_bodies plan.now label.now pool.now) → IsTrue told.is_decided) }
 {
-    let family = class_family(alloc, plan, label, pool)?;
     let mut told = PathFamily::new(alloc);
-    for class in &family {
-        told.ask(*class, class_body(plan, *class), path, course, budget)?;
+    for class in 0..plan.classes().len() {
+        if is_class_in_family(plan, label, pool, class) {
+            told.ask(class, class_body(plan, class), path, course, budget)?;
+        }
     }
     Ok(told)
 }
@@ -60,10 +61,11 @@ pub fn kinds_of_path(
     ensures explained { IfOk result (λ told. IsTrue told.is_decided → IsMostExplained (client_bodies plan.now label.now) path.now told.explained) }
     ensures decided { IfOk result (λ told. All (IsEnoughFor budget) (client_bodies plan.now label.now) → IsTrue told.is_decided) }
 {
-    let family = client_family(alloc, plan, label)?;
     let mut told = PathFamily::new(alloc);
-    for kind in &family {
-        told.ask(*kind, client_body(plan, *kind), path, course, budget)?;
+    for kind in 0..plan.clients().len() {
+        if is_client_in_family(plan, label, kind) {
+            told.ask(kind, client_body(plan, kind), path, course, budget)?;
+        }
     }
     Ok(told)
 }

@@ -7,7 +7,7 @@ ghost use Rattle.body_paths.specs.declared.deed.Deed.{Deed};
 ghost use Rattle.body_paths.specs.declared.deed.Course.{Course};
 ghost use Rattle.plan_families.specs.Told.{Tells};
 
-use body_paths::{Answer, Course, Deed, path_fits};
+use body_paths::{Course, Deed, PathFit, path_fits};
 use job_bodies::Action;
 use std::alloc::{AllocError, Global};
 
@@ -49,16 +49,16 @@ impl PathFamily {
         ensures { (body_of : ℕ → List Action) (asked : List ℕ) → body_of number ≡ body.now → Tells self.old body_of course path.now budget asked → OnOk result (Tells self.new body_of course path.now budget (asked ++ number ∷ [])) }
     {
         match path_fits(body, path, course, budget) {
-            Answer::Fits => {
+            PathFit::Fits => {
                 self.explained = path.len();
                 self.members.push(number)?;
                 Ok(())
             }
-            Answer::Deviates(explained) => {
+            PathFit::Deviates(explained) => {
                 self.explained = self.explained.max(explained);
                 Ok(())
             }
-            Answer::Undecided => {
+            PathFit::Undecided => {
                 self.is_decided = false;
                 Ok(())
             }

@@ -49,10 +49,10 @@ filled_here slot i before (Some (get name)) t e =
     ]
 
 -- the text at a place of the list
-text_at : (texts : List (List ℕ)) (i : ℕ) → i < length texts → (text : List ℕ) × (slice_get texts i ≡ Some text)
-text_at [] i within = absurd (omega arith)
-text_at (text ∷ texts) zero within = (text, refl)
-text_at (text ∷ texts) (suc i) within = text_at texts i (omega arith)
+text_within : (texts : List (List ℕ)) (i : ℕ) → i < length texts → (text : List ℕ) × (slice_get texts i ≡ Some text)
+text_within [] i within = absurd (omega arith)
+text_within (text ∷ texts) zero within = (text, refl)
+text_within (text ∷ texts) (suc i) within = text_within texts i (omega arith)
 
 same_text : (texts : List (List ℕ)) (i : ℕ) (x y : List ℕ) → slice_get texts i ≡ Some x → slice_get texts i ≡ Some y → x ≡ y
 same_text texts i x y a b = cc
@@ -76,7 +76,7 @@ fills_more texts i slot t fills none = record {
 pub fills : (texts : List (List ℕ)) (i : ℕ) (slot : List ℕ) (t : ℕ) → i ≤ length texts → filled (take i texts) slot ≡ Some t → Fills texts i slot t
 fills texts zero slot t within e = absurd cc
 fills texts (suc i) slot t within e =
-    let text = text_at texts i (omega arith) in
+    let text = text_within texts i (omega arith) in
     let next : filled (take (suc i) texts) slot ≡ filled_by slot i (filled (take i texts) slot) (order_of text.0) = rw (← add-one) (filled_more slot texts i text.0 text.1) in
     elim (filled_here slot i (filled (take i texts) slot) (order_of text.0) t (sym next ∙ e)) [
       | inl here ↦ record {

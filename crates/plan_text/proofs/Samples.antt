@@ -48,16 +48,16 @@ no_truth : plan_of (pool ++ codes "prestart = 1\n") ≡ Err (at_entry part.Pool 
 unfolding plan_on_literals
 no_truth = refl
 
-abbrev client_of : List ℕ → List ℕ
-client_of body = codes "[[client]]\nname = \"c\"\ncount = 2\nbody = [" ++ body ++ codes "]\n"
+abbrev client_with : List ℕ → List ℕ
+client_with body = codes "[[client]]\nname = \"c\"\ncount = 2\nbody = [" ++ body ++ codes "]\n"
 
 -- the slot is empty again after its get
-empty_slot : plan_of (pool ++ class ++ client_of (codes "\"submit a as x\", \"get x\", \"get x\"")) ≡ Err (at_action part.Client 0 2 13)
+empty_slot : plan_of (pool ++ class ++ client_with (codes "\"submit a as x\", \"get x\", \"get x\"")) ≡ Err (at_action part.Client 0 2 13)
 unfolding plan_on_literals
 empty_slot = refl
 
 -- the slot is filled already
-open_slot : plan_of (pool ++ class ++ client_of (codes "\"submit a as x\", \"submit a as x\"")) ≡ Err (at_action part.Client 0 1 12)
+open_slot : plan_of (pool ++ class ++ client_with (codes "\"submit a as x\", \"submit a as x\"")) ≡ Err (at_action part.Client 0 1 12)
 unfolding plan_on_literals
 open_slot = refl
 

@@ -8,7 +8,7 @@ use Rattle.readings.specs.Reading.{◌>>=◌, holds_or, some_or}
 use Rattle.job_bodies.specs.declared.fault.PlanFault.{PlanFault}
 use Rattle.faults.specs.declared.number.TheConstants.{NOT_TOML, TOO_MANY, UNKNOWN_KEY, WRONG_TYPE}
 use Rattle.job_bodies.specs.Checks.{at_text}
-use Rattle.plan_text.specs.declared.document.TheConstants.{MAX_TEXT_BYTES}
+use Rattle.job_bodies.specs.declared.limits.TheConstants.{MAX_PLAN_BYTES}
 
 -- every key of the table is one of these
 abbrev pub has_only : List (List ℕ) → Members → Bool
@@ -35,7 +35,7 @@ table_of text = some_or (parse_document text) (at_text NOT_TOML)
 -- the table of a document that is not too long, and has no other keys than a plan's
 unfoldable pub document_of : List ℕ → Result Members PlanFault
 document_of bytes =
-    holds_or (nat_le (length bytes) MAX_TEXT_BYTES) (at_text TOO_MANY) >>= λ _.
+    holds_or (nat_le (length bytes) MAX_PLAN_BYTES) (at_text TOO_MANY) >>= λ _.
     text_of bytes >>= λ text.
     table_of text >>= λ document.
     holds_or (has_only (codes "pool" ∷ codes "class" ∷ codes "client" ∷ []) document) (at_text UNKNOWN_KEY) >>= λ _.

@@ -11,20 +11,17 @@ ghost use Rattle.plan_text.specs.Document as spec;
 
 use crate::fault::TextError;
 use faults::number::{NOT_TOML, TOO_MANY, UNKNOWN_KEY, WRONG_TYPE};
-use job_bodies::PlanFault;
+use job_bodies::{MAX_PLAN_BYTES, PlanFault};
 use readings::ReadError;
 use std::alloc::Global;
 use toml::{Table, Value};
-
-/// The most bytes of a plan's text.
-pub const MAX_TEXT_BYTES: usize = 1_048_576;
 
 /// The document's table, which has no other keys than a plan's.
 #[tactic(auto, unfolding(crate::specs::Document::document_of))]
 pub fn document_of(alloc: Global, bytes: &[u8]) -> Result<Table, TextError>
     ensures { Gives table_view result (spec.document_of bytes.now) }
 {
-    if bytes.len() > MAX_TEXT_BYTES {
+    if bytes.len() > MAX_PLAN_BYTES {
         return Err(ReadError::Fault(PlanFault::at_text(TOO_MANY)));
     }
     let text = text_of(bytes)?;

@@ -15,6 +15,5 @@ mod order;
 mod plan_of;
 mod slots;
 
-pub use document::MAX_TEXT_BYTES;
 pub use laws::spelling_is_canonical;
 pub use plan_of::read_plan;

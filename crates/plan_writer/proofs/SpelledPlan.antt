@@ -14,7 +14,7 @@ use Rattle.job_bodies.specs.Build.{check_counts, check_lengths, check_entries}
 use Rattle.job_bodies.proofs.Bodies.{list_all_get}
 use Rattle.job_bodies.proofs.BuildLaws.{builds}
 use Rattle.job_bodies.proofs.Passing.{both_passed, EachPlace, each_passed, each_passes, mapped_get}
-use Rattle.plan_text.specs.declared.document.TheConstants.{MAX_TEXT_BYTES}
+use Rattle.job_bodies.specs.declared.limits.TheConstants.{MAX_PLAN_BYTES}
 use Rattle.plan_text.specs.Document.{document_of}
 use Rattle.plan_text.specs.Entries.{ClassEntry, ClientEntry}
 use Rattle.plan_text.specs.Checks.{class_names, client_names, class_head, client_head, check_pools, check_classes, check_clients}
@@ -136,7 +136,7 @@ is_short plan w = record {
 }
 
 -- a text that is the document of a plan, and no longer than a text may be, gives the plan
-pub text_again : (plan : Plan) (text : List ℕ) → IsWellFormed plan → is_utf8 text ≡ true → length text ≤ MAX_TEXT_BYTES → parse_document text ≡ Some (plan_document plan) → plan_of text ≡ Ok plan
+pub text_again : (plan : Plan) (text : List ℕ) → IsWellFormed plan → is_utf8 text ≡ true → length text ≤ MAX_PLAN_BYTES → parse_document text ≡ Some (plan_document plan) → plan_of text ≡ Ok plan
 unfolding plan_of document_of
 text_again plan text w valid short parsed =
-    rw (le-leb (length text) MAX_TEXT_BYTES short, valid, parsed, keys_are_known plan, entries_back plan (is_short plan w)) (entries_again plan w)
+    rw (le-leb (length text) MAX_PLAN_BYTES short, valid, parsed, keys_are_known plan, entries_back plan (is_short plan w)) (entries_again plan w)

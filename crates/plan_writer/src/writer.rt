@@ -1,7 +1,7 @@
 //! The text of a plan that was made in code.
 
 ghost use Rattle.std.specs.Prelude.{◌≡◌, ◌≤◌, length, IfOk, Ok, string_bytes};
-ghost use Rattle.plan_text.specs.declared.document.TheConstants.{MAX_TEXT_BYTES};
+ghost use Rattle.job_bodies.specs.declared.limits.TheConstants.{MAX_PLAN_BYTES};
 ghost use Rattle.plan_writer.specs.PlanDocument.{IsPlanText};
 ghost use Rattle.plan_text.specs.PlanOf.{plan_of};
 
@@ -19,7 +19,7 @@ use std::alloc::{AllocError, Global};
 /// [`AllocError`] where memory runs out.
 pub fn write_plan(alloc: Global, plan: &Plan) -> Result<String, AllocError>
     ensures document { IfOk result (λ text. IsPlanText plan.now (string_bytes text)) }
-    ensures reads_back { IfOk result (λ text. length (string_bytes text) ≤ MAX_TEXT_BYTES → plan_of (string_bytes text) ≡ Ok plan.now) }
+    ensures reads_back { IfOk result (λ text. length (string_bytes text) ≤ MAX_PLAN_BYTES → plan_of (string_bytes text) ≡ Ok plan.now) }
 {
     let document = plan_document(alloc, plan)?;
     match toml::table_to_string(alloc, &document) {

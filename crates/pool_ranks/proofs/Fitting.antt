@@ -9,7 +9,7 @@ use Rattle.job_bodies.specs.Plan.{Class, Plan, no_class, class_at, class_got}
 use Rattle.job_bodies.specs.WellFormed.{IsWellFormed}
 use Rattle.job_bodies.specs.Lawful.{IsLawful}
 use Rattle.job_bodies.proofs.Bodies.{ordered}
-use Rattle.weights.specs.declared.limits.TheConstants.{MAX_WEIGHT}
+use Rattle.job_bodies.specs.declared.limits.TheConstants.{MAX_WEIGHT}
 use Rattle.weights.proofs.Fitting.{small_in, got_known}
 use Rattle.pool_ranks.specs.Ranks.{Ranks, rank, reach, level, ranks_fit, is_counted, is_counted_action}
 

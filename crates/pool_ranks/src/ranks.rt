@@ -7,7 +7,7 @@ use job_bodies::Plan;
 use std::marker::Model;
 use weights::are_small;
 
-/// Ranks of pools, and reach and levels of classes: whole numbers from 0 to [`MAX_WEIGHT`](weights::MAX_WEIGHT), in plan
+/// Ranks of pools, and reach and levels of classes: whole numbers from 0 to [`MAX_WEIGHT`](job_bodies::MAX_WEIGHT), in plan
 /// order.
 #[derive(Debug, Drop)]
 pub struct Ranks {

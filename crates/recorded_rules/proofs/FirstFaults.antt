@@ -3,8 +3,8 @@ use Rattle.std.proofs.Common.{◌≡◌, ℕ, zero, suc, ◌+◌, ◌<◌, ◌�
 use Rattle.std.specs.Option.{option_and_then, option_to_list}
 use Rattle.recording_lines.specs.RecordingLine.{RecordedLine}
 use Rattle.std.proofs.lemmas.Option.{slice_get_past}
-use Rattle.recorded_rules.specs.declared.fault.Breach.TheVariants.{Rule}
-use Rattle.recorded_rules.specs.declared.rule.Rule.TheVariants.{Frame}
+use Rattle.recorded_rules.specs.declared.fault.Breach.TheVariants.{LineRule}
+use Rattle.recorded_rules.specs.declared.rule.LineRule.TheVariants.{Frame}
 use Rattle.recorded_rules.specs.Faults.{breach_of, lines_before, breach_behind}
 
 -- the lines behind the first n begin with this one
@@ -65,7 +65,7 @@ none_past (first ∷ lines) n i rest some within past =
     ap (option_and_then (breach_of (lines_before (first ∷ lines) i))) (slice_get_past (first ∷ lines) i beyond)
 
 -- where there is no line, the first one is missing
-pub first_missing : (lines : List (Option RecordedLine)) → lines ≡ [] → breach_behind lines 0 ≡ Some (Rule Frame)
+pub first_missing : (lines : List (Option RecordedLine)) → lines ≡ [] → breach_behind lines 0 ≡ Some (LineRule Frame)
 unfolding breach_behind
 first_missing [] none = refl
 first_missing (first ∷ lines) none = grind (arith, none)

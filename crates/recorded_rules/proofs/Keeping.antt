@@ -2,8 +2,8 @@
 use Rattle.std.proofs.Common.{◌≡◌, Bool, true, List, Option, Some, None, arith}
 use Rattle.recording_lines.specs.RecordingLine.{RecordedLine}
 use Rattle.recorded_rules.specs.Rules.{broken_of, keeps_frame, keeps_pools, keeps_numbers, keeps_rounds, keeps_jobs, keeps_refusals, keeps_gets}
-use Rattle.recorded_rules.specs.declared.rule.Rule.{Rule}
-use Rattle.recorded_rules.specs.declared.rule.Rule.TheVariants.{Frame, Pools, Numbers, Rounds, Jobs, Refusals, Gets}
+use Rattle.recorded_rules.specs.declared.rule.LineRule.{LineRule}
+use Rattle.recorded_rules.specs.declared.rule.LineRule.TheVariants.{Frame, Pools, Numbers, Rounds, Jobs, Refusals, Gets}
 use Rattle.std.proofs.Common.{if◌then◌else◌, not, false}
 
 pub record Keeps (before : List RecordedLine) (line : RecordedLine) : Type 0 where
@@ -16,7 +16,7 @@ pub record Keeps (before : List RecordedLine) (line : RecordedLine) : Type 0 whe
   pub gets : keeps_gets before line ≡ true
 
 -- of a choice that gives none, the test of the first rule fails, and the other choice gives none
-passes : (holds : Bool) (rule : Rule) (rest : Option Rule) → (if not holds then Some rule else rest) ≡ None → (holds ≡ true) × (rest ≡ None)
+passes : (holds : Bool) (rule : LineRule) (rest : Option LineRule) → (if not holds then Some rule else rest) ≡ None → (holds ≡ true) × (rest ≡ None)
 passes true rule rest h = grind arith
 passes false rule rest h = grind arith
 

@@ -8,7 +8,7 @@ use borrow.Author.Count.{below_more}
 use Rattle.recording_lines.specs.RecordingLine.{RecordedLine}
 use Rattle.recorded_rules.specs.declared.fault.Breach.{Breach}
 use Rattle.recorded_rules.specs.declared.fault.Breach.TheVariants as breach
-use Rattle.recorded_rules.specs.declared.rule.Rule.TheVariants.{Frame}
+use Rattle.recorded_rules.specs.declared.rule.LineRule.TheVariants.{Frame}
 use Rattle.recorded_rules.specs.declared.ruled_lines.RuledLines.{RuledLines}
 use Rattle.recorded_rules.specs.Rules.{broken_of}
 use Rattle.recorded_rules.specs.StandsFor.{StandsFor}
@@ -68,7 +68,7 @@ module _ (all : List (Option RecordedLine)) (old new : RuledLines) (r : IsRuled 
       let n = old.number in
       let taken : lines_before all new.number ≡ lines_before all n ++ line ∷ [] = ap (lines_before all) number ∙ before_next all new.lines n (Some line) next_good in
       let unbroken : AreUnbroken (lines_before all n ++ line ∷ []) = unbroken_more (lines_before all n) line r.unbroken kept in
-      let none : breach_behind all n ≡ None = breach_next all new.lines n (Some line) next_good ∙ ap (option_map breach.Rule) kept in
+      let none : breach_behind all n ≡ None = breach_next all new.lines n (Some line) next_good ∙ ap (option_map breach.LineRule) kept in
       let good : (k : ℕ) → k < n + 1 → breach_behind all k ≡ None = below_more _ _ r.good none in
       let one_less : lines_left old ≡ suc (lines_left new) = ap length next in
       let more : length (lines_before all new.number) ≡ length (lines_before all n) + 1 = ap length taken ∙ length-append (lines_before all n) (line ∷ []) in
@@ -99,7 +99,7 @@ take_all (first ∷ lines) (suc n) none = ap (λ (more : List (Option RecordedLi
 
 module _ (all : List (Option RecordedLine)) (old : RuledLines) (r : IsRuled all old) (next : old.lines ≡ []) where
   -- there is no line at all
-  pub missing_first : old.number ≡ 0 → breach_behind all 0 ≡ Some (breach.Rule Frame)
+  pub missing_first : old.number ≡ 0 → breach_behind all 0 ≡ Some (breach.LineRule Frame)
   missing_first none = first_missing all (ap (λ (n : ℕ). drop n all) (sym none) ∙ (sym r.rest ∙ next))
 
   -- all are taken

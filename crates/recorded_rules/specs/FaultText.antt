@@ -7,7 +7,7 @@ use Rattle.recorded_rules.specs.RuleText.{rule_text}
 
 abbrev pub breach_text : Breach → List ℕ
 breach_text breach.Form = codes "it has none of the forms of a line"
-breach_text (breach.Rule rule) = rule_text rule
+breach_text (breach.LineRule rule) = rule_text rule
 
 abbrev pub fault_text : RecordingFault → List ℕ
 fault_text fault = codes "line " ++ (decimal fault.line ++ (codes ": " ++ breach_text fault.breach))

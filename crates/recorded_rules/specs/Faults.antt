@@ -6,13 +6,13 @@ use Rattle.recording_lines.specs.RecordingLine.{RecordedLine}
 use Rattle.recorded_rules.specs.declared.fault.Breach.{Breach}
 use Rattle.recorded_rules.specs.declared.fault.Breach.TheVariants as breach
 use Rattle.recorded_rules.specs.declared.fault.RecordingFault.{RecordingFault}
-use Rattle.recorded_rules.specs.declared.rule.Rule.TheVariants as rule
+use Rattle.recorded_rules.specs.declared.rule.LineRule.TheVariants as rule
 use Rattle.recorded_rules.specs.Rules.{broken_of}
 
 -- what a line breaks, which is None where it has none of the forms
 abbrev pub breach_of : List RecordedLine → Option RecordedLine → Option Breach
 breach_of before None = Some breach.Form
-breach_of before (Some line) = option_map breach.Rule (broken_of before line)
+breach_of before (Some line) = option_map breach.LineRule (broken_of before line)
 
 -- the first i lines
 abbrev pub lines_before : List (Option RecordedLine) → ℕ → List RecordedLine
@@ -20,7 +20,7 @@ lines_before lines i = filter_map (λ line. line) (take i lines)
 
 -- what the line behind the first i breaks, if it is there; where there is no line at all, the first one is missing
 unfoldable pub breach_behind : List (Option RecordedLine) → ℕ → Option Breach
-breach_behind [] i = Some (breach.Rule rule.Frame)
+breach_behind [] i = Some (breach.LineRule rule.Frame)
 breach_behind (line ∷ lines) i = option_and_then (breach_of (lines_before (line ∷ lines) i)) (slice_get (line ∷ lines) i)
 
 -- the first line that breaks a thing, by its number from 1; None where there is no such line

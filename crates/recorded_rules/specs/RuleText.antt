@@ -1,9 +1,9 @@
 -- What is written of a rule.
 use Rattle.std.specs.Prelude.{ℕ, List, codes}
-use Rattle.recorded_rules.specs.declared.rule.Rule.{Rule}
-use Rattle.recorded_rules.specs.declared.rule.Rule.TheVariants.{Frame, Pools, Numbers, Rounds, Jobs, Refusals, Gets}
+use Rattle.recorded_rules.specs.declared.rule.LineRule.{LineRule}
+use Rattle.recorded_rules.specs.declared.rule.LineRule.TheVariants.{Frame, Pools, Numbers, Rounds, Jobs, Refusals, Gets}
 
-abbrev pub rule_text : Rule → List ℕ
+abbrev pub rule_text : LineRule → List ℕ
 rule_text Frame = codes "O1: the first line is `recording 1`, and no other one is; nothing stands behind `end`"
 rule_text Pools = codes "O2: a pool that a line names has a `pool` line before it"
 rule_text Numbers = codes "O3: the `submit` lines have the numbers 0, 1, 2, and so on, and so have the `begin` lines; a job that a line names has its `submit` line before it"

@@ -3,8 +3,8 @@ use Rattle.std.specs.Prelude.{ℕ, ◌==◌, ◌&&◌, ◌||◌, not, nat_lt, Bo
 use Rattle.recording_lines.specs.declared.recording_line.RecordedActor.{RecordedActor}
 use Rattle.recording_lines.specs.declared.recording_line.RecordedActor.TheVariants.{Job, Round}
 use Rattle.recording_lines.specs.RecordingLine.{RecordedLine, RoundBegins, Submits, Refused, JobStarts, Got}
-use Rattle.recorded_rules.specs.declared.rule.Rule.{Rule}
-use Rattle.recorded_rules.specs.declared.rule.Rule.TheVariants.{Frame, Pools, Numbers, Rounds, Jobs, Refusals, Gets}
+use Rattle.recorded_rules.specs.declared.rule.LineRule.{LineRule}
+use Rattle.recorded_rules.specs.declared.rule.LineRule.TheVariants.{Frame, Pools, Numbers, Rounds, Jobs, Refusals, Gets}
 use Rattle.recorded_rules.specs.LineParts.{actor_of, job_of, pool_of, is_head}
 use Rattle.recorded_rules.specs.Before.{has_begun, is_closed, has_pool, submits, begins, is_begun, is_ended, has_started, is_done, is_cancelled, just_submitted}
 
@@ -72,7 +72,7 @@ keeps_gets before (Got actor job) = is_done before job || is_cancelled before jo
 keeps_gets before line = true
 
 -- the first rule, in their order, that the line breaks
-abbrev pub broken_of : List RecordedLine → RecordedLine → Option Rule
+abbrev pub broken_of : List RecordedLine → RecordedLine → Option LineRule
 broken_of before line =
     if not (keeps_frame before line) then Some Frame
     else (if not (keeps_pools before line) then Some Pools

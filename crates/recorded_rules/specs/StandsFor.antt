@@ -3,7 +3,7 @@ use Rattle.std.specs.Prelude.{◌≡◌, ◌≤◌, ℕ, ◌==◌, ◌&&◌, ◌
 use Rattle.recording_lines.specs.declared.recording_line.RecordedActor.{RecordedActor}
 use Rattle.recording_lines.specs.declared.recording_line.RecordedActor.TheVariants.{Job, Round}
 use Rattle.recording_lines.specs.RecordingLine.{RecordedLine}
-use Rattle.recorded_rules.specs.declared.rule.Rule.{Rule}
+use Rattle.recorded_rules.specs.declared.rule.LineRule.{LineRule}
 use Rattle.recorded_rules.specs.declared.lines_so_far.LinesSoFar.{LinesSoFar}
 use Rattle.recorded_rules.specs.Before as said
 use Rattle.recorded_rules.specs.Rules.{broken_of}
@@ -36,10 +36,10 @@ pub record StandsFor (lines : LinesSoFar) (before : List RecordedLine) : Type 0 
   pub unsubmitted : (job : ℕ) → lines.jobs.submitted ≤ job → job_at lines.jobs job ≡ None
 
 -- the lines so far, and behind them the line where it breaks no rule
-abbrev pub with_line : Option Rule → List RecordedLine → RecordedLine → List RecordedLine
+abbrev pub with_line : Option LineRule → List RecordedLine → RecordedLine → List RecordedLine
 with_line None before line = before ++ line ∷ []
 with_line (Some rule) before line = before
 
-abbrev pub IsTaken : {E : Type 0} → Result (Option Rule) E → List RecordedLine → RecordedLine → LinesSoFar → Type 0
+abbrev pub IsTaken : {E : Type 0} → Result (Option LineRule) E → List RecordedLine → RecordedLine → LinesSoFar → Type 0
 IsTaken (Ok broken) before line new = (broken ≡ broken_of before line) × StandsFor new (with_line broken before line)
 IsTaken (Err error) before line new = (broken_of before line ≡ None) × StandsFor new before

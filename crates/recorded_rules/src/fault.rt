@@ -3,7 +3,7 @@
 ghost use Rattle.std.specs.Prelude.{Some};
 ghost use Rattle.recorded_rules.specs.FaultText.{breach_text, fault_text};
 
-use crate::rule::Rule;
+use crate::rule::LineRule;
 use std::fmt;
 
 /// What a bad line breaks.
@@ -12,7 +12,7 @@ pub enum Breach {
     /// It has none of the forms of a line.
     Form,
     /// It has one of the forms, and breaks this rule.
-    Rule(Rule),
+    LineRule(LineRule),
 }
 
 /// Writes what the line should be.
@@ -22,7 +22,7 @@ impl fmt::Display for Breach {
     fn fmt<W: fmt::Write>(&self, f: &mut fmt::Formatter<W>) -> fmt::Result {
         match self {
             Breach::Form => f.write_str("it has none of the forms of a line"),
-            Breach::Rule(rule) => write!(f, "{rule}"),
+            Breach::LineRule(rule) => write!(f, "{rule}"),
         }
     }
 }

@@ -8,27 +8,27 @@ ghost use Rattle.recorded_rules.specs.StandsFor.{StandsFor};
 
 use crate::line_parts::{actor_of, is_head, job_of, pool_of};
 use crate::lines_so_far::LinesSoFar;
-use crate::rule::Rule;
+use crate::rule::LineRule;
 use recording_lines::{Line, RecordedActor};
 
 /// The first rule that the line breaks.
-pub(crate) fn broken_of(lines: &LinesSoFar, line: &Line<'_>) -> Option<Rule>
+pub(crate) fn broken_of(lines: &LinesSoFar, line: &Line<'_>) -> Option<LineRule>
     ensures { (before : List RecordedLine) → StandsFor lines.now before → result ≡ spec.broken_of before (line_seen line.now) }
 {
     if !keeps_frame(lines, line) {
-        Some(Rule::Frame)
+        Some(LineRule::Frame)
     } else if !keeps_pools(lines, line) {
-        Some(Rule::Pools)
+        Some(LineRule::Pools)
     } else if !keeps_numbers(lines, line) {
-        Some(Rule::Numbers)
+        Some(LineRule::Numbers)
     } else if !keeps_rounds(lines, line) {
-        Some(Rule::Rounds)
+        Some(LineRule::Rounds)
     } else if !keeps_jobs(lines, line) {
-        Some(Rule::Jobs)
+        Some(LineRule::Jobs)
     } else if !keeps_refusals(lines, line) {
-        Some(Rule::Refusals)
+        Some(LineRule::Refusals)
     } else if !keeps_gets(lines, line) {
-        Some(Rule::Gets)
+        Some(LineRule::Gets)
     } else {
         None
     }

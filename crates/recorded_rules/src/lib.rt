@@ -1,7 +1,7 @@
 //! The rules O1 to O7 that the lines of a recording keep (`docs/RECORDING.md`), and which line breaks one.
 //!
 //! [`recording_lines`] reads a line by its form alone; here it is held to the lines that stand before it. [`LinesSoFar`]
-//! takes one line after another, and answers for each the first [`Rule`] that it breaks, exactly: each rule is a fact of
+//! takes one line after another, and answers for each the first [`LineRule`] that it breaks, exactly: each rule is a fact of
 //! the list of all lines before, as the page has it. A line that breaks a rule is not taken, nor is one for whose names
 //! there is no memory: in both cases the lines so far are what they were. [`RuledLines`] does so with the lines of a text,
 //! one after another, up to the first bad one: it is for whoever uses the lines of a recording that keeps the rules, and
@@ -26,6 +26,6 @@ mod whole_text;
 
 pub use fault::{Breach, RecordingFault};
 pub use lines_so_far::LinesSoFar;
-pub use rule::Rule;
+pub use rule::LineRule;
 pub use ruled_lines::RuledLines;
 pub use whole_text::first_fault;

@@ -9,7 +9,7 @@ use crate::kept_rules::broken_of;
 use crate::noted_lines::note;
 use crate::pools::Pools;
 use crate::rounds::Rounds;
-use crate::rule::Rule;
+use crate::rule::LineRule;
 use recording_lines::Line;
 use std::alloc::{AllocError, Global};
 
@@ -46,7 +46,7 @@ impl LinesSoFar {
     ///
     /// `AllocError` where the line keeps the rules, and there is no memory for what it names. The lines so far are then
     /// what they were.
-    pub fn take(&mut self, line: &Line<'_>) -> Result<Option<Rule>, AllocError>
+    pub fn take(&mut self, line: &Line<'_>) -> Result<Option<LineRule>, AllocError>
         ensures { (before : List RecordedLine) → StandsFor self.old before → IsTaken result before (line_seen line.now) self.new }
     {
         let broken = broken_of(self, line);

@@ -7,7 +7,7 @@ use std::fmt;
 
 /// What a line of a recording may break, by the lines that stand before it.
 #[derive(Clone, Copy, Debug, PartialEq, Eq)]
-pub enum Rule {
+pub enum LineRule {
     /// O1: the first line is `recording 1`, and no other one is. Nothing stands behind `end`.
     Frame,
     /// O2: a pool that a line names has a `pool` line before it.
@@ -27,23 +27,24 @@ pub enum Rule {
 }
 
 /// Writes the rule's number, and what it asks for.
-impl fmt::Display for Rule {
+impl fmt::Display for LineRule {
     ghost output = { λ rule. Some (rule_text rule) };
 
     fn fmt<W: fmt::Write>(&self, f: &mut fmt::Formatter<W>) -> fmt::Result {
         f.write_str(match self {
-            Rule::Frame =>
+            LineRule::Frame =>
                 "O1: the first line is `recording 1`, and no other one is; nothing stands behind `end`",
-            Rule::Pools => "O2: a pool that a line names has a `pool` line before it",
-            Rule::Numbers =>
+            LineRule::Pools => "O2: a pool that a line names has a `pool` line before it",
+            LineRule::Numbers =>
                 "O3: the `submit` lines have the numbers 0, 1, 2, and so on, and so have the `begin` lines; a job that a line names has its `submit` line before it",
-            Rule::Rounds =>
+            LineRule::Rounds =>
                 "O4: the lines of a round stand between its `begin` line and its `end` line",
-            Rule::Jobs =>
+            LineRule::Jobs =>
                 "O5: a job has one `start` line at most; its lines as an actor stand behind that, and the last of them is `end` or `threw`",
-            Rule::Refusals =>
+            LineRule::Refusals =>
                 "O6: `refused` stands behind the actor's `submit` of the job, with no other line of the actor between them, and before the job's `start`",
-            Rule::Gets => "O7: `got` stands behind an `end`, `threw` or `cancel` line of the job",
+            LineRule::Gets =>
+                "O7: `got` stands behind an `end`, `threw` or `cancel` line of the job",
         })
     }
 }

@@ -6,7 +6,7 @@ ghost use Rattle.recorded_rules.specs.RuledLines.{IsRuled, IsNext};
 
 use crate::fault::{Breach, RecordingFault};
 use crate::lines_so_far::LinesSoFar;
-use crate::rule::Rule;
+use crate::rule::LineRule;
 use recording_lines::{BadLine, Line, RecordingLines};
 use std::alloc::{AllocError, Global};
 
@@ -42,7 +42,7 @@ impl<'a> RuledLines<'a> {
     }
 
     /// Takes the next line, where it is a good one, and answers the first bad one otherwise; None where the lines end and
-    /// none is bad. Where there is no whole line, the first one breaks [`Rule::Frame`].
+    /// none is bad. Where there is no whole line, the first one breaks [`LineRule::Frame`].
     ///
     /// Behind a bad line there is nothing more to ask.
     ///
@@ -58,7 +58,7 @@ impl<'a> RuledLines<'a> {
             Some(Ok(line)) => match self.so_far.take(&line)? {
                 Some(rule) => Ok(Some(Err(RecordingFault {
                     line: number,
-                    breach: Breach::Rule(rule),
+                    breach: Breach::LineRule(rule),
                 }))),
                 None => {
                     self.number = number;
@@ -71,7 +71,7 @@ impl<'a> RuledLines<'a> {
             }))),
             None if self.number == 0 => Ok(Some(Err(RecordingFault {
                 line: 1,
-                breach: Breach::Rule(Rule::Frame),
+                breach: Breach::LineRule(LineRule::Frame),
             }))),
             None => Ok(None),
         }

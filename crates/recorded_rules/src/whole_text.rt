@@ -9,7 +9,7 @@ use crate::ruled_lines::RuledLines;
 use std::alloc::{AllocError, Global};
 
 /// The first bad line of a recording; None where it has none. What stands behind the last newline is left out. Where there
-/// is no whole line, the first one breaks [`Rule::Frame`](crate::Rule::Frame).
+/// is no whole line, the first one breaks [`LineRule::Frame`](crate::LineRule::Frame).
 ///
 /// # Errors
 ///

@@ -5,7 +5,7 @@ use Rattle.std.specs.List.{list_all}
 use Rattle.std.specs.Str.Parse.{digits_value}
 use Rattle.std.proofs.lemmas.Bool.{and_parts}
 use Rattle.std.proofs.lemmas.Option.{cond_some, none-some, same_Some}
-use Rattle.line_words.specs.declared.number.TheConstants.{MAX_NUMBER}
+use Rattle.job_bodies.specs.declared.limits.TheConstants.{MAX_LINE_NUMBER}
 use Rattle.line_words.specs.Number.{has_leading_zero, is_whole_number, number_of, digit_count, leading_number, is_lawful_number}
 use Rattle.line_words.proofs.Numbers.{front_read}
 use Rattle.line_words.proofs.WrittenNumbers.{number_read, number_written}
@@ -16,7 +16,7 @@ use Rattle.recording_lines.proofs.WordByWord.{number_then_read, number_then_writ
 digits_are : (word : List ℕ) (n : ℕ) → number_of word ≡ Some n → list_all is_ascii_digit word ≡ true
 unfolding number_of is_whole_number
 digits_are word n read =
-    let found = cond_some (is_whole_number word && nat_le (digits_value 10 word) MAX_NUMBER) _ _ read in
+    let found = cond_some (is_whole_number word && nat_le (digits_value 10 word) MAX_LINE_NUMBER) _ _ read in
     let tests = and_parts (is_whole_number word) _ found.0 in
     (and_parts (not (length word == 0) && not (has_leading_zero word)) (list_all is_ascii_digit word) tests.0).1
 

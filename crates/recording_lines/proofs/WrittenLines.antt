@@ -92,9 +92,9 @@ words_read word rest line read =
     (λ read. by_word word (codes "round") _ _ line read (λ is read. at_word word (codes "round") rest line is (round_read rest line read))
     (λ read. other_read word rest line read))
 
-line_read : (text : List ℕ) (line : RecordedLine) → line_of text ≡ Some line → IsLine text line
+read_line_is_text : (text : List ℕ) (line : RecordedLine) → line_of text ≡ Some line → IsLine text line
 unfolding line_of
-line_read text line read =
+read_line_is_text text line read =
     by_word text (codes "end") _ _ line read (λ is same. subst (λ (l : RecordedLine). IsLine text l) (same_Some _ line same) (refl, is))
     (λ read. let words = bind_some (split_space text) (λ words. line_of_words words.0 words.1) line read in
     let found = words_read words.0.0 words.0.1 line words.2 in
@@ -147,47 +147,47 @@ deed_written actor word job lawful is no_submit no_any =
     let parts = and_parts (is_lawful_actor actor) (is_lawful_number job) lawful in
     acts actor word (decimal job) parts.0 is ∙ rw (no_submit, no_any, number_written job parts.1) refl
 
-line_written : (line : RecordedLine) → is_lawful_line line ≡ true → line_of (line_text line) ≡ Some line
+text_reads_as_line : (line : RecordedLine) → is_lawful_line line ≡ true → line_of (line_text line) ≡ Some line
 unfolding line_of other_line_of job_line_of round_line_of act_of submit_of deed_of
-line_written Head lawful = other_first (codes "recording") (codes "1") refl refl refl refl
-line_written (Pool name sizes) lawful =
+text_reads_as_line Head lawful = other_first (codes "recording") (codes "1") refl refl refl refl
+text_reads_as_line (Pool name sizes) lawful =
     let parts = and_parts (is_lawful_name name) (has_lawful_numbers sizes) lawful in
     let back : List ℕ = join_with_byte 32 (sizes_words sizes) in
     other_first (codes "pool") (name ++ 32 ∷ back) refl refl refl refl
     ∙ bind_written _ _ (name, back) (Pool name sizes) (name_then_written name back parts.0) (bind_written _ _ sizes (Pool name sizes) (pool_sizes_written sizes parts.1) refl)
-line_written (RoundBegins round kind) lawful =
+text_reads_as_line (RoundBegins round kind) lawful =
     let parts = and_parts (is_lawful_number round) (is_lawful_name kind) lawful in
     round_first round (codes "begin" ++ 32 ∷ kind) parts.0 ∙ rw (splits (codes "begin") kind refl, name_written kind parts.1) refl
-line_written (RoundEnds round) lawful = round_first round (codes "end") lawful
-line_written (Submits actor job class pool) lawful =
+text_reads_as_line (RoundEnds round) lawful = round_first round (codes "end") lawful
+text_reads_as_line (Submits actor job class pool) lawful =
     let last = and_parts (is_lawful_actor actor && is_lawful_number job && is_lawful_name class) (is_lawful_name pool) lawful in
     let middle = and_parts (is_lawful_actor actor && is_lawful_number job) (is_lawful_name class) last.0 in
     let first = and_parts (is_lawful_actor actor) (is_lawful_number job) middle.0 in
     let rest : List ℕ = decimal job ++ 32 ∷ (class ++ 32 ∷ pool) in
     by_actor actor (Submits actor job class pool) (Submits actor job class pool) (codes "submit") (decimal job ∷ class ∷ pool ∷ []) refl (acts actor (codes "submit") rest first.0 (refl, refl, refl, refl, refl)
     ∙ rw (number_then_written job (class ++ 32 ∷ pool) first.1, name_then_written class pool middle.1, name_written pool last.1) refl)
-line_written (Refused actor job) lawful =
+text_reads_as_line (Refused actor job) lawful =
     by_actor actor (Refused actor job) (Refused actor job) (codes "refused") (decimal job ∷ []) refl (deed_written actor (codes "refused") job lawful (refl, refl, refl, refl, refl) refl refl)
-line_written (JobStarts job) lawful = job_first job (codes "start") lawful
-line_written (JobEnds job) lawful = job_first job (codes "end") lawful
-line_written (JobThrew job) lawful = job_first job (codes "threw") lawful
-line_written (Got actor job) lawful =
+text_reads_as_line (JobStarts job) lawful = job_first job (codes "start") lawful
+text_reads_as_line (JobEnds job) lawful = job_first job (codes "end") lawful
+text_reads_as_line (JobThrew job) lawful = job_first job (codes "threw") lawful
+text_reads_as_line (Got actor job) lawful =
     by_actor actor (Got actor job) (Got actor job) (codes "got") (decimal job ∷ []) refl (deed_written actor (codes "got") job lawful (refl, refl, refl, refl, refl) refl refl)
-line_written (TimedOut actor job) lawful =
+text_reads_as_line (TimedOut actor job) lawful =
     by_actor actor (TimedOut actor job) (TimedOut actor job) (codes "timeout") (decimal job ∷ []) refl (deed_written actor (codes "timeout") job lawful (refl, refl, refl, refl, refl) refl refl)
-line_written (Interrupted actor job) lawful =
+text_reads_as_line (Interrupted actor job) lawful =
     by_actor actor (Interrupted actor job) (Interrupted actor job) (codes "interrupted") (decimal job ∷ []) refl (deed_written actor (codes "interrupted") job lawful (refl, refl, refl, refl, refl) refl refl)
-line_written (Cancels actor job) lawful =
+text_reads_as_line (Cancels actor job) lawful =
     by_actor actor (Cancels actor job) (Cancels actor job) (codes "cancel") (decimal job ∷ []) refl (deed_written actor (codes "cancel") job lawful (refl, refl, refl, refl, refl) refl refl)
-line_written (InvokesAny actor pool) lawful =
+text_reads_as_line (InvokesAny actor pool) lawful =
     let parts = and_parts (is_lawful_actor actor) (is_lawful_name pool) lawful in
     by_actor actor (InvokesAny actor pool) (InvokesAny actor pool) (codes "any") (pool ∷ []) refl (acts actor (codes "any") pool parts.0 (refl, refl, refl, refl, refl) ∙ rw (name_written pool parts.1) refl)
-line_written (Removed job) lawful = other_first (codes "removed") (decimal job) refl refl refl refl ∙ rw (number_written job lawful) refl
-line_written (ShutDown pool) lawful = other_first (codes "shutdown") pool refl refl refl refl ∙ rw (name_written pool lawful) refl
-line_written (Unseen pool jobs) lawful =
+text_reads_as_line (Removed job) lawful = other_first (codes "removed") (decimal job) refl refl refl refl ∙ rw (number_written job lawful) refl
+text_reads_as_line (ShutDown pool) lawful = other_first (codes "shutdown") pool refl refl refl refl ∙ rw (name_written pool lawful) refl
+text_reads_as_line (Unseen pool jobs) lawful =
     let parts = and_parts (is_lawful_name pool) (is_lawful_number jobs) lawful in
     other_first (codes "unseen") (pool ++ 32 ∷ decimal jobs) refl refl refl refl ∙ rw (name_then_written pool (decimal jobs) parts.0, number_written jobs parts.1) refl
-line_written End lawful = refl
+text_reads_as_line End lawful = refl
 
 pub canonical : RecordingLinesAreCanonical
-canonical text line = (line_read text line, λ written. ap line_of written.1 ∙ line_written line written.0)
+canonical text line = (read_line_is_text text line, λ written. ap line_of written.1 ∙ text_reads_as_line line written.0)

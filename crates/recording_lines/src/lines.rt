@@ -31,7 +31,7 @@ impl<'a> Model for RecordingLines<'a> {
 
 impl<'a> RecordingLines<'a> {
     /// The lines of a text, by their forms. What stands behind the last newline is left out. A number is at most
-    /// [`MAX_NUMBER`](line_words::MAX_NUMBER), and has no leading zero; a name is as the names of a plan are.
+    /// [`MAX_LINE_NUMBER`](job_bodies::MAX_LINE_NUMBER), and has no leading zero; a name is as the names of a plan are.
     pub fn new(text: &'a [u8]) -> RecordingLines<'a>
         ensures lines { result ≡ lines_read text.now }
         ensures few { length result ≤ length text.now }

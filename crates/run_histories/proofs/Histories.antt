@@ -13,7 +13,7 @@ use Rattle.certified_worlds.specs.HeldWorld.{IsReachedBy}
 use Rattle.run_histories.specs.Complete.{IsComplete}
 use Rattle.run_histories.specs.Owner.{lists_of}
 use Rattle.run_histories.specs.Receipts.{AreListsOf, places_of}
-use Rattle.run_histories.specs.Run.{IsLegal, IsRun, Makes, IsLengthOfLegal, IsLegalFront, IsLegalPart}
+use Rattle.run_histories.specs.Run.{IsLegal, IsRun, Makes, Works, IsLengthOfLegal, IsLegalFront, IsLegalPart}
 use Rattle.run_histories.proofs.Fronts.{front_is_legal}
 
 -- before the first event
@@ -54,18 +54,18 @@ pub complete_of : (plan : Plan) (rounds : ℕ) (history : List Event) (view : Vi
     → ((s : State) → live_view plan s ≡ view → IsTrue complete ↔ IsComplete plan rounds history s) → IsRun plan rounds history lists → IsTrue complete
 complete_of plan rounds history view lists complete led tested run = (tested run.last (same_last plan history view run.last led run.legal)).1 run.complete
 
-run_here : (plan : Plan) (rounds jobs : ℕ) (history : List Event) (view : View) (lists : List (List (Receipt Event))) (complete once : Bool) → IsReachedBy plan history view
-    → AreListsOf plan history (lists_of plan) lists → length view.jobs ≡ jobs → ((s : State) → live_view plan s ≡ view → IsTrue complete ↔ IsComplete plan rounds history s) → IsTrue complete
-    → (IsTrue once ↔ ((k : ℕ) → k < length history → places_of k lists ≡ 1)) → IsTrue once ↔ (IsRun plan rounds history lists × Makes plan history jobs)
-run_here plan rounds jobs history view lists complete once led theirs jobs_made tested is counted = (
-  λ so. (record { last = led.0; legal = led.1; complete = (tested led.0 led.2).0 is; received = record { theirs = theirs; once = counted.0 so } }, made_of plan history view jobs led jobs_made),
+run_here : (plan : Plan) (rounds jobs units : ℕ) (history : List Event) (view : View) (lists : List (List (Receipt Event))) (complete once : Bool) → IsReachedBy plan history view
+    → AreListsOf plan history (lists_of plan) lists → length view.jobs ≡ jobs → Works plan history units → ((s : State) → live_view plan s ≡ view → IsTrue complete ↔ IsComplete plan rounds history s) → IsTrue complete
+    → (IsTrue once ↔ ((k : ℕ) → k < length history → places_of k lists ≡ 1)) → IsTrue once ↔ (IsRun plan rounds history lists × Makes plan history jobs × Works plan history units)
+run_here plan rounds jobs units history view lists complete once led theirs jobs_made units_worked tested is counted = (
+  λ so. (record { last = led.0; legal = led.1; complete = (tested led.0 led.2).0 is; received = record { theirs = theirs; once = counted.0 so } }, made_of plan history view jobs led jobs_made, units_worked),
   λ both. counted.1 both.0.received.once,
 )
 
 -- a run, where all else was tested, by whether each number below n stands in one place
-pub run_of : (plan : Plan) (rounds jobs n : ℕ) (history part : List Event) (view : View) (lists ls : List (List (Receipt Event))) (complete once : Bool) → IsReachedBy plan part view → part ≡ history
-    → AreListsOf plan part (lists_of plan) lists → length view.jobs ≡ jobs → ((s : State) → live_view plan s ≡ view → IsTrue complete ↔ IsComplete plan rounds part s) → IsTrue complete
-    → n ≡ length part → ls ≡ lists → (IsTrue once ↔ ((k : ℕ) → k < n → places_of k ls ≡ 1)) → IsTrue once ↔ (IsRun plan rounds history lists × Makes plan history jobs)
-run_of plan rounds jobs n history part view lists ls complete once led all theirs jobs_made tested is long same counted =
-    let here = subst (λ (xs : List (List (Receipt Event))). IsTrue once ↔ ((k : ℕ) → k < length part → places_of k xs ≡ 1)) same (subst (λ (m : ℕ). IsTrue once ↔ ((k : ℕ) → k < m → places_of k ls ≡ 1)) long counted) in
-    subst (λ (h : List Event). IsTrue once ↔ (IsRun plan rounds h lists × Makes plan h jobs)) all (run_here plan rounds jobs part view lists complete once led theirs jobs_made tested is here)
+pub run_of : (plan : Plan) (rounds jobs units n : ℕ) (history shown : List Event) (view : View) (lists ls : List (List (Receipt Event))) (complete once : Bool) → IsReachedBy plan history view → shown ≡ history
+    → AreListsOf plan history (lists_of plan) lists → length view.jobs ≡ jobs → Works plan history units → ((s : State) → live_view plan s ≡ view → IsTrue complete ↔ IsComplete plan rounds shown s) → IsTrue complete
+    → n ≡ length history → ls ≡ lists → (IsTrue once ↔ ((k : ℕ) → k < n → places_of k ls ≡ 1)) → IsTrue once ↔ (IsRun plan rounds history lists × Makes plan history jobs × Works plan history units)
+run_of plan rounds jobs units n history shown view lists ls complete once led all theirs jobs_made units_worked tested is long same counted =
+    let here = subst (λ (xs : List (List (Receipt Event))). IsTrue once ↔ ((k : ℕ) → k < length history → places_of k xs ≡ 1)) same (subst (λ (m : ℕ). IsTrue once ↔ ((k : ℕ) → k < m → places_of k ls ≡ 1)) long counted) in
+    run_here plan rounds jobs units history view lists complete once led theirs jobs_made units_worked (λ s seen. subst (λ (h : List Event). IsTrue complete ↔ IsComplete plan rounds h s) all (tested s seen)) is here

@@ -1,6 +1,7 @@
 mod Owners
 mod Fronts
 mod Received
+mod Replays
 pub mod Histories
 mod KindsOfClients
 mod Through

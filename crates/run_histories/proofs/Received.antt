@@ -1,32 +1,33 @@
 -- Receipts of a legal history, by whose each of its events is.
-use Rattle.std.proofs.Common.{◌≡◌, ◌↔◌, suc, Bool, false, IsTrue, List, [], ◌∷◌, length, slice_get, Option, Some, refl, sym, ap, ◌∙◌}
+use Rattle.std.proofs.Common.{◌≡◌, ◌↔◌, ℕ, suc, Bool, false, IsTrue, List, [], ◌∷◌, length, slice_get, Option, Some, refl, sym, ap, ◌∙◌}
 use Rattle.std.proofs.lemmas.Option.{same_Some}
 use Rattle.job_bodies.specs.Plan.{Plan}
 use Rattle.written_machine.specs.declared.event.Event.{Event}
 use Rattle.held_machines.specs.declared.held.Receipt.{Receipt}
 use Rattle.run_histories.specs.declared.owner.Owner.{Owner}
-use Rattle.run_histories.specs.Owner.{AreOwnersOf}
+use Rattle.run_histories.specs.Owner.{owner_by, ArePoolsOf}
 use Rattle.run_histories.specs.Receipts.{IsReceiptOf, AreListsOf}
 use Rattle.run_histories.specs.Run.{IsLegal}
 use Rattle.run_histories.proofs.Fronts.{front_is_legal}
 
 -- a receipt of an owner's event has it at its number
-owner_at : (plan : Plan) (history : List Event) (owners : List (Option Owner)) (owner : Owner) (r : Receipt Event) (found : Option Owner) → IsLegal plan history → AreOwnersOf plan history owners → slice_get owners r.number ≡ Some found
-    → IsReceiptOf plan history owner r → found ≡ Some owner
-owner_at plan history owners owner r found legal are at receipt =
+owner_at : (plan : Plan) (history : List Event) (pools : List ℕ) (owner : Owner) (r : Receipt Event) (pool : ℕ) → IsLegal plan history → ArePoolsOf plan history pools → slice_get pools r.number ≡ Some pool
+    → IsReceiptOf plan history owner r → owner_by r.event pool ≡ Some owner
+owner_at plan history pools owner r pool legal are at receipt =
     let before = front_is_legal plan history legal.0 r.number legal.1 in
-    sym (are.each r.number before.0 r.event found receipt.event at before.1) ∙ receipt.owned before.0 before.1
+    sym (are.each r.number before.0 r.event pool receipt.event at before.1) ∙ receipt.owned before.0 before.1
 
 -- with the event at its number a receipt is the owner's whose that event is
-pub owned_where : (plan : Plan) (history : List Event) (owners : List (Option Owner)) (owner : Owner) (r : Receipt Event) (event : Event) (found : Option Owner) (same owned : Bool) → IsLegal plan history → AreOwnersOf plan history owners
-    → slice_get history r.number ≡ Some event → slice_get owners r.number ≡ Some found → (IsTrue same ↔ (event ≡ r.event)) → IsTrue same → (IsTrue owned ↔ (found ≡ Some owner)) → IsTrue owned ↔ IsReceiptOf plan history owner r
-owned_where plan history owners owner r event found same owned legal are event_at found_at is_same so is_owned = (
-  λ its. record {
-    event = event_at ∙ ap Some (is_same.0 so);
-    owned = λ s reached. are.each r.number s r.event (Some owner) (event_at ∙ ap Some (is_same.0 so)) (found_at ∙ ap Some (is_owned.0 its)) reached;
-  },
-  λ receipt. is_owned.1 (owner_at plan history owners owner r found legal are found_at receipt),
-)
+pub owned_where : (plan : Plan) (history : List Event) (pools : List ℕ) (owner : Owner) (r : Receipt Event) (event : Event) (pool : ℕ) (found : Option Owner) (same owned : Bool) → IsLegal plan history → ArePoolsOf plan history pools
+    → slice_get history r.number ≡ Some event → slice_get pools r.number ≡ Some pool → found ≡ owner_by event pool → (IsTrue same ↔ (event ≡ r.event)) → IsTrue same → (IsTrue owned ↔ (found ≡ Some owner)) → IsTrue owned ↔ IsReceiptOf plan history owner r
+owned_where plan history pools owner r event pool found same owned legal are event_at pool_at is_found is_same so is_owned =
+    let told : found ≡ owner_by r.event pool = is_found ∙ ap (λ (e : Event). owner_by e pool) (is_same.0 so) in (
+      λ its. record {
+        event = event_at ∙ ap Some (is_same.0 so);
+        owned = λ s reached. are.each r.number s r.event pool (event_at ∙ ap Some (is_same.0 so)) pool_at reached ∙ (sym told ∙ is_owned.0 its);
+      },
+      λ receipt. is_owned.1 (told ∙ owner_at plan history pools owner r pool legal are pool_at receipt),
+    )
 
 -- with another event it is nobody's
 pub other_event : (plan : Plan) (history : List Event) (owner : Owner) (r : Receipt Event) (event : Event) (same : Bool) → slice_get history r.number ≡ Some event → (IsTrue same ↔ (event ≡ r.event)) → same ≡ false → IsTrue same ↔ IsReceiptOf plan history owner r

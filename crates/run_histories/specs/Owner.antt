@@ -34,7 +34,14 @@ pool_lists entry = replicate entry.1.max (owner.Pool entry.0)
 abbrev pub lists_of : Plan → List Owner
 lists_of plan = map client_list (enumerate_from 0 (kinds_of plan)) ++ flat_map pool_lists (enumerate_from 0 plan.pools)
 
--- so many owners as events, each whose the event at its number is
-pub record AreOwnersOf (plan : Plan) (history : List Event) (owners : List (Option Owner)) : Type 0 where
-  pub as_many : length owners ≡ length history
-  pub each : (n : ℕ) (s : State) (e : Event) (o : Option Owner) → slice_get history n ≡ Some e → slice_get owners n ≡ Some o → Reaches plan (take n history) s → owner_in plan s e ≡ o
+-- whose the event is, where this is the pool of its job, if it is a job's
+abbrev pub owner_by : Event → ℕ → Option Owner
+owner_by (event.Client c) pool = Some (owner.Client c)
+owner_by (event.Job j) pool = Some (owner.Pool pool)
+owner_by (event.Take p) pool = Some (owner.Pool p)
+owner_by (event.Retire p) pool = None
+
+-- so many pools as events, by which it is told whose the event at each number is
+pub record ArePoolsOf (plan : Plan) (history : List Event) (pools : List ℕ) : Type 0 where
+  pub as_many : length pools ≡ length history
+  pub each : (n : ℕ) (s : State) (e : Event) (pool : ℕ) → slice_get history n ≡ Some e → slice_get pools n ≡ Some pool → Reaches plan (take n history) s → owner_in plan s e ≡ owner_by e pool

@@ -2,12 +2,12 @@
 use Rattle.std.specs.Prelude.{ℕ, List, Option}
 use Rattle.written_machine.specs.declared.event.Event.{Event}
 use Rattle.held_machines.specs.declared.held.Receipt.{Receipt}
-use Rattle.run_histories.specs.declared.report.Cause.{Cause}
+use Rattle.run_histories.specs.declared.report.ThreadFault.{ThreadFault}
 
 pub record Met : Type 0 where
   pub history : List Event
   pub receipts : List (List (Receipt Event))
-  pub fault : Option Cause
+  pub fault : Option ThreadFault
 
 pub record RunReport : Type 0 where
   pub jobs : ℕ

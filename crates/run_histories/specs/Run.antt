@@ -1,13 +1,15 @@
 -- Whole runs of a plan, and what else is answered to what threads hand back.
-use Rattle.std.specs.Prelude.{◌≡◌, ◌<◌, ◌≤◌, ◌+◌, ◌⊎◌, ℕ, List, length, take, Option, Some, None}
+use Rattle.std.specs.Prelude.{◌≡◌, ◌<◌, ◌≤◌, ◌+◌, ◌⊎◌, ℕ, List, length, take, sum_by, Option, Some, None}
 use Rattle.faults.specs.declared.number.TheConstants.{MEMORY, STRANGE, MIXED, GATE}
 use Rattle.job_bodies.specs.Plan.{Plan}
 use Rattle.written_machine.specs.declared.event.Event.{Event}
 use Rattle.written_machine.specs.State.{State}
-use Rattle.written_machine.specs.Reach.{Reaches}
+use Rattle.written_machine.specs.declared.event.Outcome.{Outcome}
+use Rattle.written_machine.specs.declared.event.Outcome.TheVariants.{Worked}
+use Rattle.written_machine.specs.Reach.{Reaches, start, outcomes}
 use Rattle.held_machines.specs.declared.held.Receipt.{Receipt}
-use Rattle.run_histories.specs.declared.report.Cause.{Cause}
-use Rattle.run_histories.specs.declared.report.Cause.TheVariants as cause
+use Rattle.run_histories.specs.declared.report.ThreadFault.{ThreadFault}
+use Rattle.run_histories.specs.declared.report.ThreadFault.TheVariants as cause
 use Rattle.run_histories.specs.declared.report.RunFault.{RunFault}
 use Rattle.run_histories.specs.Owner.{lists_of}
 use Rattle.run_histories.specs.Receipts.{AreReceipts, AreListsOf}
@@ -20,6 +22,18 @@ IsLegal plan history = (s : State) × Reaches plan history s
 -- where the history leads so many jobs were made
 abbrev pub Makes : Plan → List Event → ℕ → Type 0
 Makes plan history jobs = (s : State) → Reaches plan history s → length s.jobs ≡ jobs
+
+-- the units of work that were done, of what comes of an event
+abbrev pub worked : Option Outcome → ℕ
+worked (Some (Worked u)) = u
+worked _ = 0
+
+-- the units of work that the events of the history do in all
+abbrev pub units_done : Plan → List Event → ℕ
+units_done plan history = sum_by worked (outcomes plan (Some (start plan)) history)
+
+abbrev pub Works : Plan → List Event → ℕ → Type 0
+Works plan history units = units_done plan history ≡ units
 
 -- the history is legal, and complete for so many rounds, and these are its receipts
 pub record IsRun (plan : Plan) (rounds : ℕ) (history : List Event) (lists : List (List (Receipt Event))) : Type 0 where
@@ -42,7 +56,7 @@ pub record IsLegalPart (plan : Plan) (history : List Event) (n : ℕ) : Type 0 w
   pub front : IsLegalFront plan history n
   pub ends : n < length history → ¬ IsLegal plan (take (n + 1) history)
 
-abbrev pub number_of : Cause → ℕ
+abbrev pub number_of : ThreadFault → ℕ
 number_of cause.Memory = MEMORY
 number_of cause.Gate = GATE
 
@@ -51,13 +65,13 @@ pub record IsStrange (plan : Plan) (history : List Event) (lists : List (List (R
   pub number : fault.number ≡ STRANGE
   pub strange : ¬ AreListsOf plan (take fault.events history) (lists_of plan) lists
 
--- 42: in each list all are, and yet it is no run, or one of another number of jobs
-pub record IsMixed (plan : Plan) (rounds jobs : ℕ) (history : List Event) (lists : List (List (Receipt Event))) (fault : RunFault) : Type 0 where
+-- 42: in each list all are, and yet it is no run, or one of another number of jobs or of units
+pub record IsMixed (plan : Plan) (rounds jobs units : ℕ) (history : List Event) (lists : List (List (Receipt Event))) (fault : RunFault) : Type 0 where
   pub number : fault.number ≡ MIXED
   pub theirs : AreListsOf plan (take fault.events history) (lists_of plan) lists
-  pub mixed : ¬ (IsRun plan rounds history lists × Makes plan history jobs)
+  pub mixed : ¬ (IsRun plan rounds history lists × Makes plan history jobs × Works plan history units)
 
 -- what is answered where there is memory: the fault that a thread met, and 41 or 42 only where none did
-abbrev pub IsAnswerTo : Plan → ℕ → ℕ → List Event → List (List (Receipt Event)) → Option Cause → RunFault → Type 0
-IsAnswerTo plan rounds jobs history lists (Some cause) fault = fault.number ≡ number_of cause
-IsAnswerTo plan rounds jobs history lists None fault = IsStrange plan history lists fault ⊎ IsMixed plan rounds jobs history lists fault
+abbrev pub IsAnswerTo : Plan → ℕ → ℕ → ℕ → List Event → List (List (Receipt Event)) → Option ThreadFault → RunFault → Type 0
+IsAnswerTo plan rounds jobs units history lists (Some cause) fault = fault.number ≡ number_of cause
+IsAnswerTo plan rounds jobs units history lists None fault = IsStrange plan history lists fault ⊎ IsMixed plan rounds jobs units history lists fault

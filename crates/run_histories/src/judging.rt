@@ -1,28 +1,27 @@
 //! Whether what came back from a run's threads is a whole run.
 
-ghost use Rattle.std.specs.Prelude.{◌≡◌, ◌≢◌, ◌↔◌, IfOk, IfErr, IfSome, IsTrue, None, false, length, map, take};
+ghost use Rattle.std.specs.Prelude.{◌≡◌, ◌≢◌, ◌↔◌, IfOk, IfErr, IfSome, IsTrue, None, false, length, take};
 ghost use Rattle.std.specs.Option.{IfNone};
-ghost use Rattle.run_histories.specs.Owner.{AreOwnersOf};
+ghost use Rattle.certified_worlds.specs.HeldWorld.{IsReachedBy};
 ghost use Rattle.run_histories.specs.Owner as owner;
 ghost use Rattle.run_histories.specs.Receipts.{AreListsOf};
-ghost use Rattle.run_histories.specs.Run.{IsRun, Makes, IsLegalFront, IsLegalPart, IsAnswerTo};
+ghost use Rattle.run_histories.specs.Replayed.{IsReplayedAs};
+ghost use Rattle.run_histories.specs.Run.{IsRun, Makes, Works, IsLegalFront, IsLegalPart, IsAnswerTo};
 
 use crate::completeness::is_complete;
 use crate::numbers::RunNumbers;
 use crate::owner::{kinds_of, lists_of};
 use crate::receipts::{each_once, lists_fit};
-use crate::replay::{Replay, replay_history};
+use crate::replay::{Replay, are_as_many, replay_history};
 use crate::{Met, RunFault, RunReport};
 use cert_check::Certified;
-use certified_worlds::{CertifiedWorld, held_worlds_refuse_nothing};
+use certified_worlds::{SeenWorld, reached_worlds_refuse_nothing};
 use faults::number::{MEMORY, MIXED, STRANGE};
-use held_machines::{Held, Receipt};
-use interleaving::Event;
 use job_bodies::Plan;
 use std::alloc::{AllocError, Global};
 
-/// The report of what the threads of a run hand back, where it is a whole run of the plan in so many rounds and with that
-/// number of jobs, and else why it is not.
+/// The report of what the threads of a run hand back, where it is a whole run of the plan in so many rounds and with those
+/// numbers of jobs and of units of work, and else why it is not.
 ///
 /// # Errors
 ///
@@ -38,42 +37,39 @@ pub fn judge(
 ) -> Result<RunReport, RunFault>
     ensures run { IfOk result (λ _. IsRun certified.now.plan rounds met.history met.receipts) }
     ensures made { IfOk result (λ _. Makes certified.now.plan met.history numbers.jobs) }
+    ensures worked { IfOk result (λ _. Works certified.now.plan met.history numbers.units) }
     ensures report { IfOk result (λ report. report ≡ record { jobs = numbers.jobs; units = numbers.units; refused = 0; history = met.history; receipts = met.receipts }) }
     ensures none_met { IfOk result (λ _. met.fault ≡ None) }
     ensures events { IfErr result (λ fault. IsLegalFront certified.now.plan met.history fault.events) }
     ensures replayed { IfErr result (λ fault. fault.number ≢ MEMORY → IsLegalPart certified.now.plan met.history fault.events) }
-    ensures fault { IfErr result (λ fault. fault.number ≢ MEMORY → IsAnswerTo certified.now.plan rounds numbers.jobs met.history met.receipts met.fault fault) }
+    ensures fault { IfErr result (λ fault. fault.number ≢ MEMORY → IsAnswerTo certified.now.plan rounds numbers.jobs numbers.units met.history met.receipts met.fault fault) }
 {
-    let Ok(replay) = replay_history(alloc, certified, &met.history) else {
+    let Ok(replay) = replay_history(alloc, certified.plan(), &met.history) else {
         return Err(RunFault::at_start(MEMORY));
     };
-    let found = fault_of(alloc, certified.plan(), rounds, numbers.jobs, &met, &replay);
-    let Replay { held, .. } = replay;
-    match found {
-        Ok(None) => Ok(report(numbers, held, met.receipts)),
+    match fault_of(alloc, certified.plan(), rounds, numbers, &met, &replay) {
+        Ok(None) => Ok(report(certified, numbers, &replay.world, met)),
         Ok(Some(fault)) => Err(fault),
         Err(AllocError) => Err(RunFault {
             number: MEMORY,
-            events: held.history().len() as u64,
+            events: replay.events() as u64,
         }),
     }
 }
 
-fn report(
-    numbers: RunNumbers,
-    held: Held<CertifiedWorld<'_>>,
-    receipts: Vec<Vec<Receipt<Event>>>,
-) -> RunReport
-    ensures { result ≡ record { jobs = numbers.jobs; units = numbers.units; refused = 0; history = held.entry.history; receipts = map (λ list. list.items) receipts.items } }
+/// The report of a run whose history leads to the world.
+fn report(certified: &Certified, numbers: RunNumbers, world: &SeenWorld, met: Met) -> RunReport
+    requires { IsReachedBy certified.now.plan met.history world.now }
+    ensures { result ≡ record { jobs = numbers.jobs; units = numbers.units; refused = 0; history = met.history; receipts = met.receipts } }
 {
-    held_worlds_refuse_nothing(&held);
-    let refused = held.state().world.world().refusals();
+    reached_worlds_refuse_nothing(certified, world);
+    let refused = world.world().refusals();
     RunReport {
         jobs: numbers.jobs,
         units: numbers.units,
         refused,
-        history: held.into_history(),
-        receipts,
+        history: met.history,
+        receipts: met.receipts,
     }
 }
 
@@ -86,42 +82,40 @@ fn fault_of(
     alloc: Global,
     plan: &Plan,
     rounds: u64,
-    jobs: u64,
+    numbers: RunNumbers,
     met: &Met,
-    replay: &Replay<'_>,
+    replay: &Replay,
 ) -> Result<Option<RunFault>, AllocError>
-    requires plan { replay.now.held.machine.certified.now.plan ≡ plan.now }
-    requires history { replay.now.held.history ≡ take (length replay.now.held.history) met.now.history }
-    requires part { replay.now.ended_for_memory ≡ false → IsLegalPart plan.now met.now.history (length replay.now.held.history) }
-    requires owners { AreOwnersOf plan.now replay.now.held.history replay.now.owners.items }
-    ensures all { IfOk result (λ found. IfNone found (replay.now.held.history ≡ met.now.history)) }
+    requires replayed { IsReplayedAs plan.now (take (length replay.now.pools.items) met.now.history) replay.now.world replay.now.pools.items replay.now.units }
+    requires part { replay.now.ended_for_memory ≡ false → IsLegalPart plan.now met.now.history (length replay.now.pools.items) }
+    ensures reached { IfOk result (λ found. IfNone found (IsReachedBy plan.now met.now.history replay.now.world)) }
     ensures run { IfOk result (λ found. IfNone found (IsRun plan.now rounds met.now.history met.now.receipts)) }
-    ensures made { IfOk result (λ found. IfNone found (Makes plan.now met.now.history jobs)) }
+    ensures made { IfOk result (λ found. IfNone found (Makes plan.now met.now.history numbers.jobs)) }
+    ensures worked { IfOk result (λ found. IfNone found (Works plan.now met.now.history numbers.units)) }
     ensures none_met { IfOk result (λ found. IfNone found (met.now.fault ≡ None)) }
     ensures part { IfOk result (λ found. IfSome found (λ fault. IsLegalPart plan.now met.now.history fault.events)) }
-    ensures fault { IfOk result (λ found. IfSome found (IsAnswerTo plan.now rounds jobs met.now.history met.now.receipts met.now.fault)) }
+    ensures fault { IfOk result (λ found. IfSome found (IsAnswerTo plan.now rounds numbers.jobs numbers.units met.now.history met.now.receipts met.now.fault)) }
 {
     if replay.ended_for_memory {
         return Err(AllocError);
     }
-    held_worlds_refuse_nothing(&replay.held);
-    let history = replay.held.history();
-    let events = history.len() as u64;
+    let events = replay.events() as u64;
     if let Some(cause) = met.fault {
         return Ok(Some(RunFault {
             number: cause.number(),
             events,
         }));
     }
+    let history = &met.history[..replay.events()];
     let kinds = kinds_of(alloc, plan)?;
     let of_lists = lists_of(alloc, plan, &kinds)?;
-    if !lists_fit(plan, history, &replay.owners, &of_lists, &met.receipts) {
+    if !lists_fit(plan, history, &replay.pools, &of_lists, &met.receipts) {
         return Ok(Some(RunFault {
             number: STRANGE,
             events,
         }));
     }
-    if !is_run(alloc, plan, &kinds, rounds, jobs, met, &replay.held)? {
+    if !is_run(alloc, plan, &kinds, rounds, numbers, met, replay)? {
         return Ok(Some(RunFault {
             number: MIXED,
             events,
@@ -130,8 +124,8 @@ fn fault_of(
     Ok(None)
 }
 
-/// Whether the history that came back was replayed to its end, made so many jobs and is complete, and each of its events
-/// stands in one place of the lists; each list has its own client's or pool's receipts.
+/// Whether the history that came back was replayed to its end, made so many jobs, did so many units of work and is
+/// complete, and each of its events stands in one place of the lists; each list has its own client's or pool's receipts.
 ///
 /// # Errors
 ///
@@ -141,29 +135,29 @@ fn is_run(
     plan: &Plan,
     kinds: &[usize],
     rounds: u64,
-    jobs: u64,
+    numbers: RunNumbers,
     met: &Met,
-    held: &Held<CertifiedWorld<'_>>,
+    replay: &Replay,
 ) -> Result<bool, AllocError>
-    requires plan { held.now.machine.certified.now.plan ≡ plan.now }
     requires kinds { kinds.now ≡ owner.kinds_of plan.now }
-    requires history { held.now.history ≡ take (length held.now.history) met.now.history }
-    requires part { IsLegalPart plan.now met.now.history (length held.now.history) }
-    requires theirs { AreListsOf plan.now held.now.history (owner.lists_of plan.now) met.now.receipts }
-    ensures all { IfOk result (λ is_run. IsTrue is_run → held.now.history ≡ met.now.history) }
-    ensures run { IfOk result (λ is_run. IsTrue is_run ↔ (IsRun plan.now rounds met.now.history met.now.receipts × Makes plan.now met.now.history jobs)) }
+    requires replayed { IsReplayedAs plan.now (take (length replay.now.pools.items) met.now.history) replay.now.world replay.now.pools.items replay.now.units }
+    requires part { IsLegalPart plan.now met.now.history (length replay.now.pools.items) }
+    requires theirs { AreListsOf plan.now (take (length replay.now.pools.items) met.now.history) (owner.lists_of plan.now) met.now.receipts }
+    ensures reached { IfOk result (λ is_run. IsTrue is_run → IsReachedBy plan.now met.now.history replay.now.world) }
+    ensures run { IfOk result (λ is_run. IsTrue is_run ↔ (IsRun plan.now rounds met.now.history met.now.receipts × Makes plan.now met.now.history numbers.jobs × Works plan.now met.now.history numbers.units)) }
 {
-    held_worlds_refuse_nothing(held);
-    let history = held.history();
-    let world = held.state().world.world();
-    if history.len() < met.history.len() {
+    if replay.events() < met.history.len() {
         return Ok(false);
     }
-    if world.made() as u64 != jobs {
+    let world = replay.world.world();
+    if world.made() as u64 != numbers.jobs {
         return Ok(false);
     }
-    if !is_complete(alloc, plan, kinds, world, rounds, history)? {
+    if !are_as_many(replay.units, numbers.units) {
         return Ok(false);
     }
-    each_once(alloc, history.len(), &met.receipts)
+    if !is_complete(alloc, plan, kinds, world, rounds, &met.history)? {
+        return Ok(false);
+    }
+    each_once(alloc, met.history.len(), &met.receipts)
 }

@@ -8,6 +8,7 @@
 
 mod completeness;
 mod judging;
+mod kept_receipt;
 mod laws;
 mod numbers;
 mod owner;
@@ -17,8 +18,9 @@ mod report;
 mod rounds;
 
 pub use judging::judge;
+pub use kept_receipt::KeptReceipt;
 pub use laws::{caused_is_whole, numbers_are_of_the_plan};
 pub use numbers::{RunNumbers, run_numbers};
 pub use owner::{Owner, kinds_of, lists_of};
-pub use report::{Cause, Met, RunFault, RunReport};
+pub use report::{Met, RunFault, RunReport, ThreadFault};
 pub use rounds::rounds_of_client;

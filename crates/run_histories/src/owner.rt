@@ -1,7 +1,9 @@
 //! Whose an event is, and the lists of receipts that a run has.
 
-ghost use Rattle.std.specs.Prelude.{◌≡◌, ◌≢◌, None, IfOk, map};
+ghost use Rattle.std.specs.Prelude.{◌≡◌, ◌≢◌, ◌<◌, None, IfOk, map, length};
+ghost use Rattle.job_bodies.specs.WellFormed.{IsWellFormed};
 ghost use Rattle.written_machine.specs.State.{State};
+ghost use Rattle.written_machine.specs.State as state;
 ghost use Rattle.written_machine.specs.Step.{step};
 ghost use Rattle.written_machine.specs.Reach.{IsReached};
 ghost use Rattle.live_views.specs.LiveView.{live_view};
@@ -19,18 +21,39 @@ pub enum Owner {
     Pool(usize),
 }
 
-/// Whose the event is, in the world before it, where it is possible there. None of a retirement, which no thread of a run
+/// The pool of the event's job, in the world before the event, where it is a job's and is possible there; else 0.
+pub(crate) fn pool_of(plan: &Plan, world: &World, event: Event) -> u8
+    ensures { (s : State) → IsReached plan.now s → live_view plan.now s ≡ world.now.view → step plan.now s event ≢ None → spec.owner_by event result ≡ spec.owner_in plan.now s event }
+{
+    match event {
+        Event::Job(number) => match world.job(number) {
+            Some(job) => pool_of_class(plan, job.class),
+            None => 0,
+        },
+        Event::Client(_) | Event::Take(_) | Event::Retire(_) => 0,
+    }
+}
+
+/// The pool of the class, of which a plan has at most 64; 0 where there is no such class.
+fn pool_of_class(plan: &Plan, class: usize) -> u8
+    ensures exists { class < length plan.now.classes → result ≡ state.pool_of plan.now class }
+    ensures well_formed { IsWellFormed plan.now }
+{
+    match plan.classes().get(class) {
+        Some(class) => class.pool as u8,
+        None => 0,
+    }
+}
+
+/// Whose the event is, where this is the pool of its job, if it is a job's. None of a retirement, which no thread of a run
 /// makes.
-pub(crate) fn owner_of(plan: &Plan, world: &World, event: Event) -> Option<Owner>
-    ensures { (s : State) → IsReached plan.now s → live_view plan.now s ≡ world.now.view → step plan.now s event ≢ None → result ≡ spec.owner_in plan.now s event }
+pub(crate) fn owner_by(event: Event, pool: u8) -> Option<Owner>
+    ensures { result ≡ spec.owner_by event pool }
 {
     match event {
         Event::Client(client) => Some(Owner::Client(client)),
+        Event::Job(_) => Some(Owner::Pool(usize::from(pool))),
         Event::Take(pool) => Some(Owner::Pool(pool)),
-        Event::Job(number) => {
-            let job = world.job(number)?;
-            Some(Owner::Pool(plan.classes().get(job.class)?.pool))
-        }
         Event::Retire(_) => None,
     }
 }

@@ -1,11 +1,12 @@
 //! Whether the receipts of all threads are the events of a history, each once and each where it belongs.
 
 ghost use Rattle.std.specs.Prelude.{◌≡◌, ◌<◌, ◌+◌, ◌==◌, ◌↔◌, ℕ, IsTrue, IfOk, Some, length, map, min, slice_index, count_by, if◌then◌else◌};
-ghost use Rattle.run_histories.specs.Owner.{AreOwnersOf};
+ghost use Rattle.run_histories.specs.Owner.{ArePoolsOf};
 ghost use Rattle.run_histories.specs.Run.{IsLegal};
 ghost use Rattle.run_histories.specs.Receipts.{IsReceiptOf, AreReceiptsOf, AreListsOf, places_of};
 
-use crate::owner::Owner;
+use crate::KeptReceipt;
+use crate::owner::{Owner, owner_by};
 use held_machines::Receipt;
 use interleaving::Event;
 use job_bodies::Plan;
@@ -15,19 +16,19 @@ use std::alloc::{AllocError, Global};
 pub(crate) fn lists_fit(
     plan: &Plan,
     history: &[Event],
-    owners: &[Option<Owner>],
+    pools: &[u8],
     of_lists: &[Owner],
-    lists: &[Vec<Receipt<Event>>],
+    lists: &[Vec<KeptReceipt>],
 ) -> bool
     requires legal { IsLegal plan.now history.now }
-    requires owners { AreOwnersOf plan.now history.now owners.now }
+    requires pools { ArePoolsOf plan.now history.now pools.now }
     ensures { IsTrue result ↔ AreListsOf plan.now history.now of_lists.now (map (λ list. list.items) lists.now) }
 {
     if of_lists.len() != lists.len() {
         return false;
     }
     for at in 0..lists.len() {
-        if !list_fits(plan, history, owners, of_lists[at], &lists[at]) {
+        if !list_fits(plan, history, pools, of_lists[at], &lists[at]) {
             return false;
         }
     }
@@ -37,17 +38,18 @@ pub(crate) fn lists_fit(
 fn list_fits(
     plan: &Plan,
     history: &[Event],
-    owners: &[Option<Owner>],
+    pools: &[u8],
     owner: Owner,
-    list: &[Receipt<Event>],
+    list: &[KeptReceipt],
 ) -> bool
     requires legal { IsLegal plan.now history.now }
-    requires owners { AreOwnersOf plan.now history.now owners.now }
+    requires pools { ArePoolsOf plan.now history.now pools.now }
     ensures { IsTrue result ↔ AreReceiptsOf plan.now history.now owner 0 list.now }
 {
     let mut low = 0;
-    for receipt in list {
-        if receipt.number < low || !receipt_fits(plan, history, owners, owner, *receipt) {
+    for kept in list {
+        let receipt = kept.receipt();
+        if receipt.number < low || !receipt_fits(plan, history, pools, owner, receipt) {
             return false;
         }
         low = receipt.number + 1;
@@ -59,12 +61,12 @@ fn list_fits(
 fn receipt_fits(
     _plan: &Plan,
     history: &[Event],
-    owners: &[Option<Owner>],
+    pools: &[u8],
     owner: Owner,
     receipt: Receipt<Event>,
 ) -> bool
     requires legal { IsLegal _plan.now history.now }
-    requires owners { AreOwnersOf _plan.now history.now owners.now }
+    requires pools { ArePoolsOf _plan.now history.now pools.now }
     ensures inside { IsTrue result → receipt.number < length history.now }
     ensures fits { IsTrue result ↔ IsReceiptOf _plan.now history.now owner receipt }
 {
@@ -72,10 +74,10 @@ fn receipt_fits(
     let Some(event) = history.get(number) else {
         return false;
     };
-    let Some(found) = owners.get(number) else {
+    let Some(pool) = pools.get(number) else {
         return false;
     };
-    is_same_event(*event, receipt.event) && is_owned_by(*found, owner)
+    is_same_event(*event, receipt.event) && is_owned_by(owner_by(*event, *pool), owner)
 }
 
 fn is_same_event(a: Event, b: Event) -> bool
@@ -109,7 +111,7 @@ fn is_owned_by(found: Option<Owner>, owner: Owner) -> bool
 pub(crate) fn each_once(
     alloc: Global,
     length: usize,
-    lists: &[Vec<Receipt<Event>>],
+    lists: &[Vec<KeptReceipt>],
 ) -> Result<bool, AllocError>
     ensures { IfOk result (λ once. IsTrue once ↔ ((k : ℕ) → k < length → places_of k (map (λ list. list.items) lists.now) ≡ 1)) }
 {
@@ -121,12 +123,12 @@ pub(crate) fn each_once(
 }
 
 /// Raises the mark at each receipt's number. A mark of 255 stands for all numbers from there on.
-fn mark_all(marks: &mut [u8], list: &[Receipt<Event>])
+fn mark_all(marks: &mut [u8], list: &[KeptReceipt])
     ensures len { length marks.new ≡ length marks.old }
     ensures marks { (k : ℕ) → k < length marks.old → slice_index marks.new k ≡ min (slice_index marks.old k + count_by (λ r. r.number == k) list.now) 255 }
 {
-    for receipt in list {
-        mark(marks, receipt.number as usize);
+    for kept in list {
+        mark(marks, kept.receipt().number as usize);
     }
 }
 

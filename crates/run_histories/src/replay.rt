@@ -1,24 +1,26 @@
 //! The replay of a history in a new world.
 
-ghost use Rattle.std.specs.Prelude.{◌≡◌, ◌<◌, ◌+◌, ◌++◌, [], ◌∷◌, IfOk, OnErr, length, take, true, false, if◌then◌else◌};
-ghost use Rattle.run_histories.specs.Owner.{AreOwnersOf};
-ghost use Rattle.run_histories.specs.Run.{IsLegal, IsLegalFront, IsLegalPart};
+ghost use Rattle.std.specs.Prelude.{◌≡◌, ◌<◌, ◌+◌, ◌↔◌, [], ℕ, IfOk, OnErr, IsTrue, Some, List, length, take, false};
+ghost use Rattle.written_machine.specs.declared.event.Event.{Event};
+ghost use Rattle.interleaving.specs.OfPlan.{IsOf};
+ghost use Rattle.run_histories.specs.Replayed.{IsReplayedAs, IsCounted, GoesOn};
+ghost use Rattle.run_histories.specs.Run.{IsLegal, IsLegalPart, worked};
 
-use crate::owner::{Owner, owner_of};
-use cert_check::Certified;
-use certified_worlds::{CertifiedWorld, held_worlds_refuse_nothing};
-use held_machines::Held;
-use interleaving::Event;
+use crate::owner::pool_of;
+use certified_worlds::SeenWorld;
+use interleaving::{Event, Outcome};
 use job_bodies::Plan;
 use std::alloc::{AllocError, Global};
 
-/// A history as far as it was replayed.
+/// A history as far as it was replayed. It keeps no copy of the events.
 #[derive(Drop)]
-pub(crate) struct Replay<'a> {
-    /// The world, with the events that were replayed.
-    pub(crate) held: Held<CertifiedWorld<'a>>,
-    /// Whose each of them is.
-    pub(crate) owners: Vec<Option<Owner>>,
+pub(crate) struct Replay {
+    /// The world after the events that were replayed.
+    pub(crate) world: SeenWorld,
+    /// For each of them the pool of its job, where it is a job's, so that it is told whose it is.
+    pub(crate) pools: Vec<u8>,
+    /// How many units of work they do; None where that is no u64.
+    pub(crate) units: Option<u64>,
     /// Whether memory ran out before the next event.
     pub(crate) ended_for_memory: bool,
 }
@@ -29,80 +31,87 @@ pub(crate) struct Replay<'a> {
 /// # Errors
 ///
 /// `AllocError` where there is no memory for the world before its first event.
-pub(crate) fn replay_history<'a>(
+pub(crate) fn replay_history(
     alloc: Global,
-    certified: &'a Certified,
-    history: &[Event],
-) -> Result<Replay<'a>, AllocError>
-    ensures certified { IfOk result (λ replay. replay.held.machine.certified.now ≡ certified.now) }
-    ensures history { IfOk result (λ replay. replay.held.history ≡ take (length replay.held.history) history.now) }
-    ensures front { IfOk result (λ replay. IsLegalFront certified.now.plan history.now (length replay.held.history)) }
-    ensures part { IfOk result (λ replay. replay.ended_for_memory ≡ false → IsLegalPart certified.now.plan history.now (length replay.held.history)) }
-    ensures owners { IfOk result (λ replay. AreOwnersOf certified.now.plan replay.held.history replay.owners.items) }
-{
-    let mut held = Held::new(alloc, CertifiedWorld::new(certified))?;
-    let mut owners = Vec::with_capacity(alloc, history.len())?;
-    let ended_for_memory = follow_all(certified.plan(), &mut held, &mut owners, history).is_err();
-    held_worlds_refuse_nothing(&held);
-    Ok(Replay {
-        held,
-        owners,
-        ended_for_memory,
-    })
-}
-
-/// Makes the events and notes whose each is, up to the first that is not possible.
-///
-/// # Errors
-///
-/// `AllocError` where there is no memory for an event. Those before it are made.
-fn follow_all(
     plan: &Plan,
-    held: &mut Held<CertifiedWorld<'_>>,
-    owners: &mut Vec<Option<Owner>>,
     history: &[Event],
-) -> Result<(), AllocError>
-    requires plan { held.old.machine.certified.now.plan ≡ plan.now }
-    requires at_start { held.old.history ≡ [] }
-    requires owners { AreOwnersOf plan.now held.old.history owners.old.items }
-    ensures machine { held.new.machine ≡ held.old.machine }
-    ensures history { held.new.history ≡ take (length held.new.history) history.now }
-    ensures ends { IfOk result (λ _. length held.new.history < length history.now → ¬ IsLegal plan.now (take (length held.new.history + 1) history.now)) }
-    ensures owners { AreOwnersOf plan.now held.new.history owners.new.items }
+) -> Result<Replay, AllocError>
+    ensures replayed { IfOk result (λ replay. IsReplayedAs plan.now (take (length replay.pools.items) history.now) replay.world replay.pools.items replay.units) }
+    ensures part { IfOk result (λ replay. replay.ended_for_memory ≡ false → IsLegalPart plan.now history.now (length replay.pools.items)) }
 {
-    for event in history {
-        if !follow(plan, held, owners, *event)? {
-            return Ok(());
-        }
-    }
-    Ok(())
-}
-
-/// Makes the event and notes whose it is, and says whether it was possible.
-///
-/// # Errors
-///
-/// `AllocError` where there is no memory for it. It is not made then.
-fn follow(
-    plan: &Plan,
-    held: &mut Held<CertifiedWorld<'_>>,
-    owners: &mut Vec<Option<Owner>>,
-    event: Event,
-) -> Result<bool, AllocError>
-    requires plan { held.old.machine.certified.now.plan ≡ plan.now }
-    requires owners { AreOwnersOf plan.now held.old.history owners.old.items }
-    ensures machine { held.new.machine ≡ held.old.machine }
-    ensures history { IfOk result (λ made. held.new.history ≡ (if made then held.old.history ++ event ∷ [] else held.old.history)) }
-    ensures impossible { IfOk result (λ made. made ≡ false → ¬ IsLegal plan.now (held.old.history ++ event ∷ [])) }
-    ensures error_unmade { OnErr result (held.new.history ≡ held.old.history) }
-    ensures owners { AreOwnersOf plan.now held.new.history owners.new.items }
-{
-    held_worlds_refuse_nothing(held);
-    let owner = owner_of(plan, held.state().world.world(), event);
-    owners.reserve(1)?;
-    let Some(_) = held.act(event)? else {
-        return Ok(false);
+    let mut replay = Replay {
+        world: SeenWorld::start(alloc, plan)?,
+        pools: Vec::with_capacity(alloc, history.len())?,
+        units: Some(0),
+        ended_for_memory: false,
     };
-    owners.push_reserved(owner);
-    Ok(true)
+    replay.ended_for_memory = replay.follow_all(plan, history).is_err();
+    Ok(replay)
+}
+
+impl Replay {
+    /// How many events were replayed.
+    pub(crate) fn events(&self) -> usize
+        ensures { result ≡ length self.now.pools.items }
+    {
+        self.pools.len()
+    }
+
+    /// Makes the events, up to the first that is not possible.
+    ///
+    /// # Errors
+    ///
+    /// `AllocError` where there is no memory for an event. Those before it are made.
+    fn follow_all(&mut self, plan: &Plan, history: &[Event]) -> Result<(), AllocError>
+        requires at_start { IsReplayedAs plan.now [] self.old.world self.old.pools.items self.old.units }
+        ensures replayed { IsReplayedAs plan.now (take (length self.new.pools.items) history.now) self.new.world self.new.pools.items self.new.units }
+        ensures ends { IfOk result (λ _. length self.new.pools.items < length history.now → ¬ IsLegal plan.now (take (length self.new.pools.items + 1) history.now)) }
+    {
+        for event in history {
+            if !self.follow(plan, *event)? {
+                return Ok(());
+            }
+        }
+        Ok(())
+    }
+
+    /// Makes the event, and says whether it was possible.
+    ///
+    /// # Errors
+    ///
+    /// `AllocError` where there is no memory for it. It is not made then.
+    fn follow(&mut self, plan: &Plan, event: Event) -> Result<bool, AllocError>
+        requires { IsOf plan.now self.old.world }
+        ensures made { IfOk result (λ made. (history : List Event) → IsReplayedAs plan.now history self.old.world self.old.pools.items self.old.units → GoesOn plan.now history event made self.new.world self.new.pools.items self.new.units) }
+        ensures error_unmade { OnErr result ((self.new.world ≡ self.old.world) × (self.new.pools.items ≡ self.old.pools.items) × (self.new.units ≡ self.old.units)) }
+    {
+        let pool = pool_of(plan, self.world.world(), event);
+        self.pools.reserve(1)?;
+        let Some(outcome) = self.world.step(plan, event)? else {
+            return Ok(false);
+        };
+        self.pools.push_reserved(pool);
+        self.units = with_work(self.units, outcome);
+        Ok(true)
+    }
+}
+
+/// So many units with those of the outcome; None where they are no u64.
+fn with_work(units: Option<u64>, outcome: Outcome) -> Option<u64>
+    ensures { (n : ℕ) → IsCounted n units → IsCounted (n + worked (Some outcome)) result }
+{
+    match outcome {
+        Outcome::Worked(more) => units?.checked_add(u64::from(more)),
+        _ => units,
+    }
+}
+
+/// Whether so many are wanted.
+pub(crate) fn are_as_many(units: Option<u64>, wanted: u64) -> bool
+    ensures { (n : ℕ) → IsCounted n units → (IsTrue result ↔ (n ≡ wanted)) }
+{
+    match units {
+        Some(units) => units == wanted,
+        None => false,
+    }
 }

@@ -4,8 +4,8 @@ ghost use Rattle.std.specs.Prelude.{◌≡◌};
 ghost use Rattle.job_bodies.specs.Plan as spec;
 ghost use Rattle.run_histories.specs.Run.{IsLengthOfLegal, number_of};
 
+use crate::KeptReceipt;
 use faults::number::{GATE, MEMORY};
-use held_machines::Receipt;
 use interleaving::Event;
 use std::marker::Model;
 
@@ -22,7 +22,7 @@ pub struct RunReport {
     pub history: Vec<Event>,
     /// The receipts of each thread in rising order: a list for each client, then for each pool as many lists as its
     /// maximum.
-    pub receipts: Vec<Vec<Receipt<Event>>>,
+    pub receipts: Vec<Vec<KeptReceipt>>,
 }
 
 impl Model for RunReport {
@@ -38,8 +38,8 @@ impl Model for RunReport {
 ///
 /// 40: a limit of a run is passed, and nothing was started. 41: a receipt is strange: the history has no such event at its
 /// number, or it is not of its thread, or the numbers of a list do not rise. 42: the receipts are not those of the
-/// history, each once, or the history is not complete or has another number of jobs than was computed. 43: the gate failed.
-/// 20: memory ran out.
+/// history, each once, or the history is not complete or has another number of jobs or of units than was computed. 43: the
+/// gate failed. 20: memory ran out.
 #[derive(Clone, Copy, Debug, PartialEq, Eq)]
 pub struct RunFault {
     pub number: u8,
@@ -59,21 +59,21 @@ impl RunFault {
 
 /// Why the threads of a run end before all is done.
 #[derive(Clone, Copy, Debug, PartialEq, Eq)]
-pub enum Cause {
+pub enum ThreadFault {
     /// Memory ran out, or a thread could not be started.
     Memory,
     /// The gate failed.
     Gate,
 }
 
-impl Cause {
+impl ThreadFault {
     /// Its number of `faults`.
     pub fn number(self) -> u8
         ensures { result ≡ number_of self }
     {
         match self {
-            Cause::Memory => MEMORY,
-            Cause::Gate => GATE,
+            ThreadFault::Memory => MEMORY,
+            ThreadFault::Gate => GATE,
         }
     }
 }
@@ -83,8 +83,8 @@ impl Cause {
 #[derive(Debug, Drop)]
 pub struct Met {
     pub history: Vec<Event>,
-    pub receipts: Vec<Vec<Receipt<Event>>>,
-    pub fault: Option<Cause>,
+    pub receipts: Vec<Vec<KeptReceipt>>,
+    pub fault: Option<ThreadFault>,
 }
 
 impl Model for Met {

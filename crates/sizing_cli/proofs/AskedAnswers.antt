@@ -9,13 +9,13 @@ use Rattle.cert_text.specs.CertOf.{cert_of}
 use Rattle.cert_text.specs.declared.fault.CertFault.{CertFault}
 use Rattle.headline.proofs.Promised.{promises}
 use Rattle.cert_check.proofs.Yes.{plans_read_are_well_formed}
-use Rattle.ask_answers.specs.declared.finding.Finding.{Finding}
-use Rattle.ask_answers.specs.declared.finding.Finding.TheVariants.{Safe, NotSafe, NotDecided}
+use Rattle.ask_answers.specs.declared.finding.PlanFinding.{PlanFinding}
+use Rattle.ask_answers.specs.declared.finding.PlanFinding.TheVariants.{Safe, NotSafe, NotDecided}
 use Rattle.ask_answers.specs.Finding.{IsFinding}
 use Rattle.command_line.specs.declared.command.Given.{Given}
 use Rattle.command_line.specs.declared.command.Manner.{Manner}
 use Rattle.command_line.specs.declared.command.Given.TheVariants.{PlanAlone, WithCertificate}
-use Rattle.sizing_cli.specs.declared.limits.TheConstants.{MAX_INPUT_BYTES}
+use Rattle.job_bodies.specs.declared.limits.TheConstants.{MAX_INPUT_BYTES}
 use Rattle.sizing_cli.specs.declared.status.Status.TheVariants.{Done, Refused, BadText, Undecided}
 use Rattle.sizing_cli.specs.Answer.{Answer, input_too_long, no_separator}
 use Rattle.sizing_cli.specs.Bundle.{Bundle, bundle_of}
@@ -27,7 +27,7 @@ use Rattle.sizing_cli.proofs.FittedAnswers.{bad_text_is_not_done}
 found_safe : (manner : Manner) (text : List ℕ) (plan : Plan) (given : Option Cert) (left : Option (List ℕ)) (answer : Answer) → plan_of text ≡ Ok plan → AnswersPlan manner plan given left answer → answer.status ≡ Done → IsSafePlan text
 found_safe manner text plan given left answer is_plan answers done = by_finding answers.finding answers.is_finding (sym answers.answers.status ∙ done)
   where
-    by_finding : (finding : Finding) → IsFinding plan finding → status_of manner.strict answers.answers.warnings finding ≡ Done → IsSafePlan text
+    by_finding : (finding : PlanFinding) → IsFinding plan finding → status_of manner.strict answers.answers.warnings finding ≡ Done → IsSafePlan text
     by_finding (Safe cert) accepts is_done = record {
       plan = plan;
       is_plan = is_plan;

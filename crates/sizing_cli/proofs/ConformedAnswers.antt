@@ -10,15 +10,15 @@ use Rattle.plan_text.specs.PlanOf.{plan_of}
 use Rattle.conformance.specs.declared.comparison.Conformance.{Conformance}
 use Rattle.conformance.specs.declared.comparison.Conformance.TheVariants.{Bad, Compared}
 use Rattle.conformance.specs.declared.finding.Finding.{Finding}
-use Rattle.sizing_cli.specs.declared.limits.TheConstants.{MAX_RECORDED_BYTES}
+use Rattle.job_bodies.specs.declared.limits.TheConstants.{MAX_RECORDED_BYTES}
 use Rattle.sizing_cli.specs.declared.status.Status.TheVariants.{Done, Refused, BadText, Undecided}
 use Rattle.sizing_cli.specs.Answer.{Answer, input_too_long}
 use Rattle.sizing_cli.specs.Bundle.{Bundle, bundle_of}
 use Rattle.sizing_cli.specs.Conform.{AnswersBundle, AnswersReading, AnswersRecording, IsConformAnswer, IsConformingInput, IsSaidOf, answer_of, is_undecided, status_of}
 
 -- nothing was found
-none_found : (findings : List Finding) → status_of findings ≡ Done → findings ≡ []
-none_found findings done = by_length (length findings == 0) refl done
+done_of_no_findings : (findings : List Finding) → status_of findings ≡ Done → findings ≡ []
+done_of_no_findings findings done = by_length (length findings == 0) refl done
   where
     by_all : (all : Bool) → cond all Undecided Refused ≡ Done → findings ≡ []
     by_all true said = absurd cc
@@ -32,7 +32,7 @@ with_said : (input : List ℕ) (bundle : Bundle) (plan : Plan) → bundle_of inp
     → IsSaidOf plan bundle.second said → (answer_of plan said).status ≡ Done → IsConformingInput input
 with_said input bundle plan is_bundle is_plan (Bad fault) said done = absurd cc
 with_said input bundle plan is_bundle is_plan (Compared findings) said done =
-    let all = said.conforms (none_found findings.items done) in
+    let all = said.conforms (done_of_no_findings findings.items done) in
     record { bundle = bundle; is_bundle = is_bundle; plan = plan; is_plan = is_plan; no_fault = said.bad; conforms = all.0; valid = all.1 }
 
 with_reading : (input : List ℕ) (bundle : Bundle) (answer : Answer) (found : Result Plan PlanFault) → bundle_of input ≡ Some bundle → plan_of bundle.plan ≡ found

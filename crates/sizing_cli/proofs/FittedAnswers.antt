@@ -7,7 +7,7 @@ use Rattle.job_bodies.specs.Plan.{Plan}
 use Rattle.job_bodies.specs.declared.fault.PlanFault.{PlanFault}
 use Rattle.plan_text.specs.PlanOf.{plan_of}
 use Rattle.certificates.specs.Cert.{Cert}
-use Rattle.cert_text.specs.declared.document.TheConstants.{MAX_TEXT_BYTES}
+use Rattle.job_bodies.specs.declared.limits.TheConstants.{MAX_CERT_BYTES, MAX_INPUT_BYTES}
 use Rattle.cert_text.specs.CertText.{cert_text}
 use Rattle.headline.specs.Accepted.{accepted}
 use Rattle.headline.proofs.Promised.{promises}
@@ -18,7 +18,6 @@ use Rattle.size_search.specs.Sized.{IsSized, IsFound}
 use Rattle.size_lines.specs.Sizes.{changes}
 use Rattle.size_lines.proofs.Unchanged.{unchanged}
 use Rattle.command_line.specs.declared.command.SizesForm.TheVariants.{Sizes, Bundle}
-use Rattle.sizing_cli.specs.declared.limits.TheConstants.{MAX_INPUT_BYTES}
 use Rattle.sizing_cli.specs.declared.status.Status.TheVariants.{Done, Refused, BadText}
 use Rattle.sizing_cli.specs.Answer.{Answer, yes_or_no, input_too_long}
 use Rattle.sizing_cli.specs.SafeInput.{IsSafePlan}
@@ -43,10 +42,10 @@ sized_as_it_is plan fit cert sized none =
     subst (λ (p : Plan). IsTrue (accepted p cert)) (unchanged plan fit sized.fits.same_outline none) sized.fits.accepts
 
 -- the text of a certificate that is as long as one may be is too long with its newline
-pub long_with_newline : (cert : Cert) (text : List ℕ) → text ≡ cert_text cert → MAX_TEXT_BYTES ≤ length text → HasLongText cert
-long_with_newline cert text is long = subst (λ (t : List ℕ). MAX_TEXT_BYTES < length (t ++ 10 ∷ [])) is (longer text long)
+pub long_with_newline : (cert : Cert) (text : List ℕ) → text ≡ cert_text cert → MAX_CERT_BYTES ≤ length text → HasLongText cert
+long_with_newline cert text is long = subst (λ (t : List ℕ). MAX_CERT_BYTES < length (t ++ 10 ∷ [])) is (longer text long)
   where
-    longer : (t : List ℕ) → MAX_TEXT_BYTES ≤ length t → MAX_TEXT_BYTES < length (t ++ 10 ∷ [])
+    longer : (t : List ℕ) → MAX_CERT_BYTES ≤ length t → MAX_CERT_BYTES < length (t ++ 10 ∷ [])
     longer t long = omega (arith, long, length-append t (10 ∷ []))
 
 pub sizes_mean_safe : (input : List ℕ) (answer : Answer) → IsFitAnswer Sizes input answer → answer.status ≡ Done → IsSafePlan input

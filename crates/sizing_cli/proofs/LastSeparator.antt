@@ -193,9 +193,9 @@ split_written at_line (b ∷ plan) tail second front is_tail last =
     ap (λ later. later_or b later (split_here at_line (b ∷ (plan ++ tail)))) (split_written (b == 10) plan tail second (front_of_rest at_line b plan front) is_tail last)
 
 -- ---- the laws
-whole_lines : (plan : List ℕ) → IsFront true plan → IsWholeLines plan
-whole_lines plan (inl here) = inl here.0
-whole_lines plan (inr more) = inr more
+front_is_whole_lines : (plan : List ℕ) → IsFront true plan → IsWholeLines plan
+front_is_whole_lines plan (inl here) = inl here.0
+front_is_whole_lines plan (inr more) = inr more
 
 front_from : (plan : List ℕ) → IsWholeLines plan → IsFront true plan
 front_from plan (inl empty) = inl (empty, refl)
@@ -209,7 +209,7 @@ joined input bundle split =
 
 pub split_is : InputsSplitAtTheLastSeparator
 split_is input bundle = (
-  λ found. let split = split_read true input bundle found in record { plan = whole_lines bundle.plan split.front; whole = split.whole; last = split.last },
+  λ found. let split = split_read true input bundle found in record { plan = front_is_whole_lines bundle.plan split.front; whole = split.whole; last = split.last },
   joined input bundle,
 )
 

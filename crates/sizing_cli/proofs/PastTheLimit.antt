@@ -3,7 +3,7 @@ use Rattle.std.proofs.Common.{◌≡◌, ℕ, ◌+◌, ◌<◌, inl, inr, Bool, 
 use Rattle.std.proofs.lemmas.Bool.{cases_lt, lt-ltb}
 use Rattle.std.proofs.lemmas.List.{take_all, length-take-le}
 use Rattle.job_bodies.specs.Plan.{Plan}
-use Rattle.sizing_cli.specs.declared.limits.TheConstants.{MAX_INPUT_BYTES}
+use Rattle.job_bodies.specs.declared.limits.TheConstants.{MAX_INPUT_BYTES}
 use Rattle.sizing_cli.specs.Answer.{Answer, input_too_long}
 use Rattle.sizing_cli.specs.Bundle.{bundle_of}
 use Rattle.sizing_cli.specs.Report.{answer_by, answer_of_bundle}

@@ -9,7 +9,7 @@ use Rattle.plan_text.specs.PlanOf.{plan_of}
 use Rattle.headline.proofs.Promised.{promises}
 use Rattle.cert_check.proofs.Yes.{plans_read_are_well_formed}
 use Rattle.command_line.specs.declared.command.Shown.TheVariants.{Story, Bundle}
-use Rattle.sizing_cli.specs.declared.limits.TheConstants.{MAX_INPUT_BYTES}
+use Rattle.job_bodies.specs.declared.limits.TheConstants.{MAX_INPUT_BYTES}
 use Rattle.sizing_cli.specs.declared.status.Status.TheVariants.{Done, Refused, Undecided}
 use Rattle.sizing_cli.specs.Answer.{Answer, input_too_long}
 use Rattle.sizing_cli.specs.SafeInput.{IsSafePlan}

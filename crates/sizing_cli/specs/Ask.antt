@@ -14,8 +14,8 @@ use Rattle.plan_advice.specs.declared.oddity.Oddity.TheVariants.{StaleCertificat
 use Rattle.plan_advice.specs.declared.warnings.Warning.{Warning}
 use Rattle.plan_advice.specs.Oddities.{AreOddities, warned_of}
 use Rattle.plan_advice.specs.Advice.{faults_text, warnings_text}
-use Rattle.ask_answers.specs.declared.finding.Finding.{Finding}
-use Rattle.ask_answers.specs.declared.finding.Finding.TheVariants.{Safe, NotSafe, NotDecided}
+use Rattle.ask_answers.specs.declared.finding.PlanFinding.{PlanFinding}
+use Rattle.ask_answers.specs.declared.finding.PlanFinding.TheVariants.{Safe, NotSafe, NotDecided}
 use Rattle.ask_answers.specs.Finding.{IsFinding}
 use Rattle.ask_answers.specs.Places.{needed_places}
 use Rattle.ask_answers.specs.Told.{Tells}
@@ -26,7 +26,7 @@ use Rattle.command_line.specs.declared.command.Given.TheVariants.{PlanAlone, Wit
 use Rattle.command_line.specs.declared.command.Form.{Form}
 use Rattle.command_line.specs.declared.command.Form.TheVariants.{Words, Json, Dot}
 use Rattle.command_line.specs.declared.command.Manner.{Manner}
-use Rattle.sizing_cli.specs.declared.limits.TheConstants.{MAX_INPUT_BYTES}
+use Rattle.job_bodies.specs.declared.limits.TheConstants.{MAX_INPUT_BYTES}
 use Rattle.sizing_cli.specs.declared.status.Status.{Status}
 use Rattle.sizing_cli.specs.declared.status.Status.TheVariants.{Done, Refused, BadText, Undecided}
 use Rattle.sizing_cli.specs.Answer.{Answer, no_separator, input_too_long}
@@ -75,7 +75,7 @@ pub record AnswersCertFault (form : Form) (fault : CertFault) (answer : Answer) 
 -- ---- answers
 
 -- of a plan that is safe a warning is a no, where it is to be one
-abbrev pub status_of : Bool → List Warning → Finding → Status
+abbrev pub status_of : Bool → List Warning → PlanFinding → Status
 status_of strict warnings (Safe cert) = if strict && not (length warnings == 0) then Refused else Done
 status_of strict warnings (NotSafe witness sizes) = Refused
 status_of strict warnings (NotDecided sizes) = Undecided
@@ -91,37 +91,37 @@ is_stale plan None = false
 is_stale plan (Some cert) = not (accepted plan cert)
 
 -- a certificate that was given and accepts the plan is what the answer rests on
-abbrev pub RestsOnGiven : Plan → Option Cert → Finding → Type 0
+abbrev pub RestsOnGiven : Plan → Option Cert → PlanFinding → Type 0
 RestsOnGiven plan given finding = IfSome given (λ cert. IsTrue (accepted plan cert) → finding ≡ Safe cert)
 
 -- how many places each pool needs, as the certificate that was found says it
-abbrev pub needed_of : Plan → Finding → List (Option ℕ)
+abbrev pub needed_of : Plan → PlanFinding → List (Option ℕ)
 needed_of plan (Safe cert) = needed_places plan cert
 needed_of plan (NotSafe witness sizes) = []
 needed_of plan (NotDecided sizes) = []
 
 -- the warnings are about what is seldom meant in the plan, just that and in its order, where pools need so many places; and about a
 -- certificate that is stale, where it is
-pub record AreWarnings (plan : Plan) (finding : Finding) (stale : Bool) (warnings : List Warning) : Type 0 where
+pub record AreWarnings (plan : Plan) (finding : PlanFinding) (stale : Bool) (warnings : List Warning) : Type 0 where
   pub oddities : List Oddity
   pub are_oddities : AreOddities plan (needed_of plan finding) oddities
   pub warned : warned_of warnings ≡ oddities ++ stale_if stale
 
 -- the warnings are told, as in a file of some name, and behind them what was found
-pub record TellsFinding (plan : Plan) (warnings : List Warning) (finding : Finding) (text : List ℕ) : Type 0 where
+pub record TellsFinding (plan : Plan) (warnings : List Warning) (finding : PlanFinding) (text : List ℕ) : Type 0 where
   pub file : List ℕ
   pub words : List ℕ
   pub tells : Tells plan finding words
   pub text_is : text ≡ warnings_text file warnings ++ words
 
 -- in lines, as an object of JSON, or as a picture of the plan
-abbrev pub TellsFindingIn : Form → Plan → List Warning → Finding → List ℕ → Type 0
+abbrev pub TellsFindingIn : Form → Plan → List Warning → PlanFinding → List ℕ → Type 0
 TellsFindingIn Words plan warnings finding text = TellsFinding plan warnings finding text
 TellsFindingIn Json plan warnings finding text = json.TellsFinding finding text
 TellsFindingIn Dot plan warnings finding text = IsPicture text
 
 -- what was found is told, with the warnings, and the status follows from both
-pub record AnswersFinding (manner : Manner) (plan : Plan) (finding : Finding) (stale : Bool) (answer : Answer) : Type 0 where
+pub record AnswersFinding (manner : Manner) (plan : Plan) (finding : PlanFinding) (stale : Bool) (answer : Answer) : Type 0 where
   pub warnings : List Warning
   pub are_warnings : AreWarnings plan finding stale warnings
   pub tells : TellsFindingIn manner.form plan warnings finding answer.text
@@ -135,7 +135,7 @@ IsTextLeft plan cert (Some text) = cert_of text plan ≡ Ok cert
 IsTextLeft plan cert None = HasLongText cert
 
 -- what a finding leaves: the certificate that accepts the plan, where one does
-abbrev pub IsLeftOf : Plan → Finding → Option (List ℕ) → Type 0
+abbrev pub IsLeftOf : Plan → PlanFinding → Option (List ℕ) → Type 0
 IsLeftOf plan (Safe cert) left = IsTextLeft plan cert left
 IsLeftOf plan (NotSafe witness sizes) left = left ≡ None
 IsLeftOf plan (NotDecided sizes) left = left ≡ None
@@ -149,7 +149,7 @@ left_in replied = option_map (λ text. text.items) replied.certificate
 -- something was found that is so of the plan, by the certificate that was given where that accepts it; it is told, and it leaves
 -- what it leaves
 pub record AnswersPlan (manner : Manner) (plan : Plan) (given : Option Cert) (left : Option (List ℕ)) (answer : Answer) : Type 0 where
-  pub finding : Finding
+  pub finding : PlanFinding
   pub is_finding : IsFinding plan finding
   pub rests : RestsOnGiven plan given finding
   pub answers : AnswersFinding manner plan finding (is_stale plan given) answer

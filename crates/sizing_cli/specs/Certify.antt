@@ -6,14 +6,13 @@ use Rattle.job_bodies.specs.FaultText.{fault_line}
 use Rattle.job_bodies.specs.declared.fault.PlanFault.{PlanFault}
 use Rattle.plan_text.specs.PlanOf.{plan_of}
 use Rattle.certificates.specs.Cert.{Cert}
-use Rattle.cert_text.specs.declared.document.TheConstants.{MAX_TEXT_BYTES}
+use Rattle.job_bodies.specs.declared.limits.TheConstants.{MAX_CERT_BYTES, MAX_INPUT_BYTES}
 use Rattle.cert_text.specs.CertText.{cert_text}
 use Rattle.headline.specs.Accepted.{accepted}
 use Rattle.size_search.specs.declared.found.SizesFound.{SizesFound}
 use Rattle.ask_answers.specs.Finding.{IsOpen}
 use Rattle.cert_check.specs.Verdict.{Verdict}
 use Rattle.cert_check.specs.Check.{checked, IsSafeToRun}
-use Rattle.sizing_cli.specs.declared.limits.TheConstants.{MAX_INPUT_BYTES}
 use Rattle.sizing_cli.specs.declared.certify.Certified.{Certified}
 use Rattle.sizing_cli.specs.declared.certify.Certified.TheVariants.{Text, Nothing, TooLong}
 use Rattle.sizing_cli.specs.declared.status.Status.TheVariants.{Done, Refused}
@@ -59,7 +58,7 @@ pub record IsCertified (plan : List ℕ) (answer : Answer) : Type 0 where
 
 -- the certificate's text with its newline is too long to be read
 abbrev pub HasLongText : Cert → Type 0
-HasLongText cert = MAX_TEXT_BYTES < length (cert_text cert ++ 10 ∷ [])
+HasLongText cert = MAX_CERT_BYTES < length (cert_text cert ++ 10 ∷ [])
 
 -- a certificate accepts the plan, and its text is too long
 pub record IsTooLong (plan : Plan) : Type 0 where

@@ -20,7 +20,7 @@ use Rattle.conformance.specs.Findings.{AreFindingsOf}
 use Rattle.conformance.specs.FindingText.{findings_text}
 use Rattle.conformance.specs.Lines.{lines_of}
 use Rattle.conformance.specs.Outcome.{AreInOrder, IfCompared, fault_of}
-use Rattle.sizing_cli.specs.declared.limits.TheConstants.{MAX_PATH_STEPS, MAX_RECORDED_BYTES}
+use Rattle.job_bodies.specs.declared.limits.TheConstants.{MAX_PATH_STEPS, MAX_RECORDED_BYTES}
 use Rattle.sizing_cli.specs.declared.status.Status.{Status}
 use Rattle.sizing_cli.specs.declared.status.Status.TheVariants.{Done, Refused, Undecided}
 use Rattle.sizing_cli.specs.Answer.{Answer, fault, input_too_long, no_separator}

@@ -3,7 +3,7 @@ use Rattle.std.specs.Prelude.{◌≡◌, ◌⊎◌, ◌<◌, ℕ, nat_lt, ◌==�
 use Rattle.job_bodies.specs.Plan.{Plan}
 use Rattle.job_bodies.specs.FaultText.{fault_line}
 use Rattle.job_bodies.specs.declared.fault.PlanFault.{PlanFault}
-use Rattle.plan_text.specs.declared.document.TheConstants.{MAX_TEXT_BYTES}
+use Rattle.job_bodies.specs.declared.limits.TheConstants.{MAX_PLAN_BYTES, MAX_INPUT_BYTES}
 use Rattle.plan_text.specs.PlanOf.{plan_of}
 use Rattle.plan_writer.specs.PlanDocument.{IsPlanText}
 use Rattle.certificates.specs.Cert.{Cert}
@@ -19,7 +19,6 @@ use Rattle.size_lines.specs.Sizes.{changes, sizes_text}
 use Rattle.size_lines.specs.Cause.{no_sizes_text}
 use Rattle.command_line.specs.declared.command.SizesForm.{SizesForm}
 use Rattle.command_line.specs.declared.command.SizesForm.TheVariants.{Sizes, Bundle}
-use Rattle.sizing_cli.specs.declared.limits.TheConstants.{MAX_INPUT_BYTES}
 use Rattle.sizing_cli.specs.declared.status.Status.TheVariants.{Done, Refused}
 use Rattle.sizing_cli.specs.Answer.{Answer, fault, input_too_long, yes_or_no}
 use Rattle.sizing_cli.specs.Certify.{IsBundleWith, HasLongText}
@@ -43,7 +42,7 @@ told plan (NotFound cause) = no_sizes_answer plan cause
 pub record HasLongPlanText (plan : Plan) : Type 0 where
   pub text : List ℕ
   pub is_text : IsPlanText plan text
-  pub long : MAX_TEXT_BYTES < length text
+  pub long : MAX_PLAN_BYTES < length text
 
 -- the bundle of the text of the fitted plan, as it is written, and of the certificate: `check` says yes to it
 pub record IsBundleOf (fit : Plan) (cert : Cert) (text : List ℕ) : Type 0 where

@@ -1,6 +1,6 @@
 -- What `learn` may answer to a recording: a relation, since nothing is said of which bodies are found.
 use Rattle.std.specs.Prelude.{◌≡◌, ◌⊎◌, ◌&&◌, ℕ, false, if◌then◌else◌, nat_lt, nat_eq, List, [], ◌∷◌, ◌++◌, length, flat_map, codes, decimal, None, Some, Ok, MatchBool}
-use Rattle.std.specs.List.{list_any}
+use Rattle.std.specs.List.{All, list_any}
 use Rattle.job_bodies.specs.Plan.{Plan}
 use Rattle.plan_text.specs.PlanOf.{plan_of}
 use Rattle.plan_writer.specs.PlanDocument.{IsPlanText}
@@ -16,11 +16,13 @@ use Rattle.conformance.specs.Lines.{lines_of}
 use Rattle.conformance.specs.Outcome.{AreInOrder}
 use Rattle.learned_plans.specs.Counts.{AreCounted}
 use Rattle.learned_plans.specs.Pools.{pools_seen}
-use Rattle.learned_plans.specs.TooMuch.{too_much_text}
+use Rattle.learned_plans.specs.Names.{IsNamedClass, IsNamedClient}
+use Rattle.learned_plans.specs.TooMuch.{IsReason, too_much_text}
 use Rattle.learned_plans.specs.Unfinished.{unfinished_rounds, unfinished_jobs}
 use Rattle.learned_plans.specs.declared.learned.SeenPlan.{SeenPlan}
 use Rattle.learned_plans.specs.declared.too_much.TooMuch.{TooMuch}
-use Rattle.sizing_cli.specs.declared.limits.TheConstants.{MAX_PATH_STEPS, MAX_RECORDED_BYTES}
+use Rattle.learned_plans.specs.declared.too_much.TooMuch.TheVariants.{Text}
+use Rattle.job_bodies.specs.declared.limits.TheConstants.{MAX_PATH_STEPS, MAX_RECORDED_BYTES}
 use Rattle.sizing_cli.specs.declared.status.Status.TheVariants.{Done, Refused}
 use Rattle.sizing_cli.specs.Answer.{Answer, input_too_long}
 use Rattle.sizing_cli.specs.Conform.{AreAllFindings, bad_recording}
@@ -55,6 +57,8 @@ comments plan findings = flat_map (comment_line plan) findings
 pub record IsSeen (lines : List RecordedLine) (seen : SeenPlan) : Type 0 where
   pub pools : seen.plan.pools ≡ pools_seen lines
   pub counts : AreCounted lines seen.plan.clients
+  pub classes : All (IsNamedClass lines) seen.plan.classes
+  pub clients : All (IsNamedClient lines) seen.plan.clients
   pub rounds : seen.rounds ≡ begins lines
   pub jobs : seen.jobs ≡ submits lines
   pub unfinished_rounds : seen.unfinished_rounds ≡ unfinished_rounds lines
@@ -89,10 +93,11 @@ pub record IsLearned (recording : List ℕ) (answer : Answer) : Type 0 where
 abbrev pub not_learned : TooMuch → Answer
 not_learned reason = record { text = codes "no plan was learned: " ++ too_much_text reason ++ 10 ∷ []; status = Refused }
 
--- no plan was found that the recording conforms to
+-- no plan was found that the recording conforms to: for a reason that its lines have, or since the plan's text is too long
 pub record IsNotLearned (recording : List ℕ) (answer : Answer) : Type 0 where
   pub no_fault : IsFirstFault (lines_read recording) None
   pub reason : TooMuch
+  pub because : (reason ≡ Text) ⊎ IsReason (lines_of recording) reason
   pub answer_is : answer ≡ not_learned reason
 
 pub record IsBadRecording (recording : List ℕ) (answer : Answer) : Type 0 where

@@ -7,7 +7,7 @@ pub mod Certify
 pub mod Fit
 pub mod Refute
 pub mod Ask
-pub mod Limits
+pub mod InputLength
 pub mod Conform
 pub mod Learn
 pub mod SplitAt
@@ -15,5 +15,4 @@ pub mod Served
 pub mod ServeFault
 pub mod SoFar
 pub mod Laws
-pub mod Numbers
 pub mod OfSizes

@@ -14,7 +14,7 @@ use Rattle.witness_lines.specs.EventLines.{witness_lines}
 use Rattle.witness_lines.specs.Told.{IsTold}
 use Rattle.command_line.specs.declared.command.Shown.{Shown}
 use Rattle.command_line.specs.declared.command.Shown.TheVariants.{Story, Bundle}
-use Rattle.sizing_cli.specs.declared.limits.TheConstants.{MAX_INPUT_BYTES, MAX_EVENT_BYTES}
+use Rattle.job_bodies.specs.declared.limits.TheConstants.{MAX_INPUT_BYTES, MAX_EVENT_BYTES}
 use Rattle.sizing_cli.specs.declared.status.Status.{Status}
 use Rattle.sizing_cli.specs.declared.status.Status.TheVariants.{Done, Refused, Undecided}
 use Rattle.sizing_cli.specs.Answer.{Answer, fault, input_too_long}

@@ -21,7 +21,7 @@ use Rattle.locked_runner.specs.Limits.{is_too_large}
 use Rattle.event_lines.specs.EventLine.{Line, event_lines}
 use Rattle.command_line.specs.declared.command.Review.{Review}
 use Rattle.command_line.specs.declared.command.Review.TheVariants.{Replay, Check, Explain}
-use Rattle.sizing_cli.specs.declared.limits.TheConstants.{MAX_INPUT_BYTES, MAX_EVENT_BYTES}
+use Rattle.job_bodies.specs.declared.limits.TheConstants.{MAX_INPUT_BYTES, MAX_EVENT_BYTES}
 use Rattle.sizing_cli.specs.declared.status.Status.TheVariants.{Done, Refused}
 use Rattle.sizing_cli.specs.Answer.{Answer, fault, no_separator, input_too_long, bad_event, yes_or_no}
 use Rattle.sizing_cli.specs.Bundle.{Bundle, bundle_of}

@@ -19,7 +19,7 @@ use Rattle.sizing_cli.specs.declared.status.ServeFault.{ServeFault}
 use Rattle.sizing_cli.specs.declared.status.Status.{Status}
 use Rattle.sizing_cli.specs.declared.status.Status.TheVariants.{Done}
 use Rattle.sizing_cli.specs.ServeFault.{count_of, is_known_of}
-use Rattle.sizing_cli.specs.Limits.{most_bytes}
+use Rattle.sizing_cli.specs.InputLength.{most_bytes}
 use Rattle.sizing_cli.specs.Answer.{Answer}
 use Rattle.sizing_cli.specs.Report.{report, run_report}
 use Rattle.sizing_cli.specs.SafeInput.{IsSafeInput, IsSafePlan}

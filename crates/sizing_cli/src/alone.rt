@@ -3,11 +3,11 @@
 ghost use Rattle.command_line.specs.declared.command.Command.TheVariants.{Alone};
 ghost use Rattle.sizing_cli.specs.Served.{Serves, passage};
 
-use crate::limits::MAX_INPUT_BYTES;
 use crate::report::report;
 use crate::status::{ServeFault, Status};
 use byte_streams::{Sink, Source, read_up_to, write_all};
 use command_line::Review;
+use job_bodies::MAX_INPUT_BYTES;
 use std::alloc::Global;
 
 /// Reads an input, and writes what is said of it. The whole answer is made before its first byte is written.

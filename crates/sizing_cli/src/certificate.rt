@@ -1,7 +1,7 @@
 //! A certificate of a plan as it is.
 
 ghost use Rattle.std.specs.Prelude.{◌≡◌, ◌≤◌, IfOk, IfErr, IfSome, IfNone, IsTrue, false};
-ghost use Rattle.command_line.specs.declared.command.TheConstants.{MAX_WORKERS};
+ghost use Rattle.job_bodies.specs.declared.limits.TheConstants.{MAX_WORKERS};
 ghost use Rattle.headline.specs.Accepted.{accepted};
 ghost use Rattle.steady_certificates.specs.Steady.{steady_cert};
 ghost use Rattle.ask_answers.specs.Finding.{IsKnown};
@@ -14,11 +14,14 @@ use crate::at_once::AtOnce;
 use cert_check::accepts;
 use cert_search::search;
 use certificates::Cert;
-use job_bodies::Plan;
+use job_bodies::{DEFAULT_WORKERS, Plan};
 use size_search::{SizesFound, search_sizes};
 use std::alloc::{AllocError, Global};
 use std::sync::Wait;
 use std::thread::Threads;
+
+/// In how many threads to search and to check, where a command has no words for it.
+pub(crate) const WORKERS: usize = DEFAULT_WORKERS as usize;
 
 /// So many pools are worth a thread to look at them. For fewer it costs more memory than it saves time.
 const POOLS_OF_A_WORKER: usize = 16;

@@ -1,7 +1,7 @@
 //! Bundles to which `check` says yes.
 
 ghost use Rattle.std.specs.Prelude.{◌≡◌, ◌≤◌, ◌++◌, ◌∷◌, codes, IfOk, IfErr, IfSome, IsTrue};
-ghost use Rattle.command_line.specs.declared.command.TheConstants.{MAX_WORKERS};
+ghost use Rattle.job_bodies.specs.declared.limits.TheConstants.{MAX_WORKERS};
 ghost use Rattle.sizing_cli.specs.Certify.{IsBundleWith, IsYes};
 ghost use Rattle.sizing_cli.specs.SplitAt.{IsSplitAt};
 ghost use Rattle.sizing_cli.specs.ServeFault.{is_of_search};

@@ -1,7 +1,7 @@
 //! The search for a certificate, from the bytes of a plan to those of a bundle.
 
 ghost use Rattle.std.specs.Prelude.{◌≡◌, ◌≤◌, IfOk, IfErr, IsTrue, length};
-ghost use Rattle.command_line.specs.declared.command.TheConstants.{MAX_WORKERS};
+ghost use Rattle.job_bodies.specs.declared.limits.TheConstants.{MAX_WORKERS};
 ghost use Rattle.plan_text.specs.PlanOf.{plan_of};
 ghost use Rattle.sizing_cli.specs.Certify as spec;
 ghost use Rattle.sizing_cli.specs.ServeFault.{is_of_search};
@@ -9,13 +9,12 @@ ghost use Rattle.sizing_cli.specs.ServeFault.{is_of_search};
 use crate::answer::{Answer, input_too_long, plan_fault};
 use crate::certificate::certificate_of;
 use crate::certified_bundle::certified_bundle;
-use crate::limits::MAX_INPUT_BYTES;
 use crate::output::Output;
 use crate::texts::plan_in;
 use crate::{ServeFault, Status};
-use cert_text::{MAX_TEXT_BYTES, write_cert};
+use cert_text::write_cert;
 use faults::number::MIXED;
-use job_bodies::{Plan, PlanFault};
+use job_bodies::{MAX_CERT_BYTES, MAX_INPUT_BYTES, Plan, PlanFault};
 use std::alloc::{AllocError, Global};
 use std::sync::Wait;
 use std::thread::Threads;
@@ -108,7 +107,7 @@ fn found_text<R: Threads + Wait + Sync>(
         return Ok(Certified::Nothing);
     };
     let mut text = write_cert(alloc, &cert)?;
-    if text.len() >= MAX_TEXT_BYTES {
+    if text.len() >= MAX_CERT_BYTES {
         return Ok(Certified::TooLong);
     }
     text.extend_from_slice(b"\n")?;

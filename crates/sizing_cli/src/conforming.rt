@@ -7,10 +7,9 @@ ghost use Rattle.sizing_cli.specs.Conform as spec;
 use crate::Status;
 use crate::answer::{Answer, bad_recording, input_too_long, no_separator, plan_fault};
 use crate::bundle::bundle_of;
-use crate::limits::{MAX_PATH_STEPS, MAX_RECORDED_BYTES};
 use crate::texts::plan_in;
 use conformance::{Conformance, Finding, conform, push_findings};
-use job_bodies::Plan;
+use job_bodies::{MAX_PATH_STEPS, MAX_RECORDED_BYTES, Plan};
 use std::alloc::{AllocError, Global};
 
 /// The answer to an input, which is a plan and a recording: whether the service still is the plan.

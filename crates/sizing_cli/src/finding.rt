@@ -4,27 +4,26 @@ ghost use Rattle.std.specs.Prelude.{◌≡◌, IfOk, IfErr, IsTrue, false, not};
 ghost use Rattle.headline.specs.Accepted.{accepted};
 ghost use Rattle.steady_certificates.specs.Steady.{steady_cert};
 ghost use Rattle.ask_answers.specs.Finding.{IsFinding, IsKnown};
-ghost use Rattle.ask_answers.specs.declared.finding.Finding.TheVariants.{Safe};
+ghost use Rattle.ask_answers.specs.declared.finding.PlanFinding.TheVariants.{Safe};
 ghost use Rattle.sizing_cli.specs.Ask as spec;
 ghost use Rattle.sizing_cli.specs.ServeFault.{is_of_search};
 
 use crate::ServeFault;
 use crate::at_once::AtOnce;
-use crate::certificate::{Declared, as_declared};
-use crate::limits::WORKERS;
+use crate::certificate::{Declared, WORKERS, as_declared};
 use crate::witness::witness_of;
-use ask_answers::Finding;
+use ask_answers::PlanFinding;
 use cert_check::accepts;
 use cert_search::search;
 use certificates::Cert;
-use job_bodies::Plan;
+use job_bodies::{DEFAULT_STATES, Plan};
 use size_search::{SizesFound, search_sizes};
 use std::alloc::{AllocError, Global};
 use std::sync::Wait;
 use std::thread::Threads;
 
-/// How many states a witness is looked for in.
-const STATES: usize = 100_000;
+/// In how many states a witness is looked for.
+const STATES: usize = DEFAULT_STATES as usize;
 
 /// What is found of a plan, and whether a certificate that is given is stale: that one is looked at first, then one is searched,
 /// then a witness, and then other sizes.
@@ -37,7 +36,7 @@ pub(crate) fn finding_of<R: Threads + Wait + Sync>(
     alloc: Global,
     plan: &Plan,
     cert: Option<Cert>,
-) -> Result<(Finding, bool), ServeFault>
+) -> Result<(PlanFinding, bool), ServeFault>
     ensures finding { IfOk result (λ found. IsFinding plan.now found.0) }
     ensures rests { IfOk result (λ found. spec.RestsOnGiven plan.now cert found.0) }
     ensures stale { IfOk result (λ found. found.1 ≡ spec.is_stale plan.now cert) }
@@ -55,14 +54,14 @@ fn finding_with<R: Threads + Wait + Sync>(
     alloc: Global,
     plan: &Plan,
     cert: Cert,
-) -> Result<(Finding, bool), ServeFault>
+) -> Result<(PlanFinding, bool), ServeFault>
     ensures finding { IfOk result (λ found. IsFinding plan.now found.0) }
     ensures rests { IfOk result (λ found. IsTrue (accepted plan.now cert) → found.0 ≡ Safe cert) }
     ensures stale { IfOk result (λ found. found.1 ≡ not (accepted plan.now cert)) }
     ensures fault { IfErr result (λ fault. IsTrue (is_of_search fault.number)) }
 {
     if accepts(plan, &cert) {
-        Ok((Finding::Safe(cert), false))
+        Ok((PlanFinding::Safe(cert), false))
     } else {
         Ok((search_finding(rt, alloc, plan)?, true))
     }
@@ -72,37 +71,37 @@ fn search_finding<R: Threads + Wait + Sync>(
     rt: &R,
     alloc: Global,
     plan: &Plan,
-) -> Result<Finding, ServeFault>
+) -> Result<PlanFinding, ServeFault>
     ensures finding { IfOk result (IsFinding plan.now) }
     ensures fault { IfErr result (λ fault. IsTrue (is_of_search fault.number)) }
 {
     match search(rt, alloc, plan, WORKERS, &AtOnce)? {
-        Some(cert) => Ok(Finding::Safe(cert)),
+        Some(cert) => Ok(PlanFinding::Safe(cert)),
         None => Ok(without_certificate(alloc, plan)?),
     }
 }
 
 /// What is found of a plan for which the search for a certificate finds none: a witness, or what sizes say.
-fn without_certificate(alloc: Global, plan: &Plan) -> Result<Finding, AllocError>
+fn without_certificate(alloc: Global, plan: &Plan) -> Result<PlanFinding, AllocError>
     requires { accepted plan.now (steady_cert plan.now) ≡ false }
     ensures { IfOk result (IsFinding plan.now) }
 {
     let witness = witness_of(alloc, plan, STATES)?.witness;
     let sizes = search_sizes(alloc, plan, None)?;
     Ok(match witness {
-        Some(witness) => Finding::NotSafe(witness, sizes),
+        Some(witness) => PlanFinding::NotSafe(witness, sizes),
         None => without_witness(plan, sizes),
     })
 }
 
 /// What sizes say of a plan without a witness: the declared ones may be among them.
-fn without_witness(plan: &Plan, sizes: SizesFound) -> Finding
+fn without_witness(plan: &Plan, sizes: SizesFound) -> PlanFinding
     requires known { IsKnown plan.now sizes }
     requires not_steady { accepted plan.now (steady_cert plan.now) ≡ false }
     ensures { IsFinding plan.now result }
 {
     match as_declared(plan, sizes) {
-        Declared::Accepted(cert) => Finding::Safe(cert),
-        Declared::Other(sizes) => Finding::NotDecided(sizes),
+        Declared::Accepted(cert) => PlanFinding::Safe(cert),
+        Declared::Other(sizes) => PlanFinding::NotDecided(sizes),
     }
 }

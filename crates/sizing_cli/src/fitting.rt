@@ -10,8 +10,8 @@ ghost use Rattle.sizing_cli.specs.ServeFault.{is_of_search};
 
 use crate::answer::{Answer, input_too_long, plan_fault};
 use crate::at_once::AtOnce;
+use crate::certificate::WORKERS;
 use crate::certified_bundle::certified_bundle;
-use crate::limits::{MAX_INPUT_BYTES, WORKERS};
 use crate::output::Output;
 use crate::texts::plan_in;
 use crate::{ServeFault, Status};
@@ -20,7 +20,7 @@ use cert_text::write_cert;
 use certificates::Cert;
 use command_line::SizesForm;
 use faults::number::MIXED;
-use job_bodies::Plan;
+use job_bodies::{MAX_CERT_BYTES, MAX_INPUT_BYTES, MAX_PLAN_BYTES, Plan};
 use plan_writer::write_plan;
 use size_lines::{push_no_sizes, push_sizes};
 use size_search::{NoSizes, SizesFound, search_sizes};
@@ -162,11 +162,11 @@ fn bundle_of_sizes<R: Threads + Wait + Sync>(
     ensures fault { IfErr result (λ fault. IsTrue (is_of_search fault.number)) }
 {
     let fit_text = write_plan(alloc, fit)?;
-    if fit_text.len() > plan_text::MAX_TEXT_BYTES {
+    if fit_text.len() > MAX_PLAN_BYTES {
         return Ok(Output::of(text_too_long(alloc)?));
     }
     let mut cert_text = write_cert(alloc, cert)?;
-    if cert_text.len() >= cert_text::MAX_TEXT_BYTES {
+    if cert_text.len() >= MAX_CERT_BYTES {
         return Ok(Output::of(text_too_long(alloc)?));
     }
     cert_text.extend_from_slice(b"\n")?;

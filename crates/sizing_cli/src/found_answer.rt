@@ -11,11 +11,11 @@ use crate::Status;
 use crate::answer::Answer;
 use crate::asking::Replied;
 use crate::output::Output;
-use ask_answers::{Finding, needed_places, picture_of, told};
-use cert_text::{MAX_TEXT_BYTES, write_cert};
+use ask_answers::{PlanFinding, needed_places, picture_of, told};
+use cert_text::write_cert;
 use certificates::Cert;
 use command_line::{Form, Manner};
-use job_bodies::Plan;
+use job_bodies::{MAX_CERT_BYTES, Plan};
 use json_answers::finding_json;
 use plan_advice::{Oddity, Warning, push_warnings, warnings_of};
 use plan_places::TextPlace;
@@ -29,7 +29,7 @@ pub(crate) fn answer_of(
     file: &str,
     text: &[u8],
     plan: &Plan,
-    finding: &Finding,
+    finding: &PlanFinding,
     is_stale: bool,
 ) -> Result<Replied, AllocError>
     requires { IsFinding plan.now finding.now }
@@ -50,7 +50,7 @@ fn warnings_for(
     alloc: Global,
     text: &[u8],
     plan: &Plan,
-    finding: &Finding,
+    finding: &PlanFinding,
     is_stale: bool,
 ) -> Result<Vec<Warning>, AllocError>
     ensures { IfOk result (λ warnings. spec.AreWarnings plan.now finding.now is_stale warnings.items) }
@@ -62,12 +62,16 @@ fn warnings_for(
 }
 
 /// How many places each pool needs, as far as a certificate says it.
-fn needed_of(alloc: Global, plan: &Plan, finding: &Finding) -> Result<Vec<Option<u64>>, AllocError>
+fn needed_of(
+    alloc: Global,
+    plan: &Plan,
+    finding: &PlanFinding,
+) -> Result<Vec<Option<u64>>, AllocError>
     ensures { IfOk result (λ needed. needed.items ≡ spec.needed_of plan.now finding.now) }
 {
     match finding {
-        Finding::Safe(cert) => needed_places(alloc, plan, cert),
-        Finding::NotSafe(_, _) | Finding::NotDecided(_) => Ok(Vec::new(alloc)),
+        PlanFinding::Safe(cert) => needed_places(alloc, plan, cert),
+        PlanFinding::NotSafe(_, _) | PlanFinding::NotDecided(_) => Ok(Vec::new(alloc)),
     }
 }
 
@@ -91,7 +95,7 @@ fn answer_with(
     manner: Manner,
     file: &str,
     plan: &Plan,
-    finding: &Finding,
+    finding: &PlanFinding,
     is_stale: bool,
     warnings: &[Warning],
 ) -> Result<Answer, AllocError>
@@ -108,7 +112,7 @@ fn text_of(
     form: Form,
     file: &str,
     plan: &Plan,
-    finding: &Finding,
+    finding: &PlanFinding,
     warnings: &[Warning],
 ) -> Result<String, AllocError>
     ensures { IfOk result (λ text. spec.TellsFindingIn form plan.now warnings.now finding.now (string_bytes text)) }
@@ -124,7 +128,7 @@ fn words_of(
     alloc: Global,
     file: &str,
     plan: &Plan,
-    finding: &Finding,
+    finding: &PlanFinding,
     warnings: &[Warning],
 ) -> Result<String, AllocError>
     ensures { IfOk result (λ text. spec.TellsFinding plan.now warnings.now finding.now (string_bytes text)) }
@@ -136,30 +140,30 @@ fn words_of(
     Ok(text)
 }
 
-fn status_of(strict: bool, warnings: &[Warning], finding: &Finding) -> Status
+fn status_of(strict: bool, warnings: &[Warning], finding: &PlanFinding) -> Status
     ensures { result ≡ spec.status_of strict warnings.now finding.now }
 {
     match finding {
-        Finding::Safe(_) => {
+        PlanFinding::Safe(_) => {
             if strict && !warnings.is_empty() {
                 Status::Refused
             } else {
                 Status::Done
             }
         }
-        Finding::NotSafe(_, _) => Status::Refused,
-        Finding::NotDecided(_) => Status::Undecided,
+        PlanFinding::NotSafe(_, _) => Status::Refused,
+        PlanFinding::NotDecided(_) => Status::Undecided,
     }
 }
 
 /// The text of the certificate that a finding rests on.
-fn certificate_text(alloc: Global, finding: &Finding) -> Result<Option<Vec<u8>>, AllocError>
+fn certificate_text(alloc: Global, finding: &PlanFinding) -> Result<Option<Vec<u8>>, AllocError>
     ensures { IfOk result (λ left. (plan : PlanValue) → IsFinding plan finding.now → spec.IsLeftOf plan finding.now (option_map (λ text. text.items) left)) }
 {
     match finding {
-        Finding::Safe(cert) => readable_text(alloc, cert),
-        Finding::NotSafe(_, _) => Ok(None),
-        Finding::NotDecided(_) => Ok(None),
+        PlanFinding::Safe(cert) => readable_text(alloc, cert),
+        PlanFinding::NotSafe(_, _) => Ok(None),
+        PlanFinding::NotDecided(_) => Ok(None),
     }
 }
 
@@ -168,7 +172,7 @@ fn readable_text(alloc: Global, cert: &Cert) -> Result<Option<Vec<u8>>, AllocErr
     ensures { IfOk result (λ left. (plan : PlanValue) → IsTrue (accepted plan cert.now) → spec.IsTextLeft plan cert.now (option_map (λ text. text.items) left)) }
 {
     let mut text = write_cert(alloc, cert)?;
-    if text.len() >= MAX_TEXT_BYTES {
+    if text.len() >= MAX_CERT_BYTES {
         return Ok(None);
     }
     text.extend_from_slice(b"\n")?;

@@ -8,9 +8,8 @@ ghost use Rattle.sizing_cli.specs.Report as spec;
 
 use crate::answer::{Answer, input_too_long, no_separator, plan_fault};
 use crate::bundle::bundle_of;
-use crate::limits::MAX_INPUT_BYTES;
 use crate::texts::plan_in;
-use job_bodies::Plan;
+use job_bodies::{MAX_INPUT_BYTES, Plan};
 use readings::ReadError;
 use std::alloc::Global;
 

@@ -2,7 +2,6 @@
 
 ghost use Rattle.sizing_cli.specs.Laws.{InputsSplitAtTheLastSeparator, NoBundleWithoutASeparator};
 ghost use Rattle.sizing_cli.specs.SafeInput.{YesMeansSafe};
-ghost use Rattle.sizing_cli.specs.Numbers.{PlanLimitsAreStated, TextLimitsAreStated, RunLimitsAreStated, FaultNumbersAreStated};
 
 /// An input is a bundle just where it is whole lines, which are the plan's text, then a line that is exactly `%%`, and
 /// then the second part, no line of which is `%%`.
@@ -19,12 +18,4 @@ pub fn no_bundle_without_a_separator()
 /// reaches is safe: no submit was refused, each pool keeps its sizes, and no unfinished jobs wait only for each other.
 pub fn a_yes_means_safe()
     ensures { YesMeansSafe }
-{}
-
-/// The limits of plans, certificates, texts, searches and runs, and the numbers of faults, are those that the documents name.
-pub fn limits_and_fault_numbers_are_stated()
-    ensures plans { PlanLimitsAreStated }
-    ensures texts { TextLimitsAreStated }
-    ensures runs { RunLimitsAreStated }
-    ensures faults { FaultNumbersAreStated }
 {}

@@ -4,7 +4,7 @@ ghost use Rattle.std.specs.Prelude.{◌≡◌, ◌≤◌, ◌++◌, IfOk, IfSome
 ghost use Rattle.std.specs.List.{list_any};
 ghost use Rattle.decimals.specs.Pushed.{Pushes};
 ghost use Rattle.plan_text.specs.PlanOf.{plan_of};
-ghost use Rattle.plan_text.specs.declared.document.TheConstants.{MAX_TEXT_BYTES};
+ghost use Rattle.job_bodies.specs.declared.limits.TheConstants.{MAX_PLAN_BYTES};
 ghost use Rattle.recording_lines.specs.RecordingLine.{lines_read};
 ghost use Rattle.recorded_rules.specs.Faults.{IsFirstFault};
 ghost use Rattle.conformance.specs.Findings.{is_of_actors};
@@ -13,12 +13,10 @@ ghost use Rattle.sizing_cli.specs.Learn as spec;
 
 use crate::Status;
 use crate::answer::{Answer, bad_recording, input_too_long};
-use crate::limits::{MAX_PATH_STEPS, MAX_RECORDED_BYTES};
 use crate::texts::plan_in;
 use conformance::{Conformance, Finding, conform, push_finding};
-use job_bodies::Plan;
+use job_bodies::{MAX_PATH_STEPS, MAX_PLAN_BYTES, MAX_RECORDED_BYTES, Plan};
 use learned_plans::{Learned, SeenPlan, TooMuch, learn};
-use plan_text::MAX_TEXT_BYTES;
 use plan_writer::write_plan;
 use std::alloc::{AllocError, Global};
 
@@ -86,9 +84,9 @@ fn seen_text(
 /// Whether the two texts are of the same plan, and the second is as [`write_plan`] writes it.
 fn reads_as(alloc: Global, text: &[u8], written: &[u8]) -> Result<bool, AllocError>
     ensures same { IfOk result (λ yes. IsTrue yes → plan_of text.now ≡ plan_of written.now) }
-    ensures short { IfOk result (λ yes. IsTrue yes → length written.now ≤ MAX_TEXT_BYTES) }
+    ensures short { IfOk result (λ yes. IsTrue yes → length written.now ≤ MAX_PLAN_BYTES) }
 {
-    if written.len() > MAX_TEXT_BYTES {
+    if written.len() > MAX_PLAN_BYTES {
         return Ok(false);
     }
     match plan_in(alloc, text)? {

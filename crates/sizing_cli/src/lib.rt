@@ -10,15 +10,16 @@ mod bundle;
 mod certificate;
 mod certified_bundle;
 mod certify;
+mod checking;
 mod conforming;
+mod explaining;
 mod finding;
 mod fitting;
 mod found_answer;
 mod input;
-mod judging;
+mod input_length;
 mod laws;
 mod learning;
-mod limits;
 mod output;
 mod recorded;
 mod refuting;
@@ -39,11 +40,10 @@ pub use command_line::{
     Command, Form, Given, Manner, Reading, Review, Shown, SizesForm, Task, read_words,
 };
 pub use fitting::answer_of_sizes;
+pub use input_length::most_bytes;
 pub use laws::{
-    a_yes_means_safe, inputs_split_at_the_last_separator, limits_and_fault_numbers_are_stated,
-    no_bundle_without_a_separator,
+    a_yes_means_safe, inputs_split_at_the_last_separator, no_bundle_without_a_separator,
 };
-pub use limits::{MAX_EVENT_BYTES, MAX_INPUT_BYTES, MAX_RECORDED_BYTES, most_bytes};
 pub use output::Output;
 pub use recorded::serve_recording;
 pub use serving::{serve, serve_named};

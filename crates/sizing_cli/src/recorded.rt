@@ -7,10 +7,10 @@ ghost use Rattle.sizing_cli.specs.Served.{IsReadingAnswer, Serves, passage};
 use crate::answer::Answer;
 use crate::conforming::conform_report;
 use crate::learning::learn_report;
-use crate::limits::MAX_RECORDED_BYTES;
 use crate::status::{ServeFault, Status};
 use byte_streams::{Sink, Source, read_up_to, write_all};
 use command_line::Reading;
+use job_bodies::MAX_RECORDED_BYTES;
 use std::alloc::{AllocError, Global};
 
 /// Reads an input, and writes what is said of it. The whole answer is made before its first byte is written.

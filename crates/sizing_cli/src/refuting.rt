@@ -6,15 +6,14 @@ ghost use Rattle.sizing_cli.specs.Refute as spec;
 ghost use Rattle.sizing_cli.specs.ServeFault.{is_of_search};
 
 use crate::answer::{Answer, input_too_long, plan_fault};
-use crate::certificate::certificate_of;
+use crate::certificate::{WORKERS, certificate_of};
 use crate::certify::whole_lines;
-use crate::limits::{MAX_EVENT_BYTES, MAX_INPUT_BYTES, WORKERS};
 use crate::output::Output;
 use crate::texts::plan_in;
 use crate::witness::{Sought, witness_of};
 use crate::{ServeFault, Status};
 use command_line::Shown;
-use job_bodies::Plan;
+use job_bodies::{MAX_EVENT_BYTES, MAX_INPUT_BYTES, Plan};
 use plan_witnesses::Witness;
 use std::alloc::{AllocError, Global};
 use std::sync::Wait;

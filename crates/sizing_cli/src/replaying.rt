@@ -4,10 +4,9 @@ ghost use Rattle.std.specs.Prelude.{◌≡◌, IfOk};
 ghost use Rattle.sizing_cli.specs.Report as spec;
 
 use crate::answer::{Answer, input_too_long};
-use crate::limits::MAX_EVENT_BYTES;
 use crate::transcript::replay_lines;
 use event_lines::EventLines;
-use job_bodies::Plan;
+use job_bodies::{MAX_EVENT_BYTES, Plan};
 use std::alloc::{AllocError, Global};
 
 /// Replays event lines on a plan, in one pass. It answers what came of them only if none of them is bad.

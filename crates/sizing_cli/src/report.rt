@@ -4,8 +4,9 @@ ghost use Rattle.std.specs.Prelude.{◌≡◌, IfOk};
 ghost use Rattle.sizing_cli.specs.Report as spec;
 
 use crate::answer::Answer;
+use crate::checking::check;
+use crate::explaining::explain;
 use crate::input::read_input;
-use crate::judging::{check, explain};
 use crate::replaying::replay;
 use command_line::Review;
 use job_bodies::Plan;

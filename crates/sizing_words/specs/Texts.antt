@@ -6,7 +6,7 @@ use Rattle.command_line.specs.declared.command.Command.{Command}
 use Rattle.sizing_cli.specs.Bundle.{bundle_of}
 use Rattle.sizing_cli.specs.Certify.{whole_lines}
 use Rattle.sizing_cli.specs.Laws.{has_separator}
-use Rattle.sizing_cli.specs.Limits.{most_bytes}
+use Rattle.sizing_cli.specs.InputLength.{most_bytes}
 
 -- the bundle of a plan's text and a second text
 abbrev pub joined : List ℕ → List ℕ → List ℕ

@@ -11,7 +11,7 @@ use Rattle.numbered_lists.proofs.Members.{In-map_from, list_all_from_In}
 use Rattle.job_bodies.specs.Plan.{Pool, Class, Client, Plan, no_class, no_client, class_at, client_at}
 use Rattle.job_bodies.specs.WellFormed.{IsWellFormed}
 use Rattle.job_bodies.proofs.Bodies.{IsOrdered, ordered}
-use Rattle.weights.specs.declared.limits.TheConstants.{MAX_WEIGHT}
+use Rattle.job_bodies.specs.declared.limits.TheConstants.{MAX_WEIGHT}
 use Rattle.weights.specs.Vector.{Vector, class_weights, client_weights, has_shape, has_small_numbers, is_small, vector_fits}
 use Rattle.pool_ranks.specs.Ranks.{ranks_fit}
 use Rattle.certificates.specs.Cert.{PoolCert, pool_cert_fits, cert_fits}

@@ -4,10 +4,9 @@ use Rattle.std.proofs.lemmas.List.{reverse-append, length-drop}
 use Rattle.std.proofs.lemmas.Option.{slice_get-get_or}
 use Rattle.job_bodies.specs.declared.action.Action.{Action}
 use Rattle.job_bodies.specs.declared.action.Action.TheVariants.{Work, Submit, Get}
-use Rattle.job_bodies.specs.declared.limits.TheConstants.{MAX_ACTIONS}
+use Rattle.job_bodies.specs.declared.limits.TheConstants.{MAX_ACTIONS, MAX_WEIGHT}
 use Rattle.job_bodies.specs.Plan.{Plan, class_at, class_got, is_got}
 use Rattle.job_bodies.specs.Lawful.{IsLawful}
-use Rattle.weights.specs.declared.limits.TheConstants.{MAX_WEIGHT}
 use Rattle.weights.specs.Vector.{Vector, queued_weight, done_weight}
 use Rattle.steady_certificates.specs.Small.{JobsAreSmall}
 use Rattle.steady_certificates.specs.Steady.{sum_below, greatest_upto, submitted_weight, awaited_weight, open_weight, weight_at, weights_from, level_above, levels_within}

@@ -8,7 +8,7 @@ use Rattle.numbered_lists.proofs.Elements.{slice_get-set_same, slice_get-set_oth
 use Rattle.numbered_lists.proofs.Members.{In-get_or, list_all_at_In}
 use Rattle.job_bodies.specs.Plan.{Pool, Class, Client, Plan, no_class, no_client, class_at, client_at}
 use Rattle.job_bodies.proofs.Bodies.{IsOrdered}
-use Rattle.weights.specs.declared.limits.TheConstants.{MAX_WEIGHT}
+use Rattle.job_bodies.specs.declared.limits.TheConstants.{MAX_WEIGHT}
 use Rattle.weights.specs.Vector.{Vector, class_weights, is_small, has_small_numbers, vector_fits}
 use Rattle.weights.proofs.Fitting.{small_in}
 use Rattle.certificates.specs.Cert.{PoolCert, Cert}

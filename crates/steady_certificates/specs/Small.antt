@@ -1,6 +1,6 @@
 -- Vectors whose jobs weigh no more than the limit.
 use Rattle.std.specs.Prelude.{◌≤◌, ℕ, slice_index}
-use Rattle.weights.specs.declared.limits.TheConstants.{MAX_WEIGHT}
+use Rattle.job_bodies.specs.declared.limits.TheConstants.{MAX_WEIGHT}
 use Rattle.weights.specs.Vector.{Vector, class_weights}
 
 pub record JobsAreSmall (v : Vector) : Type 0 where

@@ -2,8 +2,7 @@
 
 ghost use Rattle.std.specs.Prelude.{◌≡◌, ◌≤◌, ◌<◌, ◌+◌, ◌*◌, IfOk, length, slice_index};
 ghost use Rattle.job_bodies.specs.Lawful.{IsLawful};
-ghost use Rattle.job_bodies.specs.declared.limits.TheConstants.{MAX_ACTIONS};
-ghost use Rattle.weights.specs.declared.limits.TheConstants.{MAX_WEIGHT};
+ghost use Rattle.job_bodies.specs.declared.limits.TheConstants.{MAX_ACTIONS, MAX_WEIGHT};
 ghost use Rattle.weights.specs.Vector as vector_spec;
 ghost use Rattle.steady_certificates.specs.Small.{JobsAreSmall};
 ghost use Rattle.steady_certificates.specs.Steady as spec;

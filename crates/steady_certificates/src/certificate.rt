@@ -82,7 +82,7 @@ fn pools_of(alloc: Global, plan: &Plan, vector: &Vector) -> Result<Vec<PoolCert>
 }
 
 /// The steady certificate of the plan; None just where a number of its vector is above
-/// [`MAX_WEIGHT`](weights::MAX_WEIGHT).
+/// [`MAX_WEIGHT`](job_bodies::MAX_WEIGHT).
 ///
 /// # Errors
 ///

@@ -3,7 +3,7 @@
 use crate::plans::certified;
 use held_machines::Receipt;
 use interleaving::Event;
-use run_histories::{Cause, Met, RunFault, RunNumbers, judge};
+use run_histories::{KeptReceipt, Met, RunFault, RunNumbers, ThreadFault, judge};
 use std::alloc::{AllocError, Global};
 use std::test::Fail;
 
@@ -28,14 +28,17 @@ const NUMBERS: RunNumbers = RunNumbers {
     events: 6,
 };
 
-// The receipts of these events at these numbers.
-fn receipts(alloc: Global, list: &[(u64, Event)]) -> Result<Vec<Receipt<Event>>, AllocError> {
+// The receipts of these events at these numbers, which are below 2 to the 32.
+fn receipts(alloc: Global, list: &[(u64, Event)]) -> Result<Vec<KeptReceipt>, AllocError> {
     let mut receipts = Vec::new(alloc);
     for (number, event) in list {
-        receipts.push(Receipt {
+        let receipt = Receipt {
             number: *number,
             event: *event,
-        })?;
+        };
+        if let Some(kept) = KeptReceipt::new(receipt) {
+            receipts.push(kept)?;
+        }
     }
     Ok(receipts)
 }
@@ -46,7 +49,7 @@ fn met(
     history: &[Event],
     client: &[(u64, Event)],
     carrier: &[(u64, Event)],
-    fault: Option<Cause>,
+    fault: Option<ThreadFault>,
 ) -> Result<Met, AllocError> {
     let mut events = Vec::new(alloc);
     events.extend_from_slice(history)?;
@@ -114,7 +117,7 @@ type Case = (
     &'static [Event],
     Handed,
     Handed,
-    Option<Cause>,
+    Option<ThreadFault>,
     u8,
     u64,
 );
@@ -151,7 +154,7 @@ const NO_RUNS: &[Case] = &[
         WHOLE,
         CLIENT,
         TAKEN,
-        Some(Cause::Gate),
+        Some(ThreadFault::Gate),
         43,
         4,
     ),
@@ -160,7 +163,7 @@ const NO_RUNS: &[Case] = &[
         WHOLE,
         CLIENT,
         CARRIER,
-        Some(Cause::Memory),
+        Some(ThreadFault::Memory),
         20,
         4,
     ),

@@ -9,11 +9,10 @@ use Rattle.job_bodies.specs.Plan.{Plan, no_class, no_client, class_at, client_at
 use Rattle.job_bodies.specs.WellFormed.{IsWellFormed}
 use Rattle.job_bodies.specs.declared.action.Action.{Action}
 use Rattle.job_bodies.specs.declared.action.Action.TheVariants.{Work, Submit, Get}
-use Rattle.job_bodies.specs.declared.limits.TheConstants.{MAX_SIZE}
+use Rattle.job_bodies.specs.declared.limits.TheConstants.{MAX_SIZE, MAX_WEIGHT}
 use Rattle.job_bodies.specs.Plan.{Pool, no_pool, pool_at, Class, Client, submits, class_of_submit, class_got}
 use Rattle.job_bodies.specs.Lawful.{IsLawful}
 use Rattle.job_bodies.proofs.Bodies.{list_all_enumerated, ordered}
-use Rattle.weights.specs.declared.limits.TheConstants.{MAX_WEIGHT}
 use Rattle.weights.specs.Body.{IsWeighed}
 use Rattle.weights.specs.Vector.{Vector, workers_weight, class_weights, client_weights, job_weight, queued_weight, done_weight, is_small, vector_fits}
 

@@ -3,7 +3,7 @@ use Rattle.std.specs.Prelude.{◌≤◌, ◌<◌, ℕ, List, length, slice_index
 use Rattle.job_bodies.specs.declared.action.Action.{Action}
 use Rattle.job_bodies.specs.Plan.{Plan}
 use Rattle.job_bodies.specs.Lawful.{IsLawful}
-use Rattle.weights.specs.declared.limits.TheConstants.{MAX_WEIGHT}
+use Rattle.job_bodies.specs.declared.limits.TheConstants.{MAX_WEIGHT}
 use Rattle.weights.specs.declared.row.Place.{Place}
 use Rattle.weights.specs.declared.row.Place.TheVariants.{ClassAction, ClientAction}
 use Rattle.weights.specs.declared.body.BodyOwner.{BodyOwner}

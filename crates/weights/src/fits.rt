@@ -4,8 +4,8 @@ ghost use Rattle.std.specs.Prelude.{◌≡◌, ◌+◌, ◌==◌, length, map};
 ghost use Rattle.std.specs.List.{list_all, enumerate_from};
 ghost use Rattle.weights.specs.Vector as spec;
 
-use crate::{MAX_WEIGHT, Vector};
-use job_bodies::Plan;
+use crate::Vector;
+use job_bodies::{MAX_WEIGHT, Plan};
 
 /// Whether none of the numbers is above [`MAX_WEIGHT`].
 pub fn are_small(numbers: &[u64]) -> bool

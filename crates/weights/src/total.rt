@@ -2,8 +2,7 @@
 
 ghost use Rattle.std.specs.Prelude.{◌≡◌, ◌≤◌, ◌*◌, sum_by, IsTrue};
 ghost use Rattle.std.specs.List.{enumerate_from};
-ghost use Rattle.job_bodies.specs.declared.limits.TheConstants.{MAX_SIZE, MAX_POOLS, MAX_CLIENT_KINDS};
-ghost use Rattle.weights.specs.declared.limits.TheConstants.{MAX_WEIGHT};
+ghost use Rattle.job_bodies.specs.declared.limits.TheConstants.{MAX_SIZE, MAX_POOLS, MAX_CLIENT_KINDS, MAX_WEIGHT};
 ghost use Rattle.weights.specs.Vector as spec;
 
 use crate::Vector;

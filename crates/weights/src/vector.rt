@@ -6,7 +6,7 @@ ghost use Rattle.weights.specs.Vector as spec;
 use std::marker::Model;
 
 /// What each part of a plan weighs in one bound of one pool: whole numbers from 0 to
-/// [`MAX_WEIGHT`](crate::MAX_WEIGHT), in plan order.
+/// [`MAX_WEIGHT`](job_bodies::MAX_WEIGHT), in plan order.
 #[derive(Debug, Drop)]
 pub struct Vector {
     /// Of one worker of each pool.

@@ -1,6 +1,6 @@
 use Rattle.std.proofs.Common.{take, drop, sym, subst, ◌∙◌, arith, rules}
-use Rattle.body_paths.specs.declared.answer.Answer.{Answer}
-use Rattle.body_paths.specs.declared.answer.Answer.TheVariants.{Fits, Deviates, Undecided}
+use Rattle.body_paths.specs.declared.answer.PathFit.{PathFit}
+use Rattle.body_paths.specs.declared.answer.PathFit.TheVariants.{Fits, Deviates, Undecided}
 use Rattle.body_paths.specs.Walk.{IsToldOfWalk}
 use Rattle.body_paths.specs.Budget.{IsDecidedWithin}
 use Rattle.body_paths.proofs.WalkSteps.{walks_ended, at_body_end, stops_there, passes_there, gets_there, submits_there, either_there, kept_below}
@@ -40,7 +40,7 @@ returns-in-Undecided-clause-kept t c = let a = c.args in kept_below _ a.places.n
 pub returns-in-Deviates-clause-told : goal.returns-in-Deviates-clause-told
 returns-in-Deviates-clause-told t c =
     let a = c.args in
-    subst (λ (r : Answer). IsToldOfWalk a.course (take a.position a.places.now) (drop a.position a.body.now) a.place (drop a.place a.path.now) r) (sym c.or_explained.ensures)
+    subst (λ (r : PathFit). IsToldOfWalk a.course (take a.position a.places.now) (drop a.position a.body.now) a.place (drop a.place a.path.now) r) (sym c.or_explained.ensures)
     (either_there a.course a.body.now a.path.now a.places.now c.walk-submitted.new.places a.position a.place c.in-Deviates.explained c.walk-passed.result (omega arith) (omega arith) (search rules)
     c.in-SubmitsOrPasses.ensures c.in-Deviates.ensures.told (kept_below _ a.places.now a.position _ c.walk-submitted.ensures.kept) c.walk-passed.ensures.told)
 
@@ -76,6 +76,6 @@ returns-in-Undecided-clause-decided t c = let a = c.args in decided_behind a.bod
 pub returns-in-Deviates-clause-decided : goal.returns-in-Deviates-clause-decided
 returns-in-Deviates-clause-decided t c =
     let a = c.args in
-    subst (λ (r : Answer). IsDecidedWithin (drop a.position a.body.now) a.steps.now c.walk-passed.new.steps r) (sym c.or_explained.ensures)
+    subst (λ (r : PathFit). IsDecidedWithin (drop a.position a.body.now) a.steps.now c.walk-passed.new.steps r) (sym c.or_explained.ensures)
     (decided_either a.body.now a.path.now a.places.now a.position a.place a.steps.now c.walk-submitted.new.steps c.walk-passed.new.steps c.in-Deviates.explained c.walk-passed.result (omega arith) c.if-steps-eq0.false
     c.in-SubmitsOrPasses.ensures c.in-Deviates.ensures.decided c.walk-passed.ensures.decided)

@@ -1,6 +1,5 @@
-use Rattle.std.proofs.Common.{List, ap, ◌∙◌, Option, ℕ, rules}
+use Rattle.std.proofs.Common.{◌∙◌, rules}
 use Rattle.std.proofs.lemmas.List.Sorted.{list_any-IsPermutation, IsNonDecreasingBy-from_sort_by_key}
-use Rattle.plan_differences.specs.RoundExcesses.{excesses_by_lines}
 use Rattle.conformance.specs.Lines.{lines_of}
 use Rattle.conformance.specs.Finding.{place_of}
 use Rattle.conformance.specs.Findings.{is_of_actors}
@@ -14,7 +13,7 @@ returns-clause-conforms c = λ budget keeps so none.
     let plan = c.args.plan.now in
     conforms plan budget lines c.args.survey c.in_ok-excesses.excesses.items c.in_ok-findings.findings.items
     c.pools_are_as_planned.ensures.as_planned c.pools_are_as_planned.ensures.recorded c.rounds_are_within_plan.ensures.within
-    so (c.in_ok-excesses.ensures keeps ∙ ap (λ (kinds : List (Option ℕ)). excesses_by_lines plan kinds lines) c.as_slice-kinds.ensures.value) (c.in_ok-findings.ensures so.watched.notes)
+    so (c.in_ok-excesses.ensures budget keeps so) (c.in_ok-findings.ensures so.watched.notes)
     (none_before _ _ c.in_ok-sort_by_key.ensures.permutation none)
 
 pub returns-clause-actors : goal.returns-clause-actors
@@ -22,7 +21,7 @@ returns-clause-actors c = λ budget keeps so none.
     let lines = lines_of c.args.recording.now in
     let plan = c.args.plan.now in
     actors_do plan budget lines c.args.survey c.in_ok-excesses.excesses.items c.in_ok-findings.findings.items c.rounds_are_within_plan.ensures.within
-    so (c.in_ok-excesses.ensures keeps ∙ ap (λ (kinds : List (Option ℕ)). excesses_by_lines plan kinds lines) c.as_slice-kinds.ensures.value) (c.in_ok-findings.ensures so.watched.notes)
+    so (c.in_ok-excesses.ensures budget keeps so) (c.in_ok-findings.ensures so.watched.notes)
     (list_any-IsPermutation is_of_actors _ _ c.in_ok-sort_by_key.ensures.permutation ∙ none)
 
 pub returns-clause-found : goal.returns-clause-found
@@ -30,7 +29,7 @@ returns-clause-found c = λ budget keeps so.
     let lines = lines_of c.args.recording.now in
     let plan = c.args.plan.now in
     all_found plan budget lines c.args.survey c.in_ok-excesses.excesses.items c.in_ok-findings.findings.items _
-    so (c.in_ok-excesses.ensures keeps ∙ ap (λ (kinds : List (Option ℕ)). excesses_by_lines plan kinds lines) c.as_slice-kinds.ensures.value) (c.in_ok-findings.ensures so.watched.notes)
+    so (c.in_ok-excesses.ensures budget keeps so) (c.in_ok-findings.ensures so.watched.notes)
     c.in_ok-sort_by_key.ensures.permutation
 
 pub returns-clause-ascending : goal.returns-clause-ascending

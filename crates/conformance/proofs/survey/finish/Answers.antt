@@ -8,8 +8,8 @@ use Rattle.conformance.proofs.ToldKinds.{HasBegun, has_begun, told_all, all_righ
 use Rattle.conformance.proofs.VerdictsAfter.{on_both}
 use Rattle.conformance.proofs.survey.finish.Goals as goal
 
-pub returns : goal.returns
-returns c = λ budget lines keeps so.
+pub returns-clause-all : goal.returns-clause-all
+returns-clause-all c = λ budget lines keeps so.
     let plan = c.args.plan.now in
     let more = c.finish.new.told.items in
     let none : so.told ++ c.new-told.result.items ≡ so.told = ap (λ (xs : List Settled). so.told ++ xs) c.new-told.ensures.items ∙ append-nil so.told in

@@ -1,4 +1,4 @@
-use Rattle.std.proofs.Common.{◌≡◌, ◌+◌, ◌++◌, ◌∷◌, [], ℕ, List, length, Option, Some, Result, Ok, Err, ap, sym, subst, ◌∙◌}
+use Rattle.std.proofs.Common.{◌≡◌, ◌+◌, ◌++◌, ◌∷◌, [], ℕ, List, length, Option, Some, Result, Ok, refl, ap, sym, subst, ◌∙◌}
 use Rattle.recording_lines.specs.declared.recording_line.Line.{Line}
 use Rattle.recording_lines.specs.RecordingLine.{RecordedLine, line_seen, lines_read}
 use Rattle.recorded_rules.specs.declared.fault.RecordingFault.{RecordingFault}
@@ -6,7 +6,11 @@ use Rattle.recorded_rules.specs.Faults.{lines_before}
 use Rattle.recorded_rules.specs.RuledLines.{AreUnbroken, AreAllTaken, IsNext, IsTakenNext}
 use Rattle.recorded_paths.specs.StandsFor.{KeepsRules}
 use Rattle.conformance.specs.Lines.{lines_of}
+use Rattle.recorded_rules.specs.Before.{begins}
+use Rattle.conformance.specs.Counted.{IsCountedOf}
 use Rattle.conformance.specs.Survey.{IsWatchedOf, IsSoFar}
+use Rattle.conformance.proofs.CountedAfter.{counted_on}
+use Rattle.conformance.proofs.Kept.{keeps_front}
 use Rattle.conformance.proofs.survey.surveyed.Goals as goal
 
 pub loop-lines-init : goal.loop-lines-init
@@ -18,6 +22,8 @@ loop-lines-init c =
       watched = subst (λ (ls : List RecordedLine). IsWatchedOf c.args.plan.now ls c.new-watched.result) (sym nothing) (c.new-watched.ensures c.args.plan.now);
       judged = subst (λ (ls : List RecordedLine). IsSoFar c.args.plan.now c.args.budget ls c.new-classes.result c.new-judged.result) (sym nothing)
           (record { told = []; classes_stand = c.new-classes.ensures.stands c.args.plan.now; judged_so = c.new-judged.ensures c.args.plan.now c.args.budget (c.new-classes.ensures.told c.args.plan.now) });
+      nothing = c.new-told.ensures.items;
+      counted = subst (λ (ls : List RecordedLine). IsCountedOf c.args.plan.now c.new-judged.result.kinds ls c.in_ok-counted.counted) (sym nothing) (c.in_ok-counted.ensures c.new-judged.result.kinds);
     }
 
 pub loop-lines-preserved : goal.loop-lines-preserved
@@ -35,7 +41,12 @@ loop-lines-preserved c =
       ruled = next.ruled;
       watched = subst (λ (ls : List RecordedLine). IsWatchedOf c.args.plan.now ls c.take.new.self) (sym next.taken) (c.in_ok-take.ensures before keeps number c.loop-lines.invariant.watched);
       judged = subst (λ (ls : List RecordedLine). IsSoFar c.args.plan.now c.args.budget ls c.take_line.new.classes c.take_line.new.judged) (sym next.taken)
-          (c.in_ok-take_line.ensures c.args.budget before keeps c.loop-lines.invariant.judged);
+          (c.in_ok-take_line.ensures.so_far c.args.budget before keeps c.loop-lines.invariant.nothing c.loop-lines.invariant.judged);
+      nothing = c.in_ok-take_line.ensures.emptied;
+      counted = subst (λ (ls : List RecordedLine). IsCountedOf c.args.plan.now c.take_line.new.judged.kinds ls c.take-in-Some.new.self) (sym next.taken)
+          (c.in_ok-take-2.ensures c.args.plan.now before keeps (c.number-in-Some.ensures ∙ sym c.number.ensures ∙ number)
+          (counted_on c.args.plan.now before c.loop-lines.judged.kinds c.take_line.new.judged.kinds c.loop-lines.counted (keeps_front before (line ∷ []) (before ++ line ∷ []) refl keeps) c.loop-lines.invariant.judged.judged_so.kinds.many
+          c.in_ok-take_line.ensures.continued c.loop-lines.invariant.counted));
     }
 
 pub returns : goal.returns
@@ -50,6 +61,8 @@ returns c =
       taken.none,
       record {
         watched = c.in_ok-finish.ensures lines (subst (λ (ls : List RecordedLine). IsWatchedOf c.args.plan.now ls c.loop-lines.watched) taken.taken so_far.watched);
-        judged = c.in_ok-finish-2.ensures c.args.budget lines keeps (subst (λ (ls : List RecordedLine). IsSoFar c.args.plan.now c.args.budget ls c.loop-lines.classes c.loop-lines.judged) taken.taken so_far.judged);
+        judged = c.in_ok-finish-2.ensures.all c.args.budget lines keeps (subst (λ (ls : List RecordedLine). IsSoFar c.args.plan.now c.args.budget ls c.loop-lines.classes c.loop-lines.judged) taken.taken so_far.judged);
+        counted = counted_on c.args.plan.now lines c.loop-lines.judged.kinds c.finish-2.new.judged.kinds c.loop-lines.counted keeps (so_far.judged.judged_so.kinds.many ∙ ap begins taken.taken) c.in_ok-finish-2.ensures.continued
+            (subst (λ (ls : List RecordedLine). IsCountedOf c.args.plan.now c.loop-lines.judged.kinds ls c.loop-lines.counted) taken.taken so_far.counted);
       },
     )

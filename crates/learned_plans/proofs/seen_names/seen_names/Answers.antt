@@ -1,13 +1,58 @@
-use Rattle.std.proofs.Common.{refl, ◌∷◌, ◌∙◌, ap, sym, subst}
-use Rattle.recording_lines.specs.RecordingLine.{lines_read, line_read, line_seen}
-use Rattle.learned_plans.specs.Kept.{AreNamesOf}
-use Rattle.learned_plans.proofs.Named.{none_named}
-use Rattle.learned_plans.proofs.Rest.{Rest, good, at_first, next_good}
+use Rattle.std.proofs.Common.{◌≡◌, ◌++◌, ◌∷◌, [], ℕ, List, drop, take, Option, Some, Result, Ok, ap, sym, subst, ◌∙◌}
+use Rattle.std.proofs.lemmas.List.{append_assoc, take-append-drop}
+use Rattle.std.proofs.lemmas.List.Elements.{filter_map-append}
+use Rattle.recording_lines.specs.declared.recording_line.Line.{Line}
+use Rattle.recording_lines.specs.RecordingLine.{RecordedLine, line_seen, lines_read}
+use Rattle.recorded_rules.specs.declared.fault.RecordingFault.{RecordingFault}
+use Rattle.recorded_rules.specs.Faults.{lines_before}
+use Rattle.recorded_rules.specs.RuledLines.{IsNext, IsTakenNext}
+use Rattle.learned_plans.specs.Kept.{AreNamesOf, AreWorkingOf, IsStop}
+use Rattle.learned_plans.specs.Named.{good}
 use Rattle.learned_plans.proofs.seen_names.seen_names.Goals as goal
 
-pub loop-line-init : goal.loop-line-init
-loop-line-init c = subst (Rest _ (good (lines_read c.args.recording.now))) (sym c.new-lines.ensures.lines) (at_first _ (lines_read c.args.recording.now) (none_named _ c.new.ensures.items refl refl refl refl refl))
+-- the good ones of all lines, where this one was taken behind others
+with_next : (all : List (Option RecordedLine)) (number : ℕ) (before : List RecordedLine) (line : RecordedLine) → lines_before all number ≡ before ++ line ∷ [] → good all ≡ before ++ line ∷ good (drop number all)
+with_next all number before line taken =
+    ap good (sym (take-append-drop number all)) ∙ filter_map-append (λ one. one) (take number all) (drop number all)
+    ∙ ap (λ ls. ls ++ good (drop number all)) taken ∙ append_assoc before (line ∷ []) (good (drop number all))
 
-pub loop-line-preserved-in-Continue-1 : goal.loop-line-preserved-in-Continue-1
-loop-line-preserved-in-Continue-1 c = next_good (AreNamesOf c.loop-line.names) (AreNamesOf c.note.new.self) (good (lines_read c.args.recording.now)) c.loop-line.lines c.next.new.self (line_seen c.in-Ok.line)
-    (c.in-Some.ensures ∙ ap (λ read. line_read read ∷ c.next.new.self) c.in-Ok.is) c.loop-line.invariant (c.in_ok-note.ensures c.loop-line.invariant.before c.loop-line.invariant.holds)
+pub loop-lines-init : goal.loop-lines-init
+loop-lines-init c =
+    let all = lines_read c.args.recording.now in
+    let nothing : lines_before all c.new-lines.result.number ≡ [] = ap (λ (n : ℕ). lines_before all n) c.new-lines.ensures.number in
+    record {
+      ruled = c.new-lines.ensures.ruled;
+      named = subst (AreNamesOf c.new-names.result) (sym nothing) c.new-names.ensures.names;
+      working = c.new-names.ensures.working (good all);
+    }
+
+pub returns-in-Err-note-clause-err : goal.returns-in-Err-note-clause-err
+returns-in-Err-note-clause-err c =
+    let all = lines_read c.args.recording.now in
+    let so_far = c.loop-lines.invariant in
+    let old = c.loop-lines.lines in
+    let new = c.next.new.self in
+    let line = line_seen c.in-Ok.line in
+    let is : c.in_ok-line.field-0 ≡ Some (Ok c.in-Ok.line) = c.in-Some.is ∙ ap (λ (next : Result Line RecordingFault). Some next) c.in-Ok.is in
+    let next : IsTakenNext all old line new = subst (λ (next : Option (Result Line RecordingFault)). IsNext all old next new) is (c.in_ok-line.ensures all so_far.ruled) in
+    let whole = with_next all new.number (lines_before all old.number) line next.taken in
+    c.stopped.ensures.err (subst (λ ls. IsStop ls c.in-Err-note.stop) (sym whole)
+    (c.in-Err-note.ensures.err (lines_before all old.number) (good (drop new.number all)) so_far.named (subst (λ ls. AreWorkingOf ls c.loop-lines.names.working) whole so_far.working)))
+
+pub loop-lines-preserved : goal.loop-lines-preserved
+loop-lines-preserved c =
+    let all = lines_read c.args.recording.now in
+    let so_far = c.loop-lines.invariant in
+    let old = c.loop-lines.lines in
+    let new = c.next.new.self in
+    let line = line_seen c.in-Ok.line in
+    let is : c.in_ok-line.field-0 ≡ Some (Ok c.in-Ok.line) = c.in-Some.is ∙ ap (λ (next : Result Line RecordingFault). Some next) c.in-Ok.is in
+    let next : IsTakenNext all old line new = subst (λ (next : Option (Result Line RecordingFault)). IsNext all old next new) is (c.in_ok-line.ensures all so_far.ruled) in
+    let before = lines_before all old.number in
+    let behind = good (drop new.number all) in
+    let whole = with_next all new.number before line next.taken in
+    record {
+      ruled = next.ruled;
+      named = subst (AreNamesOf c.note.new.self) (sym next.taken) (c.in_default-note.ensures.names before so_far.named);
+      working = subst (λ ls. AreWorkingOf ls c.note.new.self.working) (sym whole) (c.in_default-note.ensures.working before behind so_far.named (subst (λ ls. AreWorkingOf ls c.loop-lines.names.working) whole so_far.working));
+    }

@@ -1,11 +1,16 @@
-use Rattle.std.proofs.Common.{length}
 use Rattle.recording_lines.specs.RecordingLine.{lines_read}
-use Rattle.learned_plans.specs.Kept.{AreNamesOf}
-use Rattle.learned_plans.proofs.Rest.{Rest, good}
+use Rattle.recorded_rules.specs.Faults.{lines_before}
+use Rattle.recorded_rules.specs.RuledLines.{IsRuled, lines_left}
+use Rattle.learned_plans.specs.Kept.{AreNamesOf, AreWorkingOf}
+use Rattle.learned_plans.specs.Named.{good}
 use Rattle.learned_plans.proofs.seen_names.seen_names.Given as goal
 
-abbrev pub invariant-loop-line : goal.invariant-loop-line
-invariant-loop-line l = Rest (AreNamesOf l.names) (good (lines_read l.recording)) l.lines
+abbrev pub invariant-loop-lines : goal.invariant-loop-lines
+invariant-loop-lines l = record {
+  ruled : IsRuled (lines_read l.recording) l.lines;
+  named : AreNamesOf l.names (lines_before (lines_read l.recording) l.lines.number);
+  working : AreWorkingOf (good (lines_read l.recording)) l.names.working;
+}
 
-abbrev pub decreases-loop-line : goal.decreases-loop-line
-decreases-loop-line l = length l.lines
+abbrev pub decreases-loop-lines : goal.decreases-loop-lines
+decreases-loop-lines l = lines_left l.lines

@@ -4,11 +4,11 @@ use Rattle.line_words.proofs.Numbers.{digits_more, more_digits, counted, none_pa
 use Rattle.line_words.proofs.number.leading_number.Goals as goal
 use Rattle.line_words.proofs.number.leading_number.Goals.{then-loop-count-test+else-is_ascii_digit, else-loop-count-test}
 
-pub returns-then-value-gt-MAX_NUMBER : goal.returns-then-value-gt-MAX_NUMBER
-returns-then-value-gt-MAX_NUMBER c =
+pub returns-then-value-gt-MAX_LINE_NUMBER : goal.returns-then-value-gt-MAX_LINE_NUMBER
+returns-then-value-gt-MAX_LINE_NUMBER c =
     let digit = sym c.if-is_ascii_digit.ensures.value in
     let more = digits_more c.args.text.now c.loop-count.count c.loop-count.value digit c.loop-count-test.true c.loop-count.invariant.read in
-    none_past c.args.text.now (c.loop-count.count + 1) (c.loop-count.value * 10 + c.from.result) (omega arith) (more_digits c.args.text.now c.loop-count.count c.loop-count-test.true c.loop-count.invariant.digits digit) (cc) c.if-value-gt-MAX_NUMBER.true
+    none_past c.args.text.now (c.loop-count.count + 1) (c.loop-count.value * 10 + c.from.result) (omega arith) (more_digits c.args.text.now c.loop-count.count c.loop-count-test.true c.loop-count.invariant.digits digit) (cc) c.if-value-gt-MAX_LINE_NUMBER.true
 
 pub loop-count-preserved : goal.loop-count-preserved
 loop-count-preserved c =
@@ -18,7 +18,7 @@ loop-count-preserved c =
       inside = omega arith;
       digits = more_digits c.args.text.now c.loop-count.count c.loop-count-test.true c.loop-count.invariant.digits digit;
       read = cc;
-      within = c.if-value-gt-MAX_NUMBER.false;
+      within = c.if-value-gt-MAX_LINE_NUMBER.false;
     }
 
 pub returns-then-not-begins_as_number : goal.returns-then-not-begins_as_number

@@ -3,7 +3,7 @@ use Rattle.std.proofs.lemmas.Result.{IfErr-weaker}
 use Rattle.faults.specs.declared.number.TheConstants.{MEMORY}
 use Rattle.certificates.specs.Cert.{Cert}
 use Rattle.run_histories.specs.Report.{RunReport}
-use Rattle.run_histories.specs.Run.{IsRun, Makes, IsAnswerTo, IsLegalFront, IsLengthOfLegal}
+use Rattle.run_histories.specs.Run.{IsRun, Makes, Works, IsAnswerTo, IsLegalFront, IsLengthOfLegal}
 use Rattle.run_histories.specs.RunNumbers.{jobs, units}
 use Rattle.run_histories.proofs.Histories.{length_of_front}
 use Rattle.locked_runner.specs.Limits.{is_too_large}
@@ -28,6 +28,12 @@ returns-clause-made g c =
     let met = c.in-Ok.met in
     let whole : RunReport = record { jobs = c.in_ok-numbers.numbers.jobs; units = c.in_ok-numbers.numbers.units; refused = 0; history = met.history; receipts = met.receipts } in
     told (λ report. Makes c.args.certified.now.plan report.history report.jobs) c.judge.result whole c.judge.ensures.report c.judge.ensures.made
+
+pub returns-clause-worked : goal.returns-clause-worked
+returns-clause-worked g c =
+    let met = c.in-Ok.met in
+    let whole : RunReport = record { jobs = c.in_ok-numbers.numbers.jobs; units = c.in_ok-numbers.numbers.units; refused = 0; history = met.history; receipts = met.receipts } in
+    told (λ report. Works c.args.certified.now.plan report.history report.units) c.judge.result whole c.judge.ensures.report c.judge.ensures.worked
 
 pub returns-clause-jobs : goal.returns-clause-jobs
 returns-clause-jobs g c =
@@ -56,8 +62,8 @@ returns-clause-fault g c =
     let ranks = ap (λ (x : Cert). x.ranks) (c.behind-certified.view_is ∙ c.cert.ensures.cert) in
     let large = is_too_large c.plan.result.now c.behind-certified.inside.ranks c.args.rounds in
     rw (← c.plan.ensures.plan, ← ranks)
-    (IfErr-weaker c.judge.result (λ fault. fault.number ≢ MEMORY → IsAnswerTo c.args.certified.now.plan c.args.rounds c.in_ok-numbers.numbers.jobs met.history met.receipts met.fault fault) (IsFaultOf large)
-    (λ fault is. subst (λ (b : Bool). IsFaultOf b fault) (sym c.in_ok-numbers.ensures.within) (answered c.args.certified.now.plan c.args.rounds c.in_ok-numbers.numbers.jobs met.history met.receipts met.fault fault is))
+    (IfErr-weaker c.judge.result (λ fault. fault.number ≢ MEMORY → IsAnswerTo c.args.certified.now.plan c.args.rounds c.in_ok-numbers.numbers.jobs c.in_ok-numbers.numbers.units met.history met.receipts met.fault fault) (IsFaultOf large)
+    (λ fault is. subst (λ (b : Bool). IsFaultOf b fault) (sym c.in_ok-numbers.ensures.within) (answered c.args.certified.now.plan c.args.rounds c.in_ok-numbers.numbers.jobs c.in_ok-numbers.numbers.units met.history met.receipts met.fault fault is))
     c.judge.ensures.fault)
 
 pub returns-clause-events : goal.returns-clause-events

@@ -3,5 +3,5 @@ use Rattle.std.proofs.Common.{◌↔◌, drop}
 use Rattle.run_histories.specs.Receipts.{AreReceiptsOf}
 use Rattle.run_histories.proofs.receipts.list_fits.Given as goal
 
-abbrev pub invariant-loop-receipt : goal.invariant-loop-receipt
-invariant-loop-receipt l = AreReceiptsOf l.plan l.history l.owner l.low (drop l.receipt-index l.list) ↔ AreReceiptsOf l.plan l.history l.owner 0 l.list
+abbrev pub invariant-loop-kept : goal.invariant-loop-kept
+invariant-loop-kept l = AreReceiptsOf l.plan l.history l.owner l.low (drop l.kept-index l.list) ↔ AreReceiptsOf l.plan l.history l.owner 0 l.list

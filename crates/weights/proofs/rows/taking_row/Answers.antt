@@ -1,6 +1,6 @@
 use Rattle.std.proofs.Common.{◌≡◌, ◌<◌, ◌≤◌, length, ap, sym, arith}
 use Rattle.std.specs.Prelude.{slice_index_or}
-use Rattle.weights.specs.declared.limits.TheConstants.{MAX_WEIGHT}
+use Rattle.job_bodies.specs.declared.limits.TheConstants.{MAX_WEIGHT}
 use Rattle.weights.proofs.Fitting.{fits, class_fits}
 use Rattle.weights.proofs.rows.taking_row.Goals as goal
 

@@ -1,12 +1,31 @@
-use Rattle.std.proofs.Common.{◌+◌, if◌then◌else◌, ◌∙◌, ap}
+use Rattle.std.proofs.Common.{◌∷◌, ◌++◌, ◌∙◌, refl, ap, sym, subst, arith}
+use Rattle.std.specs.List.{Contains}
+use Rattle.std.proofs.lemmas.List.Elements.{Contains-append_right}
 use Rattle.recording_lines.specs.RecordingLine.{line_seen}
+use Rattle.learned_plans.specs.Kept.{AreFirstPools, AreWorkingOf}
+use Rattle.learned_plans.proofs.Entered.{still_stops}
+use Rattle.learned_plans.proofs.Firsts.{first_pools}
 use Rattle.learned_plans.proofs.Named.{named_after}
 use Rattle.learned_plans.proofs.seen_names.SeenNames.note.Goals as goal
 
-pub returns : goal.returns
-returns c = λ before names. named_after c.args.self.now _ before (line_seen c.args.line.now) names c.in_ok-note_pool.ensures
-    (c.in_ok-self.ensures ∙ ap (λ is_one. c.args.self.now.rounds + (if is_one then 1 else 0)) c.is_begin.ensures)
-    (c.in_ok-self-2.ensures ∙ ap (λ is_one. c.args.self.now.jobs + (if is_one then 1 else 0)) c.is_submit.ensures)
-    (c.in_ok-self-3.ensures ∙ ap (λ is_one. c.args.self.now.ended_rounds + (if is_one then 1 else 0)) c.is_round_end.ensures)
-    (c.in_ok-self-4.ensures ∙ ap (λ is_one. c.args.self.now.started_jobs + (if is_one then 1 else 0)) c.is_job_start.ensures)
-    (c.in_ok-self-5.ensures ∙ ap (λ is_one. c.args.self.now.ended_jobs + (if is_one then 1 else 0)) c.is_job_end.ensures)
+pub returns-in_err-note-clause-err : goal.returns-in_err-note-clause-err
+returns-in_err-note-clause-err c = λ before behind names working.
+    let line = line_seen c.args.line.now in
+    let all = before ++ line ∷ behind in
+    let there : Contains all line = Contains-append_right before (line ∷ behind) line (0, omega arith, refl) in
+    let first : AreFirstPools all c.deref.result.now = first_pools before (line ∷ behind) c.deref.result.now (c.deref.ensures.value ∙ names.pools) in
+    still_stops all _ _ c.from_residual.ensures.1 (c.in_err-note.ensures.err all there first working)
+
+pub returns-clause-names : goal.returns-clause-names
+returns-clause-names c = λ before names.
+    let counts = c.in_ok-count.ensures in
+    named_after c.args.self.now c.count.new.self before (line_seen c.args.line.now) names (ap (λ pools. pools.items) counts.pools ∙ c.in_ok-note_pool.ensures.ok)
+    counts.rounds counts.jobs counts.ended_rounds counts.started_jobs counts.ended_jobs
+
+pub returns-clause-working : goal.returns-clause-working
+returns-clause-working c = λ before behind names working.
+    let line = line_seen c.args.line.now in
+    let all = before ++ line ∷ behind in
+    let there : Contains all line = Contains-append_right before (line ∷ behind) line (0, omega arith, refl) in
+    let first : AreFirstPools all c.deref.result.now = first_pools before (line ∷ behind) c.deref.result.now (c.deref.ensures.value ∙ names.pools) in
+    subst (AreWorkingOf all) (sym c.in_ok-count.ensures.working) (c.in_ok-note.ensures.ok all there first working)

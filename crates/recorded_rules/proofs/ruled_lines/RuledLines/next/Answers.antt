@@ -16,7 +16,7 @@ returns-in-Some c = λ all r.
     let next : old.lines ≡ Some (line_seen c.in-Some-Ok.line) ∷ c.next.new.self = c.in-Some-Ok.ensures ∙ ap (λ (line : Result Line BadLine). line_read line ∷ c.next.new.self) c.in-Some-Ok.field-0-is in
     let number = number_next all old r _ c.next.new.self next _ c.saturating_add-number.ensures in
     let taken = c.in_ok-rule-in-Some-Ok.ensures (lines_before all old.number) r.stands in
-    bad_next all old r _ c.next.new.self next _ (breach.Rule c.in-Some.rule) number (ap (option_map breach.Rule) (sym taken.0 ∙ c.in-Some.is))
+    bad_next all old r _ c.next.new.self next _ (breach.LineRule c.in-Some.rule) number (ap (option_map breach.LineRule) (sym taken.0 ∙ c.in-Some.is))
 
 pub returns-in-None-3 : goal.returns-in-None-3
 returns-in-None-3 c = λ all r.

@@ -1,0 +1,66 @@
+-- What is taken of the lines first: what they name, or the first bad one.
+use Rattle.std.specs.Prelude.{◌≡◌, ◌+◌, ℕ, List, if◌then◌else◌, Option, Some, None, Result, Ok, Err}
+use Rattle.std.specs.List.{All, filter_map}
+use Rattle.recording_lines.specs.RecordingLine.{RecordedLine, lines_read}
+use Rattle.recorded_rules.specs.Before.{begins, submits}
+use Rattle.recorded_rules.specs.Faults.{IsFirstFault}
+use Rattle.recorded_rules.specs.LineParts.{is_begin, is_submit}
+use Rattle.recorded_rules.specs.declared.fault.RecordingFault.{RecordingFault}
+use Rattle.learned_plans.specs.declared.learned.Learned.{Learned}
+use Rattle.learned_plans.specs.declared.learned.Learned.TheVariants as told
+use Rattle.learned_plans.specs.declared.learned.SeenPlan.{SeenPlan}
+use Rattle.learned_plans.specs.declared.seen_names.SeenNames.{SeenNames}
+use Rattle.learned_plans.specs.declared.stop.Stop.{Stop}
+use Rattle.learned_plans.specs.declared.stop.Stop.TheVariants.{Memory, TooMuch}
+use Rattle.learned_plans.specs.Kept.{AreNamesOf, AreWorkingOf, IsStop}
+use Rattle.learned_plans.specs.Counts.{AreCounted}
+use Rattle.learned_plans.specs.Learned.{lines_of}
+use Rattle.learned_plans.specs.Names.{IsNamedClass, IsNamedClient}
+use Rattle.learned_plans.specs.Pools.{pools_seen}
+use Rattle.learned_plans.specs.Unfinished.{is_round_end, is_job_start, is_job_end, unfinished_rounds, unfinished_jobs}
+
+-- those that have one of the forms of a line
+abbrev pub good : List (Option RecordedLine) → List RecordedLine
+good lines = filter_map (λ line. line) lines
+
+-- they stand for all lines, none of which is bad
+pub record AreNamesOfAll (all : List (Option RecordedLine)) (names : SeenNames) : Type 0 where
+  pub no_fault : IsFirstFault all None
+  pub named : AreNamesOf names (good all)
+  pub working : AreWorkingOf (good all) names.working
+
+abbrev pub IsNamed : List (Option RecordedLine) → Result SeenNames RecordingFault → Type 0
+IsNamed all (Ok names) = AreNamesOfAll all names
+IsNamed all (Err fault) = IsFirstFault all (Some fault)
+
+-- where it ends for too much, no line is bad
+abbrev pub IsStopAt : List (Option RecordedLine) → Stop → Type 0
+IsStopAt all (Memory error) = IsStop (good all) (Memory error)
+IsStopAt all (TooMuch reason) = IsFirstFault all None × IsStop (good all) (TooMuch reason)
+
+-- one more, where the line is one of those that are counted
+pub record Counts (old : SeenNames) (line : RecordedLine) (new : SeenNames) : Type 0 where
+  pub pools : new.pools ≡ old.pools
+  pub working : new.working ≡ old.working
+  pub rounds : new.rounds ≡ old.rounds + (if is_begin line then 1 else 0)
+  pub jobs : new.jobs ≡ old.jobs + (if is_submit line then 1 else 0)
+  pub ended_rounds : new.ended_rounds ≡ old.ended_rounds + (if is_round_end line then 1 else 0)
+  pub started_jobs : new.started_jobs ≡ old.started_jobs + (if is_job_start line then 1 else 0)
+  pub ended_jobs : new.ended_jobs ≡ old.ended_jobs + (if is_job_end line then 1 else 0)
+
+-- ---- what is told in the end
+-- this is so of a plan that is told
+pub record IsSeenOf (lines : List RecordedLine) (seen : SeenPlan) : Type 0 where
+  pub pools : seen.plan.pools ≡ pools_seen lines
+  pub counts : AreCounted lines seen.plan.clients
+  pub classes : All (IsNamedClass lines) seen.plan.classes
+  pub clients : All (IsNamedClient lines) seen.plan.clients
+  pub rounds : seen.rounds ≡ begins lines
+  pub jobs : seen.jobs ≡ submits lines
+  pub unfinished_rounds : seen.unfinished_rounds ≡ unfinished_rounds lines
+  pub unfinished_jobs : seen.unfinished_jobs ≡ unfinished_jobs lines
+
+abbrev pub IsToldOf : List ℕ → Learned → Type 0
+IsToldOf text (told.Bad fault) = IsFirstFault (lines_read text) (Some fault)
+IsToldOf text (told.Seen seen) = IsFirstFault (lines_read text) None × IsSeenOf (lines_of text) seen
+IsToldOf text (told.TooMuch reason) = ⊥

@@ -1,0 +1,85 @@
+//! Receipts as the lists of a run keep them.
+
+ghost use Rattle.std.specs.Prelude.{◌≡◌, ◌<◌, ◌^◌, ◌↔◌, IfSome, IsSome};
+ghost use Rattle.run_histories.specs.KeptReceipt.{IsKeepable, event_of, number_in};
+
+use held_machines::Receipt;
+use interleaving::Event;
+use std::marker::Model;
+
+/// A receipt as the lists of a run keep it: in 12 bytes, half of what a [`Receipt`] takes, since its numbers have 32 bits.
+#[derive(Debug, Drop)]
+pub struct KeptReceipt {
+    number: u32,
+    kind: Kind,
+    /// The number of the event's client, job or pool.
+    of: u32,
+}
+
+/// What an event's number is the number of, and what that does.
+#[derive(Clone, Copy, Debug, PartialEq, Eq)]
+enum Kind {
+    Client,
+    Job,
+    Take,
+    Retire,
+}
+
+impl Model for KeptReceipt {
+    ghost use Rattle.held_machines.specs.declared.held.Receipt.{Receipt};
+    ghost use Rattle.written_machine.specs.declared.event.Event.{Event};
+    ghost use Rattle.run_histories.specs.KeptReceipt.{event_of};
+
+    ghost Value = { Receipt Event };
+
+    ghost view = { λ kept. record { number = kept.number; event = event_of kept.kind kept.of } };
+}
+
+impl KeptReceipt {
+    /// The receipt, to be kept; None where a number of it has more than 32 bits.
+    pub fn new(receipt: Receipt<Event>) -> Option<KeptReceipt>
+        ensures same { IfSome result (λ kept. kept ≡ receipt) }
+        ensures keepable { IsSome result ↔ IsKeepable receipt }
+    {
+        let (kind, of) = parts(receipt.event);
+        Some(KeptReceipt {
+            number: u32::try_from(receipt.number).ok()?,
+            kind,
+            of: u32::try_from(of).ok()?,
+        })
+    }
+
+    /// The receipt that is kept.
+    pub fn receipt(&self) -> Receipt<Event>
+        ensures { result ≡ self.now }
+    {
+        Receipt {
+            number: u64::from(self.number),
+            event: event_of(self.kind, self.of as usize),
+        }
+    }
+}
+
+/// The event's kind, and the number of its client, its job or its pool.
+fn parts(event: Event) -> (Kind, usize)
+    ensures event { event_of result.0 result.1 ≡ event }
+    ensures number { number_in event ≡ result.1 }
+{
+    match event {
+        Event::Client(client) => (Kind::Client, client),
+        Event::Job(job) => (Kind::Job, job),
+        Event::Take(pool) => (Kind::Take, pool),
+        Event::Retire(pool) => (Kind::Retire, pool),
+    }
+}
+
+fn event_of(kind: Kind, of: usize) -> Event
+    ensures { result ≡ event_of kind of }
+{
+    match kind {
+        Kind::Client => Event::Client(of),
+        Kind::Job => Event::Job(of),
+        Kind::Take => Event::Take(of),
+        Kind::Retire => Event::Retire(of),
+    }
+}

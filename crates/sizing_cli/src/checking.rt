@@ -1,0 +1,36 @@
+//! What `check` answers to the text of a certificate for a plan.
+
+ghost use Rattle.std.specs.Prelude.{◌≡◌, IfOk, IsTrue};
+ghost use Rattle.certificates.specs.Cert.{cert_fits};
+ghost use Rattle.sizing_cli.specs.Report as spec;
+
+use crate::Status;
+use crate::answer::{Answer, cert_fault};
+use crate::texts::cert_in;
+use cert_check::{push_verdict, verdict};
+use certificates::Cert;
+use job_bodies::Plan;
+use std::alloc::{AllocError, Global};
+
+/// Whether the certificate accepts the plan, and both sides of each bound.
+pub fn check(alloc: Global, plan: &Plan, cert: &[u8]) -> Result<Answer, AllocError>
+    ensures { IfOk result (λ answer. answer ≡ spec.check plan.now cert.now) }
+{
+    match cert_in(alloc, cert, plan)? {
+        Ok(cert) => verdict_on(alloc, plan, &cert),
+        Err(fault) => cert_fault(alloc, fault),
+    }
+}
+
+fn verdict_on(alloc: Global, plan: &Plan, cert: &Cert) -> Result<Answer, AllocError>
+    requires { IsTrue (cert_fits plan.now cert.now) }
+    ensures { IfOk result (λ answer. answer ≡ spec.check_of_cert plan.now (Ok cert.now)) }
+{
+    let verdict = verdict(alloc, plan, cert)?;
+    let mut text = String::new(alloc);
+    push_verdict(&mut text, plan, &verdict)?;
+    Ok(Answer {
+        text,
+        status: Status::of_question(verdict.yes),
+    })
+}
