@@ -1,0 +1,3 @@
+pub mod PlacesOnceSet
+pub mod TablesOnceChanged
+pub mod NumbersPushed

@@ -1,0 +1,5 @@
+pub mod Entry
+pub mod LentEntry
+pub mod LentOther
+pub mod Numbered
+pub mod Lent
