@@ -5,3 +5,4 @@ pub mod WrittenPools
 pub mod WrittenActs
 pub mod WrittenLines
 pub mod LineByLine
+pub mod FrequentLines

@@ -1,5 +1,5 @@
 -- Lines that are read one after another, of a text that may be cut off.
-use Rattle.std.proofs.Common.{◌≡◌, inl, inr, ℕ, suc, ◌+◌, ◌-◌, ◌<◌, ◌≤◌, nat_lt, List, [], ◌∷◌, length, take, drop, position, Option, Some, None, sym, ap, ap₂, ◌∙◌, arith}
+use Rattle.std.proofs.Common.{◌≡◌, inl, inr, ℕ, suc, ◌+◌, ◌-◌, ◌<◌, ◌≤◌, nat_lt, true, List, [], ◌∷◌, ◌++◌, length, take, drop, position, Option, Some, None, sym, ap, ap₂, ◌∙◌, arith}
 use Rattle.std.specs.List.{slice_split}
 use Rattle.std.proofs.lemmas.Bool.{cases_lt, cond-true, cond-false, lt-ltb, le-ltb, ltb-true, false_from_ne_true}
 use Rattle.std.proofs.lemmas.List.{length-map, length-take}
@@ -9,6 +9,7 @@ use Rattle.std.proofs.lemmas.Option.{cond_some, none-some}
 use Rattle.memchr.specs.Find.{IsFirstByte, is_byte}
 use Rattle.line_words.specs.Pieces.{is_newline, first_line, behind_line}
 use Rattle.line_words.proofs.FirstPieces.{place, first_there, behind_there}
+use Rattle.line_words.proofs.Splits.{has_no, cut_first}
 use Rattle.recording_lines.specs.WholeLines.{whole_lines}
 use Rattle.recording_lines.specs.RecordingLine.{line_of, lines_read}
 
@@ -41,6 +42,13 @@ whole_more text newline found =
     let split : slice_split is_newline text ≡ first_line text ∷ slice_split is_newline (behind_line text) = slice_split_first is_newline text 0 within in
     ap (λ (parts : List (List ℕ)). take (length parts - 1) parts) split ∙ fronts_more (first_line text) (slice_split is_newline (behind_line text)) (some_parts (behind_line text))
     ∙ ap₂ (λ (line rest : List ℕ). line ∷ take (length (slice_split is_newline rest) - 1) (slice_split is_newline rest)) (sym (first_there text newline found)) (sym (behind_there text newline found))
+
+-- the text begins with a line and its newline
+pub whole_first : (line rest : List ℕ) → has_no 10 line ≡ true → whole_lines (line ++ 10 ∷ rest) ≡ line ∷ whole_lines rest
+unfolding whole_lines
+whole_first line rest none =
+    ap (λ (parts : List (List ℕ)). take (length parts - 1) parts) (cut_first 10 line rest none)
+    ∙ fronts_more line (slice_split is_newline rest) (some_parts rest)
 
 -- no line is
 pub whole_none : (text : List ℕ) → position is_newline text ≡ None → whole_lines text ≡ []

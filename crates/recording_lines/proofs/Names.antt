@@ -9,17 +9,18 @@ use Rattle.job_bodies.specs.WellFormed.{is_name_byte, is_lawful_name}
 use Rattle.line_words.proofs.Splits.{has_no}
 use Rattle.recording_lines.specs.Words.{name_of}
 
-no_space : (b : ℕ) → is_name_byte b ≡ true → not (b == 32) ≡ true
-no_space b h = grind (arith, nat_tests)
+-- no byte below the digits is one
+no_other : (c b : ℕ) → c < 48 → is_name_byte b ≡ true → not (b == c) ≡ true
+no_other c b low h = grind (arith, nat_tests)
 
 is_ascii : (b : ℕ) → is_name_byte b ≡ true → b < 128
 is_ascii b h = grind (arith, nat_tests)
 
-spaceless : (bytes : List ℕ) → list_all is_name_byte bytes ≡ true → has_no 32 bytes ≡ true
-spaceless [] h = refl
-spaceless (b ∷ bytes) h =
+no_others : (c : ℕ) (bytes : List ℕ) → c < 48 → list_all is_name_byte bytes ≡ true → has_no c bytes ≡ true
+no_others c [] low h = refl
+no_others c (b ∷ bytes) low h =
     let parts = and_parts (is_name_byte b) (list_all is_name_byte bytes) h in
-    and_from _ _ (no_space b parts.0) (spaceless bytes parts.1)
+    and_from _ _ (no_other c b low parts.0) (no_others c bytes low parts.1)
 
 all_ascii : (bytes : List ℕ) → list_all is_name_byte bytes ≡ true → IsAscii bytes
 all_ascii [] h i = omega arith
@@ -29,13 +30,17 @@ all_ascii (b ∷ bytes) h (suc i) = all_ascii bytes (and_parts (is_name_byte b) 
 name_bytes : (name : List ℕ) → is_lawful_name name ≡ true → list_all is_name_byte name ≡ true
 name_bytes name lawful = (and_parts _ (list_all is_name_byte name) lawful).1
 
--- no space stands in a name
-pub name_has_no_space : (name : List ℕ) → is_lawful_name name ≡ true → has_no 32 name ≡ true
-name_has_no_space name lawful = spaceless name (name_bytes name lawful)
+-- no space or newline stands in a name
+pub name_has_no : (c : ℕ) (name : List ℕ) → c < 48 → is_lawful_name name ≡ true → has_no c name ≡ true
+name_has_no c name low lawful = no_others c name low (name_bytes name lawful)
+
+-- bytes of names are text
+pub bytes_are_text : (bytes : List ℕ) → list_all is_name_byte bytes ≡ true → IsUtf8 bytes
+bytes_are_text bytes all = IsUtf8-from_ascii bytes (all_ascii bytes all)
 
 -- a name is text
 pub name_is_text : (name : List ℕ) → is_lawful_name name ≡ true → IsUtf8 name
-name_is_text name lawful = IsUtf8-from_ascii name (all_ascii name (name_bytes name lawful))
+name_is_text name lawful = bytes_are_text name (name_bytes name lawful)
 
 -- what is no text is no name
 pub no_name : (word : List ℕ) → ¬ (IsUtf8 word) → None ≡ name_of word

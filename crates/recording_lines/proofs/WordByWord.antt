@@ -10,7 +10,7 @@ use Rattle.line_words.proofs.FirstSpace.{splits, split_parts}
 use Rattle.line_words.proofs.Splits.{has_no}
 use Rattle.line_words.proofs.WrittenNumbers.{number_read, number_written, decimal_has_no}
 use Rattle.recording_lines.specs.Words.{◌>>=◌, name_of, number_then, name_then, behind, number_behind}
-use Rattle.recording_lines.proofs.Names.{name_has_no_space}
+use Rattle.recording_lines.proofs.Names.{name_has_no}
 
 -- ---- what one reading after another gives
 pub bind_some : {X Y : Type 0} (o : Option X) (f : X → Option Y) (y : Y) → (o >>= f) ≡ Some y → (x : X) × (o ≡ Some x) × (f x ≡ Some y)
@@ -69,7 +69,7 @@ name_then_read text read e =
 pub name_then_written : (name rest : List ℕ) → is_lawful_name name ≡ true → name_then (name ++ 32 ∷ rest) ≡ Some (name, rest)
 unfolding name_then
 name_then_written name rest lawful =
-    ap (λ o. o >>= λ words. name_of words.0 >>= λ m. Some (m, words.1)) (splits name rest (name_has_no_space name lawful))
+    ap (λ o. o >>= λ words. name_of words.0 >>= λ m. Some (m, words.1)) (splits name rest (name_has_no 32 name (omega arith) lawful))
     ∙ ap (λ o. o >>= λ m. Some (m, rest)) (name_written name lawful)
 
 -- ---- behind a word

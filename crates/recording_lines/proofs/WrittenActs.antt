@@ -11,7 +11,7 @@ use Rattle.recording_lines.specs.declared.recording_line.RecordedActor.{Recorded
 use Rattle.recording_lines.specs.declared.recording_line.RecordedActor.TheVariants.{Job, Round}
 use Rattle.recording_lines.specs.Words.{◌>>=◌, name_of}
 use Rattle.recording_lines.specs.RecordingLine.{RecordedLine, RoundBegins, RoundEnds, Refused, JobStarts, JobEnds, JobThrew, Got, TimedOut, Interrupted, Cancels, InvokesAny, deed_of, submit_of, act_of, job_line_of, round_line_of}
-use Rattle.recording_lines.specs.LineText.{actor_words, line_text, is_lawful_actor, is_lawful_line}
+use Rattle.recording_lines.specs.LineText.{actor_words, behind_actor, line_text, is_lawful_actor, is_lawful_line}
 use Rattle.recording_lines.proofs.WordByWord.{bind_some, by_word, name_read, number_then_read, name_then_read}
 
 -- the text is that of the lawful line
@@ -19,12 +19,7 @@ abbrev pub IsLine : List ℕ → RecordedLine → Type 0
 IsLine text line = (is_lawful_line line ≡ true) × (text ≡ line_text line)
 
 -- ---- behind an actor
--- a text behind the two words of an actor
-abbrev pub behind_actor : RecordedActor → List ℕ → List ℕ
-behind_actor (Job n) text = codes "job" ++ 32 ∷ (decimal n ++ 32 ∷ text)
-behind_actor (Round n) text = codes "round" ++ 32 ∷ (decimal n ++ 32 ∷ text)
-
--- its words, behind the two of the actor
+-- words behind the two of the actor
 pub behind_is : (actor : RecordedActor) (word : List ℕ) (words : List (List ℕ)) → behind_actor actor (join_with_byte 32 (word ∷ words)) ≡ join_with_byte 32 (actor_words actor (word ∷ words))
 behind_is (Job n) word words = refl
 behind_is (Round n) word words = refl

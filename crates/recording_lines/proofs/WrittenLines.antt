@@ -14,11 +14,11 @@ use Rattle.recording_lines.specs.declared.recording_line.RecordedActor.TheVarian
 use Rattle.recording_lines.specs.Words.{◌>>=◌, name_of, number_then, name_then}
 use Rattle.recording_lines.specs.PoolSizes.{pool_sizes_of}
 use Rattle.recording_lines.specs.RecordingLine.{RecordedLine, Head, Pool, RoundBegins, RoundEnds, Submits, Refused, JobStarts, JobEnds, JobThrew, Got, TimedOut, Interrupted, Cancels, InvokesAny, Removed, ShutDown, Unseen, End, deed_of, submit_of, act_of, job_line_of, round_line_of, other_line_of, line_of_words, line_of}
-use Rattle.recording_lines.specs.LineText.{sizes_words, actor_words, line_text, is_lawful_actor, has_lawful_numbers, is_lawful_line}
+use Rattle.recording_lines.specs.LineText.{sizes_words, actor_words, behind_actor, line_text, is_lawful_actor, has_lawful_numbers, is_lawful_line}
 use Rattle.recording_lines.specs.Laws.{RecordingLinesAreCanonical}
 use Rattle.recording_lines.proofs.WordByWord.{bind_some, bind_written, by_word, name_read, name_written, number_then_read, number_then_written, name_then_read, name_then_written}
 use Rattle.recording_lines.proofs.WrittenPools.{pool_sizes_read, pool_sizes_written}
-use Rattle.recording_lines.proofs.WrittenActs.{IsLine, behind_actor, behind_is, job_line_read, round_line_read}
+use Rattle.recording_lines.proofs.WrittenActs.{IsLine, behind_is, job_line_read, round_line_read}
 
 -- ---- what is read
 pool_read : (rest : List ℕ) (line : RecordedLine) → (name_then rest >>= λ name. pool_sizes_of name.1 >>= λ sizes. Some (Pool name.0 sizes)) ≡ Some line → IsLine (codes "pool" ++ 32 ∷ rest) line

@@ -1,5 +1,5 @@
 -- The lines of a recording as they are written, and which lines there can be.
-use Rattle.std.specs.Prelude.{ℕ, Bool, true, false, ◌&&◌, List, [], ◌∷◌, codes, decimal}
+use Rattle.std.specs.Prelude.{ℕ, Bool, true, false, ◌&&◌, List, [], ◌∷◌, ◌++◌, codes, decimal}
 use Rattle.std.specs.List.{join_with_byte}
 use Rattle.job_bodies.specs.WellFormed.{is_lawful_name}
 use Rattle.line_words.specs.Number.{is_lawful_number}
@@ -40,6 +40,11 @@ sizes_words sizes =
 abbrev pub actor_words : RecordedActor → List (List ℕ) → List (List ℕ)
 actor_words (Job n) words = codes "job" ∷ decimal n ∷ words
 actor_words (Round n) words = codes "round" ∷ decimal n ∷ words
+
+-- a text behind them
+abbrev pub behind_actor : RecordedActor → List ℕ → List ℕ
+behind_actor (Job n) text = codes "job" ++ 32 ∷ (decimal n ++ 32 ∷ text)
+behind_actor (Round n) text = codes "round" ++ 32 ∷ (decimal n ++ 32 ∷ text)
 
 abbrev pub line_words : RecordedLine → List (List ℕ)
 line_words Head = codes "recording" ∷ codes "1" ∷ []

@@ -3,6 +3,7 @@
 //! [`RecordingLines`] reads them one after another: each by its form alone, and not by what the lines before it say.
 #![tactic(auto)]
 
+mod frequent_lines;
 mod laws;
 mod line_forms;
 mod lines;

@@ -9,7 +9,9 @@ use crate::recording_line::{Line, RecordedActor};
 use crate::words::{is_word, name_of, name_then, number_then};
 use line_words::{number_of, split_space};
 
-/// The line that a text writes.
+/// The line that a text writes. Few lines are read here: [`split_frequent_line`](crate::frequent_lines) reads most.
+#[cold]
+#[inline(never)]
 #[tactic(auto, unfolding(crate::specs::RecordingLine::line_of, crate::specs::RecordingLine::line_of_words))]
 pub(crate) fn line_of(text: &[u8]) -> Option<Line<'_>>
     ensures { option_map line_seen result ≡ spec.line_of text.now }

@@ -4,6 +4,7 @@ ghost use Rattle.std.specs.Prelude.{◌≡◌, ◌≤◌, ◌∷◌, [], length,
 ghost use Rattle.recording_lines.specs.WholeLines.{whole_lines};
 ghost use Rattle.recording_lines.specs.RecordingLine.{line_read, lines_read};
 
+use crate::frequent_lines::split_frequent_line;
 use crate::line_forms::line_of;
 use crate::recording_line::Line;
 use memchr::memchr;
@@ -44,19 +45,36 @@ impl<'a> RecordingLines<'a> {
     /// # Errors
     ///
     /// [`BadLine`] in the place of a line that has none of the forms. The lines behind it can be read.
+    #[inline(always)]
     pub fn next(&mut self) -> Option<Result<Line<'a>, BadLine>>
         ensures { MatchOption result ((self.old ≡ []) × (self.new ≡ [])) (λ line. self.old ≡ line_read line ∷ self.new) }
     {
-        let (line, behind) = split_whole_line(self.rest)?;
+        let (line, behind) = match split_frequent_line(self.rest) {
+            Some((line, behind)) => (Ok(line), behind),
+            None => split_line(self.rest)?,
+        };
         self.rest = behind;
-        match line_of(line) {
-            Some(line) => Some(Ok(line)),
-            None => Some(Err(BadLine)),
-        }
+        Some(line)
+    }
+}
+
+/// The first line, whatever its form, and what stands behind it; None where no line is whole.
+///
+/// Inlined, since the room for what the calls in it return is cleared at its start, which most lines then don't pay for.
+#[inline(always)]
+fn split_line(text: &[u8]) -> Option<(Result<Line<'_>, BadLine>, &[u8])>
+    ensures { MatchOption result (lines_read text.now ≡ []) (λ read. lines_read text.now ≡ line_read read.0 ∷ lines_read read.1.now) }
+{
+    let (line, behind) = split_whole_line(text)?;
+    match line_of(line) {
+        Some(line) => Some((Ok(line), behind)),
+        None => Some((Err(BadLine), behind)),
     }
 }
 
 /// The first line, without its newline, and what stands behind it; None where no line is whole.
+#[cold]
+#[inline(never)]
 fn split_whole_line(text: &[u8]) -> Option<(&[u8], &[u8])>
     ensures { MatchOption result (whole_lines text.now ≡ []) (λ parts. whole_lines text.now ≡ parts.0.now ∷ whole_lines parts.1.now) }
 {
