@@ -6,3 +6,4 @@ pub mod OffersAfter
 pub mod StandsAfter
 pub mod FirstFaults
 pub mod RuledAfter
+pub mod PoolsOnceNamed

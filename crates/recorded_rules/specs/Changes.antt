@@ -27,15 +27,6 @@ round_admitted line r there = if begins_round r line then Some None else there
 abbrev pub job_admitted : RecordedLine → ℕ → Option JobState → Option JobState
 job_admitted line j there = if submits_job j line then Some new_job else there
 
-pub record IsAdmitted (old : LinesSoFar) (line : RecordedLine) (new : LinesSoFar) : Type 0 where
-  pub begun : new.begun ≡ old.begun
-  pub closed : new.closed ≡ old.closed
-  pub pools : (pool : List ℕ) → has_name new.pools pool ≡ (has_name old.pools pool || declares pool line)
-  pub submitted : new.jobs.submitted ≡ old.jobs.submitted + (if is_submit line then 1 else 0)
-  pub rounds_begun : new.rounds.begun ≡ old.rounds.begun + (if is_begin line then 1 else 0)
-  pub rounds : (r : ℕ) → round_at new.rounds r ≡ round_admitted line r (round_at old.rounds r)
-  pub jobs : (j : ℕ) → job_at new.jobs j ≡ job_admitted line j (job_at old.jobs j)
-
 -- the actor just submitted this job, or did another thing
 abbrev pub round_offered : RecordedActor → Option ℕ → ℕ → Option (Option ℕ) → Option (Option ℕ)
 round_offered actor offered r there = if is_same_actor actor (Round r) then option_map (λ _. offered) there else there
@@ -71,15 +62,6 @@ job_acted (Cancels actor job) j there = job_offered actor None j there
 job_acted (InvokesAny actor pool) j there = job_offered actor None j there
 job_acted line j there = there
 
-pub record IsActed (old : LinesSoFar) (line : RecordedLine) (new : LinesSoFar) : Type 0 where
-  pub begun : new.begun ≡ old.begun
-  pub closed : new.closed ≡ old.closed
-  pub pools : new.pools ≡ old.pools
-  pub submitted : new.jobs.submitted ≡ old.jobs.submitted
-  pub rounds_begun : new.rounds.begun ≡ old.rounds.begun
-  pub rounds : (r : ℕ) → round_at new.rounds r ≡ round_acted line r (round_at old.rounds r)
-  pub jobs : (j : ℕ) → job_at new.jobs j ≡ job_acted line j (job_at old.jobs j)
-
 -- where the round or the job has come to
 abbrev pub round_changed : RecordedLine → ℕ → Option (Option ℕ) → Option (Option ℕ)
 round_changed line r there = if ends_round r line then None else there
@@ -88,14 +70,15 @@ abbrev pub job_changed : RecordedLine → ℕ → Option JobState → Option Job
 job_changed line j there =
     if finishes_job j line then None else (if starts_job j line then option_map with_start there else (if cancels_job j line then option_map with_cancel there else there))
 
-pub record IsChanged (old : LinesSoFar) (line : RecordedLine) (new : LinesSoFar) : Type 0 where
+-- the three changes above, one behind another
+pub record IsNoted (old : LinesSoFar) (line : RecordedLine) (new : LinesSoFar) : Type 0 where
   pub begun : new.begun ≡ old.begun
   pub closed : new.closed ≡ old.closed
-  pub pools : new.pools ≡ old.pools
-  pub submitted : new.jobs.submitted ≡ old.jobs.submitted
-  pub rounds_begun : new.rounds.begun ≡ old.rounds.begun
-  pub rounds : (r : ℕ) → round_at new.rounds r ≡ round_changed line r (round_at old.rounds r)
-  pub jobs : (j : ℕ) → job_at new.jobs j ≡ job_changed line j (job_at old.jobs j)
+  pub pools : (pool : List ℕ) → has_name new.pools pool ≡ (has_name old.pools pool || declares pool line)
+  pub submitted : new.jobs.submitted ≡ old.jobs.submitted + (if is_submit line then 1 else 0)
+  pub rounds_begun : new.rounds.begun ≡ old.rounds.begun + (if is_begin line then 1 else 0)
+  pub rounds : (r : ℕ) → round_at new.rounds r ≡ round_changed line r (round_acted line r (round_admitted line r (round_at old.rounds r)))
+  pub jobs : (j : ℕ) → job_at new.jobs j ≡ job_changed line j (job_acted line j (job_admitted line j (job_at old.jobs j)))
 
 -- all of it
 pub record Follows (old : LinesSoFar) (line : RecordedLine) (new : LinesSoFar) : Type 0 where

@@ -1,13 +1,13 @@
 -- What is kept of the lines so far.
-use Rattle.std.specs.Prelude.{ℕ, ◌&&◌, nat_lt, nat_eq, Bool, true, false, is_none, Option, Some, None}
-use Rattle.std.specs.HashMap.{get}
+use Rattle.std.specs.Prelude.{ℕ, ◌&&◌, nat_lt, Bool, true, false, is_none, Option, Some, None}
+use Rattle.number_tables.specs.Numbered.{value_at}
 use Rattle.recorded_rules.specs.declared.rounds.Rounds.{Rounds}
 use Rattle.recorded_rules.specs.declared.jobs.Jobs.{Jobs}
 use Rattle.recorded_rules.specs.declared.jobs.JobState.{JobState}
 
 -- ---- a round that has not ended, with the job that it just submitted
 abbrev pub round_at : Rounds → ℕ → Option (Option ℕ)
-round_at rounds r = get nat_eq rounds.open r
+round_at rounds r = value_at rounds.open r
 
 abbrev pub offered_there : Option (Option ℕ) → Option ℕ
 offered_there None = None
@@ -15,7 +15,7 @@ offered_there (Some offered) = offered
 
 -- ---- a job that is not done
 abbrev pub job_at : Jobs → ℕ → Option JobState
-job_at jobs j = get nat_eq jobs.unfinished j
+job_at jobs j = value_at jobs.unfinished j
 
 abbrev pub offered_by : Option JobState → Option ℕ
 offered_by None = None

@@ -1,6 +1,7 @@
 pub mod LineParts
 pub mod Before
 pub mod Rules
+pub mod PoolNames
 pub mod Pools
 pub mod Kept
 pub mod StandsFor

@@ -1,11 +1,11 @@
 //! The jobs of a recording.
 
-ghost use Rattle.std.specs.Prelude.{◌≡◌, ◌+◌, ℕ, OnOk, OnErr, None, Some, is_some, if◌then◌else◌, ◌==◌};
+ghost use Rattle.std.specs.Prelude.{◌≡◌, ◌+◌, ◌&&◌, not, ℕ, OnOk, OnErr, None, Some, is_some, if◌then◌else◌, ◌==◌};
 ghost use Rattle.std.specs.Option.{option_map};
 ghost use Rattle.recorded_rules.specs.Kept.{job_at, has_started, is_done, is_settled, offered_by, new_job, with_start, with_cancel, with_offered};
 
+use number_tables::NumberTable;
 use std::alloc::{AllocError, Global};
-use std::collections::HashMap;
 
 /// What is known of a job that is not done.
 #[derive(Clone, Copy, Debug)]
@@ -20,7 +20,7 @@ pub(crate) struct JobState {
 #[derive(Debug, Drop)]
 pub(crate) struct Jobs {
     pub(crate) submitted: usize,
-    unfinished: HashMap<usize, JobState>,
+    unfinished: NumberTable<JobState>,
 }
 
 impl Jobs {
@@ -31,14 +31,14 @@ impl Jobs {
     {
         Jobs {
             submitted: 0,
-            unfinished: HashMap::new(alloc),
+            unfinished: NumberTable::new(alloc),
         }
     }
 
     fn get(&self, job: usize) -> Option<JobState>
         ensures { result ≡ job_at self.now job }
     {
-        self.unfinished.get(&job).copied()
+        self.unfinished.get(job).copied()
     }
 
     pub(crate) fn has_started(&self, job: usize) -> bool
@@ -47,10 +47,11 @@ impl Jobs {
         job < self.submitted && self.get(job).is_none_or(|state| state.started)
     }
 
-    pub(crate) fn is_done(&self, job: usize) -> bool
-        ensures { result ≡ is_done self.now job }
+    /// Whether the job has started and is not done.
+    pub(crate) fn is_running(&self, job: usize) -> bool
+        ensures { result ≡ (has_started self.now job && not (is_done self.now job)) }
     {
-        job < self.submitted && self.get(job).is_none()
+        job < self.submitted && self.get(job).is_some_and(|state| state.started)
     }
 
     /// Whether the job is done or cancelled.
@@ -95,7 +96,7 @@ impl Jobs {
         ensures submitted { self.new.submitted ≡ self.old.submitted }
         ensures unfinished { (j : ℕ) → job_at self.new j ≡ (if job == j then option_map with_start (job_at self.old j) else job_at self.old j) }
     {
-        if let Some(state) = self.unfinished.get_mut(&job) {
+        if let Some(state) = self.unfinished.get_mut(job) {
             state.started = true;
         }
     }
@@ -105,7 +106,7 @@ impl Jobs {
         ensures submitted { self.new.submitted ≡ self.old.submitted }
         ensures unfinished { (j : ℕ) → job_at self.new j ≡ (if job == j then option_map with_cancel (job_at self.old j) else job_at self.old j) }
     {
-        if let Some(state) = self.unfinished.get_mut(&job) {
+        if let Some(state) = self.unfinished.get_mut(job) {
             state.cancelled = true;
         }
     }
@@ -115,7 +116,7 @@ impl Jobs {
         ensures submitted { self.new.submitted ≡ self.old.submitted }
         ensures unfinished { (j : ℕ) → job_at self.new j ≡ (if job == j then option_map (with_offered offered) (job_at self.old j) else job_at self.old j) }
     {
-        if let Some(state) = self.unfinished.get_mut(&job) {
+        if let Some(state) = self.unfinished.get_mut(job) {
             state.offered = offered;
         }
     }
@@ -125,6 +126,6 @@ impl Jobs {
         ensures submitted { self.new.submitted ≡ self.old.submitted }
         ensures unfinished { (j : ℕ) → job_at self.new j ≡ (if job == j then None else job_at self.old j) }
     {
-        self.unfinished.remove(&job);
+        self.unfinished.remove(job);
     }
 }

@@ -113,7 +113,7 @@ fn is_running(lines: &LinesSoFar, actor: Option<RecordedActor>) -> bool
     ensures { (before : List RecordedLine) → StandsFor lines.now before → result ≡ spec.is_running before actor }
 {
     match actor {
-        Some(RecordedActor::Job(job)) => lines.jobs.has_started(job) && !lines.jobs.is_done(job),
+        Some(RecordedActor::Job(job)) => lines.jobs.is_running(job),
         Some(RecordedActor::Round(_)) | None => true,
     }
 }

@@ -2,7 +2,7 @@
 
 ghost use Rattle.std.specs.Prelude.{OnOk, OnErr};
 ghost use Rattle.recording_lines.specs.RecordingLine.{line_seen};
-ghost use Rattle.recorded_rules.specs.Changes.{Follows, IsSame, IsAdmitted, IsActed, IsChanged, IsOffered};
+ghost use Rattle.recorded_rules.specs.Changes.{Follows, IsSame, IsNoted, IsOffered};
 
 use crate::line_parts::is_end;
 use crate::lines_so_far::LinesSoFar;
@@ -18,40 +18,39 @@ pub(crate) fn note(lines: &mut LinesSoFar, line: &Line<'_>) -> Result<(), AllocE
     ensures noted { OnOk result (Follows lines.old (line_seen line.now) lines.new) }
     ensures same { OnErr result (IsSame lines.old lines.new) }
 {
-    admit(lines, line)?;
-    note_act(lines, line);
-    note_change(lines, line);
+    note_own(lines, line)?;
     lines.begun = true;
     lines.closed = lines.closed || is_end(line);
     Ok(())
 }
 
-// The pool, the round or the job of which this is the first line.
-fn admit(lines: &mut LinesSoFar, line: &Line<'_>) -> Result<(), AllocError>
-    ensures noted { OnOk result (IsAdmitted lines.old (line_seen line.now) lines.new) }
+// The pool, the round or the job of which this is the first line; what its actor did last; and where the round or the job
+// has come to.
+fn note_own(lines: &mut LinesSoFar, line: &Line<'_>) -> Result<(), AllocError>
+    ensures noted { OnOk result (IsNoted lines.old (line_seen line.now) lines.new) }
     ensures same { OnErr result (IsSame lines.old lines.new) }
 {
     match *line {
-        Line::Pool { name, .. } => lines.pools.insert(name),
-        Line::RoundBegins { round, .. } => lines.rounds.begin(round),
-        Line::Submits { job, .. } => lines.jobs.submit(job),
-        _ => Ok(()),
-    }
-}
-
-// What its actor did last.
-fn note_act(lines: &mut LinesSoFar, line: &Line<'_>)
-    ensures { IsActed lines.old (line_seen line.now) lines.new }
-{
-    match *line {
-        Line::Submits { actor, job, .. } => set_offered(lines, actor, Some(job)),
+        Line::Pool { name, .. } => lines.pools.insert(name)?,
+        Line::RoundBegins { round, .. } => lines.rounds.begin(round)?,
+        Line::RoundEnds { round } => lines.rounds.end(round),
+        Line::Submits { actor, job, .. } => {
+            lines.jobs.submit(job)?;
+            set_offered(lines, actor, Some(job));
+        }
+        Line::JobStarts { job } => lines.jobs.start(job),
+        Line::JobEnds { job } | Line::JobThrew { job } => lines.jobs.finish(job),
+        Line::Cancels { actor, job } => {
+            set_offered(lines, actor, None);
+            lines.jobs.cancel(job);
+        }
         Line::Got { actor, .. }
         | Line::TimedOut { actor, .. }
         | Line::Interrupted { actor, .. }
-        | Line::Cancels { actor, .. }
         | Line::InvokesAny { actor, .. } => set_offered(lines, actor, None),
         _ => {}
     }
+    Ok(())
 }
 
 fn set_offered(lines: &mut LinesSoFar, actor: RecordedActor, offered: Option<usize>)
@@ -60,18 +59,5 @@ fn set_offered(lines: &mut LinesSoFar, actor: RecordedActor, offered: Option<usi
     match actor {
         RecordedActor::Job(job) => lines.jobs.set_offered(job, offered),
         RecordedActor::Round(round) => lines.rounds.set_offered(round, offered),
-    }
-}
-
-// Where the round or the job has come to.
-fn note_change(lines: &mut LinesSoFar, line: &Line<'_>)
-    ensures { IsChanged lines.old (line_seen line.now) lines.new }
-{
-    match *line {
-        Line::RoundEnds { round } => lines.rounds.end(round),
-        Line::JobStarts { job } => lines.jobs.start(job),
-        Line::Cancels { job, .. } => lines.jobs.cancel(job),
-        Line::JobEnds { job } | Line::JobThrew { job } => lines.jobs.finish(job),
-        _ => {}
     }
 }

@@ -2,15 +2,22 @@
 
 ghost use Rattle.std.specs.Prelude.{◌≡◌, ◌||◌, ℕ, List, OnOk, OnErr, false};
 ghost use Rattle.std.specs.Str.{bytes_eq};
+ghost use Rattle.std.specs.HashSet.{contains_text};
+ghost use Rattle.std.specs.Option.{option_copied};
+ghost use Rattle.recorded_rules.specs.PoolNames.{number_of, is_name};
 ghost use Rattle.recorded_rules.specs.Pools.{has_name};
 
+use number_tables::NumberTable;
 use std::alloc::{AllocError, Global};
 use std::collections::HashSet;
 
 /// The names of the pools that have a line.
+///
+/// A name is looked up by a number that takes no hash. One that has another's number is in a set.
 #[derive(Debug, Drop)]
 pub(crate) struct Pools {
-    names: HashSet<String>,
+    firsts: NumberTable<String>,
+    others: HashSet<String>,
     alloc: Global,
 }
 
@@ -20,15 +27,17 @@ impl Pools {
         ensures { (q : List ℕ) → has_name result q ≡ false }
     {
         Pools {
-            names: HashSet::new(alloc),
+            firsts: NumberTable::new(alloc),
+            others: HashSet::new(alloc),
             alloc,
         }
     }
 
+    #[inline(never)]
     pub(crate) fn contains(&self, name: &str) -> bool
         ensures { result ≡ has_name self.now name.now }
     {
-        self.names.contains(name)
+        is_name(self.firsts.get(number_of(name)), name) || contains_other(&self.others, name)
     }
 
     /// The pool of this name has a line.
@@ -40,10 +49,42 @@ impl Pools {
         ensures added { OnOk result ((q : List ℕ) → has_name self.new q ≡ (has_name self.old q || bytes_eq name.now q)) }
         ensures same { OnErr result ((q : List ℕ) → has_name self.new q ≡ has_name self.old q) }
     {
-        if !self.names.contains(name) {
-            let name = String::from_str(self.alloc, name)?;
-            self.names.insert(name)?;
+        let kept = String::from_str(self.alloc, name)?;
+        let number = number_of(name);
+        if self.firsts.contains(number) {
+            self.others.insert(kept)?;
+        } else {
+            self.firsts.insert(number, kept)?;
         }
         Ok(())
+    }
+}
+
+// Look-ups in the set are rare, and stay out of their caller.
+#[inline(never)]
+fn contains_other(others: &HashSet<String>, name: &str) -> bool
+    ensures { result ≡ contains_text others.now name.now }
+{
+    others.contains(name)
+}
+
+// Whether the name is this one.
+fn is_name(kept: Option<&String>, name: &str) -> bool
+    ensures { result ≡ is_name name.now (option_copied kept.entry) }
+{
+    match kept {
+        Some(kept) => kept.as_str() == name,
+        None => false,
+    }
+}
+
+// A number that few names share.
+fn number_of(name: &str) -> usize
+    ensures { result ≡ number_of name.now }
+{
+    let bytes = name.as_bytes();
+    match bytes.len() {
+        0 => 0,
+        len => bytes[0] as usize + 8 * bytes[len - 1] as usize,
     }
 }

@@ -4,14 +4,14 @@ ghost use Rattle.std.specs.Prelude.{◌≡◌, ◌+◌, ℕ, OnOk, OnErr, None, 
 ghost use Rattle.std.specs.Option.{option_map};
 ghost use Rattle.recorded_rules.specs.Kept.{round_at, offered_there};
 
+use number_tables::NumberTable;
 use std::alloc::{AllocError, Global};
-use std::collections::HashMap;
 
 /// The rounds of the lines so far: how many began, and for each that has not ended the job that it just submitted.
 #[derive(Debug, Drop)]
 pub(crate) struct Rounds {
     pub(crate) begun: usize,
-    open: HashMap<usize, Option<usize>>,
+    open: NumberTable<Option<usize>>,
 }
 
 impl Rounds {
@@ -22,7 +22,7 @@ impl Rounds {
     {
         Rounds {
             begun: 0,
-            open: HashMap::new(alloc),
+            open: NumberTable::new(alloc),
         }
     }
 
@@ -30,14 +30,14 @@ impl Rounds {
     pub(crate) fn is_open(&self, round: usize) -> bool
         ensures { result ≡ is_some (round_at self.now round) }
     {
-        self.open.contains_key(&round)
+        self.open.contains(round)
     }
 
     /// The job that the round just submitted.
     pub(crate) fn offered(&self, round: usize) -> Option<usize>
         ensures { result ≡ offered_there (round_at self.now round) }
     {
-        *self.open.get(&round)?
+        *self.open.get(round)?
     }
 
     /// The round begins.
@@ -63,7 +63,7 @@ impl Rounds {
         ensures begun { self.new.begun ≡ self.old.begun }
         ensures going { (r : ℕ) → round_at self.new r ≡ (if round == r then None else round_at self.old r) }
     {
-        self.open.remove(&round);
+        self.open.remove(round);
     }
 
     /// The round, where it is open, just submitted this job, or did another thing.
@@ -71,7 +71,7 @@ impl Rounds {
         ensures begun { self.new.begun ≡ self.old.begun }
         ensures going { (r : ℕ) → round_at self.new r ≡ (if round == r then option_map (λ _. offered) (round_at self.old r) else round_at self.old r) }
     {
-        if let Some(there) = self.open.get_mut(&round) {
+        if let Some(there) = self.open.get_mut(round) {
             *there = offered;
         }
     }

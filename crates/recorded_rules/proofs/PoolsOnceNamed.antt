@@ -1,0 +1,13 @@
+-- What is known of the names of pools once one more comes.
+use Rattle.std.proofs.Common.{◌≡◌, ◌||◌, Bool, true, false, cond, refl, ap, ◌∙◌}
+
+or_more : (a c s : Bool) → (a || cond s true c) ≡ ((a || c) || s)
+or_more true c s = refl
+or_more false true true = refl
+or_more false true false = refl
+or_more false false true = refl
+or_more false false false = refl
+
+-- a name of the set, by what the set had (c) and whether it is the one that comes (s)
+pub named_other : (a c s now : Bool) → now ≡ cond s true c → (a || now) ≡ ((a || c) || s)
+named_other a c s now is = ap (λ b. a || b) is ∙ or_more a c s

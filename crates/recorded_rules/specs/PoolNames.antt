@@ -1,0 +1,11 @@
+-- The names of pools, by numbers.
+use Rattle.std.specs.Prelude.{ℕ, ◌+◌, ◌*◌, ◌-◌, Bool, false, List, length, slice_index, Option, Some, None, String, string_bytes}
+use Rattle.std.specs.Str.{bytes_eq}
+
+-- of the first byte and the last one
+abbrev pub number_of : List ℕ → ℕ
+number_of name = slice_index name 0 + 8 * slice_index name (length name - 1)
+
+abbrev pub is_name : {A : Type 0} → List ℕ → Option (String A) → Bool
+is_name name None = false
+is_name name (Some kept) = bytes_eq (string_bytes kept) name
