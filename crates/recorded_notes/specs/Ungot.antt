@@ -1,6 +1,6 @@
 -- The jobs that their submitters have not got, as they are kept while lines come.
-use Rattle.std.specs.Prelude.{ℕ, nat_eq, ◌==◌, if◌then◌else◌, Option, Some, None}
-use Rattle.std.specs.HashMap.{get}
+use Rattle.std.specs.Prelude.{ℕ, ◌==◌, if◌then◌else◌, Option, Some, None}
+use Rattle.number_tables.specs.Numbered.{value_at}
 use Rattle.recording_lines.specs.declared.recording_line.RecordedActor.{RecordedActor}
 use Rattle.recording_lines.specs.RecordingLine.{RecordedLine, Submits, Got}
 use Rattle.recorded_rules.specs.LineParts.{is_same_actor}
@@ -9,7 +9,7 @@ use Rattle.recorded_notes.specs.declared.ungot.Ungot.{Ungot}
 use Rattle.recorded_notes.specs.ForeignGets.{is_another}
 
 abbrev pub submitter_in : Ungot → ℕ → Option RecordedActor
-submitter_in ungot job = get nat_eq ungot.submitters job
+submitter_in ungot job = value_at ungot.submitters job
 
 -- the actor got the job: nothing is left where it is the one that submitted it
 abbrev pub ungot_by : RecordedActor → Option RecordedActor → Option RecordedActor

@@ -6,14 +6,14 @@ ghost use Rattle.recorded_notes.specs.Ungot.{submitter_in, table_behind, ungot_b
 ghost use Rattle.recorded_notes.specs.ForeignGets as spec;
 
 use crate::line_void::is_same_actor;
+use number_tables::NumberTable;
 use recording_lines::{Line, RecordedActor};
 use std::alloc::{AllocError, Global};
-use std::collections::HashMap;
 
 /// Who submitted each job that this actor has not got.
 #[derive(Debug, Drop)]
 pub(crate) struct Ungot {
-    submitters: HashMap<usize, RecordedActor>,
+    submitters: NumberTable<RecordedActor>,
 }
 
 impl Ungot {
@@ -22,7 +22,7 @@ impl Ungot {
         ensures { (job : ℕ) → submitter_in result job ≡ None }
     {
         Ungot {
-            submitters: HashMap::new(alloc),
+            submitters: NumberTable::new(alloc),
         }
     }
 
@@ -30,7 +30,7 @@ impl Ungot {
     pub(crate) fn is_anothers(&self, job: usize, actor: RecordedActor) -> bool
         ensures { result ≡ spec.is_another (submitter_in self.now job) actor }
     {
-        match self.submitters.get(&job) {
+        match self.submitters.get(job) {
             Some(submitter) => !is_same_actor(*submitter, actor),
             None => false,
         }
@@ -61,9 +61,9 @@ impl Ungot {
     fn got(&mut self, actor: RecordedActor, job: usize)
         ensures { (one : ℕ) → submitter_in self.new one ≡ (if job == one then ungot_by actor (submitter_in self.old one) else submitter_in self.old one) }
     {
-        if let Some(submitter) = self.submitters.get(&job) {
+        if let Some(submitter) = self.submitters.get(job) {
             if is_same_actor(*submitter, actor) {
-                self.submitters.remove(&job);
+                self.submitters.remove(job);
             }
         }
     }
