@@ -11,7 +11,7 @@ use Rattle.recorded_paths.specs.LineDeeds.{is_submitted}
 use Rattle.recorded_paths.specs.StandsFor.{KeepsRules, is_about}
 use Rattle.recorded_paths.proofs.LinesSay.{submitted_more}
 use Rattle.recorded_paths.proofs.Tests.{and_first}
-use Rattle.recorded_classes.specs.Changes.{ended_by}
+use Rattle.recorded_paths.specs.LastLine.{ended_by}
 use Rattle.recorded_classes.specs.Course.{is_through}
 use Rattle.recorded_classes.specs.Label.{label_in, label_of, kind_in, kind_of, HasLabel}
 use Rattle.recorded_classes.specs.Settled.{has_come}

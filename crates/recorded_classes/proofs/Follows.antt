@@ -14,7 +14,8 @@ use Rattle.recorded_classes.specs.declared.actor_table.KeptActor.{KeptActor}
 use Rattle.recorded_classes.specs.declared.actor_table.Waiting.{Waiting}
 use Rattle.recorded_classes.specs.Label.{label_in, kind_in}
 use Rattle.recorded_classes.specs.Kept.{in_table, Comes, without_submitter, with_waiting}
-use Rattle.recorded_classes.specs.Changes.{ended_by, begun_by, refused_by, IsChanged, Changed}
+use Rattle.recorded_paths.specs.LastLine.{ended_by}
+use Rattle.recorded_classes.specs.Changes.{begun_by, refused_by, IsChanged, Changed}
 use Rattle.recorded_classes.proofs.Words.{by_bool, apart, some_of, if_true, if_false}
 use Rattle.recorded_paths.proofs.Places.{same_self}
 

@@ -22,7 +22,8 @@ use Rattle.recorded_classes.specs.declared.job_classes.ClassTable.{ClassTable}
 use Rattle.recorded_classes.specs.Course.{is_through}
 use Rattle.recorded_classes.specs.Classes.{IsSettled}
 use Rattle.recorded_classes.specs.Kept.{in_table, classes_in, AreKnown, AreSettledBefore}
-use Rattle.recorded_classes.specs.Changes.{ended_by, begun_by}
+use Rattle.recorded_paths.specs.LastLine.{ended_by}
+use Rattle.recorded_classes.specs.Changes.{begun_by}
 use Rattle.recorded_classes.specs.StandsFor.{IsNamed, IsWaiting, IsBlocked, IsKept}
 use Rattle.recorded_classes.proofs.Words.{by_bool, by_option, apart, some_of, none_some, two_of, one_of, is_none_of, or_right, or_either}
 use Rattle.recorded_classes.proofs.Labels.{label_more, label_new, label_fresh, kind_more, kind_new, kind_fresh}

@@ -1,6 +1,5 @@
 -- Paths of which each job is settled.
-use Rattle.std.proofs.Common.{◌≡◌, ◌<◌, ℕ, true, List, [], ◌∷◌, ◌++◌, length, slice_index_or, is_some, refl}
-use Rattle.std.proofs.lemmas.List.Folds.{list_any_at}
+use Rattle.std.proofs.Common.{◌≡◌, ℕ, true, List, [], ◌∷◌, ◌++◌, is_some, refl}
 use Rattle.std.specs.declared.alloc.Global.{Global}
 use Rattle.std.specs.declared.vec.Vec.{Vec}
 use Rattle.recording_lines.specs.RecordingLine.{RecordedLine}
@@ -13,7 +12,7 @@ use Rattle.recorded_paths.specs.Act.{submits}
 use Rattle.recorded_paths.proofs.Places.{same_self}
 use Rattle.recorded_classes.specs.declared.job_classes.ClassTable.{ClassTable}
 use Rattle.recorded_classes.specs.Classes.{AreClassesOf, StandFor, none, submit, get}
-use Rattle.recorded_classes.specs.Kept.{classes_in, is_settled_deed, AreAllIn}
+use Rattle.recorded_classes.specs.Kept.{classes_in, is_settled_deed}
 
 pub stand_append : (plan : Plan) (lines : List RecordedLine) (path : List RecordedDeed) (deeds : List Deed) (rest : List RecordedDeed) (last : List Deed) → StandFor plan lines path deeds → StandFor plan lines rest last → StandFor plan lines (path ++ rest) (deeds ++ last)
 stand_append plan lines _ _ rest last none h = h
@@ -27,9 +26,6 @@ pub stand_submit : (plan : Plan) (lines : List RecordedLine) (path : List Record
 stand_submit plan lines path deeds job classes s known = stand_append plan lines path deeds (recorded.Submits job ∷ []) (deed.Submits classes ∷ []) s (submit job classes [] [] known none)
 
 -- ---- deeds
-settled_at : (table : ClassTable) (deed : RecordedDeed) → ((job : ℕ) → submits job deed ≡ true → is_some (classes_in table job) ≡ true) → is_settled_deed table deed ≡ true
+pub settled_at : (table : ClassTable) (deed : RecordedDeed) → ((job : ℕ) → submits job deed ≡ true → is_some (classes_in table job) ≡ true) → is_settled_deed table deed ≡ true
 settled_at table (recorded.Submits job) there = there job (same_self job)
 settled_at table (recorded.Gets place) there = refl
-
-pub settled_deed : (table : ClassTable) (path : List RecordedDeed) (i : ℕ) (d : RecordedDeed) → i < length path → AreAllIn table path → is_settled_deed table (slice_index_or path i d) ≡ true
-settled_deed table path i d low all = settled_at table (slice_index_or path i d) (λ job h. all job (list_any_at (submits job) path i d low h))

@@ -89,7 +89,7 @@ module _ (plan : Plan) (budget : ℕ) (lines : List RecordedLine) (keeps : Keeps
       known_or_there before known job (none_there lines before actor keeps none job own) (left.below actor job (some_of (in_table before actor) kept there) its.0 its.1)
 
   its_told : IsTold plan budget lines (settled_as actor kept.label kept.pool done t.family)
-  its_told = told_one plan budget lines actor kept.submitter kept.label kept.pool done known then_known old new t by (left.named actor kept there) left.classes left.decided all_in
+  its_told = told_one plan budget lines actor kept.submitter kept.label kept.pool done known then_known old new t by (left.named actor kept there) keeps left.classes left.decided all_in
 
   out : Out lines before after known then_known actor kept done.path.items t.family.members.items t.family.is_decided
   out = record { keeps = keeps; there = there; path_is = by.path; below = left.below; submitter = left.submitter; goes = goes; puts = t.table }

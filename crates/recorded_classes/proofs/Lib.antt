@@ -4,6 +4,7 @@ pub mod Later
 pub mod Labels
 pub mod Stays
 pub mod Known
+pub mod Taken
 pub mod Words
 pub mod Follows
 pub mod LineActors
@@ -14,12 +15,14 @@ pub mod TakenOut
 pub mod KeptTaken
 pub mod TellsTaken
 pub mod Enough
+pub mod Once
 pub mod ToldOne
 pub mod Progress
 pub mod SettledByLine
 pub mod AllTold
 pub mod Advanced
 pub mod LineTaken
+pub mod GivenPath
 pub mod Steps
 pub mod Leaving
 pub mod Determined

@@ -19,7 +19,8 @@ use Rattle.recorded_paths.proofs.LinesSay.{submitted_more}
 use Rattle.recorded_paths.proofs.PathAfter.{path_same}
 use Rattle.recorded_paths.proofs.Refusals.{same_actor}
 use Rattle.recorded_classes.specs.Course.{is_through}
-use Rattle.recorded_classes.specs.Changes.{ended_by, begun_by, refused_by}
+use Rattle.recorded_paths.specs.LastLine.{ended_by}
+use Rattle.recorded_classes.specs.Changes.{begun_by, refused_by}
 use Rattle.recorded_classes.proofs.Words.{by_bool, apart, or_left, or_right}
 
 -- ---- what the line says

@@ -10,7 +10,8 @@ use Rattle.recorded_classes.specs.declared.actor_table.Waiting.{Waiting}
 use Rattle.recorded_classes.specs.declared.job_classes.ClassTable.{ClassTable}
 use Rattle.recorded_classes.specs.declared.classes.Classes.{Classes}
 use Rattle.recorded_classes.specs.declared.settled.Settled.{Settled}
-use Rattle.recorded_classes.specs.Changes.{ended_by, Changed}
+use Rattle.recorded_paths.specs.LastLine.{ended_by}
+use Rattle.recorded_classes.specs.Changes.{Changed}
 use Rattle.recorded_classes.specs.Budget.{IsEnoughForPlan}
 use Rattle.recorded_classes.specs.Kept.{AreDecidedIn}
 use Rattle.recorded_classes.specs.Settled.{TellsSettled}

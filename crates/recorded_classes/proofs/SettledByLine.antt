@@ -14,7 +14,8 @@ use Rattle.recorded_classes.specs.declared.settled.Settled.{Settled}
 use Rattle.recorded_classes.specs.Course.{is_through}
 use Rattle.recorded_classes.specs.Classes.{IsSettled}
 use Rattle.recorded_classes.specs.Kept.{in_table}
-use Rattle.recorded_classes.specs.Changes.{ended_by, begun_by}
+use Rattle.recorded_paths.specs.LastLine.{ended_by}
+use Rattle.recorded_classes.specs.Changes.{begun_by}
 use Rattle.recorded_classes.specs.Settled.{IsTold, is_told, TellsSettled}
 use Rattle.recorded_classes.specs.StandsFor.{IsKept}
 use Rattle.recorded_classes.specs.Told.{TellsTaken, IsSettledTold}

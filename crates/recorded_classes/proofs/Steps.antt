@@ -38,7 +38,7 @@ step_taken plan budget lines old new known then_known actor kept waiting x y kee
     let w = k.waiting actor kept waiting there waits in
     let by : IsDoneBy lines actor (whole_of waiting) = record { path = w.path; course = sym (if_true (is_through lines actor) Whole Begun w.through) } in
     let its : IsTold plan budget lines (settled_as actor kept.label kept.pool (whole_of waiting) t.family) =
-    told_one plan budget lines actor kept.submitter kept.label kept.pool (whole_of waiting) known then_known x y t by (k.named actor kept there) k.classes.classes decided all in
+    told_one plan budget lines actor kept.submitter kept.label kept.pool (whole_of waiting) known then_known x y t by (k.named actor kept there) keeps k.classes.classes decided all in
     let taken : Taken plan lines old new known then_known actor t.family.members.items t.family.is_decided =
     record { keeps = keeps; kept = k; ready = mine; goes = goes; puts = t.table; can_be = its.members } in
     record {

@@ -1,5 +1,5 @@
 -- What is told of one actor is so by the lines.
-use Rattle.std.proofs.Common.{◌≡◌, ℕ, true, List, Option, subst}
+use Rattle.std.proofs.Common.{◌≡◌, ℕ, true, List, Option, sym, subst}
 use Rattle.std.specs.Prelude.{string_bytes}
 use Rattle.std.specs.declared.alloc.Global.{Global}
 use Rattle.std.specs.declared.string.String.{String}
@@ -8,6 +8,7 @@ use Rattle.recording_lines.specs.declared.recording_line.RecordedActor.TheVarian
 use Rattle.recording_lines.specs.RecordingLine.{RecordedLine}
 use Rattle.recorded_paths.specs.declared.deed.RecordedDeed.{RecordedDeed}
 use Rattle.recorded_paths.specs.Path.{path_of}
+use Rattle.recorded_paths.specs.StandsFor.{KeepsRules}
 use Rattle.job_bodies.specs.Plan.{Plan}
 use Rattle.body_paths.specs.declared.deed.Deed.{Deed}
 use Rattle.body_paths.specs.declared.deed.Course.{Course}
@@ -19,10 +20,11 @@ use Rattle.recorded_classes.specs.Budget.{IsEnoughForPlan}
 use Rattle.recorded_classes.specs.Course.{course_of}
 use Rattle.recorded_classes.specs.Label.{HasLabel}
 use Rattle.recorded_classes.specs.Classes.{by_path, StandFor}
-use Rattle.recorded_classes.specs.Kept.{AreClassesIn, AreDecidedIn, AreAllIn}
+use Rattle.recorded_classes.specs.Kept.{AreClassesIn, AreDecidedIn, AreAllIn, AreOnce}
 use Rattle.recorded_classes.specs.Left.{IsDoneBy}
 use Rattle.recorded_classes.specs.Settled.{CanBe, IsTold}
 use Rattle.recorded_classes.specs.Told.{AreMembersOf, TellsOne, settled_as}
+use Rattle.recorded_classes.proofs.Once.{path_once}
 
 can_be_by : (plan : Plan) (lines : List RecordedLine) (actor : RecordedActor) (label pool : List ℕ) (course : Course) (deeds : List Deed) (members : List ℕ) → HasLabel lines actor label pool → course ≡ course_of lines actor
     → StandFor plan lines (path_of lines actor) deeds → AreMembersOf plan actor label pool course deeds members → CanBe plan lines actor members
@@ -37,7 +39,7 @@ can_be_by plan lines (Round round) label pool course deeds members named is stan
 }
 
 module _ (plan : Plan) (budget : ℕ) (lines : List RecordedLine) (actor : RecordedActor) (submitter : Option RecordedActor) (label pool : String Global) (done : Done) (before after : ClassTable) (old new : List Settled)
-    (t : TellsOne plan budget actor submitter label pool done before after old new) (d : IsDoneBy lines actor done) (named : HasLabel lines actor (string_bytes label) (string_bytes pool)) (classes : AreClassesIn plan lines before) where
+    (t : TellsOne plan budget actor submitter label pool done before after old new) (d : IsDoneBy lines actor done) (named : HasLabel lines actor (string_bytes label) (string_bytes pool)) (keeps : KeepsRules lines) (classes : AreClassesIn plan lines before) where
   pub can_be_told : t.family.is_decided ≡ true → CanBe plan lines actor t.family.members.items
   can_be_told decided =
       let f = t.right lines classes decided in
@@ -52,5 +54,5 @@ module _ (plan : Plan) (budget : ℕ) (lines : List RecordedLine) (actor : Recor
     explained = λ is.
         let f = t.right lines classes is in
         record { deeds = f.deeds; path = subst (λ (path : List RecordedDeed). StandFor plan lines path f.deeds) d.path f.path; most = f.explained };
-    decided = λ enough. t.decided enough (decided enough) all;
+    decided = λ enough. t.decided enough (decided enough) all (subst AreOnce (sym d.path) (path_once lines actor keeps));
   }

@@ -10,13 +10,6 @@ use Rattle.recorded_classes.specs.declared.actor_table.KeptActor.{KeptActor}
 use Rattle.recorded_classes.specs.declared.actor_table.Waiting.{Waiting}
 use Rattle.recorded_classes.specs.Kept.{in_table, Comes, without_submitter, with_waiting}
 
--- the actor that comes to its end
-abbrev pub ended_by : RecordedLine → Option RecordedActor
-ended_by (RoundEnds round) = Some (Round round)
-ended_by (JobEnds job) = Some (Job job)
-ended_by (JobThrew job) = Some (Job job)
-ended_by line = None
-
 -- the actor that comes
 abbrev pub begun_by : RecordedLine → Option RecordedActor
 begun_by (RoundBegins round kind) = Some (Round round)

@@ -1,8 +1,8 @@
 -- What is kept of the actors that are not settled, and of the jobs that are and whose submitters are not.
-use Rattle.std.specs.Prelude.{◌≡◌, ◌⊎◌, ℕ, nat_eq, not, Bool, true, false, List, take, slice_get, string_bytes, if◌then◌else◌, is_some, IsTrue, Option, Some, None}
+use Rattle.std.specs.Prelude.{◌≡◌, ◌<◌, ◌⊎◌, ℕ, not, Bool, true, false, List, length, take, slice_get, slice_index_or, string_bytes, if◌then◌else◌, is_some, IsTrue, Option, Some, None}
 use Rattle.std.specs.List.{list_any}
-use Rattle.std.specs.HashMap.{get}
 use Rattle.std.specs.Option.{option_map}
+use Rattle.number_tables.specs.Numbered.{value_at}
 use Rattle.recording_lines.specs.declared.recording_line.RecordedActor.{RecordedActor}
 use Rattle.recording_lines.specs.declared.recording_line.RecordedActor.TheVariants.{Job, Round}
 use Rattle.recording_lines.specs.RecordingLine.{RecordedLine}
@@ -19,11 +19,11 @@ use Rattle.recorded_classes.specs.declared.job_classes.JobClasses.{JobClasses}
 use Rattle.recorded_classes.specs.Classes.{AreClassesOf, IsSettled}
 
 abbrev pub in_table : ActorTable → RecordedActor → Option KeptActor
-in_table table (Job job) = get nat_eq table.jobs job
-in_table table (Round round) = get nat_eq table.rounds round
+in_table table (Job job) = value_at table.jobs job
+in_table table (Round round) = value_at table.rounds round
 
 abbrev pub classes_in : ClassTable → ℕ → Option JobClasses
-classes_in table job = get nat_eq table.jobs job
+classes_in table job = value_at table.jobs job
 
 -- ---- changes of an actor
 abbrev pub without_submitter : KeptActor → KeptActor
@@ -67,6 +67,10 @@ AreDecidedIn table = (job : ℕ) (known : JobClasses) → classes_in table job �
 abbrev pub AreAllIn : ClassTable → List RecordedDeed → Type 0
 AreAllIn table path = (job : ℕ) → list_any (submits job) path ≡ true → is_some (classes_in table job) ≡ true
 
+-- the path submits no job twice
+abbrev pub AreOnce : List RecordedDeed → Type 0
+AreOnce path = (i job : ℕ) → i < length path → submits job (slice_index_or path i (recorded.Submits 0)) ≡ true → list_any (submits job) (take i path) ≡ false
+
 -- the jobs that the path submits before this place are there
 abbrev pub AreSettledBefore : ClassTable → List RecordedDeed → ℕ → Type 0
 AreSettledBefore table path place = (job : ℕ) → list_any (submits job) (take place path) ≡ true → is_some (classes_in table job) ≡ true
@@ -83,6 +87,10 @@ is_unsettled table (Some deed) = not (is_settled_deed table deed)
 -- at this place the path ends, or submits a job that is not there
 abbrev pub IsUnsettledAt : ClassTable → List RecordedDeed → ℕ → Type 0
 IsUnsettledAt table path place = is_unsettled table (slice_get path place) ≡ true
+
+-- the jobs that the path submits are gone
+abbrev pub AreTaken : ClassTable → List RecordedDeed → ClassTable → Type 0
+AreTaken old path new = (one : ℕ) → classes_in new one ≡ (if list_any (submits one) path then None else classes_in old one)
 
 -- the actor has these classes, which are kept of a job that was submitted by one
 pub record Keeps (old : ClassTable) (actor : RecordedActor) (submitter : Option RecordedActor) (classes : List ℕ) (is_decided : Bool) (new : ClassTable) : Type 0 where

@@ -24,7 +24,7 @@ use Rattle.recorded_classes.specs.Budget.{IsEnoughForPlan}
 use Rattle.recorded_classes.specs.Classes.{StandFor, IsSettled}
 use Rattle.recorded_classes.specs.StandsFor.{IsKept}
 use Rattle.recorded_classes.specs.Settled.{IsTold, IsOnceEach, bodies_of, is_told}
-use Rattle.recorded_classes.specs.Kept.{in_table, classes_in, AreClassesIn, AreDecidedIn, AreAllIn, Replaces, AreSettledBefore, IsUnsettledAt}
+use Rattle.recorded_classes.specs.Kept.{in_table, classes_in, AreClassesIn, AreDecidedIn, AreAllIn, AreOnce, Replaces, AreSettledBefore, IsUnsettledAt}
 
 -- the classes of a job, or the kinds of a round, with this label and these deeds
 abbrev pub AreMembersOf : Plan → RecordedActor → List ℕ → List ℕ → Course → List Deed → List ℕ → Type 0
@@ -81,7 +81,7 @@ pub record TellsOne (plan : Plan) (budget : ℕ) (actor : RecordedActor) (submit
   pub behind : new ≡ old ++ settled_as actor label pool done family ∷ []
   pub table : Replaces before done.path.items actor submitter family.members.items family.is_decided after
   pub right : (lines : List RecordedLine) → AreClassesIn plan lines before → IsTrue family.is_decided → IsFamilyBy plan lines actor (string_bytes label) (string_bytes pool) done family
-  pub decided : IsEnoughForPlan budget plan → AreDecidedIn before → AreAllIn before done.path.items → IsTrue family.is_decided
+  pub decided : IsEnoughForPlan budget plan → AreDecidedIn before → AreAllIn before done.path.items → AreOnce done.path.items → IsTrue family.is_decided
   pub ascending : IsStrictlyIncreasing family.members.items
 
 -- ---- what is told of many

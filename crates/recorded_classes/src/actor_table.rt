@@ -1,19 +1,19 @@
 //! The actors of a recording that are not settled.
 
 ghost use Rattle.std.specs.Prelude.{◌≡◌, ◌+◌, ℕ, nat_eq, true, OnOk, IfOk, None, Some, is_some, if◌then◌else◌};
-ghost use Rattle.std.specs.HashMap.{hash_map_len, get};
 ghost use Rattle.std.specs.List.Sorted.{IsNonDecreasing};
 ghost use Rattle.std.specs.Set.{is_member};
 ghost use Rattle.std.specs.Option.{option_map, option_copied, option_and_then};
+ghost use Rattle.number_tables.specs.Numbered.{value_at, count_of};
 ghost use Rattle.recording_lines.specs.declared.recording_line.RecordedActor.{RecordedActor};
 ghost use Rattle.recorded_rules.specs.LineParts.{is_same_actor};
 ghost use Rattle.recorded_classes.specs.Kept.{in_table, Comes, without_submitter, with_waiting, with_known, is_job};
 ghost use Rattle.recorded_classes.specs.Left.{AreJobsAmong, AreRoundsAmong};
 
+use number_tables::NumberTable;
 use recorded_paths::RecordedDeed;
 use recording_lines::RecordedActor;
 use std::alloc::{AllocError, Global};
-use std::collections::HashMap;
 
 /// An actor that is not settled: it is about, or it is through and waits for a job of its path.
 #[derive(Debug, Drop)]
@@ -49,8 +49,8 @@ impl KeptActor {
 /// The actors that are not settled, by their numbers.
 #[derive(Debug, Drop)]
 pub(crate) struct ActorTable {
-    pub(crate) jobs: HashMap<usize, KeptActor>,
-    pub(crate) rounds: HashMap<usize, KeptActor>,
+    pub(crate) jobs: NumberTable<KeptActor>,
+    pub(crate) rounds: NumberTable<KeptActor>,
 }
 
 impl ActorTable {
@@ -59,8 +59,8 @@ impl ActorTable {
         ensures { (one : RecordedActor) → in_table result one ≡ None }
     {
         ActorTable {
-            jobs: HashMap::new(alloc),
-            rounds: HashMap::new(alloc),
+            jobs: NumberTable::new(alloc),
+            rounds: NumberTable::new(alloc),
         }
     }
 
@@ -69,10 +69,9 @@ impl ActorTable {
         ensures { OnOk result ((one : RecordedActor) → in_table self.new one ≡ (if is_same_actor actor one then Some kept else in_table self.old one)) }
     {
         match actor {
-            RecordedActor::Job(job) => self.jobs.insert(job, kept)?,
-            RecordedActor::Round(round) => self.rounds.insert(round, kept)?,
-        };
-        Ok(())
+            RecordedActor::Job(job) => self.jobs.insert(job, kept),
+            RecordedActor::Round(round) => self.rounds.insert(round, kept),
+        }
     }
 
     /// The actor comes, with this label.
@@ -103,7 +102,7 @@ impl ActorTable {
     pub(crate) fn forget_submitter(&mut self, job: usize)
         ensures { (one : RecordedActor) → in_table self.new one ≡ (if is_same_actor (RecordedActor.Job job) one then option_map without_submitter (in_table self.old one) else in_table self.old one) }
     {
-        if let Some(kept) = self.jobs.get_mut(&job) {
+        if let Some(kept) = self.jobs.get_mut(job) {
             kept.submitter = None;
         }
     }
@@ -114,12 +113,12 @@ impl ActorTable {
     {
         match actor {
             RecordedActor::Job(job) => {
-                if let Some(kept) = self.jobs.get_mut(&job) {
+                if let Some(kept) = self.jobs.get_mut(job) {
                     kept.waiting = Some(waiting);
                 }
             }
             RecordedActor::Round(round) => {
-                if let Some(kept) = self.rounds.get_mut(&round) {
+                if let Some(kept) = self.rounds.get_mut(round) {
                     kept.waiting = Some(waiting);
                 }
             }
@@ -131,8 +130,8 @@ impl ActorTable {
         ensures { option_copied result ≡ option_and_then (λ kept. kept.waiting) (in_table self.now actor) }
     {
         let kept = match actor {
-            RecordedActor::Job(job) => self.jobs.get(&job)?,
-            RecordedActor::Round(round) => self.rounds.get(&round)?,
+            RecordedActor::Job(job) => self.jobs.get(job)?,
+            RecordedActor::Round(round) => self.rounds.get(round)?,
         };
         kept.waiting.as_ref()
     }
@@ -144,12 +143,12 @@ impl ActorTable {
     {
         match actor {
             RecordedActor::Job(job) => {
-                if let Some(kept) = self.jobs.get_mut(&job) {
+                if let Some(kept) = self.jobs.get_mut(job) {
                     kept.advance(known);
                 }
             }
             RecordedActor::Round(round) => {
-                if let Some(kept) = self.rounds.get_mut(&round) {
+                if let Some(kept) = self.rounds.get_mut(round) {
                     kept.advance(known);
                 }
             }
@@ -160,11 +159,11 @@ impl ActorTable {
     pub(crate) fn remove(&mut self, actor: RecordedActor) -> Option<KeptActor>
         ensures value { result ≡ in_table self.old actor }
         ensures after { (one : RecordedActor) → in_table self.new one ≡ (if is_same_actor actor one then None else in_table self.old one) }
-        ensures fewer { hash_map_len self.new.jobs + (if is_some result then is_job actor else 0) ≡ hash_map_len self.old.jobs }
+        ensures fewer { count_of self.new.jobs + (if is_some result then is_job actor else 0) ≡ count_of self.old.jobs }
     {
         match actor {
-            RecordedActor::Job(job) => self.jobs.remove(&job),
-            RecordedActor::Round(round) => self.rounds.remove(&round),
+            RecordedActor::Job(job) => self.jobs.remove(job),
+            RecordedActor::Round(round) => self.rounds.remove(round),
         }
     }
 
@@ -192,20 +191,9 @@ impl ActorTable {
     }
 }
 
-fn numbers_of(alloc: Global, actors: &HashMap<usize, KeptActor>) -> Result<Vec<usize>, AllocError>
-    ensures all { IfOk result (λ numbers. (number : ℕ) → is_some (get nat_eq actors.now number) ≡ true → is_member nat_eq numbers.items number ≡ true) }
+fn numbers_of(alloc: Global, actors: &NumberTable<KeptActor>) -> Result<Vec<usize>, AllocError>
+    ensures all { IfOk result (λ numbers. (number : ℕ) → is_some (value_at actors.now number) ≡ true → is_member nat_eq numbers.items number ≡ true) }
     ensures sorted { IfOk result (λ numbers. IsNonDecreasing numbers.items) }
 {
-    let mut numbers = unsorted_numbers_of(alloc, actors)?;
-    numbers.sort_unstable();
-    Ok(numbers)
-}
-
-fn unsorted_numbers_of(
-    alloc: Global,
-    actors: &HashMap<usize, KeptActor>,
-) -> Result<Vec<usize>, AllocError>
-    ensures { IfOk result (λ numbers. (number : ℕ) → is_member nat_eq numbers.items number ≡ is_some (get nat_eq actors.now number)) }
-{
-    actors.keys().copied().collect(alloc)
+    actors.numbers(alloc)
 }

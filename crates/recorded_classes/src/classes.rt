@@ -1,7 +1,7 @@
 //! The classes that the jobs of a recording can be of, and the kinds that its rounds can be of.
 
 ghost use Rattle.std.specs.Prelude.{◌≡◌, ◌<◌, ◌++◌, ◌∷◌, [], ℕ, List, None, Some, OnOk, IfOk, is_some, true, MatchOption};
-ghost use Rattle.std.specs.HashMap.{hash_map_len};
+ghost use Rattle.number_tables.specs.Numbered.{count_of};
 ghost use Rattle.recording_lines.specs.RecordingLine.{RecordedLine, line_seen};
 ghost use Rattle.recorded_paths.specs.StandsFor.{KeepsRules};
 ghost use Rattle.job_bodies.specs.Plan as plans;
@@ -18,7 +18,7 @@ use crate::done::Done;
 use crate::ended::ended_by;
 use crate::job_classes::ClassTable;
 use crate::settled::Settled;
-use body_paths::Course;
+use body_paths::{Course, Deed};
 use job_bodies::Plan;
 use recorded_paths::Paths;
 use recording_lines::{Line, RecordedActor};
@@ -32,6 +32,8 @@ pub struct Classes {
     pub(crate) actors: ActorTable,
     pub(crate) known: ClassTable,
     pub(crate) budget: u64,
+    // Of the path that was told of last. Kept for its room.
+    pub(crate) deeds: Vec<Deed>,
     pub(crate) alloc: Global,
 }
 
@@ -46,6 +48,7 @@ impl Classes {
             actors: ActorTable::new(alloc),
             known: ClassTable::new(alloc),
             budget,
+            deeds: Vec::new(alloc),
             alloc,
         }
     }
@@ -80,11 +83,10 @@ impl Classes {
         ensures taken { (budget : ℕ) (before : List RecordedLine) → KeepsRules (before ++ line_seen line.now ∷ []) → IsClassesOf plan.now budget self.old before → OnOk result (IsClassesOf plan.now budget self.new (before ++ line_seen line.now ∷ [])) }
         ensures told { (budget : ℕ) (before : List RecordedLine) → KeepsRules (before ++ line_seen line.now ∷ []) → IsClassesOf plan.now budget self.old before → OnOk result (TellsSettled plan.now budget before (before ++ line_seen line.now ∷ []) told.old.items told.new.items) }
     {
-        let ended = ended_by(line);
-        let path = self.path_now(ended)?;
-        self.paths.take(line)?;
+        let given = self.paths.take_last_path(line)?;
+        let path = given.unwrap_or(Vec::new(self.alloc));
         self.note(line, Waiting { path, known: 0 })?;
-        match ended {
+        match ended_by(line) {
             Some(actor) => self.settle(plan, actor, told),
             None => Ok(()),
         }
@@ -148,7 +150,7 @@ impl Classes {
         told: &mut Vec<Settled>,
     ) -> Result<Option<RecordedActor>, AllocError>
         ensures told { (lines : List RecordedLine) → IsKept plan.now lines self.old.actors self.old.known (Some actor) → (IsEnoughForPlan self.old.budget plan.now → AreDecidedIn self.old.known) → IsReady self.old.actors self.old.known actor → KeepsRules lines → IfOk result (λ next. IsStep plan.now self.old.budget lines self.old.actors self.new.actors self.new.known next told.old.items told.new.items) }
-        ensures fewer { IfOk result (λ next. is_some next ≡ true → hash_map_len self.new.actors.jobs < hash_map_len self.old.actors.jobs) }
+        ensures fewer { IfOk result (λ next. is_some next ≡ true → count_of self.new.actors.jobs < count_of self.old.actors.jobs) }
         ensures paths { self.new.paths ≡ self.old.paths }
         ensures budget { self.new.budget ≡ self.old.budget }
     {
@@ -180,7 +182,7 @@ impl Classes {
         told: &mut Vec<Settled>,
     ) -> Result<Option<RecordedActor>, AllocError>
         ensures told { (lines : List RecordedLine) → IsKept plan.now lines self.old.actors self.old.known (Some actor) → (IsEnoughForPlan self.old.budget plan.now → AreDecidedIn self.old.known) → KeepsRules lines → IfOk result (λ next. IsStep plan.now self.old.budget lines self.old.actors self.new.actors self.new.known next told.old.items told.new.items) }
-        ensures fewer { IfOk result (λ next. is_some next ≡ true → hash_map_len self.new.actors.jobs < hash_map_len self.old.actors.jobs) }
+        ensures fewer { IfOk result (λ next. is_some next ≡ true → count_of self.new.actors.jobs < count_of self.old.actors.jobs) }
         ensures paths { self.new.paths ≡ self.old.paths }
         ensures budget { self.new.budget ≡ self.old.budget }
     {

@@ -2,7 +2,7 @@
 
 ghost use Rattle.std.specs.Prelude.{◌≡◌};
 ghost use Rattle.recording_lines.specs.RecordingLine.{line_seen};
-ghost use Rattle.recorded_classes.specs.Changes as spec;
+ghost use Rattle.recorded_paths.specs.LastLine as spec;
 
 use recording_lines::{Line, RecordedActor};
 

@@ -1,20 +1,19 @@
 //! The classes of the jobs that are settled.
 
 ghost use Rattle.std.specs.Prelude.{◌≡◌, ◌≤◌, ◌&&◌, ◌++◌, ◌∷◌, [], ℕ, List, OnOk, IfOk, IsTrue, None, Some, is_some, if◌then◌else◌, ◌==◌, length};
-ghost use Rattle.std.specs.List.{list_any};
 ghost use Rattle.recording_lines.specs.RecordingLine.{RecordedLine};
 ghost use Rattle.recorded_paths.specs.declared.deed.RecordedDeed.{RecordedDeed};
 ghost use Rattle.recorded_paths.specs.Act.{submits};
 ghost use Rattle.job_bodies.specs.Plan.{Plan};
 ghost use Rattle.recorded_classes.specs.Classes.{AreClassesOf, StandFor};
-ghost use Rattle.recorded_classes.specs.Kept.{Keeps, Replaces, classes_in, is_settled_deed, AreClassesIn, AreDecidedIn, AreAllIn, AreSettledBefore, IsUnsettledAt};
+ghost use Rattle.recorded_classes.specs.Kept.{Keeps, AreTaken, classes_in, is_settled_deed, AreClassesIn, AreDecidedIn, AreAllIn, AreOnce, AreSettledBefore, IsUnsettledAt};
 
 use body_paths::Deed;
+use number_tables::NumberTable;
 use plan_families::PathFamily;
 use recorded_paths::RecordedDeed;
 use recording_lines::RecordedActor;
 use std::alloc::{AllocError, Global};
-use std::collections::HashMap;
 
 /// The classes that a job can be of.
 #[derive(Debug, Drop)]
@@ -26,16 +25,8 @@ pub(crate) struct JobClasses {
 /// Those of the jobs that are settled and whose submitters are not, by their numbers.
 #[derive(Debug, Drop)]
 pub(crate) struct ClassTable {
-    jobs: HashMap<usize, JobClasses>,
+    jobs: NumberTable<JobClasses>,
     alloc: Global,
-}
-
-/// A path, with the classes that each job that it submits can be of.
-#[derive(Debug, Drop)]
-pub(crate) struct KnownPath {
-    pub(crate) deeds: Vec<Deed>,
-    /// Whether the classes of each job are decided.
-    pub(crate) is_decided: bool,
 }
 
 impl ClassTable {
@@ -44,7 +35,7 @@ impl ClassTable {
         ensures { (job : ℕ) → classes_in result job ≡ None }
     {
         ClassTable {
-            jobs: HashMap::new(alloc),
+            jobs: NumberTable::new(alloc),
             alloc,
         }
     }
@@ -53,31 +44,15 @@ impl ClassTable {
     pub(crate) fn insert(&mut self, job: usize, classes: JobClasses) -> Result<(), AllocError>
         ensures { OnOk result ((one : ℕ) → classes_in self.new one ≡ (if job == one then Some classes else classes_in self.old one)) }
     {
-        self.jobs.insert(job, classes)?;
-        Ok(())
+        self.jobs.insert(job, classes)
     }
 
-    /// It is told of the actor, which did this: what it submitted is known no more. Where it is a job that somebody
-    /// submitted, its classes are kept.
+    /// Where the actor is a job that somebody submitted, its classes are kept.
     ///
     /// # Errors
     ///
     /// `AllocError` where there is no memory for them.
-    pub(crate) fn replace(
-        &mut self,
-        path: &[RecordedDeed],
-        actor: RecordedActor,
-        submitter: Option<RecordedActor>,
-        family: &PathFamily,
-    ) -> Result<(), AllocError>
-        ensures { OnOk result (Replaces self.old path.now actor submitter family.now.members.items family.now.is_decided self.new) }
-    {
-        self.forget(path);
-        self.keep(actor, submitter, family)
-    }
-
-    // Where the actor is a job that somebody submitted, its classes are kept.
-    fn keep(
+    pub(crate) fn keep(
         &mut self,
         actor: RecordedActor,
         submitter: Option<RecordedActor>,
@@ -93,17 +68,6 @@ impl ClassTable {
             self.insert(job, classes)?;
         }
         Ok(())
-    }
-
-    // The jobs that this path submits go.
-    fn forget(&mut self, path: &[RecordedDeed])
-        ensures { (one : ℕ) → classes_in self.new one ≡ (if list_any (submits one) path.now then None else classes_in self.old one) }
-    {
-        for deed in path {
-            if let RecordedDeed::Submits(job) = *deed {
-                self.jobs.remove(&job);
-            }
-        }
     }
 
     /// The first place of the path, from this one on, that submits a job that is not settled, or its end.
@@ -124,60 +88,66 @@ impl ClassTable {
         ensures { result ≡ is_settled_deed self.now deed }
     {
         match deed {
-            RecordedDeed::Submits(job) => self.jobs.contains_key(&job),
+            RecordedDeed::Submits(job) => self.jobs.contains(job),
             RecordedDeed::Gets(_) => true,
         }
     }
 
-    /// The path, with the classes of the jobs that it submits.
+    /// The deeds of the path, with the classes of the jobs that it submits, which go. The answer is whether the classes of
+    /// each are decided.
     ///
     /// # Errors
     ///
-    /// `AllocError` where there is no memory for it.
-    pub(crate) fn known_path(&self, path: &[RecordedDeed]) -> Result<KnownPath, AllocError>
-        ensures stands { (plan : Plan) (lines : List RecordedLine) → AreClassesIn plan lines self.now → IfOk result (λ known. IsTrue known.is_decided → StandFor plan lines path.now known.deeds.items) }
-        ensures decided { AreDecidedIn self.now → AreAllIn self.now path.now → IfOk result (λ known. IsTrue known.is_decided) }
+    /// `AllocError` where there is no memory for them.
+    pub(crate) fn take_path(
+        &mut self,
+        path: &[RecordedDeed],
+        deeds: &mut Vec<Deed>,
+    ) -> Result<bool, AllocError>
+        ensures stands { (plan : Plan) (lines : List RecordedLine) → AreClassesIn plan lines self.old → IfOk result (λ is_decided. IsTrue is_decided → StandFor plan lines path.now deeds.new.items) }
+        ensures decided { AreDecidedIn self.old → AreAllIn self.old path.now → AreOnce path.now → IfOk result (λ is_decided. IsTrue is_decided) }
+        ensures gone { OnOk result (AreTaken self.old path.now self.new) }
     {
-        let mut known = KnownPath {
-            deeds: Vec::new(self.alloc),
-            is_decided: true,
-        };
+        deeds.clear();
+        let mut is_decided = true;
         for deed in path {
-            self.add(*deed, &mut known)?;
+            let is_known = self.take_deed(*deed, deeds)?;
+            is_decided = are_both(is_decided, is_known);
         }
-        Ok(known)
+        Ok(is_decided)
     }
 
-    // The deed comes behind the others.
-    fn add(&self, deed: RecordedDeed, known: &mut KnownPath) -> Result<(), AllocError>
-        ensures stands { (plan : Plan) (lines : List RecordedLine) (path : List RecordedDeed) → AreClassesIn plan lines self.now → (IsTrue known.old.is_decided → StandFor plan lines path known.old.deeds.items) → OnOk result (IsTrue known.new.is_decided → StandFor plan lines (path ++ deed ∷ []) known.new.deeds.items) }
-        ensures decided { AreDecidedIn self.now → IsTrue (is_settled_deed self.now deed) → IsTrue known.old.is_decided → OnOk result (IsTrue known.new.is_decided) }
+    // The deed comes behind the others, and its job goes. The answer is whether its classes are decided.
+    fn take_deed(&mut self, deed: RecordedDeed, deeds: &mut Vec<Deed>) -> Result<bool, AllocError>
+        ensures stands { (plan : Plan) (lines : List RecordedLine) (path : List RecordedDeed) → AreClassesIn plan lines self.old → StandFor plan lines path deeds.old.items → IfOk result (λ is_known. IsTrue is_known → StandFor plan lines (path ++ deed ∷ []) deeds.new.items) }
+        ensures decided { AreDecidedIn self.old → IsTrue (is_settled_deed self.old deed) → IfOk result (λ is_known. IsTrue is_known) }
+        ensures gone { OnOk result ((one : ℕ) → classes_in self.new one ≡ (if submits one deed then None else classes_in self.old one)) }
     {
         match deed {
-            RecordedDeed::Gets(place) => known.deeds.push(Deed::Gets(place))?,
+            RecordedDeed::Gets(place) => {
+                deeds.push(Deed::Gets(place))?;
+                Ok(true)
+            }
             RecordedDeed::Submits(job) => {
-                let classes = self.classes(job)?;
-                known.is_decided = are_both(known.is_decided, classes.is_decided);
-                known.deeds.push(Deed::Submits(classes.classes))?;
+                let known = self.take_classes(job);
+                deeds.push(Deed::Submits(known.classes))?;
+                Ok(known.is_decided)
             }
         }
-        Ok(())
     }
 
     // Of a job that is not settled none are known, nor is anything decided.
-    fn classes(&self, job: usize) -> Result<JobClasses, AllocError>
-        ensures classes { (plan : Plan) (lines : List RecordedLine) → AreClassesIn plan lines self.now → IfOk result (λ known. IsTrue known.is_decided → AreClassesOf plan lines job known.classes.items) }
-        ensures decided { AreDecidedIn self.now → IsTrue (is_some (classes_in self.now job)) → IfOk result (λ known. IsTrue known.is_decided) }
+    fn take_classes(&mut self, job: usize) -> JobClasses
+        ensures classes { (plan : Plan) (lines : List RecordedLine) → AreClassesIn plan lines self.old → IsTrue result.is_decided → AreClassesOf plan lines job result.classes.items }
+        ensures decided { AreDecidedIn self.old → IsTrue (is_some (classes_in self.old job)) → IsTrue result.is_decided }
+        ensures gone { (one : ℕ) → classes_in self.new one ≡ (if job == one then None else classes_in self.old one) }
     {
-        match self.jobs.get(&job) {
-            Some(known) => Ok(JobClasses {
-                classes: known.classes.clone()?,
-                is_decided: known.is_decided,
-            }),
-            None => Ok(JobClasses {
+        match self.jobs.remove(job) {
+            Some(known) => known,
+            None => JobClasses {
                 classes: Vec::new(self.alloc),
                 is_decided: false,
-            }),
+            },
         }
     }
 }

@@ -4,7 +4,6 @@ ghost use Rattle.std.specs.Prelude.{◌≡◌, true, List, Some, OnOk, IfOk};
 ghost use Rattle.recording_lines.specs.RecordingLine.{RecordedLine};
 ghost use Rattle.recorded_paths.specs.StandsFor.{IsPathsOf, is_about};
 ghost use Rattle.recorded_paths.specs.Path.{path_of};
-ghost use Rattle.recording_lines.specs.declared.recording_line.RecordedActor as actors;
 ghost use Rattle.recorded_classes.specs.Left.{IsAt, IsDoneBy};
 ghost use Rattle.recorded_classes.specs.Told.{IsFamilyOf, TellsOne};
 
@@ -41,19 +40,19 @@ impl Classes {
         ensures paths { self.new.paths ≡ self.old.paths }
         ensures budget { self.new.budget ≡ self.old.budget }
     {
-        let known = self.known.known_path(&done.path)?;
+        let is_decided = self.known.take_path(&done.path, &mut self.deeds)?;
         let mut family = members_of(
             self.alloc,
             plan,
             actor,
             &label,
             &pool,
-            &known.deeds,
+            &self.deeds,
             done.course,
             self.budget,
         )?;
-        family.is_decided = are_both(family.is_decided, known.is_decided);
-        self.known.replace(&done.path, actor, submitter, &family)?;
+        family.is_decided = are_both(family.is_decided, is_decided);
+        self.known.keep(actor, submitter, &family)?;
         told.push(Settled {
             actor,
             label,
@@ -69,15 +68,9 @@ impl Classes {
     /// # Errors
     ///
     /// `AllocError` where there is no memory for it.
-    pub(crate) fn path_now(
-        &self,
-        ended: Option<RecordedActor>,
-    ) -> Result<Vec<RecordedDeed>, AllocError>
-        ensures { IfOk result (λ path. (before : List RecordedLine) (actor : actors.RecordedActor) → ended ≡ Some actor → IsPathsOf self.now.paths before → is_about before actor ≡ true → path.items ≡ path_of before actor) }
+    fn path_now(&self, actor: RecordedActor) -> Result<Vec<RecordedDeed>, AllocError>
+        ensures { IfOk result (λ path. (lines : List RecordedLine) → IsPathsOf self.now.paths lines → is_about lines actor ≡ true → path.items ≡ path_of lines actor) }
     {
-        let Some(actor) = ended else {
-            return Ok(Vec::new(self.alloc));
-        };
         match self.paths.path(actor) {
             Some(path) => Vec::from_slice(self.alloc, path),
             None => Ok(Vec::new(self.alloc)),
@@ -102,7 +95,7 @@ impl Classes {
                 course: Course::Whole,
             }),
             None => Ok(Done {
-                path: self.path_now(Some(actor))?,
+                path: self.path_now(actor)?,
                 course: Course::Begun,
             }),
         }

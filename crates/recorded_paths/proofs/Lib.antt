@@ -13,3 +13,4 @@ pub mod SubmitPlace
 pub mod Undo
 pub mod PathAfter
 pub mod PathsAfter
+mod LastPath

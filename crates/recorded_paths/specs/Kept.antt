@@ -1,7 +1,7 @@
 -- The path that is kept of an actor.
-use Rattle.std.specs.Prelude.{ℕ, nat_eq, List, Option}
+use Rattle.std.specs.Prelude.{ℕ, List, Option}
 use Rattle.std.specs.Option.{option_map}
-use Rattle.std.specs.HashMap.{get}
+use Rattle.number_tables.specs.Numbered.{value_at}
 use Rattle.recording_lines.specs.declared.recording_line.RecordedActor.{RecordedActor}
 use Rattle.recording_lines.specs.declared.recording_line.RecordedActor.TheVariants.{Job, Round}
 use Rattle.recorded_paths.specs.declared.deed.RecordedDeed.{RecordedDeed}
@@ -9,7 +9,7 @@ use Rattle.recorded_paths.specs.declared.path_table.PathTable.{PathTable}
 use Rattle.recorded_paths.specs.declared.paths.Paths.{Paths}
 
 abbrev pub path_in : PathTable → ℕ → Option (List RecordedDeed)
-path_in table number = option_map (λ path. path.items) (get nat_eq table.paths number)
+path_in table number = option_map (λ path. path.items) (value_at table.paths number)
 
 abbrev pub path_at : Paths → RecordedActor → Option (List RecordedDeed)
 path_at paths (Job job) = path_in paths.jobs job

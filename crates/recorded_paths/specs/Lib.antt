@@ -4,3 +4,4 @@ pub mod Path
 pub mod Kept
 pub mod StandsFor
 pub mod Changes
+pub mod LastLine

@@ -8,13 +8,13 @@ ghost use Rattle.recorded_paths.specs.Kept.{path_in};
 
 use crate::act::{drop_submit, note_get};
 use crate::deed::RecordedDeed;
+use number_tables::NumberTable;
 use std::alloc::{AllocError, Global};
-use std::collections::HashMap;
 
 /// The paths of the rounds that are about, by their numbers, or those of the jobs.
 #[derive(Debug, Drop)]
 pub(crate) struct PathTable {
-    paths: HashMap<usize, Vec<RecordedDeed>>,
+    paths: NumberTable<Vec<RecordedDeed>>,
     alloc: Global,
 }
 
@@ -24,7 +24,7 @@ impl PathTable {
         ensures { (n : ℕ) → path_in result n ≡ None }
     {
         PathTable {
-            paths: HashMap::new(alloc),
+            paths: NumberTable::new(alloc),
             alloc,
         }
     }
@@ -32,7 +32,7 @@ impl PathTable {
     pub(crate) fn path(&self, number: usize) -> Option<&[RecordedDeed]>
         ensures { option_map (λ path. path.now) result ≡ path_in self.now number }
     {
-        match self.paths.get(&number) {
+        match self.paths.get(number) {
             Some(path) => Some(path.as_slice()),
             None => None,
         }
@@ -47,15 +47,15 @@ impl PathTable {
         ensures begun { OnOk result ((n : ℕ) → path_in self.new n ≡ (if number == n then Some [] else path_in self.old n)) }
         ensures same { OnErr result ((n : ℕ) → path_in self.new n ≡ path_in self.old n) }
     {
-        self.paths.insert(number, Vec::new(self.alloc))?;
-        Ok(())
+        self.paths.insert(number, Vec::new(self.alloc))
     }
 
-    /// One goes.
-    pub(crate) fn end(&mut self, number: usize)
-        ensures { (n : ℕ) → path_in self.new n ≡ (if number == n then None else path_in self.old n) }
+    /// One goes, and gives its path away.
+    pub(crate) fn end(&mut self, number: usize) -> Option<Vec<RecordedDeed>>
+        ensures path { option_map (λ path. path.items) result ≡ path_in self.old number }
+        ensures gone { (n : ℕ) → path_in self.new n ≡ (if number == n then None else path_in self.old n) }
     {
-        self.paths.remove(&number);
+        self.paths.remove(number)
     }
 
     /// The deed stands at the end of this path, where the path is there.
@@ -67,7 +67,7 @@ impl PathTable {
         ensures done { OnOk result ((n : ℕ) → path_in self.new n ≡ (if number == n then option_map (with_deed deed) (path_in self.old n) else path_in self.old n)) }
         ensures same { OnErr result ((n : ℕ) → path_in self.new n ≡ path_in self.old n) }
     {
-        if let Some(path) = self.paths.get_mut(&number) {
+        if let Some(path) = self.paths.get_mut(number) {
             path.push(deed)?;
         }
         Ok(())
@@ -82,7 +82,7 @@ impl PathTable {
         ensures got { OnOk result ((n : ℕ) → path_in self.new n ≡ (if number == n then option_map (with_get job) (path_in self.old n) else path_in self.old n)) }
         ensures same { OnErr result ((n : ℕ) → path_in self.new n ≡ path_in self.old n) }
     {
-        if let Some(path) = self.paths.get_mut(&number) {
+        if let Some(path) = self.paths.get_mut(number) {
             note_get(path, job)?;
         }
         Ok(())
@@ -92,7 +92,7 @@ impl PathTable {
     pub(crate) fn drop_submit(&mut self, number: usize, job: usize)
         ensures { (n : ℕ) → path_in self.new n ≡ (if number == n then option_map (without_submit job) (path_in self.old n) else path_in self.old n) }
     {
-        if let Some(path) = self.paths.get_mut(&number) {
+        if let Some(path) = self.paths.get_mut(number) {
             drop_submit(path, job);
         }
     }

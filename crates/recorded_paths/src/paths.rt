@@ -1,10 +1,11 @@
 //! The paths of the actors of a recording.
 
-ghost use Rattle.std.specs.Prelude.{◌≡◌, ◌++◌, ◌∷◌, [], List, OnOk, OnErr};
+ghost use Rattle.std.specs.Prelude.{◌≡◌, ◌++◌, ◌∷◌, [], List, OnOk, OnErr, IfOk};
 ghost use Rattle.std.specs.Option.{option_map};
 ghost use Rattle.recording_lines.specs.RecordingLine.{RecordedLine, line_seen};
 ghost use Rattle.recorded_paths.specs.Act.{with_get, without_submit};
 ghost use Rattle.recorded_paths.specs.Changes.{Changes, change_of, no_change, at_actor, actor_submits, with_deed};
+ghost use Rattle.recorded_paths.specs.LastLine.{last_path_of, last_path_in};
 ghost use Rattle.recorded_paths.specs.StandsFor.{KeepsRules, IsPathsOf, live_path_of};
 
 use crate::deed::RecordedDeed;
@@ -40,6 +41,24 @@ impl Paths {
         ensures taken { (before : List RecordedLine) → KeepsRules (before ++ line_seen line.now ∷ []) → IsPathsOf self.old before → OnOk result (IsPathsOf self.new (before ++ line_seen line.now ∷ [])) }
         ensures same { (before : List RecordedLine) → IsPathsOf self.old before → OnErr result (IsPathsOf self.new before) }
     {
+        self.note(line)?;
+        Ok(())
+    }
+
+    /// Takes the next line of a recording that keeps the rules, as [`take`](Paths::take) does, and gives away the path of
+    /// the actor whose last line it is. That actor is about no more. Of any other line there is none.
+    ///
+    /// # Errors
+    ///
+    /// `AllocError` where there is no memory for what the line says. The paths are then those of the lines before.
+    pub fn take_last_path(
+        &mut self,
+        line: &Line<'_>,
+    ) -> Result<Option<Vec<RecordedDeed>>, AllocError>
+        ensures taken { (before : List RecordedLine) → KeepsRules (before ++ line_seen line.now ∷ []) → IsPathsOf self.old before → OnOk result (IsPathsOf self.new (before ++ line_seen line.now ∷ [])) }
+        ensures path { (before : List RecordedLine) → IsPathsOf self.old before → IfOk result (λ given. option_map (λ path. path.items) given ≡ last_path_of before (line_seen line.now)) }
+        ensures same { (before : List RecordedLine) → IsPathsOf self.old before → OnErr result (IsPathsOf self.new before) }
+    {
         self.note(line)
     }
 
@@ -53,27 +72,32 @@ impl Paths {
         }
     }
 
-    fn note(&mut self, line: &Line<'_>) -> Result<(), AllocError>
+    // The answer is the path of the actor whose last line it is.
+    fn note(&mut self, line: &Line<'_>) -> Result<Option<Vec<RecordedDeed>>, AllocError>
         ensures noted { OnOk result (Changes self.old (change_of (line_seen line.now)) self.new) }
+        ensures path { IfOk result (λ given. option_map (λ path. path.items) given ≡ last_path_in self.old (line_seen line.now)) }
         ensures same { OnErr result (Changes self.old no_change self.new) }
     {
         match *line {
-            Line::RoundBegins { round, .. } => self.rounds.begin(round),
-            Line::RoundEnds { round } => {
-                self.rounds.end(round);
-                Ok(())
+            Line::RoundBegins { round, .. } => {
+                self.rounds.begin(round)?;
+                Ok(None)
             }
-            Line::Submits { actor, job, .. } => self.submit(actor, job),
+            Line::RoundEnds { round } => Ok(self.rounds.end(round)),
+            Line::Submits { actor, job, .. } => {
+                self.submit(actor, job)?;
+                Ok(None)
+            }
             Line::Refused { actor, job } => {
                 self.drop_submit(actor, job);
-                Ok(())
+                Ok(None)
             }
-            Line::Got { actor, job } => self.note_get(actor, job),
-            Line::JobEnds { job } | Line::JobThrew { job } => {
-                self.jobs.end(job);
-                Ok(())
+            Line::Got { actor, job } => {
+                self.note_get(actor, job)?;
+                Ok(None)
             }
-            _ => Ok(()),
+            Line::JobEnds { job } | Line::JobThrew { job } => Ok(self.jobs.end(job)),
+            _ => Ok(None),
         }
     }
 

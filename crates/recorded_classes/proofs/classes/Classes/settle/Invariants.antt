@@ -1,5 +1,5 @@
 use Rattle.std.proofs.Common.{◌≡◌, List, Some}
-use Rattle.std.specs.HashMap.{hash_map_len}
+use Rattle.number_tables.specs.Numbered.{count_of}
 use Rattle.recording_lines.specs.RecordingLine.{RecordedLine}
 use Rattle.recorded_paths.specs.StandsFor.{KeepsRules}
 use Rattle.recorded_classes.specs.Budget.{IsEnoughForPlan}
@@ -17,4 +17,4 @@ invariant-loop-next l = record {
 }
 
 abbrev pub decreases-loop-next : goal.decreases-loop-next
-decreases-loop-next l = hash_map_len l.self.actors.jobs
+decreases-loop-next l = count_of l.self.actors.jobs

@@ -1,5 +1,5 @@
 use Rattle.std.proofs.Common.{◌≡◌, ◌+◌, ℕ, if◌then◌else◌, is_some, Option, sym, subst, ap, ◌∙◌, arith}
-use Rattle.std.specs.HashMap.{hash_map_len}
+use Rattle.number_tables.specs.Numbered.{count_of}
 use Rattle.recording_lines.specs.declared.recording_line.RecordedActor.{RecordedActor}
 use Rattle.recorded_classes.specs.declared.actor_table.ActorTable.{ActorTable}
 use Rattle.recorded_classes.specs.declared.actor_table.KeptActor.{KeptActor}
@@ -20,6 +20,6 @@ returns-clause-told c = λ lines kept decided ready keeps.
 pub returns-clause-fewer : goal.returns-clause-fewer
 returns-clause-fewer c = λ some.
     let one : is_job c.args.actor ≡ 1 = fewer_of c.args.actor c.in-Some.kept.submitter c.submitter_of.result c.submitter_of.ensures some in
-    let all : hash_map_len c.remove.new.self.jobs + is_job c.args.actor ≡ hash_map_len c.args.self.now.actors.jobs = sym (ap (λ (n : ℕ). hash_map_len c.remove.new.self.jobs + n) (ap (λ (o : Option KeptActor). if is_some o then is_job c.args.actor else 0) c.in-Some.is)) ∙ c.remove.ensures.fewer in
-    let same : hash_map_len c.tell_of.new.self.actors.jobs ≡ hash_map_len c.remove.new.self.jobs = ap (λ (t : ActorTable). hash_map_len t.jobs) c.tell_of.ensures.actors in
+    let all : count_of c.remove.new.self.jobs + is_job c.args.actor ≡ count_of c.args.self.now.actors.jobs = sym (ap (λ (n : ℕ). count_of c.remove.new.self.jobs + n) (ap (λ (o : Option KeptActor). if is_some o then is_job c.args.actor else 0) c.in-Some.is)) ∙ c.remove.ensures.fewer in
+    let same : count_of c.tell_of.new.self.actors.jobs ≡ count_of c.remove.new.self.jobs = ap (λ (t : ActorTable). count_of t.jobs) c.tell_of.ensures.actors in
     omega (arith, one, all, same)

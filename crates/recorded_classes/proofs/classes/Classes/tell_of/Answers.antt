@@ -4,34 +4,38 @@ use Rattle.recorded_paths.specs.declared.deed.RecordedDeed.{RecordedDeed}
 use Rattle.recorded_paths.proofs.Tests.{and_first, and_second}
 use Rattle.plan_families.specs.declared.path_family.PathFamily.{PathFamily}
 use Rattle.recorded_classes.specs.Classes.{StandFor}
-use Rattle.recorded_classes.specs.Kept.{AreAllIn, Replaces}
+use Rattle.recorded_classes.specs.Kept.{AreAllIn, AreOnce, AreTaken}
 use Rattle.recorded_classes.specs.Told.{IsFamilyOf}
+use Rattle.body_paths.specs.declared.deed.Deed.{Deed}
+use Rattle.recorded_classes.proofs.Taken.{replaces}
 use Rattle.recorded_classes.proofs.Words.{both_true}
 use Rattle.recorded_classes.proofs.classes.Classes.tell_of.Goals as goal
 
 pub returns-clause-told : goal.returns-clause-told
 returns-clause-told c =
     let a = c.args in
-    let known = c.in_ok-known.known in
+    let is_known = c.in_ok-is_decided.is_decided in
+    let deeds = c.take_path.new.deeds.items in
     let family : PathFamily = record { members = c.in_ok-family.family.members; explained = c.in_ok-family.family.explained; is_decided = c.are_both.result } in
-    let its : IsFamilyOf a.plan.now a.self.now.budget a.actor (string_bytes a.label) (string_bytes a.pool) a.done.course known.deeds.items c.in_ok-family.family =
-    subst (λ deeds. IsFamilyOf a.plan.now a.self.now.budget a.actor (string_bytes a.label) (string_bytes a.pool) a.done.course deeds c.in_ok-family.family) c.deref-4.ensures.value
+    let its : IsFamilyOf a.plan.now a.self.now.budget a.actor (string_bytes a.label) (string_bytes a.pool) a.done.course deeds c.in_ok-family.family =
+    subst (λ (some : List Deed). IsFamilyOf a.plan.now a.self.now.budget a.actor (string_bytes a.label) (string_bytes a.pool) a.done.course some c.in_ok-family.family) c.deref-4.ensures.value
     (subst (λ (pool : List _). IsFamilyOf a.plan.now a.self.now.budget a.actor (string_bytes a.label) pool a.done.course c.deref-4.result.now c.in_ok-family.family) c.deref-3.ensures
     (subst (λ (label : List _). IsFamilyOf a.plan.now a.self.now.budget a.actor label c.deref-3.result.now a.done.course c.deref-4.result.now c.in_ok-family.family) c.deref-2.ensures c.in_ok-family.ensures)) in
     record {
       family = family;
       behind = c.in_ok-push.ensures.items;
-      table = subst (λ (path : List RecordedDeed). Replaces a.self.now.known path a.actor a.submitter family.members.items family.is_decided c.replace.new.self) c.deref-5.ensures.value c.in_ok-replace.ensures;
+      table = replaces a.self.now.known c.take_path.new.self c.keep.new.self a.done.path.items a.actor a.submitter family.members.items family.is_decided
+          (subst (λ (path : List RecordedDeed). AreTaken a.self.now.known path c.take_path.new.self) c.deref.ensures.value c.in_ok-is_decided.ensures.gone) c.in_ok-keep.ensures;
       right = λ lines classes decided.
-          let both : (c.in_ok-family.family.is_decided && known.is_decided) ≡ true = sym c.are_both.ensures ∙ decided in
+          let both : (c.in_ok-family.family.is_decided && is_known) ≡ true = sym c.are_both.ensures ∙ decided in
           record {
-            deeds = known.deeds.items;
-            path = subst (λ (path : List RecordedDeed). StandFor a.plan.now lines path known.deeds.items) c.deref.ensures.value (c.in_ok-known.ensures.stands a.plan.now lines classes (and_second _ _ both));
+            deeds = deeds;
+            path = subst (λ (path : List RecordedDeed). StandFor a.plan.now lines path deeds) c.deref.ensures.value (c.in_ok-is_decided.ensures.stands a.plan.now lines classes (and_second _ _ both));
             members = its.members (and_first _ _ both);
             explained = its.explained (and_first _ _ both);
           };
-      decided = λ enough are all.
+      decided = λ enough are all once.
           c.are_both.ensures ∙ both_true _ _ (its.decided enough)
-          (c.in_ok-known.ensures.decided are (subst (λ (path : List RecordedDeed). AreAllIn a.self.now.known path) (sym c.deref.ensures.value) all));
+          (c.in_ok-is_decided.ensures.decided are (subst (λ (path : List RecordedDeed). AreAllIn a.self.now.known path) (sym c.deref.ensures.value) all) (subst AreOnce (sym c.deref.ensures.value) once));
       ascending = its.ascending;
     }
