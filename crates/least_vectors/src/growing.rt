@@ -1,6 +1,6 @@
 //! The vectors that a pool needs at least, for whoever looks for the sizes of a plan.
 
-ghost use Rattle.std.specs.Prelude.{IfOk, IfSome, IsTrue};
+ghost use Rattle.std.specs.Prelude.{◌≡◌, ◌<◌, length, IfOk, IfSome, IsTrue, vec_len};
 ghost use Rattle.weights.specs.Vector.{vector_fits};
 
 use crate::Levels;
@@ -64,7 +64,9 @@ impl Growing<'_> {
         pool: usize,
         kind: Kind,
         enough: u64,
-    ) -> Result<Option<Weighed>, AllocError> {
+    ) -> Result<Option<Weighed>, AllocError>
+        ensures workers { IfOk result (λ found. IfSome found (λ weighed. vec_len weighed.workers ≡ length self.now.plan.now.pools)) }
+    {
         let target = self.target(pool, kind, enough);
         let Loans {
             workers,

@@ -1,6 +1,6 @@
 //! Vectors whose total is brought below its limit by workers that lend what their jobs weigh.
 
-ghost use Rattle.std.specs.Prelude.{◌<◌, ◌≤◌, IfOk, IfSome, IsTrue, vec_len};
+ghost use Rattle.std.specs.Prelude.{◌≡◌, ◌<◌, ◌≤◌, length, IfOk, IfSome, IsTrue, vec_len};
 ghost use Rattle.weights.specs.Vector.{vector_fits};
 
 use crate::Levels;
@@ -51,7 +51,9 @@ pub(crate) fn lent(
     plan: &Plan,
     levels: &Levels,
     target: &Target,
-) -> Result<Loans, AllocError> {
+) -> Result<Loans, AllocError>
+    ensures { IfOk result (λ loans. vec_len loans.workers ≡ length plan.now.pools) }
+{
     let mut workers = vec![in alloc; 0; plan.pools().len()]?;
     let mut lenders = Vec::new(alloc);
     let mut tried = Tried::new(alloc, plan, levels, target);
@@ -105,6 +107,7 @@ fn next_loan(
     requires { place < vec_len tried.old.weighings }
     ensures stands { IfOk result (λ found. IfSome found (λ loan. loan.place < vec_len tried.new.weighings)) }
     ensures kept { vec_len tried.old.weighings ≤ vec_len tried.new.weighings }
+    ensures workers { length workers.new ≡ length workers.old }
 {
     if tried.sketch(place).strays > 0 {
         relieving_loan(tried, workers, place)
@@ -125,6 +128,7 @@ fn best_loan(
     requires { place < vec_len tried.old.weighings }
     ensures stands { IfOk result (λ found. IfSome found (λ loan. loan.place < vec_len tried.new.weighings)) }
     ensures kept { vec_len tried.old.weighings ≤ vec_len tried.new.weighings }
+    ensures workers { length workers.new ≡ length workers.old }
 {
     let plan = tried.plan;
     let target = tried.target;
@@ -167,6 +171,7 @@ fn peak(
 ) -> Result<u64, AllocError>
     requires { place < vec_len tried.old.weighings }
     ensures kept { vec_len tried.old.weighings ≤ vec_len tried.new.weighings }
+    ensures workers { length workers.new ≡ length workers.old }
 {
     let before = number_at(workers, pool);
     if before == 0 {

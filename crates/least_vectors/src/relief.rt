@@ -1,6 +1,6 @@
 //! Loans for the sake of classes that nobody submits. No total counts their jobs, but what these weigh has a limit too.
 
-ghost use Rattle.std.specs.Prelude.{◌<◌, ◌≤◌, IfOk, IfSome, vec_len};
+ghost use Rattle.std.specs.Prelude.{◌≡◌, ◌<◌, ◌≤◌, IfOk, IfSome, vec_len, length};
 
 use crate::lending::Loan;
 use crate::numbers::{number_at, put_at};
@@ -22,6 +22,7 @@ pub(crate) fn relieving_loan(
     requires { place < vec_len tried.old.weighings }
     ensures stands { IfOk result (λ found. IfSome found (λ loan. loan.place < vec_len tried.new.weighings)) }
     ensures kept { vec_len tried.old.weighings ≤ vec_len tried.new.weighings }
+    ensures workers { length workers.new ≡ length workers.old }
 {
     let plan = tried.plan;
     let target = tried.target;
@@ -62,7 +63,9 @@ fn least_weight(
     workers: &mut [u64],
     pool: usize,
     strays: usize,
-) -> Result<u64, AllocError> {
+) -> Result<u64, AllocError>
+    ensures { length workers.new ≡ length workers.old }
+{
     let mut low = 0u64;
     let mut high = MAX_SIZE;
     for _ in 0..HALVINGS {

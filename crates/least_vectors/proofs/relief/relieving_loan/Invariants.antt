@@ -1,7 +1,8 @@
-use Rattle.std.proofs.Common.{◌<◌, ◌≤◌, IfSome, vec_len}
+use Rattle.std.proofs.Common.{◌≡◌, ◌<◌, ◌≤◌, IfSome, length, vec_len}
 use Rattle.least_vectors.proofs.relief.relieving_loan.Given as goal
 
 abbrev pub invariant-loop-pool : goal.invariant-loop-pool
 invariant-loop-pool l =
+    (length l.workers ≡ length l.initial.workers) ×
     (vec_len l.initial.tried.weighings ≤ vec_len l.tried.weighings) ×
     IfSome l.best (λ loan. loan.place < vec_len l.tried.weighings)
