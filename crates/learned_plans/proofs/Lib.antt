@@ -4,3 +4,4 @@ pub mod Named
 pub mod Tallies
 pub mod Pushed
 pub mod Entered
+pub mod LabelRounds

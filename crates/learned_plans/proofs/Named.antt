@@ -1,5 +1,5 @@
 -- What the lines name, where one more line stands behind the others.
-use Rattle.std.proofs.Common.{◌≡◌, ◌+◌, if◌then◌else◌, List, [], ◌∷◌, ◌++◌, ◌∙◌, ap, sym, arith}
+use Rattle.std.proofs.Common.{◌≡◌, ◌+◌, if◌then◌else◌, List, [], ◌∷◌, ◌++◌, ◌∙◌, ap, sym, subst, arith}
 use Rattle.std.proofs.lemmas.List.Sums.{sum_by_push}
 use Rattle.recording_lines.specs.RecordingLine.{RecordedLine}
 use Rattle.recorded_rules.specs.LineParts.{is_begin, is_submit}
@@ -46,3 +46,9 @@ named_after old new before line names pools rounds jobs ended_rounds started_job
   started_jobs = grind (arith, started_jobs, names.started_jobs, job_starts_more before line);
   ended_jobs = grind (arith, ended_jobs, names.ended_jobs, job_ends_more before line);
 }
+
+-- the working copy may have changed
+pub same_names : (old new : SeenNames) (lines : List RecordedLine) → new ≡ record old { working = new.working } → AreNamesOf old lines → AreNamesOf new lines
+same_names old new lines same named =
+    subst (λ (names : SeenNames). AreNamesOf names lines) (sym same)
+    (record { pools = named.pools; rounds = named.rounds; jobs = named.jobs; ended_rounds = named.ended_rounds; started_jobs = named.started_jobs; ended_jobs = named.ended_jobs })

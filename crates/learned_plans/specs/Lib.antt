@@ -4,5 +4,6 @@ pub mod Names
 pub mod TooMuch
 pub mod Unfinished
 pub mod Kept
+pub mod LabelRounds
 pub mod Learned
 pub mod Named

@@ -13,6 +13,7 @@ use Rattle.learned_plans.specs.declared.seen_names.SeenNames.{SeenNames}
 use Rattle.learned_plans.specs.declared.stop.Stop.{Stop}
 use Rattle.learned_plans.specs.declared.stop.Stop.TheVariants.{Memory, TooMuch}
 use Rattle.learned_plans.specs.Kept.{AreNamesOf, AreWorkingOf, IsStop}
+use Rattle.learned_plans.specs.LabelRounds.{AreLabelRoundsOf}
 use Rattle.learned_plans.specs.Counts.{AreCounted}
 use Rattle.learned_plans.specs.Learned.{lines_of}
 use Rattle.learned_plans.specs.Names.{IsNamedClass, IsNamedClient}
@@ -27,6 +28,7 @@ good lines = filter_map (λ line. line) lines
 pub record AreNamesOfAll (all : List (Option RecordedLine)) (names : SeenNames) : Type 0 where
   pub no_fault : IsFirstFault all None
   pub named : AreNamesOf names (good all)
+  pub rounds : AreLabelRoundsOf names.label_rounds (good all)
   pub working : AreWorkingOf (good all) names.working
 
 abbrev pub IsNamed : List (Option RecordedLine) → Result SeenNames RecordingFault → Type 0
@@ -42,6 +44,7 @@ IsStopAt all (TooMuch reason) = IsFirstFault all None × IsStop (good all) (TooM
 pub record Counts (old : SeenNames) (line : RecordedLine) (new : SeenNames) : Type 0 where
   pub pools : new.pools ≡ old.pools
   pub working : new.working ≡ old.working
+  pub label_rounds : new.label_rounds ≡ old.label_rounds
   pub rounds : new.rounds ≡ old.rounds + (if is_begin line then 1 else 0)
   pub jobs : new.jobs ≡ old.jobs + (if is_submit line then 1 else 0)
   pub ended_rounds : new.ended_rounds ≡ old.ended_rounds + (if is_round_end line then 1 else 0)

@@ -109,8 +109,12 @@ fn has_name_of(entries: &[Entry], number: usize, label: &str) -> bool
     }
 }
 
-// So many kinds, of which there are no rounds.
-fn no_counts(alloc: Global, count: usize) -> Result<Vec<KindCount>, AllocError>
+/// So many kinds, of which there are no rounds.
+///
+/// # Errors
+///
+/// `AllocError` where there is no memory for them.
+pub(crate) fn no_counts(alloc: Global, count: usize) -> Result<Vec<KindCount>, AllocError>
     ensures { (kinds : Kinds) → IfOk result (λ counts. AreCountsOf kinds [] counts.items) }
 {
     let mut counts = Vec::new(alloc);
@@ -158,7 +162,12 @@ fn kind_of(kinds: &[Option<usize>], round: usize) -> Option<usize>
     *kinds.get(round)?
 }
 
-fn begin_one(counts: &mut [KindCount], kind: Option<usize>) -> Result<(), AllocError>
+/// A round of the kind begins, where there is one and it is among these.
+///
+/// # Errors
+///
+/// `AllocError` where there are too many to be counted.
+pub(crate) fn begin_one(counts: &mut [KindCount], kind: Option<usize>) -> Result<(), AllocError>
     ensures count { length counts.new ≡ length counts.old }
     ensures one { OnOk result (ChangesOne kind with_begin counts.old counts.new) }
 {
@@ -168,7 +177,12 @@ fn begin_one(counts: &mut [KindCount], kind: Option<usize>) -> Result<(), AllocE
     }
 }
 
-fn end_one(counts: &mut [KindCount], kind: Option<usize>) -> Result<(), AllocError>
+/// A round of the kind ends, where there is one and it is among these.
+///
+/// # Errors
+///
+/// `AllocError` where there are too many to be counted.
+pub(crate) fn end_one(counts: &mut [KindCount], kind: Option<usize>) -> Result<(), AllocError>
     ensures count { length counts.new ≡ length counts.old }
     ensures one { OnOk result (ChangesOne kind with_end counts.old counts.new) }
 {

@@ -6,7 +6,8 @@ ghost use Rattle.recording_lines.specs.RecordingLine.{RecordedLine, lines_read};
 ghost use Rattle.recorded_rules.specs.Faults.{IsFirstFault};
 ghost use Rattle.recorded_rules.specs.Before.{begins, submits};
 ghost use Rattle.learned_plans.specs.Counts.{AreCounted, AreOfKinds, Kinds, IsCounted, client_names};
-ghost use Rattle.learned_plans.specs.Kept.{IsCountOf, IsStop, names_of};
+ghost use Rattle.learned_plans.specs.Kept.{AreCountsOf, AreWorkingOf, IsCountOf, IsStop, names_of};
+ghost use Rattle.learned_plans.specs.LabelRounds.{AreLabelRoundsOf};
 ghost use Rattle.learned_plans.specs.Learned.{lines_of, fault_of, IfSeen, IfTooMuch};
 ghost use Rattle.learned_plans.specs.Named.{AreNamesOfAll, IsStopAt, IsToldOf, IsSeenOf};
 ghost use Rattle.learned_plans.specs.Names.{IsNamedClass, IsNamedClient};
@@ -17,6 +18,7 @@ ghost use Rattle.learned_plans.specs.Unfinished.{unfinished_rounds, unfinished_j
 use crate::counts::{KindCount, kind_counts};
 use crate::covering::cover_all;
 use crate::entries::Entry;
+use crate::extent::Extent;
 use crate::learned::{Learned, SeenPlan};
 use crate::seen_names::{SeenNames, seen_names};
 use crate::stop::Stop;
@@ -25,12 +27,18 @@ use crate::working::client_of;
 use job_bodies::{Client, MAX_SIZE, Plan};
 use std::alloc::{AllocError, Global};
 
-/// The plan that the recording shows. Each body has so many steps for each path that it is asked of.
+/// The plan that the recording shows, with bodies that are learned from so much of it. Each body has so many steps for each path
+/// that it is asked of.
 ///
 /// # Errors
 ///
 /// `AllocError` where there is no memory for what the lines say.
-pub fn learn(alloc: Global, recording: &[u8], budget: u64) -> Result<Learned, AllocError>
+pub fn learn(
+    alloc: Global,
+    recording: &[u8],
+    extent: Extent,
+    budget: u64,
+) -> Result<Learned, AllocError>
     ensures bad { IfOk result (λ told. IsFirstFault (lines_read recording.now) (fault_of told)) }
     ensures pools { IfOk result (IfSeen (λ seen. seen.plan.pools ≡ pools_seen (lines_of recording.now))) }
     ensures counts { IfOk result (IfSeen (λ seen. AreCounted (lines_of recording.now) seen.plan.clients)) }
@@ -42,35 +50,36 @@ pub fn learn(alloc: Global, recording: &[u8], budget: u64) -> Result<Learned, Al
     ensures unfinished_jobs { IfOk result (IfSeen (λ seen. seen.unfinished_jobs ≡ unfinished_jobs (lines_of recording.now))) }
     ensures too_much { IfOk result (IfTooMuch (IsReason (lines_of recording.now))) }
 {
-    match learned(alloc, recording, budget) {
+    match learned(alloc, recording, extent, budget) {
         Ok(told) => Ok(told),
         Err(Stop::TooMuch(reason)) => Ok(Learned::TooMuch(reason)),
         Err(Stop::Memory(error)) => Err(error),
     }
 }
 
-fn learned(alloc: Global, recording: &[u8], budget: u64) -> Result<Learned, Stop>
+fn learned(alloc: Global, recording: &[u8], extent: Extent, budget: u64) -> Result<Learned, Stop>
     ensures ok { IfOk result (IsToldOf recording.now) }
     ensures err { IfErr result (IsStopAt (lines_read recording.now)) }
 {
     match seen_names(alloc, recording)? {
         Err(fault) => Ok(Learned::Bad(fault)),
-        Ok(names) => Ok(Learned::Seen(seen_plan(alloc, recording, budget, names)?)),
+        Ok(names) => Ok(Learned::Seen(seen_plan(alloc, recording, extent, budget, names)?)),
     }
 }
 
 fn seen_plan(
     alloc: Global,
     recording: &[u8],
+    extent: Extent,
     budget: u64,
     mut names: SeenNames,
 ) -> Result<SeenPlan, Stop>
     ensures ok { AreNamesOfAll (lines_read recording.now) names → IfOk result (IsSeenOf (lines_of recording.now)) }
     ensures err { AreNamesOfAll (lines_read recording.now) names → IfErr result (IsStop (lines_of recording.now)) }
 {
-    let kinds = cover_all(alloc, recording, &names.pools, budget, &mut names.working)?;
+    let kinds = learned_kinds(alloc, recording, extent, budget, &mut names)?;
     let classes = names.working.copied_classes()?;
-    let clients = counted_clients(alloc, recording, &kinds, &names.working.kinds.entries)?;
+    let clients = seen_clients(alloc, recording, &kinds, &names)?;
     match Plan::build(alloc, names.pools, classes, clients) {
         Ok(plan) => Ok(SeenPlan {
             plan,
@@ -83,20 +92,62 @@ fn seen_plan(
     }
 }
 
-fn counted_clients(
+// Makes bodies grow. The answer is the kind of each round, by its number; where each label has one kind, maybe only of those
+// within the extent.
+fn learned_kinds(
+    alloc: Global,
+    recording: &[u8],
+    extent: Extent,
+    budget: u64,
+    names: &mut SeenNames,
+) -> Result<Vec<Option<usize>>, Stop>
+    ensures ok { (lines : List RecordedLine) → AreWorkingOf lines names.old.working → OnOk result (AreWorkingOf lines names.new.working) }
+    ensures err { (lines : List RecordedLine) → AreWorkingOf lines names.old.working → IfErr result (IsStop lines) }
+    ensures same { names.new ≡ record names.old { working = names.new.working } }
+{
+    let kinds = cover_all(
+        alloc,
+        extent.of(recording),
+        &names.pools,
+        budget,
+        &mut names.working,
+    )?;
+    if extent.is_all(recording) || names.label_rounds.are_of(&names.working.kinds.entries) {
+        return Ok(kinds);
+    }
+    cover_all(alloc, recording, &names.pools, budget, &mut names.working)
+}
+
+fn seen_clients(
     alloc: Global,
     recording: &[u8],
     kinds: &[Option<usize>],
+    names: &SeenNames,
+) -> Result<Vec<Client>, Stop>
+    ensures counts { AreLabelRoundsOf names.now.label_rounds (lines_of recording.now) → IfOk result (λ clients. AreCounted (lines_of recording.now) clients.items) }
+    ensures names { IfOk result (λ clients. client_names clients.items ≡ names_of names.now.working.kinds.entries.items) }
+    ensures err { AreLabelRoundsOf names.now.label_rounds (lines_of recording.now) → IfErr result (IsStop (lines_of recording.now)) }
+{
+    let entries = &names.working.kinds.entries;
+    if names.label_rounds.are_of(entries) {
+        return counted_clients(alloc, &names.label_rounds.counts, entries);
+    }
+    let counts = kind_counts(alloc, recording, kinds, entries)?;
+    counted_clients(alloc, &counts, entries)
+}
+
+fn counted_clients(
+    alloc: Global,
+    counts: &[KindCount],
     entries: &[Entry],
 ) -> Result<Vec<Client>, Stop>
-    ensures counts { IfOk result (λ clients. AreCounted (lines_of recording.now) clients.items) }
+    ensures counts { (kinds : Kinds) (lines : List RecordedLine) → AreOfKinds kinds (names_of entries.now) lines → AreCountsOf kinds lines counts.now → IfOk result (λ clients. AreCounted lines clients.items) }
     ensures names { IfOk result (λ clients. client_names clients.items ≡ names_of entries.now) }
-    ensures err { IfErr result (IsStop (lines_of recording.now)) }
+    ensures err { (kinds : Kinds) (lines : List RecordedLine) → AreOfKinds kinds (names_of entries.now) lines → AreCountsOf kinds lines counts.now → IfErr result (IsStop lines) }
 {
-    let counts = kind_counts(alloc, recording, kinds, entries)?;
     let mut clients = Vec::new(alloc);
     for kind in 0..entries.len() {
-        let (Some(entry), Some(count)) = (entries.get(kind), count_at(&counts, kind)) else {
+        let (Some(entry), Some(count)) = (entries.get(kind), count_at(counts, kind)) else {
             return Err(Stop::TooMuch(TooMuch::Paths));
         };
         let client = counted_client(alloc, entry, count)?;

@@ -1,13 +1,17 @@
-//! The plan that a recording shows (`docs/RECORDING.md`): [`learn`] goes along a recording several times, and tells the
-//! pools, classes of jobs and kinds of clients that were seen in it.
+//! The plan that a recording shows (`docs/RECORDING.md`): [`learn`] goes along a recording once, and along its start or all of it
+//! a few times more, and tells the pools, classes of jobs and kinds of clients that were seen in it.
 //!
-//! **How.** A first pass holds the lines to their rules, and takes what they name. A label is a class of its own in each pool, and each body is empty. In
-//! each pass behind it, the path of each job and round is held against the bodies that there are (`recorded_classes`), the
+//! **How.** A first walk holds all lines to their rules, and takes what they name and how many rounds there are of each label. A
+//! label is a class of its own in each pool, and each body is empty. Then bodies grow, in passes along the part of the recording
+//! that [`Extent`] says: its start, where a long recording mostly shows all that is done, or all of it. In
+//! each pass, the path of each job and round is held against the bodies that there are (`recorded_classes`), the
 //! jobs that it submitted first. Where it is of none, a body of its label is made a little longer, so that it covers the
 //! path (`covering_bodies`), or else there is one more class or kind: NAME_2, NAME_3, and so on. So a body has all that jobs
 //! of its label did, and none of it has to be done. A class does not come to submit jobs that lead back to it, as such a
 //! plan has no end: where a job submitted one of its own label, the outer one is of another class. The passes end when each
-//! path is of a body, and the last one tells how many rounds of each kind were about at once.
+//! path is of a body. While each label has one kind, the rounds of a kind are those of its label, and the first walk has counted
+//! them. Else a round's kind is known by its path alone: then the passes go along all lines, the last one tells the kind of each
+//! round, and one more walk counts how many of each were about at once.
 //!
 //! **What it promises, and what the caller checks.** The pools are exactly those of the lines, brought into the ranges of a
 //! plan. A bad line is told of exactly. How many rounds and jobs there are is exact. Each class and kind has a name of the
@@ -16,18 +20,23 @@
 //! what is too much is so by the lines: more pools, or more rounds of a kind at once, than a plan may have, or a label so
 //! long that the names made of it are none; of too many classes or kinds it is only promised that there are jobs, or
 //! rounds. Of the bodies, and of which kind of its label's family a round is, it promises nothing but that they make a
-//! plan: whoever tells the plan first holds the recording against it. Nor is it promised that there is a plan wherever
-//! there could be one, or that its bodies are the shortest.
+//! plan: whoever tells the plan first holds the recording against it. All this is so of the whole recording, whatever part
+//! of it the bodies are learned from. Nor is it promised that there is a plan wherever there could be one, or that its
+//! bodies are the shortest.
 //!
-//! **Cost.** Memory grows with the actors that are about at once, with the plan and with a number for each round; time is
-//! that of a walk along the recording for each level of jobs within jobs, and a few more. It is in no contract.
+//! **Cost.** Memory grows with the actors that are about at once, with the plan and with a number for each round. Time is that of
+//! one walk that holds the lines to the rules, and, for the part that bodies are learned from, of a walk for each level of jobs
+//! within jobs, and one more. Where a label has several kinds, this part is all of the recording, and one walk more is needed. It
+//! is in no contract.
 #![tactic(auto)]
 
 mod counts;
 mod covering;
 mod ended;
 mod entries;
+mod extent;
 mod growth;
+mod label_rounds;
 mod learned;
 mod learning;
 mod members;
@@ -39,6 +48,7 @@ mod stop;
 mod too_much;
 mod working;
 
+pub use extent::{Extent, START_BYTES};
 pub use learned::{Learned, SeenPlan};
 pub use learning::learn;
 pub use too_much::TooMuch;

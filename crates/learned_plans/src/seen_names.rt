@@ -4,9 +4,11 @@ ghost use Rattle.std.specs.Prelude.{◌≡◌, ◌+◌, ◌++◌, ◌∷◌, [],
 ghost use Rattle.recorded_rules.specs.LineParts as parts;
 ghost use Rattle.recording_lines.specs.RecordingLine.{RecordedLine, line_seen, lines_read};
 ghost use Rattle.learned_plans.specs.Kept.{AreNamesOf, AreWorkingOf, IsStop};
+ghost use Rattle.learned_plans.specs.LabelRounds.{AreLabelRoundsOf};
 ghost use Rattle.learned_plans.specs.Named.{IsNamed, IsStopAt, Counts, good};
 ghost use Rattle.learned_plans.specs.Unfinished as unfinished;
 
+use crate::label_rounds::LabelRounds;
 use crate::pools::note_pool;
 use crate::stop::Stop;
 use crate::working::Working;
@@ -21,6 +23,7 @@ use std::alloc::{AllocError, Global};
 pub(crate) struct SeenNames {
     pub(crate) pools: Vec<Pool>,
     pub(crate) working: Working,
+    pub(crate) label_rounds: LabelRounds,
     pub(crate) rounds: usize,
     pub(crate) jobs: usize,
     pub(crate) ended_rounds: usize,
@@ -42,7 +45,7 @@ pub(crate) fn seen_names(
     ensures ok { IfOk result (IsNamed (lines_read recording.now)) }
     ensures err { IfErr result (IsStopAt (lines_read recording.now)) }
 {
-    let mut names = SeenNames::new(alloc);
+    let mut names = SeenNames::new(alloc)?;
     let mut lines = RuledLines::new(alloc, recording);
     while let Some(line) = lines.next()? {
         let line = match line {
@@ -73,29 +76,33 @@ fn stopped(
 
 impl SeenNames {
     // None so far.
-    fn new(alloc: Global) -> SeenNames
-        ensures names { AreNamesOf result [] }
-        ensures working { (lines : List RecordedLine) → AreWorkingOf lines result.working }
+    fn new(alloc: Global) -> Result<SeenNames, AllocError>
+        ensures names { IfOk result (λ names. AreNamesOf names []) }
+        ensures rounds { IfOk result (λ names. AreLabelRoundsOf names.label_rounds []) }
+        ensures working { (lines : List RecordedLine) → IfOk result (λ names. AreWorkingOf lines names.working) }
     {
-        SeenNames {
+        Ok(SeenNames {
             pools: Vec::new(alloc),
             working: Working::new(alloc),
+            label_rounds: LabelRounds::new(alloc)?,
             rounds: 0,
             jobs: 0,
             ended_rounds: 0,
             started_jobs: 0,
             ended_jobs: 0,
             alloc,
-        }
+        })
     }
 
     fn note(&mut self, line: &Line<'_>) -> Result<(), Stop>
         ensures names { (before : List RecordedLine) → AreNamesOf self.old before → OnOk result (AreNamesOf self.new (before ++ line_seen line.now ∷ [])) }
+        ensures rounds { (before : List RecordedLine) → AreLabelRoundsOf self.old.label_rounds before → OnOk result (AreLabelRoundsOf self.new.label_rounds (before ++ line_seen line.now ∷ [])) }
         ensures working { (before behind : List RecordedLine) → AreNamesOf self.old before → AreWorkingOf (before ++ line_seen line.now ∷ behind) self.old.working → OnOk result (AreWorkingOf (before ++ line_seen line.now ∷ behind) self.new.working) }
         ensures err { (before behind : List RecordedLine) → AreNamesOf self.old before → AreWorkingOf (before ++ line_seen line.now ∷ behind) self.old.working → IfErr result (IsStop (before ++ line_seen line.now ∷ behind)) }
     {
         self.working.note(&self.pools, line)?;
         note_pool(self.alloc, &mut self.pools, line)?;
+        self.label_rounds.take(line)?;
         self.count(line)?;
         Ok(())
     }

@@ -16,11 +16,14 @@ use crate::answer::{Answer, bad_recording, input_too_long};
 use crate::texts::plan_in;
 use conformance::{Conformance, Finding, conform, push_finding};
 use job_bodies::{MAX_PATH_STEPS, MAX_PLAN_BYTES, MAX_RECORDED_BYTES, Plan};
-use learned_plans::{Learned, SeenPlan, TooMuch, learn};
+use learned_plans::{Extent, Learned, START_BYTES, SeenPlan, TooMuch, learn};
 use plan_writer::write_plan;
 use std::alloc::{AllocError, Global};
 
 /// The answer to an input, which is a recording: the plan that it shows.
+///
+/// The bodies of a long recording are learned from its start, and held against all of it. Only where they do not say all that
+/// was done, they are learned from all of it.
 ///
 /// # Errors
 ///
@@ -31,33 +34,59 @@ pub fn learn_report(alloc: Global, input: &[u8]) -> Result<Answer, AllocError>
     if input.len() > MAX_RECORDED_BYTES {
         return input_too_long(alloc);
     }
-    match learn(alloc, input, MAX_PATH_STEPS)? {
-        Learned::Bad(fault) => bad_recording(alloc, fault),
-        Learned::TooMuch(reason) => not_learned(alloc, reason),
-        Learned::Seen(seen) => seen_told(alloc, input, &seen),
+    if input.len() > START_BYTES {
+        if let Some(answer) = told_by_start(alloc, input)? {
+            return Ok(answer);
+        }
+    }
+    told_by_all(alloc, input)
+}
+
+/// The answer, where bodies that are learned from the start of the recording say all that was done.
+fn told_by_start(alloc: Global, recording: &[u8]) -> Result<Option<Answer>, AllocError>
+    ensures { IfOk result (λ found. IfSome found (spec.AnswersLines recording.now)) }
+{
+    match learn(alloc, recording, Extent::Start, MAX_PATH_STEPS)? {
+        Learned::Bad(fault) => Ok(Some(bad_recording(alloc, fault)?)),
+        Learned::TooMuch(_) => Ok(None),
+        Learned::Seen(seen) => seen_told(alloc, recording, &seen),
     }
 }
 
-/// The plan that was seen, with all that is otherwise in comments at its head, if the recording has nothing else that is
-/// otherwise.
-fn seen_told(alloc: Global, recording: &[u8], seen: &SeenPlan) -> Result<Answer, AllocError>
+/// The answer, with bodies that are learned from the whole recording.
+fn told_by_all(alloc: Global, recording: &[u8]) -> Result<Answer, AllocError>
+    ensures { IfOk result (spec.AnswersLines recording.now) }
+{
+    match learn(alloc, recording, Extent::Whole, MAX_PATH_STEPS)? {
+        Learned::Bad(fault) => bad_recording(alloc, fault),
+        Learned::TooMuch(reason) => not_learned(alloc, reason),
+        Learned::Seen(seen) => match seen_told(alloc, recording, &seen)? {
+            Some(answer) => Ok(answer),
+            None => not_learned(alloc, TooMuch::Paths),
+        },
+    }
+}
+
+/// The plan that was seen, with all that is otherwise in comments at its head; None where a job or a round did what it does not
+/// say, or there are more rounds.
+fn seen_told(alloc: Global, recording: &[u8], seen: &SeenPlan) -> Result<Option<Answer>, AllocError>
     requires no_fault { IsFirstFault (lines_read recording.now) None }
     requires seen { spec.IsSeen (lines_of recording.now) seen.now }
-    ensures { IfOk result (spec.AnswersLines recording.now) }
+    ensures { IfOk result (λ found. IfSome found (spec.AnswersLines recording.now)) }
 {
     let Conformance::Compared(findings) = conform(alloc, &seen.plan, recording, MAX_PATH_STEPS)?
     else {
-        return not_learned(alloc, TooMuch::Paths);
+        return Ok(None);
     };
     if are_of_actors(&findings) {
-        return not_learned(alloc, TooMuch::Paths);
+        return Ok(None);
     }
     match seen_text(alloc, seen, &findings)? {
-        Some(text) => Ok(Answer {
+        Some(text) => Ok(Some(Answer {
             text,
             status: Status::Done,
-        }),
-        None => not_learned(alloc, TooMuch::Text),
+        })),
+        None => Ok(Some(not_learned(alloc, TooMuch::Text)?)),
     }
 }
 

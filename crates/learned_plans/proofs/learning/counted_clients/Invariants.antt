@@ -1,13 +1,13 @@
-use Rattle.std.proofs.Common.{◌≡◌, ℕ, Some, slice_get, length, take}
+use Rattle.std.proofs.Common.{◌≡◌, ℕ, List, Some, slice_get, length, take}
 use Rattle.job_bodies.specs.Plan.{Client}
-use Rattle.learned_plans.specs.Counts.{IsCounted, client_names}
-use Rattle.learned_plans.specs.Kept.{kinds_in, names_of}
-use Rattle.learned_plans.specs.Learned.{lines_of}
+use Rattle.recording_lines.specs.RecordingLine.{RecordedLine}
+use Rattle.learned_plans.specs.Counts.{IsCounted, Kinds, client_names}
+use Rattle.learned_plans.specs.Kept.{AreCountsOf, names_of}
 use Rattle.learned_plans.proofs.learning.counted_clients.Given as goal
 
 abbrev pub invariant-loop-kind : goal.invariant-loop-kind
 invariant-loop-kind l = record {
   many : length l.clients.items ≡ l.kind;
   names : client_names l.clients.items ≡ take l.kind (names_of l.entries);
-  counted : (kind : ℕ) (client : Client) → slice_get l.clients.items kind ≡ Some client → IsCounted (kinds_in l.kinds) (lines_of l.recording) kind client;
+  counted : (kinds : Kinds) (lines : List RecordedLine) → AreCountsOf kinds lines l.counts → (kind : ℕ) (client : Client) → slice_get l.clients.items kind ≡ Some client → IsCounted kinds lines kind client;
 }

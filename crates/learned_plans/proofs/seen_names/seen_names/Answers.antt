@@ -7,6 +7,7 @@ use Rattle.recorded_rules.specs.declared.fault.RecordingFault.{RecordingFault}
 use Rattle.recorded_rules.specs.Faults.{lines_before}
 use Rattle.recorded_rules.specs.RuledLines.{IsNext, IsTakenNext}
 use Rattle.learned_plans.specs.Kept.{AreNamesOf, AreWorkingOf, IsStop}
+use Rattle.learned_plans.specs.LabelRounds.{AreLabelRoundsOf}
 use Rattle.learned_plans.specs.Named.{good}
 use Rattle.learned_plans.proofs.seen_names.seen_names.Goals as goal
 
@@ -22,8 +23,9 @@ loop-lines-init c =
     let nothing : lines_before all c.new-lines.result.number ≡ [] = ap (λ (n : ℕ). lines_before all n) c.new-lines.ensures.number in
     record {
       ruled = c.new-lines.ensures.ruled;
-      named = subst (AreNamesOf c.new-names.result) (sym nothing) c.new-names.ensures.names;
-      working = c.new-names.ensures.working (good all);
+      named = subst (AreNamesOf c.in_ok-names.names) (sym nothing) c.in_ok-names.ensures.names;
+      rounds = subst (AreLabelRoundsOf c.in_ok-names.names.label_rounds) (sym nothing) c.in_ok-names.ensures.rounds;
+      working = c.in_ok-names.ensures.working (good all);
     }
 
 pub returns-in-Err-note-clause-err : goal.returns-in-Err-note-clause-err
@@ -54,5 +56,6 @@ loop-lines-preserved c =
     record {
       ruled = next.ruled;
       named = subst (AreNamesOf c.note.new.self) (sym next.taken) (c.in_default-note.ensures.names before so_far.named);
+      rounds = subst (AreLabelRoundsOf c.note.new.self.label_rounds) (sym next.taken) (c.in_default-note.ensures.rounds before so_far.rounds);
       working = subst (λ ls. AreWorkingOf ls c.note.new.self.working) (sym whole) (c.in_default-note.ensures.working before behind so_far.named (subst (λ ls. AreWorkingOf ls c.loop-lines.names.working) whole so_far.working));
     }

@@ -2,6 +2,7 @@ use Rattle.recording_lines.specs.RecordingLine.{lines_read}
 use Rattle.recorded_rules.specs.Faults.{lines_before}
 use Rattle.recorded_rules.specs.RuledLines.{IsRuled, lines_left}
 use Rattle.learned_plans.specs.Kept.{AreNamesOf, AreWorkingOf}
+use Rattle.learned_plans.specs.LabelRounds.{AreLabelRoundsOf}
 use Rattle.learned_plans.specs.Named.{good}
 use Rattle.learned_plans.proofs.seen_names.seen_names.Given as goal
 
@@ -9,6 +10,7 @@ abbrev pub invariant-loop-lines : goal.invariant-loop-lines
 invariant-loop-lines l = record {
   ruled : IsRuled (lines_read l.recording) l.lines;
   named : AreNamesOf l.names (lines_before (lines_read l.recording) l.lines.number);
+  rounds : AreLabelRoundsOf l.names.label_rounds (lines_before (lines_read l.recording) l.lines.number);
   working : AreWorkingOf (good (lines_read l.recording)) l.names.working;
 }
 

@@ -1,8 +1,9 @@
-use Rattle.std.proofs.Common.{◌∷◌, ◌++◌, ◌∙◌, refl, ap, sym, subst, arith}
+use Rattle.std.proofs.Common.{◌∷◌, ◌++◌, ◌∙◌, [], refl, ap, sym, subst, arith}
 use Rattle.std.specs.List.{Contains}
 use Rattle.std.proofs.lemmas.List.Elements.{Contains-append_right}
 use Rattle.recording_lines.specs.RecordingLine.{line_seen}
 use Rattle.learned_plans.specs.Kept.{AreFirstPools, AreWorkingOf}
+use Rattle.learned_plans.specs.LabelRounds.{AreLabelRoundsOf}
 use Rattle.learned_plans.proofs.Entered.{still_stops}
 use Rattle.learned_plans.proofs.Firsts.{first_pools}
 use Rattle.learned_plans.proofs.Named.{named_after}
@@ -15,6 +16,9 @@ returns-in_err-note-clause-err c = λ before behind names working.
     let there : Contains all line = Contains-append_right before (line ∷ behind) line (0, omega arith, refl) in
     let first : AreFirstPools all c.deref.result.now = first_pools before (line ∷ behind) c.deref.result.now (c.deref.ensures.value ∙ names.pools) in
     still_stops all _ _ c.from_residual.ensures.1 (c.in_err-note.ensures.err all there first working)
+
+pub returns-in_err-take-clause-err : goal.returns-in_err-take-clause-err
+returns-in_err-take-clause-err c = λ before behind names working. let all = before ++ line_seen c.args.line.now ∷ behind in still_stops all _ _ c.from_residual-in_err-take.ensures.1 (c.in_err-take.ensures.err all)
 
 pub returns-clause-names : goal.returns-clause-names
 returns-clause-names c = λ before names.
@@ -29,3 +33,6 @@ returns-clause-working c = λ before behind names working.
     let there : Contains all line = Contains-append_right before (line ∷ behind) line (0, omega arith, refl) in
     let first : AreFirstPools all c.deref.result.now = first_pools before (line ∷ behind) c.deref.result.now (c.deref.ensures.value ∙ names.pools) in
     subst (AreWorkingOf all) (sym c.in_ok-count.ensures.working) (c.in_ok-note.ensures.ok all there first working)
+
+pub returns-clause-rounds : goal.returns-clause-rounds
+returns-clause-rounds c = λ before rounds. subst (λ rs. AreLabelRoundsOf rs (before ++ line_seen c.args.line.now ∷ [])) (sym c.in_ok-count.ensures.label_rounds) (c.in_ok-take.ensures.ok before rounds)

@@ -1,0 +1,15 @@
+-- The rounds of each label, as they begin and end.
+use Rattle.std.specs.Prelude.{ℕ, List, ◌++◌, map, slice_get, string_bytes}
+use Rattle.recording_lines.specs.RecordingLine.{RecordedLine}
+use Rattle.learned_plans.specs.declared.label_rounds.LabelRounds.{LabelRounds}
+use Rattle.learned_plans.specs.Counts.{AreOfKinds}
+use Rattle.learned_plans.specs.Kept.{AreCountsOf}
+
+abbrev pub labels_of : LabelRounds → List (List ℕ)
+labels_of rounds = map string_bytes rounds.labels.items
+
+-- Each round is of the kind that has the number and the name of its label, and each kind is counted by them. This is so
+-- whatever rounds and labels come behind, as the lines so far name none of these.
+pub record AreLabelRoundsOf (rounds : LabelRounds) (lines : List RecordedLine) : Type 0 where
+  pub counts : (more : List ℕ) → AreCountsOf (slice_get (rounds.kinds.items ++ more)) lines rounds.counts.items
+  pub of_kinds : (more : List ℕ) (names : List (List ℕ)) → AreOfKinds (slice_get (rounds.kinds.items ++ more)) (labels_of rounds ++ names) lines

@@ -1,0 +1,182 @@
+//! How many rounds there are of each label.
+
+ghost use Rattle.std.specs.Prelude.{◌≡◌, ◌++◌, ◌∷◌, [], ℕ, List, Some, slice_get, map, string_bytes, OnOk, IfOk, IfErr, IsTrue};
+ghost use Rattle.std.specs.List.{position};
+ghost use Rattle.std.specs.Str.{bytes_eq};
+ghost use Rattle.recording_lines.specs.RecordingLine.{RecordedLine, RoundBegins, RoundEnds, line_seen};
+ghost use Rattle.learned_plans.specs.Kept.{ChangesOne, IsStop, names_of, with_begin, with_end};
+ghost use Rattle.learned_plans.specs.LabelRounds.{AreLabelRoundsOf, labels_of};
+
+use crate::counts::{KindCount, begin_one, end_one, no_counts};
+use crate::entries::Entry;
+use crate::stop::Stop;
+use crate::too_much::TooMuch;
+use job_bodies::MAX_CLIENT_KINDS;
+use plan_families::is_of_family;
+use recording_lines::Line;
+use std::alloc::{AllocError, Global};
+
+/// The rounds of each label, as they begin and end. While each label has one kind, these are the rounds of each kind.
+#[derive(Debug, Drop)]
+pub(crate) struct LabelRounds {
+    labels: Vec<String>,
+    /// The number of the label of each round, by the round's number.
+    kinds: Vec<usize>,
+    /// By the number of each label that a plan has room for.
+    pub(crate) counts: Vec<KindCount>,
+    alloc: Global,
+}
+
+impl LabelRounds {
+    /// None so far.
+    ///
+    /// # Errors
+    ///
+    /// `AllocError` where there is no memory for the counts.
+    pub(crate) fn new(alloc: Global) -> Result<LabelRounds, AllocError>
+        ensures { IfOk result (λ rounds. AreLabelRoundsOf rounds []) }
+    {
+        let counts = no_counts(alloc, MAX_CLIENT_KINDS)?;
+        Ok(LabelRounds {
+            labels: Vec::new(alloc),
+            kinds: Vec::new(alloc),
+            counts,
+            alloc,
+        })
+    }
+
+    /// Takes the next line.
+    ///
+    /// # Errors
+    ///
+    /// [`Stop::TooMuch`] where a round does not have the number that it has by the rules; [`Stop::Memory`] where there is no
+    /// memory for it.
+    pub(crate) fn take(&mut self, line: &Line<'_>) -> Result<(), Stop>
+        ensures ok { (before : List RecordedLine) → AreLabelRoundsOf self.old before → OnOk result (AreLabelRoundsOf self.new (before ++ line_seen line.now ∷ [])) }
+        ensures err { (lines : List RecordedLine) → IfErr result (IsStop lines) }
+    {
+        match *line {
+            Line::RoundBegins { round, kind } => self.begin(round, kind),
+            Line::RoundEnds { round } => self.end(round),
+            _ => Ok(()),
+        }
+    }
+
+    // By the rules each round has the next number.
+    fn begin(&mut self, round: usize, label: &str) -> Result<(), Stop>
+        ensures ok { (before : List RecordedLine) → AreLabelRoundsOf self.old before → OnOk result (AreLabelRoundsOf self.new (before ++ RoundBegins round label.now ∷ [])) }
+        ensures err { (lines : List RecordedLine) → IfErr result (IsStop lines) }
+    {
+        if round != self.kinds.len() {
+            return Err(Stop::TooMuch(TooMuch::Paths));
+        }
+        let kind = self.number_of(label)?;
+        self.push(kind)?;
+        begin_one(&mut self.counts, Some(kind))?;
+        Ok(())
+    }
+
+    // By the rules it has begun.
+    fn end(&mut self, round: usize) -> Result<(), Stop>
+        ensures ok { (before : List RecordedLine) → AreLabelRoundsOf self.old before → OnOk result (AreLabelRoundsOf self.new (before ++ RoundEnds round ∷ [])) }
+        ensures err { (lines : List RecordedLine) → IfErr result (IsStop lines) }
+    {
+        let Some(kind) = self.kind_at(round) else {
+            return Err(Stop::TooMuch(TooMuch::Paths));
+        };
+        end_one(&mut self.counts, Some(kind))?;
+        Ok(())
+    }
+
+    fn kind_at(&self, round: usize) -> Option<usize>
+        ensures { result ≡ slice_get self.now.kinds.items round }
+    {
+        self.kinds.get(round).copied()
+    }
+
+    // The number of the label, which is there from here on.
+    fn number_of(&mut self, label: &str) -> Result<usize, AllocError>
+        ensures number { IfOk result (λ kind. slice_get (labels_of self.new) kind ≡ Some label.now) }
+        ensures labels { OnOk result ((more : List (List ℕ)) × (labels_of self.new ≡ labels_of self.old ++ more)) }
+        ensures kinds { self.new.kinds ≡ self.old.kinds }
+        ensures counts { self.new.counts ≡ self.old.counts }
+    {
+        match place_of(&self.labels, label) {
+            Some(kind) => Ok(kind),
+            None => {
+                let kind = self.labels.len();
+                self.add(label)?;
+                Ok(kind)
+            }
+        }
+    }
+
+    fn add(&mut self, label: &str) -> Result<(), AllocError>
+        ensures labels { OnOk result (labels_of self.new ≡ labels_of self.old ++ label.now ∷ []) }
+        ensures kinds { self.new.kinds ≡ self.old.kinds }
+        ensures counts { self.new.counts ≡ self.old.counts }
+    {
+        self.labels.push(String::from_str(self.alloc, label)?)?;
+        Ok(())
+    }
+
+    // The next round is of this kind.
+    fn push(&mut self, kind: usize) -> Result<(), AllocError>
+        ensures kinds { OnOk result (self.new.kinds.items ≡ self.old.kinds.items ++ kind ∷ []) }
+        ensures labels { self.new.labels ≡ self.old.labels }
+        ensures counts { self.new.counts ≡ self.old.counts }
+    {
+        self.kinds.push(kind)?;
+        Ok(())
+    }
+
+    /// Whether each label has one kind, and these are the kinds, in the order of the labels.
+    pub(crate) fn are_of(&self, entries: &[Entry]) -> bool
+        ensures { IsTrue result → names_of entries.now ≡ labels_of self.now }
+    {
+        are_named(entries, &self.labels)
+            && self
+                .labels
+                .iter()
+                .all(|label| kinds_of(label, entries) == 1)
+    }
+}
+
+// The place of the label among these.
+fn place_of(labels: &[String], label: &str) -> Option<usize>
+    ensures { result ≡ position (λ one. bytes_eq (string_bytes one) label.now) labels.now }
+{
+    labels.iter().position(|one| one.as_str() == label)
+}
+
+// Whether these have these names, and no others.
+fn are_named(entries: &[Entry], names: &[String]) -> bool
+    ensures { IsTrue result → names_of entries.now ≡ map string_bytes names.now }
+{
+    if entries.len() != names.len() {
+        return false;
+    }
+    for (number, name) in names.iter().enumerate() {
+        if !is_named(entries, number, name) {
+            return false;
+        }
+    }
+    true
+}
+
+fn is_named(entries: &[Entry], number: usize, name: &str) -> bool
+    ensures { IsTrue result → slice_get (names_of entries.now) number ≡ Some name.now }
+{
+    match entries.get(number) {
+        Some(entry) => entry.name.as_str() == name,
+        None => false,
+    }
+}
+
+// How many of these have a name of the label's family.
+fn kinds_of(label: &str, entries: &[Entry]) -> usize {
+    entries
+        .iter()
+        .filter(|entry| is_of_family(label, &entry.name))
+        .count()
+}
