@@ -21,7 +21,9 @@ from machine import Class, Client, Plan, Pool
 from timing import Bars, Program, Table, Wrong, built, compiled, costs, without_words
 
 RUNS = 5
-TIME_BAR = 1.2
+TIME_BAR = 0.9
+# The peak of a run of nearly a million events: 30 bytes of each, and what its threads take.
+MEBIBYTES_BAR = 35
 # The idle run: so long sleeps each growth of memory, and so much of the time that goes by may be CPU time.
 SLEEP_MICROSECONDS = 20_000
 IDLE_BAR = 0.05
@@ -106,6 +108,7 @@ class Bench:
             f"{second.mebibytes:.1f}",
         )
         self.bars.hold(f"{row.name}: ratio of the processor times", ratio, TIME_BAR)
+        self.bars.hold(f"{row.name}: peak in MiB", first.mebibytes, MEBIBYTES_BAR)
 
     def idle(self, row):
         """Looks at a run in which each growth sleeps, so that all threads mostly wait."""

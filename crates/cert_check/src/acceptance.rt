@@ -55,8 +55,8 @@ pub(crate) fn pool_holds(plan: &Plan, cert: &Cert, pool: usize) -> bool
 }
 
 /// Whether the certificate fits the plan and each pool has a standing vector of which each condition holds, whatever its
-/// blocked vectors and its ranks say. Then no submit is ever refused, also where it is the steps of Java's `execute`. That is
-/// enough for services whose jobs never wait for jobs. It takes no memory.
+/// blocked vectors and its ranks say. Then no submit is ever refused, also where it is the steps of Java's `execute`. It takes no
+/// memory.
 pub fn accepts_standing(plan: &Plan, cert: &Cert) -> bool
     ensures exact { result ≡ spec.accepted_standing plan.now cert.now }
     ensures refuses_nothing { IsTrue result → RefusesNothing plan.now }

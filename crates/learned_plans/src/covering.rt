@@ -4,6 +4,7 @@ ghost use Rattle.std.specs.Prelude.{◌≡◌, List, OnOk, IfErr};
 ghost use Rattle.recording_lines.specs.RecordingLine.{RecordedLine};
 ghost use Rattle.learned_plans.specs.Kept.{AreWorkingOf, IsStop};
 
+use crate::extent::Part;
 use crate::pass::pass_over;
 use crate::stop::Stop;
 use crate::too_much::TooMuch;
@@ -19,10 +20,10 @@ const MAX_PASSES: usize = 600;
 ///
 /// # Errors
 ///
-/// [`Stop::TooMuch`] where that does not come; [`Stop::Memory`] where there is no memory.
+/// [`Stop::TooMuch`] where that does not come, as where the part is cut and an actor that is about is of none; [`Stop::Memory`] where there is no memory.
 pub(crate) fn cover_all(
     alloc: Global,
-    recording: &[u8],
+    part: Part<'_>,
     pools: &[Pool],
     budget: u64,
     working: &mut Working,
@@ -32,7 +33,7 @@ pub(crate) fn cover_all(
 {
     for _ in 0..MAX_PASSES {
         let plan = working.plan(pools)?;
-        let pass = pass_over(alloc, recording, pools, &plan, budget, working)?;
+        let pass = pass_over(alloc, part, pools, &plan, budget, working)?;
         if pass.is_explained {
             return Ok(pass.kinds);
         }

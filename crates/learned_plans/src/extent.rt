@@ -3,8 +3,7 @@
 /// How much of a recording bodies are learned from. All else of a plan is always of the whole recording.
 #[derive(Clone, Copy, Debug, PartialEq, Eq)]
 pub enum Extent {
-    /// The whole lines within its first [`START_BYTES`]. Of more lines only where a label has several kinds by these, as the
-    /// kind of each round is asked for then.
+    /// The whole lines within its first [`START_BYTES`]. There is no plan where they do not show all that they begin.
     Start,
     /// All its lines.
     Whole,
@@ -14,17 +13,26 @@ pub enum Extent {
 /// and to go over them a few times costs little beside going over a long recording once.
 pub const START_BYTES: usize = 262_144;
 
-impl Extent {
-    /// The part of the recording that bodies are learned from. It may end within a line, which is not read then.
-    pub(crate) fn of(self, recording: &[u8]) -> &[u8] {
-        match self {
-            Extent::Start if recording.len() > START_BYTES => &recording[..START_BYTES],
-            _ => recording,
-        }
-    }
+/// A part of a recording, from its first line on. It may end within a line, which is not read then.
+#[derive(Clone, Copy, Debug)]
+pub(crate) struct Part<'a> {
+    pub(crate) text: &'a [u8],
+    /// Whether the recording goes on behind it. What is about at its end does more then.
+    pub(crate) is_cut: bool,
+}
 
-    /// Whether that is all of it.
-    pub(crate) fn is_all(self, recording: &[u8]) -> bool {
-        self == Extent::Whole || recording.len() <= START_BYTES
+impl Extent {
+    /// The part of the recording that bodies are learned from.
+    pub(crate) fn of(self, recording: &[u8]) -> Part<'_> {
+        match self {
+            Extent::Start if recording.len() > START_BYTES => Part {
+                text: &recording[..START_BYTES],
+                is_cut: true,
+            },
+            _ => Part {
+                text: recording,
+                is_cut: false,
+            },
+        }
     }
 }

@@ -18,7 +18,7 @@ ghost use Rattle.learned_plans.specs.Unfinished.{unfinished_rounds, unfinished_j
 use crate::counts::{KindCount, kind_counts};
 use crate::covering::cover_all;
 use crate::entries::Entry;
-use crate::extent::Extent;
+use crate::extent::{Extent, Part};
 use crate::learned::{Learned, SeenPlan};
 use crate::seen_names::{SeenNames, seen_names};
 use crate::stop::Stop;
@@ -77,7 +77,7 @@ fn seen_plan(
     ensures ok { AreNamesOfAll (lines_read recording.now) names → IfOk result (IsSeenOf (lines_of recording.now)) }
     ensures err { AreNamesOfAll (lines_read recording.now) names → IfErr result (IsStop (lines_of recording.now)) }
 {
-    let kinds = learned_kinds(alloc, recording, extent, budget, &mut names)?;
+    let kinds = learned_kinds(alloc, extent.of(recording), budget, &mut names)?;
     let classes = names.working.copied_classes()?;
     let clients = seen_clients(alloc, recording, &kinds, &names)?;
     match Plan::build(alloc, names.pools, classes, clients) {
@@ -92,12 +92,11 @@ fn seen_plan(
     }
 }
 
-// Makes bodies grow. The answer is the kind of each round, by its number; where each label has one kind, maybe only of those
-// within the extent.
+// Makes bodies grow. The answer is the kind of each round of the part, by its number. Where a label has several kinds, the kind
+// of a round behind the part is not known: then there is no plan.
 fn learned_kinds(
     alloc: Global,
-    recording: &[u8],
-    extent: Extent,
+    part: Part<'_>,
     budget: u64,
     names: &mut SeenNames,
 ) -> Result<Vec<Option<usize>>, Stop>
@@ -105,17 +104,11 @@ fn learned_kinds(
     ensures err { (lines : List RecordedLine) → AreWorkingOf lines names.old.working → IfErr result (IsStop lines) }
     ensures same { names.new ≡ record names.old { working = names.new.working } }
 {
-    let kinds = cover_all(
-        alloc,
-        extent.of(recording),
-        &names.pools,
-        budget,
-        &mut names.working,
-    )?;
-    if extent.is_all(recording) || names.label_rounds.are_of(&names.working.kinds.entries) {
-        return Ok(kinds);
+    let kinds = cover_all(alloc, part, &names.pools, budget, &mut names.working)?;
+    if part.is_cut && !names.label_rounds.are_of(&names.working.kinds.entries) {
+        return Err(Stop::TooMuch(TooMuch::Paths));
     }
-    cover_all(alloc, recording, &names.pools, budget, &mut names.working)
+    Ok(kinds)
 }
 
 fn seen_clients(

@@ -10,8 +10,9 @@
 //! of its label did, and none of it has to be done. A class does not come to submit jobs that lead back to it, as such a
 //! plan has no end: where a job submitted one of its own label, the outer one is of another class. The passes end when each
 //! path is of a body. While each label has one kind, the rounds of a kind are those of its label, and the first walk has counted
-//! them. Else a round's kind is known by its path alone: then the passes go along all lines, the last one tells the kind of each
-//! round, and one more walk counts how many of each were about at once.
+//! them. Else a round's kind is known by its path alone: then bodies are to be learned from all lines, the last pass tells the
+//! kind of each round, and one more walk counts how many of each were about at once. Where the start of a recording does not
+//! explain all that it begins, there is no plan by it, and who asks learns from all lines.
 //!
 //! **What it promises, and what the caller checks.** The pools are exactly those of the lines, brought into the ranges of a
 //! plan. A bad line is told of exactly. How many rounds and jobs there are is exact. Each class and kind has a name of the
@@ -25,9 +26,9 @@
 //! bodies are the shortest.
 //!
 //! **Cost.** Memory grows with the actors that are about at once, with the plan and with a number for each round. Time is that of
-//! one walk that holds the lines to the rules, and, for the part that bodies are learned from, of a walk for each level of jobs
-//! within jobs, and one more. Where a label has several kinds, this part is all of the recording, and one walk more is needed. It
-//! is in no contract.
+//! one walk that holds the lines to the rules, and, for the part that bodies are learned from, of a few walks, mostly two: along the
+//! first one all bodies grow, and along the second one each actor is of one. Where a label has several kinds, this part has to be
+//! all of the recording, and one walk more is needed. It is in no contract.
 #![tactic(auto)]
 
 mod counts;

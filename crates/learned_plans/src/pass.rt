@@ -5,6 +5,7 @@ ghost use Rattle.recording_lines.specs.RecordingLine.{RecordedLine};
 ghost use Rattle.learned_plans.specs.Kept.{AreWorkingOf, IsStop};
 
 use crate::ended::Ended;
+use crate::extent::Part;
 use crate::growth::{Did, Taken};
 use crate::members::Members;
 use crate::pools::pool_number;
@@ -25,6 +26,8 @@ pub(crate) struct Pass {
     pub(crate) is_changed: bool,
     /// Whether each actor was of a class or a kind of the plan.
     pub(crate) is_explained: bool,
+    /// Whether the recording goes on behind the part.
+    is_cut: bool,
     members: Members,
     ended: Ended,
     alloc: Global,
@@ -32,14 +35,14 @@ pub(crate) struct Pass {
 
 /// A pass over the recording. Each actor that is of no class or kind of the plan, while all jobs that it submitted are,
 /// makes a body of the working copy grow. Where an actor has not come to its end, more of it may come: so it makes one grow
-/// only where no other one did.
+/// only where no other one did, and none where the recording goes on behind the part.
 ///
 /// # Errors
 ///
 /// [`Stop::TooMuch`] where a plan may not have what the actors need; [`Stop::Memory`] where there is no memory.
 pub(crate) fn pass_over(
     alloc: Global,
-    recording: &[u8],
+    part: Part<'_>,
     pools: &[Pool],
     plan: &Plan,
     budget: u64,
@@ -48,10 +51,10 @@ pub(crate) fn pass_over(
     ensures ok { (lines : List RecordedLine) → AreWorkingOf lines working.old → OnOk result (AreWorkingOf lines working.new) }
     ensures err { (lines : List RecordedLine) → AreWorkingOf lines working.old → IfErr result (IsStop lines) }
 {
-    let mut pass = Pass::new(alloc);
+    let mut pass = Pass::new(alloc, part.is_cut);
     let mut classes = Classes::new(alloc, budget);
     let mut told = Vec::new(alloc);
-    let mut lines = RecordingLines::new(recording);
+    let mut lines = RecordingLines::new(part.text);
     while let Some(line) = lines.next() {
         if let Ok(line) = line {
             pass.note(&line)?;
@@ -66,11 +69,12 @@ pub(crate) fn pass_over(
 }
 
 impl Pass {
-    fn new(alloc: Global) -> Pass {
+    fn new(alloc: Global, is_cut: bool) -> Pass {
         Pass {
             kinds: Vec::new(alloc),
             is_changed: false,
             is_explained: true,
+            is_cut,
             members: Members::new(alloc),
             ended: Ended::new(alloc),
             alloc,
@@ -123,7 +127,7 @@ impl Pass {
             };
             self.remember(one, class)?;
         }
-        if self.is_changed {
+        if self.is_through() {
             return Ok(());
         }
         for one in told {
@@ -132,6 +136,11 @@ impl Pass {
             }
         }
         Ok(())
+    }
+
+    // Whether the actors that have not come to their ends make no body grow.
+    fn is_through(&self) -> bool {
+        self.is_changed || self.is_cut
     }
 
     // Where it is a job, it is taken for this class from here on.

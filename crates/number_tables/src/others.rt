@@ -13,8 +13,8 @@ use std::marker::Model;
 
 /// Values by number, in a map.
 ///
-/// Look-ups in it are rare. Each of its calls stays out of its callers, and a caller asks first whether it is empty, since a
-/// look-up in an empty map would hash all the same.
+/// Look-ups in it are rare. Each of its calls stays out of its callers, and a look-up that may miss asks first whether it is
+/// empty, since one in an empty map would hash all the same.
 #[derive(Debug, Drop)]
 pub(crate) struct Others<V> {
     map: HashMap<usize, V>,

@@ -3,9 +3,3 @@ use Rattle.learned_plans.proofs.learning.learned_kinds.Goals as goal
 
 pub returns-in_err-kinds-clause-err : goal.returns-in_err-kinds-clause-err
 returns-in_err-kinds-clause-err c = λ lines working. still_stops lines _ _ c.from_residual.ensures.1 (c.in_err-kinds.ensures.err lines working)
-
-pub returns-clause-ok : goal.returns-clause-ok
-returns-clause-ok c = λ lines working. c.cover_all-2.ensures.ok lines (c.in_ok-kinds.ensures.ok lines working)
-
-pub returns-clause-err : goal.returns-clause-err
-returns-clause-err c = λ lines working. c.cover_all-2.ensures.err lines (c.in_ok-kinds.ensures.ok lines working)
