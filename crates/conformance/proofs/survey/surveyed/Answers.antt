@@ -1,4 +1,4 @@
-use Rattle.std.proofs.Common.{◌≡◌, ◌+◌, ◌++◌, ◌∷◌, [], ℕ, List, length, Option, Some, Result, Ok, refl, ap, sym, subst, ◌∙◌}
+use Rattle.std.proofs.Common.{◌≡◌, ◌+◌, ◌++◌, ◌∷◌, [], ℕ, List, length, Option, Some, Result, Ok, Err, refl, ap, sym, subst, ◌∙◌}
 use Rattle.recording_lines.specs.declared.recording_line.Line.{Line}
 use Rattle.recording_lines.specs.RecordingLine.{RecordedLine, line_seen, lines_read}
 use Rattle.recorded_rules.specs.declared.fault.RecordingFault.{RecordingFault}
@@ -48,6 +48,14 @@ loop-lines-preserved c =
           (counted_on c.args.plan.now before c.loop-lines.judged.kinds c.take_line.new.judged.kinds c.loop-lines.counted (keeps_front before (line ∷ []) (before ++ line ∷ []) refl keeps) c.loop-lines.invariant.judged.judged_so.kinds.many
           c.in_ok-take_line.ensures.continued c.loop-lines.invariant.counted));
     }
+
+pub returns-in-Err : goal.returns-in-Err
+returns-in-Err c =
+    let all = lines_read c.args.recording.now in
+    let old = c.loop-lines.lines in
+    let new = c.next.new.self in
+    let is : c.in_ok-line.field-0 ≡ Some (Err c.in-Err.fault) = c.in-Some.is ∙ ap (λ (next : Result Line RecordingFault). Some next) c.in-Err.is in
+    subst (λ (next : Option (Result Line RecordingFault)). IsNext all old next new) is (c.in_ok-line.ensures all c.loop-lines.invariant.ruled)
 
 pub returns : goal.returns
 returns c =
