@@ -21,7 +21,7 @@ from machine import Class, Client, Plan, Pool
 from timing import Bars, Program, Table, Wrong, built, compiled, costs, without_words
 
 RUNS = 5
-TIME_BAR = 0.9
+TIME_BAR = 1.2
 # The peak of a run of nearly a million events: 30 bytes of each, and what its threads take.
 MEBIBYTES_BAR = 35
 # The idle run: so long sleeps each growth of memory, and so much of the time that goes by may be CPU time.
