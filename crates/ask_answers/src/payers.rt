@@ -25,9 +25,12 @@ pub struct Payers {
 #[tactic(auto, using(crate::proofs::Paid::paid_in_all))]
 pub fn payers_of(alloc: Global, plan: &Plan, vector: &Vector) -> Result<Payers, AllocError>
     requires { IsTrue (vector_fits plan.now vector.now) }
-    ensures clients { IfOk result (λ payers. payers.clients.items ≡ spec.client_shares plan.now vector.now) }
-    ensures workers { IfOk result (λ payers. payers.workers.items ≡ spec.worker_shares plan.now vector.now) }
-    ensures in_all { IfOk result (λ payers. sum payers.clients.items + sum payers.workers.items ≡ total plan.now vector.now) }
+    ensures clients { IfOk result
+        (λ payers. payers.clients.items ≡ spec.client_shares plan.now vector.now) }
+    ensures workers { IfOk result
+        (λ payers. payers.workers.items ≡ spec.worker_shares plan.now vector.now) }
+    ensures in_all { IfOk result (λ payers.
+        sum payers.clients.items + sum payers.workers.items ≡ total plan.now vector.now) }
 {
     let clients = client_shares(alloc, plan, vector)?;
     let workers = worker_shares(alloc, plan, vector)?;

@@ -44,7 +44,8 @@ fn push_pool(
     number: usize,
     pool: &Pool,
 ) -> Result<(), AllocError>
-    ensures { Pushes result text.old text.new (spec.pool_lines plan.now cert.now (number, pool.now)) }
+    ensures { Pushes result text.old text.new
+        (spec.pool_lines plan.now cert.now (number, pool.now)) }
 {
     match cert.pools.get(number) {
         Some(part) => push_lines(alloc, text, plan, number, pool, part),
@@ -60,7 +61,9 @@ fn push_lines(
     pool: &Pool,
     part: &PoolCert,
 ) -> Result<(), AllocError>
-    ensures { Pushes result text.old text.new (spec.bound_line plan.now pool.now part.now.bound ++ spec.waits_line plan.now number pool.now part.now.blocked) }
+    ensures { Pushes result text.old text.new
+        (spec.bound_line plan.now pool.now part.now.bound
+        ++ spec.waits_line plan.now number pool.now part.now.blocked) }
 {
     push_bound(alloc, text, plan, pool, &part.bound)?;
     push_waits(alloc, text, plan, number, pool, &part.blocked)
@@ -199,7 +202,9 @@ fn push_clients(
     plan: &Plan,
     shares: &[u64],
 ) -> Result<(), AllocError>
-    ensures { OnOk result (map string_bytes parts.new.items ≡ map string_bytes parts.old.items ++ spec.client_parts plan.now shares.now) }
+    ensures { OnOk result
+        (map string_bytes parts.new.items
+        ≡ map string_bytes parts.old.items ++ spec.client_parts plan.now shares.now) }
 {
     for (kind, share) in shares.iter().enumerate() {
         push_paid(alloc, parts, *share, "", plan.client_name(kind))?;
@@ -213,7 +218,9 @@ fn push_workers(
     plan: &Plan,
     shares: &[u64],
 ) -> Result<(), AllocError>
-    ensures { OnOk result (map string_bytes parts.new.items ≡ map string_bytes parts.old.items ++ spec.worker_parts plan.now shares.now) }
+    ensures { OnOk result
+        (map string_bytes parts.new.items
+        ≡ map string_bytes parts.old.items ++ spec.worker_parts plan.now shares.now) }
 {
     for (pool, share) in shares.iter().enumerate() {
         push_paid(
@@ -236,7 +243,9 @@ fn push_paid(
     from: &str,
     name: &str,
 ) -> Result<(), AllocError>
-    ensures { OnOk result (map string_bytes parts.new.items ≡ map string_bytes parts.old.items ++ spec.paid share from.now name.now) }
+    ensures { OnOk result
+        (map string_bytes parts.new.items
+        ≡ map string_bytes parts.old.items ++ spec.paid share from.now name.now) }
 {
     if share == 0 {
         return Ok(());
@@ -263,7 +272,8 @@ fn push_waits(
     pool: &Pool,
     blocked: &Vector,
 ) -> Result<(), AllocError>
-    ensures { Pushes result text.old text.new (spec.waits_line plan.now number pool.now blocked.now) }
+    ensures { Pushes result text.old text.new
+        (spec.waits_line plan.now number pool.now blocked.now) }
 {
     let name = pool.name.as_str();
     write!(text, "  {name} waits for ")?;
@@ -319,7 +329,8 @@ fn push_waited(
 }
 
 fn waited_names(alloc: Global, plan: &Plan, number: usize) -> Result<Vec<String>, AllocError>
-    ensures { IfOk result (λ names. map string_bytes names.items ≡ spec.waited_names plan.now number) }
+    ensures { IfOk result
+        (λ names. map string_bytes names.items ≡ spec.waited_names plan.now number) }
 {
     let mut names = Vec::new(alloc);
     for (other, pool) in plan.pools().iter().enumerate() {
@@ -338,7 +349,9 @@ fn push_if_waited(
     other: usize,
     pool: &Pool,
 ) -> Result<(), AllocError>
-    ensures { OnOk result (map string_bytes names.new.items ≡ map string_bytes names.old.items ++ spec.waited_name plan.now number (other, pool.now)) }
+    ensures { OnOk result
+        (map string_bytes names.new.items
+        ≡ map string_bytes names.old.items ++ spec.waited_name plan.now number (other, pool.now)) }
 {
     if !waits_for(plan, number, other) {
         return Ok(());

@@ -44,7 +44,8 @@ fn not_safe(
     witness: &Witness,
     sizes: &SizesFound,
 ) -> Result<String, AllocError>
-    ensures { IfOk result (λ text. spec.TellsNotSafe plan.now witness.now sizes.now (string_bytes text)) }
+    ensures { IfOk result
+        (λ text. spec.TellsNotSafe plan.now witness.now sizes.now (string_bytes text)) }
 {
     let story = witness_lines::told(alloc, plan, witness)?;
     let mut text = String::from_str(alloc, "NOT SAFE\n")?;

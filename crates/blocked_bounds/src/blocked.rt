@@ -57,7 +57,8 @@ fn visit_counted_rows<C: Counted, V: RowVisitor>(
     requires well_formed { IsWellFormed plan.now }
     requires class { slice_get plan.now.classes number ≡ Some class.now }
     requires answers { (i : ℕ) → i < length class.now.body → C.Answers counted.now number i }
-    ensures { Takes V.HasSeen visitor.old visitor.new (counted_rows (C.is_counted counted.now) vector.now number class.now) }
+    ensures { Takes V.HasSeen visitor.old visitor.new
+        (counted_rows (C.is_counted counted.now) vector.now number class.now) }
 {
     for (position, action) in class.body.iter().enumerate() {
         visit_counted_row(counted, vector, number, position, *action, visitor);
@@ -95,7 +96,9 @@ fn visit_all_counted_rows<C: Counted, V: RowVisitor>(
     visitor: &mut V,
 )
     requires fits { IsTrue (vector_fits plan.now vector.now) }
-    requires answers { (k i : ℕ) → i < length (class_at plan.now k).body → C.Answers counted.now k i }
+    requires answers { (k i : ℕ)
+        → i < length (class_at plan.now k).body
+        → C.Answers counted.now k i }
     ensures { let all = flat_map (λ entry. counted_rows (C.is_counted counted.now) vector.now entry.0 entry.1) (classes_of plan.now pool) in
         Takes V.HasSeen visitor.old visitor.new all }
 {
@@ -115,8 +118,11 @@ pub fn visit_blocked_rows<C: Counted, V: RowVisitor>(
 )
     requires fits { IsTrue (vector_fits plan.now vector.now) }
     requires pool { pool < length plan.now.pools }
-    requires answers { (k i : ℕ) → i < length (class_at plan.now k).body → C.Answers counted.now k i }
-    ensures { Takes V.HasSeen visitor.old visitor.new (blocked_rows plan.now pool (C.is_counted counted.now) vector.now) }
+    requires answers { (k i : ℕ)
+        → i < length (class_at plan.now k).body
+        → C.Answers counted.now k i }
+    ensures { Takes V.HasSeen visitor.old visitor.new
+        (blocked_rows plan.now pool (C.is_counted counted.now) vector.now) }
 {
     vector.visit_rows(plan, AtGet::GivesBack, visitor);
     visit_all_counted_rows(plan, pool, counted, vector, visitor);
@@ -133,8 +139,11 @@ pub fn blocked_fault<C: Counted>(
 ) -> Option<BlockedFault>
     requires fits { IsTrue (vector_fits plan.now vector.now) }
     requires pool { pool < length plan.now.pools }
-    requires answers { (k i : ℕ) → i < length (class_at plan.now k).body → C.Answers counted.now k i }
-    ensures { result ≡ first_failing (blocked_rows plan.now pool (C.is_counted counted.now) vector.now) }
+    requires answers { (k i : ℕ)
+        → i < length (class_at plan.now k).body
+        → C.Answers counted.now k i }
+    ensures { result
+        ≡ first_failing (blocked_rows plan.now pool (C.is_counted counted.now) vector.now) }
 {
     let mut first = FirstFault::new();
     visit_blocked_rows(plan, pool, counted, vector, &mut first);

@@ -28,7 +28,8 @@ pub fn path_fits(body: &[Action], path: &[Deed], course: Course, budget: u64) ->
     ensures explained { IfDeviates result (IsExplained body.now path.now) }
 
     // a step for each action and one for the end, twice as many for each submit, are enough
-    ensures decided { (length body.now + 1) * 2 ^ submit_count body.now ≤ budget → IsDecided result }
+    ensures decided { (length body.now + 1) * 2 ^ submit_count body.now ≤ budget
+        → IsDecided result }
 {
     if body.len() <= FEW_ACTIONS {
         walk_whole(body, path, course, &mut [None; FEW_ACTIONS], budget)
@@ -49,7 +50,8 @@ fn walk_whole(
     ensures fits { OnFits result (IsPathOf course body.now path.now) }
     ensures deviates { OnDeviates result (¬ IsPathOf course body.now path.now) }
     ensures explained { IfDeviates result (IsExplained body.now path.now) }
-    ensures decided { (length body.now + 1) * 2 ^ submit_count body.now ≤ budget → IsDecided result }
+    ensures decided { (length body.now + 1) * 2 ^ submit_count body.now ≤ budget
+        → IsDecided result }
 {
     let mut steps = budget;
     walk(body, path, course, places, 0, 0, &mut steps)

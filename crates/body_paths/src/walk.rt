@@ -27,7 +27,8 @@ pub(crate) fn walk(
     requires position { position ≤ length body.now }
     requires place { place ≤ length path.now }
     requires room { length body.now ≤ length places.old }
-    ensures told { IsToldOfWalk course (take position places.old) (drop position body.now) place (drop place path.now) result }
+    ensures told { IsToldOfWalk course (take position places.old) (drop position body.now) place
+        (drop place path.now) result }
     ensures kept { take position places.new ≡ take position places.old }
     ensures decided { IsDecidedWithin (drop position body.now) steps.old steps.new result }
 {
@@ -80,7 +81,8 @@ fn may_end(path: &[Deed], course: Course, place: usize) -> bool
 /// What is told of the deeds from a place on, where nothing is left of the body.
 fn at_end(path: &[Deed], place: usize) -> PathFit
     requires { place ≤ length path.now }
-    ensures told { (course : Course) (places : List (Option ℕ)) → IsToldOfWalk course places [] place (drop place path.now) result }
+    ensures told { (course : Course) (places : List (Option ℕ))
+        → IsToldOfWalk course places [] place (drop place path.now) result }
     ensures decided { IsDecided result }
 {
     if place == path.len() {
@@ -100,7 +102,9 @@ fn way_at(
 ) -> Way
     requires position { position < length body.now }
     requires room { length body.now ≤ length places.now }
-    ensures { result ≡ spec.way_on (take position places.now) (slice_index_or body.now position (Work 0)) (slice_get path.now place) }
+    ensures { result
+        ≡ spec.way_on (take position places.now) (slice_index_or body.now position (Work 0))
+        (slice_get path.now place) }
 {
     way_on(&places[..position], body[position], path.get(place))
 }

@@ -84,7 +84,8 @@ impl Sink for MemorySink {
     fn write(&mut self, bytes: &[u8]) -> Result<usize, IoFault>
         ensures bound { WritesAtMost result bytes.now }
         ensures some { 0 < length bytes.now → IfOk result (λ count. 0 < count) }
-        ensures bytes { WriteAppends (Some (written_to self.old)) (Some (written_to self.new)) result bytes.now }
+        ensures bytes { WriteAppends (Some (written_to self.old)) (Some (written_to self.new))
+            result bytes.now }
         ensures failed { failure_count self.new
             ≡ failure_count self.old + (if is_ok result then 0 else 1) }
         ensures count { IfOk result (λ count. count ≡ min (length bytes.now) (most_of self.old)) }

@@ -83,7 +83,8 @@ impl Source for MemorySource<'_> {
 
     fn read(&mut self, piece: &mut [u8]) -> Result<usize, IoFault>
         ensures bound { ReadsAtMost result piece.new }
-        ensures bytes { ReadConsumes (Some (left self.old)) (Some (left self.new)) result piece.new }
+        ensures bytes { ReadConsumes (Some (left self.old)) (Some (left self.new)) result
+            piece.new }
         ensures failed { failure_count self.new
             ≡ failure_count self.old + (if is_ok result then 0 else 1) }
         ensures count { IfOk result (λ count.

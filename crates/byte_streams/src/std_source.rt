@@ -59,7 +59,8 @@ impl<R: Read> Source for StdSource<R> {
 // One read, made again where a signal interrupts it.
 fn read_retrying<R: Read>(reader: &mut R, piece: &mut [u8]) -> Result<usize, IoFault>
     ensures bound { ReadsAtMost result piece.new }
-    ensures bytes { ReadConsumes (R.remaining reader.old) (R.remaining reader.new) result piece.new }
+    ensures bytes { ReadConsumes (R.remaining reader.old) (R.remaining reader.new) result
+        piece.new }
 {
     for _ in 0..TRIES {
         match reader.read(piece) {

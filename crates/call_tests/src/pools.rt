@@ -9,7 +9,8 @@ use std::test::Fail;
 
 // A pool as a plan describes it. Its name is of no account here.
 fn described(alloc: Global, core: u64, max: u64, queue: u64) -> Pool
-    ensures { result ≡ record { name = []; core = core; max = max; queue = queue; prestart = false } }
+    ensures { result
+        ≡ record { name = []; core = core; max = max; queue = queue; prestart = false } }
 {
     Pool {
         name: String::new(alloc),

@@ -67,7 +67,9 @@ pub fn accepts_standing(plan: &Plan, cert: &Cert) -> bool
 
 fn all_pools_stand(plan: &Plan, cert: &Cert) -> bool
     requires { IsTrue (cert_fits plan.now cert.now) }
-    ensures exact { result ≡ list_all (λ entry. spec.stands plan.now entry.0 (pool_cert_at cert.now entry.0).bound) (enumerate_from 0 plan.now.pools) }
+    ensures exact { result
+        ≡ list_all (λ entry. spec.stands plan.now entry.0 (pool_cert_at cert.now entry.0).bound)
+        (enumerate_from 0 plan.now.pools) }
     ensures refuses_nothing { IsTrue result → RefusesNothing plan.now }
     ensures java_refuses_nothing { IsTrue result → JavaRefusesNothing plan.now }
 {

@@ -40,10 +40,13 @@ impl From<AllocError> for CheckFault {
 ///
 /// The plan's first fault, else the certificate's. [`CheckFault::Memory`] where memory runs out.
 pub fn check(alloc: Global, plan_text: &[u8], cert_text: &[u8]) -> Result<Verdict, CheckFault>
-    ensures verdict { IfOk result (λ verdict. spec.checked plan_text.now cert_text.now ≡ Ok verdict) }
-    ensures fault { IfErr result (λ fault. fault ≢ Memory → spec.checked plan_text.now cert_text.now ≡ Err fault) }
+    ensures verdict { IfOk result
+        (λ verdict. spec.checked plan_text.now cert_text.now ≡ Ok verdict) }
+    ensures fault { IfErr result
+        (λ fault. fault ≢ Memory → spec.checked plan_text.now cert_text.now ≡ Err fault) }
     // What a yes means.
-    ensures safe { IfOk result (λ verdict. IsTrue verdict.yes → spec.IsSafeToRun plan_text.now cert_text.now) }
+    ensures safe { IfOk result
+        (λ verdict. IsTrue verdict.yes → spec.IsSafeToRun plan_text.now cert_text.now) }
 {
     let (plan, cert) = read_texts(alloc, plan_text, cert_text)?;
     Ok(verdict(alloc, &plan, &cert)?)

@@ -32,7 +32,10 @@ pub fn verdict(alloc: Global, plan: &Plan, cert: &Cert) -> Result<Verdict, Alloc
 
 fn pool_lines(alloc: Global, plan: &Plan, cert: &Cert) -> Result<Vec<PoolLine>, AllocError>
     requires { IsTrue (cert_fits plan.now cert.now) }
-    ensures { IfOk result (λ lines. lines.items ≡ map (λ entry. spec.pool_line plan.now cert.now entry.0) (enumerate_from 0 plan.now.pools)) }
+    ensures { IfOk result (λ lines.
+        lines.items
+        ≡ map (λ entry. spec.pool_line plan.now cert.now entry.0)
+        (enumerate_from 0 plan.now.pools)) }
 {
     let mut lines = Vec::with_capacity(alloc, plan.pools().len())?;
     for pool in 0..plan.pools().len() {

@@ -47,12 +47,17 @@ pub fn check_on<R: Threads + Sync, G: PoolGate>(
 ) -> Result<Verdict, CheckFault>
     requires some { 1 ≤ workers }
     requires most { workers ≤ MAX_WORKERS }
-    ensures verdict { IfOk result (λ verdict. check_spec.checked plan_text.now cert_text.now ≡ Ok verdict) }
-    ensures fault { IfErr result (λ fault. fault ≢ Memory → fault ≢ Gate → check_spec.checked plan_text.now cert_text.now ≡ Err fault) }
+    ensures verdict { IfOk result
+        (λ verdict. check_spec.checked plan_text.now cert_text.now ≡ Ok verdict) }
+    ensures fault { IfErr result (λ fault.
+        fault ≢ Memory
+        → fault ≢ Gate
+        → check_spec.checked plan_text.now cert_text.now ≡ Err fault) }
     // Gate comes only where there is a pool to look at.
     ensures gate { IfErr result (λ fault. fault ≡ Gate → IsRead plan_text.now cert_text.now) }
     // What a yes means.
-    ensures safe { IfOk result (λ verdict. IsTrue verdict.yes → check_spec.IsSafeToRun plan_text.now cert_text.now) }
+    ensures safe { IfOk result
+        (λ verdict. IsTrue verdict.yes → check_spec.IsSafeToRun plan_text.now cert_text.now) }
 {
     let (plan, cert) = read_texts(alloc, plan_text, cert_text)?;
     verdict_on(rt, alloc, workers, &plan, &cert, gate)
@@ -110,7 +115,10 @@ fn fill_places<R: Threads + Sync, G: PoolGate>(
     requires workers { 1 ≤ workers }
     requires fits { IsTrue (cert_fits plan.now cert.now) }
     requires as_many { length places.old ≡ length plan.now.pools }
-    ensures { (p : ℕ) → p < length places.old → IfSome (slice_index_or places.new p None) (λ check. check ≡ pool_check plan.now cert.now p) }
+    ensures { (p : ℕ)
+        → p < length places.old
+        → IfSome (slice_index_or places.new p None)
+        (λ check. check ≡ pool_check plan.now cert.now p) }
 {
     thread::for_each_mut(
         rt,
@@ -118,7 +126,8 @@ fn fill_places<R: Threads + Sync, G: PoolGate>(
         workers,
         &|pool: usize, place: &mut Option<PoolCheck>|
             requires { IsTrue (cert_fits plan.now cert.now) × (pool < length plan.now.pools) }
-            ensures { IfSome place.new (λ check. check ≡ pool_check plan.entry.now cert.entry.now pool) }
+            ensures { IfSome place.new
+                (λ check. check ≡ pool_check plan.entry.now cert.entry.now pool) }
         { *place = check_pool(plan, cert, gate, pool) },
     );
 }
@@ -159,7 +168,8 @@ fn verdict_of(
     requires checked { AreChecked plan.now cert.now found.now }
     ensures verdict { IfOk result (λ made. IfSome made (λ made. made ≡ verdict plan.now cert.now)) }
     ensures none { IfOk result (λ made. made ≡ None → 0 < length plan.now.pools) }
-    ensures promises { IfOk result (λ made. IfSome made (λ made. IsTrue made.yes → Promises plan.now cert.now)) }
+    ensures promises { IfOk result
+        (λ made. IfSome made (λ made. IsTrue made.yes → Promises plan.now cert.now)) }
 {
     let mut yes = cert.ranks.fault(plan).is_none();
     let mut pools = Vec::with_capacity(alloc, plan.pools().len())?;

@@ -36,7 +36,8 @@ fn push_pool_line(
     pool: usize,
     line: &PoolLine,
 ) -> Result<(), AllocError>
-    ensures { Pushes result text.old text.new (spec.pool_line_text (pool_at plan.now pool).name line.now) }
+    ensures { Pushes result text.old text.new
+        (spec.pool_line_text (pool_at plan.now pool).name line.now) }
 {
     match plan.pool_at(pool) {
         Some(pool) => push_named_line(text, &pool.name, line),

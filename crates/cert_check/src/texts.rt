@@ -54,7 +54,8 @@ pub(crate) fn read_texts(
     ensures plan { IfOk result (λ texts. plan_of plan_text.now ≡ Ok texts.0) }
     ensures cert { IfOk result (λ texts. cert_of cert_text.now texts.0 ≡ Ok texts.1) }
     ensures fits { IfOk result (λ texts. IsTrue (cert_fits texts.0 texts.1)) }
-    ensures fault { IfErr result (λ fault. fault ≢ check_fault.Memory → checked plan_text.now cert_text.now ≡ Err fault) }
+    ensures fault { IfErr result
+        (λ fault. fault ≢ check_fault.Memory → checked plan_text.now cert_text.now ≡ Err fault) }
     ensures no_gate { IfErr result (λ fault. fault ≢ check_fault.Gate) }
 {
     let plan = read_plan(alloc, plan_text)?;

@@ -90,8 +90,11 @@ impl Spots {
 
     /// Takes the pool, if it is free.
     fn claim(&mut self, pool: usize) -> bool
-        ensures taken { IsTrue result → spec.claimed self.old pool (slice_get self.old pool) ≡ Some self.new }
-        ensures refused { result ≡ false → (spec.claimed self.old pool (slice_get self.old pool) ≡ None) × (self.new ≡ self.old) }
+        ensures taken { IsTrue result
+            → spec.claimed self.old pool (slice_get self.old pool) ≡ Some self.new }
+        ensures refused { result ≡ false
+            → (spec.claimed self.old pool (slice_get self.old pool) ≡ None)
+            × (self.new ≡ self.old) }
     {
         match self.spots.get(pool) {
             Some(Spot::Free) => {
@@ -104,8 +107,11 @@ impl Spots {
 
     /// Gives the pool back, if it was taken.
     fn give_back(&mut self, pool: usize) -> bool
-        ensures given { IsTrue result → spec.returned self.old pool (slice_get self.old pool) ≡ Some self.new }
-        ensures refused { result ≡ false → (spec.returned self.old pool (slice_get self.old pool) ≡ None) × (self.new ≡ self.old) }
+        ensures given { IsTrue result
+            → spec.returned self.old pool (slice_get self.old pool) ≡ Some self.new }
+        ensures refused { result ≡ false
+            → (spec.returned self.old pool (slice_get self.old pool) ≡ None)
+            × (self.new ≡ self.old) }
     {
         match self.spots.get(pool) {
             Some(Spot::Taken) => {
@@ -164,7 +170,8 @@ impl Machine for Board {
 /// [`AllocError`] where memory runs out. Nothing is taken then.
 pub(crate) fn claim(board: &mut Held<Board>) -> Result<Option<usize>, AllocError>
     ensures pool { IfOk result (λ taken. taken ≡ position spec.is_free board.old.state) }
-    ensures taken { IfOk result (λ taken. IfSome taken (λ pool. board.new.history ≡ board.old.history ++ event.Claim pool ∷ [])) }
+    ensures taken { IfOk result (λ taken.
+        IfSome taken (λ pool. board.new.history ≡ board.old.history ++ event.Claim pool ∷ [])) }
     ensures none { IfOk result (λ taken. IfNone taken (board.new ≡ board.old)) }
     ensures error { OnErr result (board.new ≡ board.old) }
 {
@@ -185,7 +192,8 @@ pub(crate) fn claim(board: &mut Held<Board>) -> Result<Option<usize>, AllocError
 pub(crate) fn give_back(board: &mut Held<Board>, pool: usize) -> Result<bool, AllocError>
     ensures possible { IfOk result (λ given. (spots : List Spot) → spec.LeadsTo board.old.machine.has_rank.items board.old.history spots
         → given ≡ is_some (spec.next_spots spots (event.Return pool))) }
-    ensures given { IfOk result (λ given. given ≡ true → board.new.history ≡ board.old.history ++ event.Return pool ∷ []) }
+    ensures given { IfOk result
+        (λ given. given ≡ true → board.new.history ≡ board.old.history ++ event.Return pool ∷ []) }
     ensures refused { IfOk result (λ given. given ≡ false → board.new ≡ board.old) }
     ensures error { OnErr result (board.new ≡ board.old) }
 {

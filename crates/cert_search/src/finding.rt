@@ -61,8 +61,10 @@ pub fn search<R: Threads + Wait + Sync, G: PoolGate>(
 ) -> Result<Option<Cert>, SearchFault>
     requires some { 1 ≤ workers }
     requires few { workers ≤ MAX_WORKERS }
-    ensures accepted { IfOk result (λ found. IfSome found (λ cert. IsTrue (accepted plan.now cert))) }
-    ensures steady { IfOk result (λ found. IfNone found (accepted plan.now (steady_cert plan.now) ≡ false)) }
+    ensures accepted { IfOk result
+        (λ found. IfSome found (λ cert. IsTrue (accepted plan.now cert))) }
+    ensures steady { IfOk result
+        (λ found. IfNone found (accepted plan.now (steady_cert plan.now) ≡ false)) }
     // Mixed and Gate come only where there is a pool to look at.
     ensures fault { IfErr result (λ fault. fault ≢ Memory → 0 < length plan.now.pools) }
 {

@@ -43,7 +43,8 @@ impl Round<'_> {
         ensures named { IfOk result (λ found. found.pool ≡ pool) }
         ensures exists { IfOk result (λ _. pool < length self.now.plan.now.pools) }
         ensures fault { IfErr result (λ fault. fault ≢ Memory → fault ≡ Mixed) }
-        ensures mixed { IfErr result (λ fault. fault ≡ Mixed → length self.now.plan.now.pools ≤ pool) }
+        ensures mixed { IfErr result
+            (λ fault. fault ≡ Mixed → length self.now.plan.now.pools ≤ pool) }
     {
         if pool >= self.plan.pools().len() {
             return Err(SearchFault::Mixed);

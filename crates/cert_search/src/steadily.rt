@@ -15,8 +15,10 @@ use steady_certificates::steady;
 
 /// The steady certificate of the plan, where it accepts the plan as it is. Where a cause against all sizes holds, none does.
 pub(crate) fn steady_where_accepted(alloc: Global, plan: &Plan) -> Result<Option<Cert>, AllocError>
-    ensures accepted { IfOk result (λ found. IfSome found (λ cert. IsTrue (accepted plan.now cert))) }
-    ensures none { IfOk result (λ found. IfNone found (accepted plan.now (steady_cert plan.now) ≡ false)) }
+    ensures accepted { IfOk result
+        (λ found. IfSome found (λ cert. IsTrue (accepted plan.now cert))) }
+    ensures none { IfOk result
+        (λ found. IfNone found (accepted plan.now (steady_cert plan.now) ≡ false)) }
 {
     match cause_of(alloc, plan)? {
         Some(_cause) => Ok(None),
@@ -28,8 +30,10 @@ pub(crate) fn steady_where_accepted(alloc: Global, plan: &Plan) -> Result<Option
 fn without_circle(alloc: Global, plan: &Plan) -> Result<Option<Cert>, AllocError>
     requires free { NoCircle plan.now }
     requires well_formed { IsWellFormed plan.now }
-    ensures accepted { IfOk result (λ found. IfSome found (λ cert. IsTrue (accepted plan.now cert))) }
-    ensures none { IfOk result (λ found. IfNone found (accepted plan.now (steady_cert plan.now) ≡ false)) }
+    ensures accepted { IfOk result
+        (λ found. IfSome found (λ cert. IsTrue (accepted plan.now cert))) }
+    ensures none { IfOk result
+        (λ found. IfNone found (accepted plan.now (steady_cert plan.now) ≡ false)) }
 {
     match steady(alloc, plan)? {
         Some(cert) => Ok(where_accepted(plan, cert)),

@@ -61,7 +61,8 @@ fn leading_pools<'a>(
     plan: &Plan,
     text: &'a [u8],
 ) -> Result<(Vec<PoolCert>, &'a [u8]), CanonicalError>
-    ensures text { IfOk result (λ read. BeginsAs text.now (spec.list_data (map spec.pool_data read.0.items)) read.1.now) }
+    ensures text { IfOk result
+        (λ read. BeginsAs text.now (spec.list_data (map spec.pool_data read.0.items)) read.1.now) }
     ensures count { IfOk result (λ read. length read.0.items ≡ length plan.now.pools) }
     ensures fit { IfOk result (λ read. IsTrue (list_all (pool_cert_fits plan.now) read.0.items)) }
 {

@@ -21,9 +21,13 @@ fn leading_class_rows<'a>(
     plan: &Plan,
     text: &'a [u8],
 ) -> Result<(Vec<Vec<u64>>, &'a [u8]), CanonicalError>
-    ensures text { IfOk result (λ read. BeginsAs text.now (spec.rows_data (map (λ row. row.items) read.0.items)) read.1.now) }
-    ensures rows { IfOk result (λ read. AreRows (length plan.now.classes) (class_points plan.now) (map (λ row. row.items) read.0.items)) }
-    ensures small { IfOk result (λ read. IsTrue (list_all (list_all is_small) (map (λ row. row.items) read.0.items))) }
+    ensures text { IfOk result (λ read.
+        BeginsAs text.now (spec.rows_data (map (λ row. row.items) read.0.items)) read.1.now) }
+    ensures rows { IfOk result (λ read.
+        AreRows (length plan.now.classes) (class_points plan.now)
+        (map (λ row. row.items) read.0.items)) }
+    ensures small { IfOk result
+        (λ read. IsTrue (list_all (list_all is_small) (map (λ row. row.items) read.0.items))) }
 {
     let count = plan.classes().len();
     let mut rows = list_for(alloc, count, text)?;
@@ -43,9 +47,13 @@ fn leading_client_rows<'a>(
     plan: &Plan,
     text: &'a [u8],
 ) -> Result<(Vec<Vec<u64>>, &'a [u8]), CanonicalError>
-    ensures text { IfOk result (λ read. BeginsAs text.now (spec.rows_data (map (λ row. row.items) read.0.items)) read.1.now) }
-    ensures rows { IfOk result (λ read. AreRows (length plan.now.clients) (client_points plan.now) (map (λ row. row.items) read.0.items)) }
-    ensures small { IfOk result (λ read. IsTrue (list_all (list_all is_small) (map (λ row. row.items) read.0.items))) }
+    ensures text { IfOk result (λ read.
+        BeginsAs text.now (spec.rows_data (map (λ row. row.items) read.0.items)) read.1.now) }
+    ensures rows { IfOk result (λ read.
+        AreRows (length plan.now.clients) (client_points plan.now)
+        (map (λ row. row.items) read.0.items)) }
+    ensures small { IfOk result
+        (λ read. IsTrue (list_all (list_all is_small) (map (λ row. row.items) read.0.items))) }
 {
     let count = plan.clients().len();
     let mut rows = list_for(alloc, count, text)?;

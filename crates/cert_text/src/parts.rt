@@ -34,7 +34,8 @@ fn push_numbers(text: &mut String, numbers: &[u64]) -> Result<(), AllocError>
 }
 
 fn push_rows(text: &mut String, rows: &[Vec<u64>]) -> Result<(), AllocError>
-    ensures { Pushes result text.old text.new (compact_text (spec.rows_data (map (λ row. row.items) rows.now))) }
+    ensures { Pushes result text.old text.new
+        (compact_text (spec.rows_data (map (λ row. row.items) rows.now))) }
 {
     text.push('[')?;
     let mut later = false;
@@ -85,7 +86,8 @@ fn push_pool(text: &mut String, pool: &PoolCert) -> Result<(), AllocError>
 
 /// The pools of a certificate.
 pub fn push_pools(text: &mut String, pools: &[PoolCert]) -> Result<(), AllocError>
-    ensures { Pushes result text.old text.new (compact_text (spec.list_data (map spec.pool_data pools.now))) }
+    ensures { Pushes result text.old text.new
+        (compact_text (spec.list_data (map spec.pool_data pools.now))) }
 {
     text.push('[')?;
     let mut later = false;

@@ -35,7 +35,8 @@ use std::alloc::Global;
 /// 6. 32: a number is above 1,000,000,000.
 pub fn read_cert(alloc: Global, bytes: &[u8], plan: &Plan) -> Result<Cert, CertFault>
     ensures cert { IfOk result (λ cert. spec.cert_of bytes.now plan.now ≡ Ok cert) }
-    ensures fault { IfErr result (λ fault. fault.number ≢ MEMORY → spec.cert_of bytes.now plan.now ≡ Err fault) }
+    ensures fault { IfErr result
+        (λ fault. fault.number ≢ MEMORY → spec.cert_of bytes.now plan.now ≡ Err fault) }
     ensures fits { IfOk result (λ cert. IsTrue (cert_fits plan.now cert)) }
 {
     match cert_of(alloc, bytes, plan) {

@@ -40,7 +40,9 @@ fn lifetime_or_standing(
     pool: &Value,
     lifetime: Option<&Value>,
 ) -> Result<Bound, CertError>
-    ensures { Gives (λ bound. bound) result (spec.lifetime_or_standing plan.now (view pool.now) (option_map (λ value. view value.now) lifetime.entry)) }
+    ensures { Gives (λ bound. bound) result
+        (spec.lifetime_or_standing plan.now (view pool.now)
+        (option_map (λ value. view value.now) lifetime.entry)) }
 {
     match lifetime {
         Some(value) => lifetime_of(alloc, plan, value),
@@ -80,7 +82,8 @@ fn pools_in(
     plan: &Plan,
     values: &[Value],
 ) -> Result<Vec<PoolCert>, CertError>
-    ensures { Gives (λ pools. pools.items) result (read_each (λ _. spec.pool_of version plan.now) 0 (map view values.now)) }
+    ensures { Gives (λ pools. pools.items) result
+        (read_each (λ _. spec.pool_of version plan.now) 0 (map view values.now)) }
 {
     let mut pools = Vec::with_capacity(alloc, values.len())?;
     for value in values {
@@ -97,7 +100,8 @@ fn pools_of(
     plan: &Plan,
     value: &Value,
 ) -> Result<Vec<PoolCert>, CertError>
-    ensures { Gives (λ pools. pools.items) result (spec.pools_of version plan.now (view value.now)) }
+    ensures { Gives (λ pools. pools.items) result
+        (spec.pools_of version plan.now (view value.now)) }
 {
     let values = elements_of(value, plan.pools().len())?;
     pools_in(alloc, version, plan, values)

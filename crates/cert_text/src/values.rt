@@ -32,7 +32,8 @@ fn list_in(value: &Value) -> Option<&[Value]>
 /// The elements of a list of so many.
 #[tactic(auto, unfolding(crate::specs::Values::elements_of))]
 pub fn elements_of(value: &Value, count: usize) -> Result<&[Value], CertError>
-    ensures { Gives (λ values. map view values.now) result (spec.elements_of count (view value.now)) }
+    ensures { Gives (λ values. map view values.now) result
+        (spec.elements_of count (view value.now)) }
 {
     let Some(values) = list_in(value) else {
         return Err(wrong_shape());

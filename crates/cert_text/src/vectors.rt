@@ -16,7 +16,8 @@ use weights::Vector;
 
 /// The numbers that these values are.
 fn numbers_in(alloc: Global, values: &[Value]) -> Result<Vec<u64>, CertError>
-    ensures { Gives (λ numbers. numbers.items) result (read_each (λ _. value_spec.number_of) 0 (map view values.now)) }
+    ensures { Gives (λ numbers. numbers.items) result
+        (read_each (λ _. value_spec.number_of) 0 (map view values.now)) }
 {
     let mut numbers = Vec::with_capacity(alloc, values.len())?;
     for value in values {
@@ -56,7 +57,8 @@ pub fn client_points(plan: &Plan, client: usize) -> usize
 }
 
 fn class_rows_in(alloc: Global, plan: &Plan, values: &[Value]) -> Result<Vec<Vec<u64>>, CertError>
-    ensures { Gives (λ rows. map (λ row. row.items) rows.items) result (read_each (λ k. spec.numbers_of (spec.class_points plan.now k)) 0 (map view values.now)) }
+    ensures { Gives (λ rows. map (λ row. row.items) rows.items) result
+        (read_each (λ k. spec.numbers_of (spec.class_points plan.now k)) 0 (map view values.now)) }
 {
     let mut rows = Vec::with_capacity(alloc, values.len())?;
     for (class, value) in values.iter().enumerate() {
@@ -67,7 +69,8 @@ fn class_rows_in(alloc: Global, plan: &Plan, values: &[Value]) -> Result<Vec<Vec
 }
 
 fn client_rows_in(alloc: Global, plan: &Plan, values: &[Value]) -> Result<Vec<Vec<u64>>, CertError>
-    ensures { Gives (λ rows. map (λ row. row.items) rows.items) result (read_each (λ c. spec.numbers_of (spec.client_points plan.now c)) 0 (map view values.now)) }
+    ensures { Gives (λ rows. map (λ row. row.items) rows.items) result
+        (read_each (λ c. spec.numbers_of (spec.client_points plan.now c)) 0 (map view values.now)) }
 {
     let mut rows = Vec::with_capacity(alloc, values.len())?;
     for (client, value) in values.iter().enumerate() {
@@ -80,7 +83,8 @@ fn client_rows_in(alloc: Global, plan: &Plan, values: &[Value]) -> Result<Vec<Ve
 /// A row of numbers for each class.
 #[tactic(auto, unfolding(crate::specs::Vectors::class_rows))]
 fn class_rows(alloc: Global, plan: &Plan, value: &Value) -> Result<Vec<Vec<u64>>, CertError>
-    ensures { Gives (λ rows. map (λ row. row.items) rows.items) result (spec.class_rows plan.now (view value.now)) }
+    ensures { Gives (λ rows. map (λ row. row.items) rows.items) result
+        (spec.class_rows plan.now (view value.now)) }
 {
     let values = elements_of(value, plan.classes().len())?;
     class_rows_in(alloc, plan, values)
@@ -89,7 +93,8 @@ fn class_rows(alloc: Global, plan: &Plan, value: &Value) -> Result<Vec<Vec<u64>>
 /// A row of numbers for each kind of clients.
 #[tactic(auto, unfolding(crate::specs::Vectors::client_rows))]
 fn client_rows(alloc: Global, plan: &Plan, value: &Value) -> Result<Vec<Vec<u64>>, CertError>
-    ensures { Gives (λ rows. map (λ row. row.items) rows.items) result (spec.client_rows plan.now (view value.now)) }
+    ensures { Gives (λ rows. map (λ row. row.items) rows.items) result
+        (spec.client_rows plan.now (view value.now)) }
 {
     let values = elements_of(value, plan.clients().len())?;
     client_rows_in(alloc, plan, values)

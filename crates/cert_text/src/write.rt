@@ -26,8 +26,16 @@ use std::alloc::{AllocError, Global};
 /// [`AllocError`] where memory runs out.
 pub fn write_cert(alloc: Global, cert: &Cert) -> Result<Vec<u8>, AllocError>
     ensures text { IfOk result (λ text. text.items ≡ spec.cert_text cert.now) }
-    ensures reads_back { IfOk result (λ text. (plan : Plan) → IsTrue (cert_fits plan cert.now) → length text.items ≤ MAX_CERT_BYTES → cert_of text.items plan ≡ Ok cert.now) }
-    ensures line_reads_back { IfOk result (λ text. (plan : Plan) → IsTrue (cert_fits plan cert.now) → length text.items < MAX_CERT_BYTES → cert_of (text.items ++ 10 ∷ []) plan ≡ Ok cert.now) }
+    ensures reads_back { IfOk result (λ text.
+        (plan : Plan)
+        → IsTrue (cert_fits plan cert.now)
+        → length text.items ≤ MAX_CERT_BYTES
+        → cert_of text.items plan ≡ Ok cert.now) }
+    ensures line_reads_back { IfOk result (λ text.
+        (plan : Plan)
+        → IsTrue (cert_fits plan cert.now)
+        → length text.items < MAX_CERT_BYTES
+        → cert_of (text.items ++ 10 ∷ []) plan ≡ Ok cert.now) }
     ensures no_separator { IfOk result (λ text. spec.has_percent text.items ≡ false) }
 {
     let mut text = String::new(alloc);

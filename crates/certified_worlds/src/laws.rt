@@ -11,7 +11,8 @@ use held_machines::Held;
 /// The world is the live view of the state that its history reaches, in which nothing was refused; and no event of that
 /// state is refused, so no act is.
 pub fn held_worlds_refuse_nothing(held: &Held<CertifiedWorld<'_>>)
-    ensures reached { IsReachedBy held.now.machine.certified.now.plan held.now.history held.now.state.world }
+    ensures reached { IsReachedBy held.now.machine.certified.now.plan held.now.history
+        held.now.state.world }
     ensures none_refused { held.now.state.world.refusals ≡ 0 }
     ensures refuses_nothing { RefusesNothing held.now.machine.certified.now.plan held.now.history }
 {
@@ -20,7 +21,9 @@ pub fn held_worlds_refuse_nothing(held: &Held<CertifiedWorld<'_>>)
 
 /// In a world that a history of the plan leads to nothing was refused.
 pub fn reached_worlds_refuse_nothing(certified: &Certified, world: &SeenWorld)
-    ensures { (history : List Event) → IsReachedBy certified.now.plan history world.now → world.now.refusals ≡ 0 }
+    ensures { (history : List Event)
+        → IsReachedBy certified.now.plan history world.now
+        → world.now.refusals ≡ 0 }
 {
     let _pools = certified.plan().pools();
     let _cert = certified.cert();

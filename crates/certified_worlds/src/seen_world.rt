@@ -57,8 +57,13 @@ impl SeenWorld {
     /// `AllocError` where [`World::step`] finds no memory. The world is then unchanged.
     pub fn step(&mut self, plan: &Plan, event: Event) -> Result<Option<Outcome>, AllocError>
         requires { IsOf plan.now self.old }
-        ensures answered { IfOk result (λ answer. (s : State) → IsReached plan.now s → live_view plan.now s ≡ self.old → AnswersAs plan.now s event answer self.new) }
-        ensures in_view { IfOk result (λ answer. AnswersIn plan.now self.old event answer self.new) }
+        ensures answered { IfOk result (λ answer.
+            (s : State)
+            → IsReached plan.now s
+            → live_view plan.now s ≡ self.old
+            → AnswersAs plan.now s event answer self.new) }
+        ensures in_view { IfOk result
+            (λ answer. AnswersIn plan.now self.old event answer self.new) }
         ensures of_plan { IsOf plan.now self.new }
         ensures well_formed { IsWellFormed plan.now }
         ensures error_unchanged { OnErr result (self.new ≡ self.old) }

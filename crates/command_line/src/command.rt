@@ -146,9 +146,15 @@ pub enum Form {
 /// Words that `clap` refuses, a number out of its range, `--json` beside `--dot`, and a request for help: the `Display` of the
 /// error is a text for the user. Out of memory, where the error's `kind` is `ErrorKind::OutOfMemory`.
 pub fn read_words<'a>(alloc: Global, words: &'a [&'a str]) -> Result<Option<Asked<'a>>, Error>
-    ensures command { IfOk result (λ found. option_map (λ asked. asked.command) found ≡ spec.command_of (map (λ word. word.now) words.now)) }
-    ensures files { IfOk result (λ found. IfSome found (λ asked. spec.files_asked asked ≡ spec.files_of (map (λ word. word.now) words.now))) }
-    ensures certificate { IfOk result (λ found. IfSome found (λ asked. spec.certificate_asked asked ≡ spec.certificate_of (map (λ word. word.now) words.now))) }
+    ensures command { IfOk result (λ found.
+        option_map (λ asked. asked.command) found
+        ≡ spec.command_of (map (λ word. word.now) words.now)) }
+    ensures files { IfOk result (λ found.
+        IfSome found
+        (λ asked. spec.files_asked asked ≡ spec.files_of (map (λ word. word.now) words.now))) }
+    ensures certificate { IfOk result (λ found.
+        IfSome found (λ asked.
+        spec.certificate_asked asked ≡ spec.certificate_of (map (λ word. word.now) words.now))) }
     ensures in_range { IfOk result (λ found. IfSome found (λ asked. spec.IsInRange asked.command)) }
     ensures fails { FailsBy (spec.faults_of (map (λ word. word.now) words.now)) result }
 {
@@ -165,9 +171,12 @@ pub fn read_words<'a>(alloc: Global, words: &'a [&'a str]) -> Result<Option<Aske
 
 // What the subcommand that the parse entered asks.
 fn asked_among<'a>(matches: &ArgMatches<'a>) -> Option<Asked<'a>>
-    ensures command { option_map (λ asked. asked.command) result ≡ spec.command_among (subcommand_rows_of matches.now) }
-    ensures files { IfSome result (λ asked. spec.files_asked asked ≡ spec.files_among (subcommand_rows_of matches.now)) }
-    ensures certificate { IfSome result (λ asked. spec.certificate_asked asked ≡ spec.certificate_among (subcommand_rows_of matches.now)) }
+    ensures command { option_map (λ asked. asked.command) result
+        ≡ spec.command_among (subcommand_rows_of matches.now) }
+    ensures files { IfSome result
+        (λ asked. spec.files_asked asked ≡ spec.files_among (subcommand_rows_of matches.now)) }
+    ensures certificate { IfSome result (λ asked.
+        spec.certificate_asked asked ≡ spec.certificate_among (subcommand_rows_of matches.now)) }
     ensures in_range { IfSome result (λ asked. spec.IsInRange asked.command) }
 {
     let command = command_among(matches)?;
@@ -182,7 +191,8 @@ fn asked_among<'a>(matches: &ArgMatches<'a>) -> Option<Asked<'a>>
 
 // The file that this argument names, where it was given.
 fn file_named<'a>(options: &ArgMatches<'a>, id: &str) -> Option<&'a str>
-    ensures { option_map (λ name. name.now) result ≡ first_of id.now (rows_of (found_of options.now)) }
+    ensures { option_map (λ name. name.now) result
+        ≡ first_of id.now (rows_of (found_of options.now)) }
 {
     options.get_str(id)
 }
@@ -225,7 +235,9 @@ fn task_of(name: &str, options: &ArgMatches<'_>) -> Option<Task>
 }
 
 fn certify(options: &ArgMatches<'_>) -> Option<Task>
-    ensures task { result ≡ spec.certify_with (spec.number_of (codes "workers") 1 MAX_WORKERS (rows_of (found_of options.now))) }
+    ensures task { result
+        ≡ spec.certify_with
+        (spec.number_of (codes "workers") 1 MAX_WORKERS (rows_of (found_of options.now))) }
     ensures in_range { IfSome result spec.IsTaskInRange }
 {
     let workers = number_of(options, "workers", 1, MAX_WORKERS)?;
@@ -235,7 +247,8 @@ fn certify(options: &ArgMatches<'_>) -> Option<Task>
 }
 
 fn fit(options: &ArgMatches<'_>) -> Task
-    ensures { result ≡ spec.fit_with (spec.is_set (codes "bundle") (rows_of (found_of options.now))) }
+    ensures { result
+        ≡ spec.fit_with (spec.is_set (codes "bundle") (rows_of (found_of options.now))) }
 {
     let wanted = if is_set(options, "bundle") {
         SizesForm::Bundle
@@ -246,7 +259,9 @@ fn fit(options: &ArgMatches<'_>) -> Task
 }
 
 fn run(options: &ArgMatches<'_>) -> Option<Task>
-    ensures task { result ≡ spec.run_with (spec.number_of (codes "rounds") 1 MAX_ROUNDS (rows_of (found_of options.now))) }
+    ensures task { result
+        ≡ spec.run_with
+        (spec.number_of (codes "rounds") 1 MAX_ROUNDS (rows_of (found_of options.now))) }
     ensures in_range { IfSome result spec.IsTaskInRange }
 {
     let rounds = number_of(options, "rounds", 1, MAX_ROUNDS)?;
@@ -254,7 +269,9 @@ fn run(options: &ArgMatches<'_>) -> Option<Task>
 }
 
 fn refute(options: &ArgMatches<'_>) -> Option<Task>
-    ensures task { result ≡ spec.refute_with (spec.is_set (codes "bundle") (rows_of (found_of options.now))) (spec.number_of (codes "states") 1 MAX_STATES (rows_of (found_of options.now))) }
+    ensures task { result
+        ≡ spec.refute_with (spec.is_set (codes "bundle") (rows_of (found_of options.now)))
+        (spec.number_of (codes "states") 1 MAX_STATES (rows_of (found_of options.now))) }
     ensures in_range { IfSome result spec.IsTaskInRange }
 {
     let states = number_of(options, "states", 1, MAX_STATES)?;
@@ -294,7 +311,8 @@ fn form_of(json: bool, dot: bool) -> Option<Form>
 }
 
 fn texts_given(options: &ArgMatches<'_>) -> Given
-    ensures { result ≡ spec.given_among (first_of (codes "SECOND") (rows_of (found_of options.now))) }
+    ensures { result
+        ≡ spec.given_among (first_of (codes "SECOND") (rows_of (found_of options.now))) }
 {
     match file_named(options, "SECOND") {
         Some(_) => Given::WithCertificate,

@@ -56,10 +56,17 @@ pub fn conform(
     recording: &[u8],
     budget: u64,
 ) -> Result<Conformance, AllocError>
-    ensures bad { IfOk result (λ told. IsFirstFault (lines_read recording.now) (spec.fault_of told)) }
-    ensures conforms { IfOk result (λ told. spec.IfCompared told (λ findings. findings ≡ [] → Conforms plan.now (lines_of recording.now) × IsNotVoid (lines_of recording.now))) }
-    ensures actors { IfOk result (λ told. spec.IfCompared told (λ findings. list_any is_of_actors findings ≡ false → DoAsPlanned plan.now (lines_of recording.now))) }
-    ensures found { IfOk result (λ told. spec.IfCompared told (AreFindingsOf plan.now budget (lines_of recording.now))) }
+    ensures bad { IfOk result
+        (λ told. IsFirstFault (lines_read recording.now) (spec.fault_of told)) }
+    ensures conforms { IfOk result (λ told.
+        spec.IfCompared told (λ findings.
+        findings ≡ []
+        → Conforms plan.now (lines_of recording.now) × IsNotVoid (lines_of recording.now))) }
+    ensures actors { IfOk result (λ told.
+        spec.IfCompared told (λ findings.
+        list_any is_of_actors findings ≡ false → DoAsPlanned plan.now (lines_of recording.now))) }
+    ensures found { IfOk result
+        (λ told. spec.IfCompared told (AreFindingsOf plan.now budget (lines_of recording.now))) }
     ensures ascending { IfOk result (λ told. spec.IfCompared told spec.AreInOrder) }
 {
     match surveyed(alloc, plan, recording, budget)? {
@@ -75,9 +82,23 @@ fn compared(
     recording: &[u8],
     survey: Survey,
 ) -> Result<Vec<Finding>, AllocError>
-    ensures conforms { (budget : ℕ) → KeepsRules (lines_of recording.now) → IsSurveyOf plan.now budget (lines_of recording.now) survey → IfOk result (λ findings. findings.items ≡ [] → Conforms plan.now (lines_of recording.now) × IsNotVoid (lines_of recording.now)) }
-    ensures actors { (budget : ℕ) → KeepsRules (lines_of recording.now) → IsSurveyOf plan.now budget (lines_of recording.now) survey → IfOk result (λ findings. list_any is_of_actors findings.items ≡ false → DoAsPlanned plan.now (lines_of recording.now)) }
-    ensures found { (budget : ℕ) → KeepsRules (lines_of recording.now) → IsSurveyOf plan.now budget (lines_of recording.now) survey → IfOk result (λ findings. AreFindingsOf plan.now budget (lines_of recording.now) findings.items) }
+    ensures conforms { (budget : ℕ)
+        → KeepsRules (lines_of recording.now)
+        → IsSurveyOf plan.now budget (lines_of recording.now) survey
+        → IfOk result (λ findings.
+        findings.items ≡ []
+        → Conforms plan.now (lines_of recording.now) × IsNotVoid (lines_of recording.now)) }
+    ensures actors { (budget : ℕ)
+        → KeepsRules (lines_of recording.now)
+        → IsSurveyOf plan.now budget (lines_of recording.now) survey
+        → IfOk result (λ findings.
+        list_any is_of_actors findings.items ≡ false
+        → DoAsPlanned plan.now (lines_of recording.now)) }
+    ensures found { (budget : ℕ)
+        → KeepsRules (lines_of recording.now)
+        → IsSurveyOf plan.now budget (lines_of recording.now) survey
+        → IfOk result
+        (λ findings. AreFindingsOf plan.now budget (lines_of recording.now) findings.items) }
     ensures ascending { IfOk result (λ findings. spec.AreInOrder findings.items) }
 {
     pools_are_as_planned();
@@ -96,7 +117,12 @@ fn counted(
     recording: &[u8],
     survey: &Survey,
 ) -> Result<Vec<RoundExcess>, AllocError>
-    ensures { (budget : ℕ) → KeepsRules (lines_of recording.now) → IsSurveyOf plan.now budget (lines_of recording.now) survey.now → IfOk result (λ found. found.items ≡ excesses_by_lines plan.now survey.now.judged.kinds.kinds.items (lines_of recording.now)) }
+    ensures { (budget : ℕ)
+        → KeepsRules (lines_of recording.now)
+        → IsSurveyOf plan.now budget (lines_of recording.now) survey.now
+        → IfOk result (λ found.
+        found.items
+        ≡ excesses_by_lines plan.now survey.now.judged.kinds.kinds.items (lines_of recording.now)) }
 {
     let kinds = &survey.judged.kinds;
     if kinds.corrected {

@@ -52,7 +52,12 @@ impl Counted {
         number: usize,
         line: &Line<'_>,
     ) -> Result<(), AllocError>
-        ensures { (plan : plans.Plan) (before : List RecordedLine) → KeepsRules (before ++ line_seen line.now ∷ []) → IsNext number before → IsCountedOf plan kinds.now before self.old → OnOk result (IsCountedOf plan kinds.now (before ++ line_seen line.now ∷ []) self.new) }
+        ensures { (plan : plans.Plan) (before : List RecordedLine)
+            → KeepsRules (before ++ line_seen line.now ∷ [])
+            → IsNext number before
+            → IsCountedOf plan kinds.now before self.old
+            → OnOk result
+            (IsCountedOf plan kinds.now (before ++ line_seen line.now ∷ []) self.new) }
     {
         rounds_are_within_plan();
         self.watch.take(&kinds.kinds, number, line, &mut self.found)
@@ -71,7 +76,9 @@ pub(crate) fn excesses(
     recording: &[u8],
     kinds: &[Option<usize>],
 ) -> Result<Vec<RoundExcess>, AllocError>
-    ensures { KeepsRules (lines_of recording.now) → IfOk result (λ found. found.items ≡ excesses_by_lines plan.now kinds.now (lines_of recording.now)) }
+    ensures { KeepsRules (lines_of recording.now)
+        → IfOk result
+        (λ found. found.items ≡ excesses_by_lines plan.now kinds.now (lines_of recording.now)) }
 {
     rounds_are_within_plan();
     let mut watch = RoundWatch::new(alloc, plan)?;

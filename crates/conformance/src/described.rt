@@ -27,7 +27,9 @@ pub(crate) fn described(
     classless: &JobSet,
     told: &Settled,
 ) -> Result<(Option<usize>, Stray), AllocError>
-    ensures { IfOk result (λ found. spec.IsDescribed (lines_of recording.now) (has_job classless.now) told.now found.0 found.1) }
+    ensures { IfOk result (λ found.
+        spec.IsDescribed (lines_of recording.now) (has_job classless.now) told.now found.0
+        found.1) }
 {
     let explained = told.family.explained;
     let deed = deed_at(&told.path, explained);
@@ -137,7 +139,8 @@ fn named(
 
 /// The class that the job's submit names.
 fn class_of(alloc: Global, recording: &[u8], job: usize) -> Result<String, AllocError>
-    ensures { IfOk result (λ class. IsLabelOf (lines_of recording.now) (Job job) (string_bytes class)) }
+    ensures { IfOk result
+        (λ class. IsLabelOf (lines_of recording.now) (Job job) (string_bytes class)) }
 {
     label_of(alloc, recording, RecordedActor::Job(job))
 }

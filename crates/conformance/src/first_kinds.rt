@@ -39,8 +39,14 @@ impl FirstKinds {
     ///
     /// `AllocError` where there is no memory for a round.
     pub(crate) fn take(&mut self, plan: &Plan, line: &Line<'_>) -> Result<(), AllocError>
-        ensures continued { OnOk result (self.new.corrected ≡ false → spec.Continues self.old self.new) }
-        ensures kinds { (before : List RecordedLine) (told : List settleds.Settled) → KeepsRules (before ++ line_seen line.now ∷ []) → spec.AreFirstKinds plan.now before told self.old.kinds.items → OnOk result (spec.AreFirstKinds plan.now (before ++ line_seen line.now ∷ []) told self.new.kinds.items) }
+        ensures continued { OnOk result
+            (self.new.corrected ≡ false → spec.Continues self.old self.new) }
+        ensures kinds { (before : List RecordedLine) (told : List settleds.Settled)
+            → KeepsRules (before ++ line_seen line.now ∷ [])
+            → spec.AreFirstKinds plan.now before told self.old.kinds.items
+            → OnOk result
+            (spec.AreFirstKinds plan.now (before ++ line_seen line.now ∷ []) told
+            self.new.kinds.items) }
     {
         match *line {
             Line::RoundBegins { kind, .. } => self.push(plan, kind),
@@ -51,7 +57,9 @@ impl FirstKinds {
     // A round with this label.
     fn push(&mut self, plan: &Plan, label: &str) -> Result<(), AllocError>
         ensures corrected { self.new.corrected ≡ self.old.corrected }
-        ensures kinds { OnOk result (self.new.kinds.items ≡ self.old.kinds.items ++ slice_get (clients_of plan.now label.now) 0 ∷ []) }
+        ensures kinds { OnOk result
+            (self.new.kinds.items
+            ≡ self.old.kinds.items ++ slice_get (clients_of plan.now label.now) 0 ∷ []) }
     {
         self.kinds.push(first_client(plan, label))?;
         Ok(())

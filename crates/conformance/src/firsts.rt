@@ -30,7 +30,9 @@ impl Firsts {
     ///
     /// `AllocError` where there is no memory for it.
     pub(crate) fn note(&mut self, settled: Settled) -> Result<(), AllocError>
-        ensures { (told : List settleds.Settled) → spec.AreFirsts told self.old.actors.items → OnOk result (spec.AreFirsts (told ++ settled ∷ []) self.new.actors.items) }
+        ensures { (told : List settleds.Settled)
+            → spec.AreFirsts told self.old.actors.items
+            → OnOk result (spec.AreFirsts (told ++ settled ∷ []) self.new.actors.items) }
     {
         match self.place_of(&settled) {
             None => {
@@ -48,7 +50,9 @@ impl Firsts {
 
     // Where the one of this label is.
     fn place_of(&self, settled: &Settled) -> Option<usize>
-        ensures { result ≡ position (λ (one : settleds.Settled). spec.is_same_label one settled.now) self.now.actors.items }
+        ensures { result
+            ≡ position (λ (one : settleds.Settled). spec.is_same_label one settled.now)
+            self.now.actors.items }
     {
         self.actors
             .iter()

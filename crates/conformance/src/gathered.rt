@@ -32,7 +32,9 @@ pub(crate) fn gathered(
     survey: Survey,
     excesses: Vec<RoundExcess>,
 ) -> Result<Vec<Finding>, AllocError>
-    ensures { IsNotesOf survey.watched.notes (lines_of recording.now) → IfOk result (λ found. spec.AreGathered (lines_of recording.now) survey excesses.items found.items) }
+    ensures { IsNotesOf survey.watched.notes (lines_of recording.now)
+        → IfOk result
+        (λ found. spec.AreGathered (lines_of recording.now) survey excesses.items found.items) }
 {
     let Survey {
         watched,
@@ -65,7 +67,8 @@ pub(crate) fn gathered(
 }
 
 fn push_pools(findings: &mut Vec<Finding>, deviations: Vec<PoolDeviation>) -> Result<(), AllocError>
-    ensures { OnOk result (findings.new.items ≡ findings.old.items ++ map kinds.Pool deviations.items) }
+    ensures { OnOk result
+        (findings.new.items ≡ findings.old.items ++ map kinds.Pool deviations.items) }
 {
     for deviation in deviations {
         findings.push(Finding::Pool(deviation))?;
@@ -74,7 +77,8 @@ fn push_pools(findings: &mut Vec<Finding>, deviations: Vec<PoolDeviation>) -> Re
 }
 
 fn push_labels(findings: &mut Vec<Finding>, labels: Vec<NotPlanned>) -> Result<(), AllocError>
-    ensures { OnOk result (findings.new.items ≡ findings.old.items ++ map kinds.NotPlanned labels.items) }
+    ensures { OnOk result
+        (findings.new.items ≡ findings.old.items ++ map kinds.NotPlanned labels.items) }
 {
     for label in labels {
         findings.push(Finding::NotPlanned(label))?;
@@ -89,7 +93,10 @@ fn push_strays(
     classless: &JobSet,
     strays: &[Settled],
 ) -> Result<(), AllocError>
-    ensures { OnOk result (spec.Adds findings.old.items (spec.AreStrays (lines_of recording.now) (has_job classless.now) strays.now) findings.new.items) }
+    ensures { OnOk result
+        (spec.Adds findings.old.items
+        (spec.AreStrays (lines_of recording.now) (has_job classless.now) strays.now)
+        findings.new.items) }
 {
     for told in strays {
         let (line, stray) = described(alloc, recording, classless, told)?;
@@ -99,7 +106,8 @@ fn push_strays(
 }
 
 fn push_undecided(findings: &mut Vec<Finding>, undecided: Vec<Settled>) -> Result<(), AllocError>
-    ensures { OnOk result (findings.new.items ≡ findings.old.items ++ map spec.not_decided undecided.items) }
+    ensures { OnOk result
+        (findings.new.items ≡ findings.old.items ++ map spec.not_decided undecided.items) }
 {
     for told in undecided {
         let Settled { actor, label, .. } = told;
@@ -109,7 +117,8 @@ fn push_undecided(findings: &mut Vec<Finding>, undecided: Vec<Settled>) -> Resul
 }
 
 fn push_excesses(findings: &mut Vec<Finding>, excesses: &[RoundExcess]) -> Result<(), AllocError>
-    ensures { OnOk result (findings.new.items ≡ findings.old.items ++ map kinds.TooMany excesses.now) }
+    ensures { OnOk result
+        (findings.new.items ≡ findings.old.items ++ map kinds.TooMany excesses.now) }
 {
     for excess in excesses {
         findings.push(Finding::TooMany(*excess))?;
@@ -123,7 +132,11 @@ fn push_foreign_get(
     recording: &[u8],
     notes: &RecordedNotes,
 ) -> Result<(), AllocError>
-    ensures { IsNotesOf notes.now (lines_of recording.now) → OnOk result (spec.Adds findings.old.items (spec.AreForeign (lines_of recording.now) (first_foreign_get (lines_of recording.now))) findings.new.items) }
+    ensures { IsNotesOf notes.now (lines_of recording.now)
+        → OnOk result
+        (spec.Adds findings.old.items
+        (spec.AreForeign (lines_of recording.now) (first_foreign_get (lines_of recording.now)))
+        findings.new.items) }
 {
     if let Some(get) = notes.foreign_get() {
         let label = label_of(alloc, recording, get.actor)?;
@@ -137,14 +150,20 @@ fn push_voids(
     alloc: Global,
     notes: &RecordedNotes,
 ) -> Result<(), AllocError>
-    ensures { (lines : List RecordedLine) → IsNotesOf notes.now lines → OnOk result (findings.new.items ≡ findings.old.items ++ map kinds.Void (filter spec.is_lasting (voids_of lines))) }
+    ensures { (lines : List RecordedLine)
+        → IsNotesOf notes.now lines
+        → OnOk result
+        (findings.new.items
+        ≡ findings.old.items ++ map kinds.Void (filter spec.is_lasting (voids_of lines))) }
 {
     let voids = notes.voids(alloc)?;
     push_lasting(findings, &voids)
 }
 
 fn push_lasting(findings: &mut Vec<Finding>, voids: &[Void]) -> Result<(), AllocError>
-    ensures { OnOk result (findings.new.items ≡ findings.old.items ++ map kinds.Void (filter spec.is_lasting voids.now)) }
+    ensures { OnOk result
+        (findings.new.items
+        ≡ findings.old.items ++ map kinds.Void (filter spec.is_lasting voids.now)) }
 {
     for void in voids {
         if is_lasting(*void) {

@@ -35,7 +35,8 @@ impl<'a> GoodLines<'a> {
 
     /// The next one; None behind the last.
     pub(crate) fn next(&mut self) -> Option<Line<'a>>
-        ensures { MatchOption result ((self.old ≡ []) × (self.new ≡ [])) (λ line. self.old ≡ line_seen line ∷ self.new) }
+        ensures { MatchOption result ((self.old ≡ []) × (self.new ≡ []))
+            (λ line. self.old ≡ line_seen line ∷ self.new) }
     {
         while let Some(line) = self.lines.next() {
             if let Ok(line) = line {

@@ -34,7 +34,8 @@ impl JobSet {
     ///
     /// `AllocError` where there is no memory for it.
     pub(crate) fn insert(&mut self, job: usize) -> Result<(), AllocError>
-        ensures { OnOk result ((one : ℕ) → has_job self.new one ≡ (has_job self.old one || job == one)) }
+        ensures { OnOk result
+            ((one : ℕ) → has_job self.new one ≡ (has_job self.old one || job == one)) }
     {
         self.jobs.insert(job)?;
         Ok(())

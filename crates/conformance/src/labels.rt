@@ -37,7 +37,8 @@ impl Labels {
     ///
     /// `AllocError` where there is no memory for it.
     pub(crate) fn insert(&mut self, label: &str) -> Result<(), AllocError>
-        ensures { OnOk result ((q : List ℕ) → has_label self.new q ≡ (has_label self.old q || bytes_eq label.now q)) }
+        ensures { OnOk result
+            ((q : List ℕ) → has_label self.new q ≡ (has_label self.old q || bytes_eq label.now q)) }
     {
         if !self.labels.contains(label) {
             let label = String::from_str(self.alloc, label)?;

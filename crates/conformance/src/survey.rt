@@ -60,7 +60,11 @@ impl Watched {
         number: usize,
         line: &Line<'_>,
     ) -> Result<(), AllocError>
-        ensures { (before : List RecordedLine) → KeepsRules (before ++ line_seen line.now ∷ []) → IsNext number before → spec.IsWatchedOf plan.now before self.old → OnOk result (spec.IsWatchedOf plan.now (before ++ line_seen line.now ∷ []) self.new) }
+        ensures { (before : List RecordedLine)
+            → KeepsRules (before ++ line_seen line.now ∷ [])
+            → IsNext number before
+            → spec.IsWatchedOf plan.now before self.old
+            → OnOk result (spec.IsWatchedOf plan.now (before ++ line_seen line.now ∷ []) self.new) }
     {
         pools_are_as_planned();
         self.pools.take(plan, number, line, &mut self.deviations)?;
@@ -74,7 +78,9 @@ impl Watched {
     ///
     /// `AllocError` where there is no memory for what is found.
     pub(crate) fn finish(&mut self, plan: &Plan) -> Result<(), AllocError>
-        ensures { (lines : List RecordedLine) → spec.IsWatchedOf plan.now lines self.old → OnOk result (spec.IsWatched plan.now lines self.new) }
+        ensures { (lines : List RecordedLine)
+            → spec.IsWatchedOf plan.now lines self.old
+            → OnOk result (spec.IsWatched plan.now lines self.new) }
     {
         self.pools.finish(plan, &mut self.deviations)
     }
@@ -90,7 +96,9 @@ pub(crate) struct Judged {
 impl Judged {
     /// No lines so far.
     pub(crate) fn new(alloc: Global) -> Judged
-        ensures { (plan : plans.Plan) (budget : ℕ) → AreTold plan budget [] [] → spec.IsJudgedOf plan budget [] [] result }
+        ensures { (plan : plans.Plan) (budget : ℕ)
+            → AreTold plan budget [] []
+            → spec.IsJudgedOf plan budget [] [] result }
     {
         let verdicts = Verdicts::new(alloc);
         let kinds = FirstKinds::new(alloc);
@@ -107,9 +115,13 @@ impl Judged {
         plan: &Plan,
         told: &mut Vec<Settled>,
     ) -> Result<(), AllocError>
-        ensures verdicts { (earlier : List settleds.Settled) → IsVerdictsOf plan.now earlier self.old.verdicts → OnOk result (IsVerdictsOf plan.now (earlier ++ told.old.items) self.new.verdicts) }
-        ensures kinds { OnOk result (self.new.kinds.kinds.items ≡ with_all told.old.items self.old.kinds.kinds.items) }
-        ensures continued { OnOk result (self.new.kinds.corrected ≡ false → Continues self.old.kinds self.new.kinds) }
+        ensures verdicts { (earlier : List settleds.Settled)
+            → IsVerdictsOf plan.now earlier self.old.verdicts
+            → OnOk result (IsVerdictsOf plan.now (earlier ++ told.old.items) self.new.verdicts) }
+        ensures kinds { OnOk result
+            (self.new.kinds.kinds.items ≡ with_all told.old.items self.old.kinds.kinds.items) }
+        ensures continued { OnOk result
+            (self.new.kinds.corrected ≡ false → Continues self.old.kinds self.new.kinds) }
         ensures emptied { OnOk result (told.new.items ≡ []) }
     {
         if told.is_empty() {
@@ -177,8 +189,14 @@ fn take_line(
     told: &mut Vec<Settled>,
 ) -> Result<(), AllocError>
     ensures emptied { OnOk result (told.new.items ≡ []) }
-    ensures continued { OnOk result (judged.new.kinds.corrected ≡ false → Continues judged.old.kinds judged.new.kinds) }
-    ensures so_far { (budget : ℕ) (before : List RecordedLine) → KeepsRules (before ++ line_seen line.now ∷ []) → told.old.items ≡ [] → spec.IsSoFar plan.now budget before classes.old judged.old → OnOk result (spec.IsSoFar plan.now budget (before ++ line_seen line.now ∷ []) classes.new judged.new) }
+    ensures continued { OnOk result
+        (judged.new.kinds.corrected ≡ false → Continues judged.old.kinds judged.new.kinds) }
+    ensures so_far { (budget : ℕ) (before : List RecordedLine)
+        → KeepsRules (before ++ line_seen line.now ∷ [])
+        → told.old.items ≡ []
+        → spec.IsSoFar plan.now budget before classes.old judged.old
+        → OnOk result
+        (spec.IsSoFar plan.now budget (before ++ line_seen line.now ∷ []) classes.new judged.new) }
 {
     classes.take(plan, line, told)?;
     judged.kinds.take(plan, line)?;
@@ -192,8 +210,12 @@ fn finish(
     classes: Classes,
     judged: &mut Judged,
 ) -> Result<(), AllocError>
-    ensures continued { OnOk result (judged.new.kinds.corrected ≡ false → Continues judged.old.kinds judged.new.kinds) }
-    ensures all { (budget : ℕ) (lines : List RecordedLine) → KeepsRules lines → spec.IsSoFar plan.now budget lines classes judged.old → OnOk result (spec.IsJudged plan.now budget lines judged.new) }
+    ensures continued { OnOk result
+        (judged.new.kinds.corrected ≡ false → Continues judged.old.kinds judged.new.kinds) }
+    ensures all { (budget : ℕ) (lines : List RecordedLine)
+        → KeepsRules lines
+        → spec.IsSoFar plan.now budget lines classes judged.old
+        → OnOk result (spec.IsJudged plan.now budget lines judged.new) }
 {
     let mut told = Vec::new(alloc);
     classes.finish(plan, &mut told)?;

@@ -60,7 +60,11 @@ impl Unplanned {
         number: usize,
         line: &Line<'_>,
     ) -> Result<(), AllocError>
-        ensures { (before : List RecordedLine) → spec.IsNext number before → spec.IsUnplannedOf plan.now before self.old → OnOk result (spec.IsUnplannedOf plan.now (before ++ line_seen line.now ∷ []) self.new) }
+        ensures { (before : List RecordedLine)
+            → spec.IsNext number before
+            → spec.IsUnplannedOf plan.now before self.old
+            → OnOk result
+            (spec.IsUnplannedOf plan.now (before ++ line_seen line.now ∷ []) self.new) }
     {
         match *line {
             Line::Submits { class, pool, .. } => self.take_class(plan, number, class, pool),
@@ -76,7 +80,8 @@ impl Unplanned {
         class: &str,
         pool: &str,
     ) -> Result<(), AllocError>
-        ensures { OnOk result (spec.TakesClass plan.now number class.now pool.now self.old self.new) }
+        ensures { OnOk result
+            (spec.TakesClass plan.now number class.now pool.now self.old self.new) }
     {
         if first_class(plan, class, pool).is_some() {
             return Ok(());

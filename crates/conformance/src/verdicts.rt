@@ -44,7 +44,9 @@ impl Verdicts {
     ///
     /// `AllocError` where there is no memory for it.
     pub(crate) fn note(&mut self, plan: &Plan, settled: Settled) -> Result<(), AllocError>
-        ensures { (told : List settleds.Settled) → spec.IsVerdictsOf plan.now told self.old → OnOk result (spec.IsVerdictsOf plan.now (told ++ settled ∷ []) self.new) }
+        ensures { (told : List settleds.Settled)
+            → spec.IsVerdictsOf plan.now told self.old
+            → OnOk result (spec.IsVerdictsOf plan.now (told ++ settled ∷ []) self.new) }
     {
         if !settled.family.is_decided {
             return self.note_undecided(plan, settled);
@@ -56,7 +58,10 @@ impl Verdicts {
     }
 
     fn note_undecided(&mut self, plan: &Plan, settled: Settled) -> Result<(), AllocError>
-        ensures undecided { OnOk result ((told : List settleds.Settled) → AreFirsts told self.old.undecided.actors.items → AreFirsts (spec.with_planned plan.now settled told) self.new.undecided.actors.items) }
+        ensures undecided { OnOk result
+            ((told : List settleds.Settled)
+            → AreFirsts told self.old.undecided.actors.items
+            → AreFirsts (spec.with_planned plan.now settled told) self.new.undecided.actors.items) }
         ensures strays { self.new.strays ≡ self.old.strays }
         ensures classless { self.new.classless ≡ self.old.classless }
     {
@@ -67,9 +72,15 @@ impl Verdicts {
     }
 
     fn note_stray(&mut self, plan: &Plan, settled: Settled) -> Result<(), AllocError>
-        ensures strays { OnOk result ((told : List settleds.Settled) → AreFirsts told self.old.strays.actors.items → AreFirsts (spec.with_planned plan.now settled told) self.new.strays.actors.items) }
+        ensures strays { OnOk result
+            ((told : List settleds.Settled)
+            → AreFirsts told self.old.strays.actors.items
+            → AreFirsts (spec.with_planned plan.now settled told) self.new.strays.actors.items) }
         ensures undecided { self.new.undecided ≡ self.old.undecided }
-        ensures classless { OnOk result ((job : ℕ) → has_job self.new.classless job ≡ spec.with_job settled.actor (has_job self.old.classless job) job) }
+        ensures classless { OnOk result
+            ((job : ℕ)
+            → has_job self.new.classless job
+            ≡ spec.with_job settled.actor (has_job self.old.classless job) job) }
     {
         self.note_job(settled.actor)?;
         if is_planned(plan, &settled) {
@@ -81,7 +92,10 @@ impl Verdicts {
     fn note_job(&mut self, actor: RecordedActor) -> Result<(), AllocError>
         ensures strays { self.new.strays ≡ self.old.strays }
         ensures undecided { self.new.undecided ≡ self.old.undecided }
-        ensures classless { OnOk result ((job : ℕ) → has_job self.new.classless job ≡ spec.with_job actor (has_job self.old.classless job) job) }
+        ensures classless { OnOk result
+            ((job : ℕ)
+            → has_job self.new.classless job
+            ≡ spec.with_job actor (has_job self.old.classless job) job) }
     {
         match actor {
             RecordedActor::Job(job) => self.classless.insert(job),

@@ -31,12 +31,14 @@ pub fn covering_body(
 ) -> Result<Option<Vec<Action>>, AllocError>
     ensures fits { IfOk result (λ found. IfSome found (λ new. IsPathOf Whole new.items path.now)) }
     ensures covers { IfOk result (λ found. IfSome found (λ new. Covers body.now new.items)) }
-    ensures work { IfOk result (λ found. IfSome found (λ new. work_of new.items ≡ work_of body.now)) }
+    ensures work { IfOk result
+        (λ found. IfSome found (λ new. work_of new.items ≡ work_of body.now)) }
     ensures short { IfOk result (λ found. IfSome found (λ new. length new.items ≤ MAX_ACTIONS)) }
     ensures lawful { IfOk result (λ found. IfSome found (λ new. HasLawfulGets new.items)) }
 
     // where the path is of a short body already, that is the answer
-    ensures same { IsSurelyOf body.now path.now → IfOk result (λ found. IsSomeAnd found (λ new. new.items ≡ body.now)) }
+    ensures same { IsSurelyOf body.now path.now
+        → IfOk result (λ found. IsSomeAnd found (λ new. new.items ≡ body.now)) }
 {
     if body.len() > MAX_ACTIONS {
         return Ok(None);
@@ -52,7 +54,8 @@ fn grown(alloc: Global, body: &[Action], path: &[Deed]) -> Result<Option<Vec<Act
     requires { length body.now ≤ MAX_ACTIONS }
     ensures fits { IfOk result (λ found. IfSome found (λ new. IsPathOf Whole new.items path.now)) }
     ensures grows { IfOk result (λ found. IfSome found (λ new. Grows body.now new.items)) }
-    ensures same { IsSurelyOf body.now path.now → IfOk result (λ found. IsSomeAnd found (λ new. new.items ≡ body.now)) }
+    ensures same { IsSurelyOf body.now path.now
+        → IfOk result (λ found. IsSomeAnd found (λ new. new.items ≡ body.now)) }
 {
     if is_path_of(body, path) {
         Ok(Some(Vec::from_slice(alloc, body)?))

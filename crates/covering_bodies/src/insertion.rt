@@ -47,7 +47,8 @@ fn with_action(
     action: Action,
 ) -> Result<Option<Vec<Action>>, AllocError>
     ensures place { IfOk result (λ found. IfSome found (λ new. at ≤ length body.now)) }
-    ensures value { IfOk result (λ found. IfSome found (λ new. new.items ≡ spec.with_action body.now at action)) }
+    ensures value { IfOk result
+        (λ found. IfSome found (λ new. new.items ≡ spec.with_action body.now at action)) }
 {
     if body.len() < at {
         return Ok(None);
@@ -63,7 +64,8 @@ fn with_action(
 
 /// The same actions, once one more is put in at this place. None where a get names a submit past all memory.
 fn all_moved(alloc: Global, body: &[Action], at: usize) -> Result<Option<Vec<Action>>, AllocError>
-    ensures { IfOk result (λ found. IfSome found (λ new. new.items ≡ map (spec.moved_action at) body.now)) }
+    ensures { IfOk result
+        (λ found. IfSome found (λ new. new.items ≡ map (spec.moved_action at) body.now)) }
 {
     let mut new = Vec::with_capacity(alloc, body.len().saturating_add(1))?;
     for action in body {

@@ -21,9 +21,11 @@ use std::alloc::{AllocError, Global};
 ///
 /// [`AllocError`] where memory runs out.
 pub fn body_of_path(alloc: Global, path: &[Deed]) -> Result<Option<Vec<Action>>, AllocError>
-    ensures exact { IfOk result (λ found. MatchOption found (¬ spec.HasBody path.now) (λ body. body.items ≡ spec.body_of path.now)) }
+    ensures exact { IfOk result (λ found.
+        MatchOption found (¬ spec.HasBody path.now) (λ body. body.items ≡ spec.body_of path.now)) }
     ensures has_body { IfOk result (λ found. IfSome found (λ body. spec.HasBody path.now)) }
-    ensures fits { IfOk result (λ found. IfSome found (λ body. IsPathOf Whole body.items path.now)) }
+    ensures fits { IfOk result
+        (λ found. IfSome found (λ body. IsPathOf Whole body.items path.now)) }
     ensures short { IfOk result (λ found. IfSome found (λ body. length body.items ≤ MAX_ACTIONS)) }
     ensures lawful { IfOk result (λ found. IfSome found (λ body. HasLawfulGets body.items)) }
 {

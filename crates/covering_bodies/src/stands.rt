@@ -81,7 +81,8 @@ fn are_deeds_of(kept: &[(usize, Action)], path: &[Deed]) -> bool
 }
 
 fn is_deed_at(kept: &[(usize, Action)], path: &[Deed], place: usize) -> bool
-    ensures { IsTrue result → IsDeedAt kept.now (slice_get path.now place) (slice_get kept.now place) }
+    ensures { IsTrue result
+        → IsDeedAt kept.now (slice_get path.now place) (slice_get kept.now place) }
 {
     match (path.get(place), kept.get(place)) {
         (Some(deed), Some(entry)) => is_deed_of(kept, deed, entry.1),
@@ -102,7 +103,8 @@ fn is_deed_of(kept: &[(usize, Action)], deed: &Deed, action: Action) -> bool
 
 /// Whether the submit at this position of the body stays, at this place of those that do.
 fn is_submit_at(kept: &[(usize, Action)], place: usize, submit: usize) -> bool
-    ensures { IsTrue result → (class : ℕ) × (slice_get kept.now place ≡ Some (submit, Submit class)) }
+    ensures { IsTrue result
+        → (class : ℕ) × (slice_get kept.now place ≡ Some (submit, Submit class)) }
 {
     match kept.get(place) {
         Some((position, Action::Submit(_))) => *position == submit,

@@ -24,7 +24,8 @@ pub enum EventLine<'a> {
 /// Most lines are of a job or a client. They end where their number does, so no newline is looked for.
 #[inline(always)]
 pub(crate) fn split_event_line<'a>(plan: &Plan, text: &'a [u8]) -> Option<(EventLine<'a>, &'a [u8])>
-    ensures { option_map (λ read. (line_seen read.0, read.1.now)) result ≡ spec.split_event_line plan.now text.now }
+    ensures { option_map (λ read. (line_seen read.0, read.1.now)) result
+        ≡ spec.split_event_line plan.now text.now }
 {
     if let Some(job) = text.strip_prefix(b"job ") {
         let (job, behind) = split_number_line(job)?;
@@ -41,7 +42,8 @@ pub(crate) fn split_event_line<'a>(plan: &Plan, text: &'a [u8]) -> Option<(Event
 /// What stands behind `client `. Of seven bytes at once the compiler makes vector instructions, at twice the cost.
 #[inline(always)]
 fn behind_client(text: &[u8]) -> Option<&[u8]>
-    ensures { MatchOption result ((rest : List ℕ) → text.now ≢ codes "client " ++ rest) (λ rest. text.now ≡ codes "client " ++ rest.now) }
+    ensures { MatchOption result ((rest : List ℕ) → text.now ≢ codes "client " ++ rest)
+        (λ rest. text.now ≡ codes "client " ++ rest.now) }
 {
     text.strip_prefix(b"clie")?.strip_prefix(b"nt ")
 }

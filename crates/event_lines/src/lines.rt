@@ -47,7 +47,8 @@ impl<'a> EventLines<'a> {
     /// [`BadEventLine`] in the place of a line that is none of the forms. The lines behind it can be read.
     #[inline(always)]
     pub fn next(&mut self) -> Option<Result<EventLine<'a>, BadEventLine>>
-        ensures { MatchOption result ((self.old ≡ []) × (self.new ≡ [])) (λ line. self.old ≡ line_read line ∷ self.new) }
+        ensures { MatchOption result ((self.old ≡ []) × (self.new ≡ []))
+            (λ line. self.old ≡ line_read line ∷ self.new) }
     {
         if self.rest.is_empty() {
             return None;

@@ -50,7 +50,9 @@ fn queue_needed(plan: &Plan, bound: &Bound, pool: &Pool) -> u64
 fn raised_pool(alloc: Global, plan: &Plan, cert: &Cert, number: usize) -> Result<Pool, AllocError>
     requires fits { IsTrue (cert_fits plan.now cert.now) }
     requires number { number < length plan.now.pools }
-    ensures { IfOk result (λ raised. raised ≡ spec.raised_pool plan.now (pool_cert_at cert.now number) (pool_at plan.now number)) }
+    ensures { IfOk result (λ raised.
+        raised
+        ≡ spec.raised_pool plan.now (pool_cert_at cert.now number) (pool_at plan.now number)) }
 {
     let needs = cert.pool_at(number);
     let mut raised = plan.pools()[number].copied(alloc)?;
@@ -129,13 +131,16 @@ pub fn fitted(
     plan: Plan,
     cert: &Cert,
 ) -> Result<Result<Plan, (Plan, Unfit)>, AllocError>
-    ensures fitted { IfOk result (λ answer. IfOk answer (λ fit. spec.fitted plan cert.now ≡ Some fit)) }
+    ensures fitted { IfOk result
+        (λ answer. IfOk answer (λ fit. spec.fitted plan cert.now ≡ Some fit)) }
     ensures least { IfOk result (λ answer. IfOk answer (spec.IsLeastFit plan cert.now)) }
     ensures least_cores { IfOk result (λ answer. IfOk answer (HasLeastCores plan cert.now)) }
 
-    ensures not_fitted { IfOk result (λ answer. IfErr answer (λ _. spec.fitted plan cert.now ≡ None)) }
+    ensures not_fitted { IfOk result
+        (λ answer. IfErr answer (λ _. spec.fitted plan cert.now ≡ None)) }
     ensures none { IfOk result (λ answer. IfErr answer (λ _. spec.NoneFits plan cert.now)) }
-    ensures why { IfOk result (λ answer. IfErr answer (λ back. why_unfit plan cert.now ≡ Some back.1)) }
+    ensures why { IfOk result
+        (λ answer. IfErr answer (λ back. why_unfit plan cert.now ≡ Some back.1)) }
     ensures back { IfOk result (λ answer. IfErr answer (λ back. back.0 ≡ plan)) }
 {
     if !cert.fits(&plan) {

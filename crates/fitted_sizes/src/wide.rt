@@ -18,7 +18,9 @@ use std::alloc::{AllocError, Global};
 fn widened_pool(alloc: Global, plan: &Plan, cert: &Cert, number: usize) -> Result<Pool, AllocError>
     requires fits { IsTrue (cert_fits plan.now cert.now) }
     requires number { number < length plan.now.pools }
-    ensures { IfOk result (λ wide. wide ≡ spec.with_max plan.now (pool_cert_at cert.now number).blocked (pool_at plan.now number)) }
+    ensures { IfOk result (λ wide.
+        wide
+        ≡ spec.with_max plan.now (pool_cert_at cert.now number).blocked (pool_at plan.now number)) }
 {
     let needs = cert.pool_at(number);
     let mut wide = plan.pools()[number].copied(alloc)?;
@@ -49,12 +51,14 @@ fn widened_pools(alloc: Global, plan: &Plan, cert: &Cert) -> Result<Vec<Pool>, A
 ///
 /// [`AllocError`] where memory runs out.
 pub fn widened(alloc: Global, plan: &Plan, cert: &Cert) -> Result<Result<Plan, Unfit>, AllocError>
-    ensures widened { IfOk result (λ answer. IfOk answer (λ wide. wide ≡ spec.widened plan.now cert.now)) }
+    ensures widened { IfOk result
+        (λ answer. IfOk answer (λ wide. wide ≡ spec.widened plan.now cert.now)) }
     ensures room { IfOk result (λ answer. IfOk answer (spec.LeavesRoom plan.now cert.now)) }
     ensures least { IfOk result (λ answer. IfOk answer (spec.IsLeastWide plan.now cert.now)) }
 
     ensures none { IfOk result (λ answer. IfErr answer (λ _. spec.NoneFitsWide plan.now cert.now)) }
-    ensures why { IfOk result (λ answer. IfErr answer (λ unfit. why_not_widened plan.now cert.now ≡ Some unfit)) }
+    ensures why { IfOk result
+        (λ answer. IfErr answer (λ unfit. why_not_widened plan.now cert.now ≡ Some unfit)) }
 {
     if !cert.fits(plan) {
         return Ok(Err(Unfit::Shape));

@@ -60,7 +60,8 @@ impl<M: Machine + Drop> Held<M> {
     /// The machine's state.
     pub fn state(&self) -> &M::State
         ensures value { result.now ≡ self.now.state }
-        ensures replayed { IsReplayOf (M.next self.now.machine) (M.first self.now.machine) (M.content self.now.machine) self.now.history self.now.state }
+        ensures replayed { IsReplayOf (M.next self.now.machine) (M.first self.now.machine)
+            (M.content self.now.machine) self.now.history self.now.state }
     {
         &self.state
     }
@@ -68,7 +69,8 @@ impl<M: Machine + Drop> Held<M> {
     /// The events that were made, in their order.
     pub fn history(&self) -> &[M::Event]
         ensures value { result.now ≡ self.now.history }
-        ensures replayed { IsReplayOf (M.next self.now.machine) (M.first self.now.machine) (M.content self.now.machine) self.now.history self.now.state }
+        ensures replayed { IsReplayOf (M.next self.now.machine) (M.first self.now.machine)
+            (M.content self.now.machine) self.now.history self.now.state }
     {
         self.history.as_slice()
     }
@@ -76,7 +78,8 @@ impl<M: Machine + Drop> Held<M> {
     /// The events that were made, in their order. It takes no memory.
     pub fn into_history(self) -> Vec<M::Event>
         ensures value { result.items ≡ self.history }
-        ensures replayed { IsReplayOf (M.next self.machine) (M.first self.machine) (M.content self.machine) self.history self.state }
+        ensures replayed { IsReplayOf (M.next self.machine) (M.first self.machine)
+            (M.content self.machine) self.history self.state }
     {
         self.history
     }
@@ -88,12 +91,22 @@ impl<M: Machine + Drop> Held<M> {
     /// `AllocError` where there is no memory for the event or for its place in the history. Nothing has changed then.
     pub fn act(&mut self, event: M::Event) -> Result<Option<Receipt<M::Event>>, AllocError>
         // The event is made exactly where it is possible after the history so far.
-        ensures made { IfOk result (λ receipt. (i : M.Ideal) → Leads (M.next self.old.machine) (M.first self.old.machine) self.old.history i → is_some receipt ≡ is_some (M.next self.old.machine i event)) }
-        ensures state { IfOk result (λ receipt. IfSome receipt (λ _. (i : M.Ideal) → Leads (M.next self.old.machine) (M.first self.old.machine) self.new.history i → self.new.state ≡ M.content self.old.machine i)) }
-        ensures history { IfOk result (λ receipt. self.new.history ≡ with_event self.old.history event receipt) }
-        ensures receipt { IfOk result (λ receipt. IfSome receipt (λ r. r ≡ record { number = length self.old.history; event = event })) }
+        ensures made { IfOk result (λ receipt.
+            (i : M.Ideal)
+            → Leads (M.next self.old.machine) (M.first self.old.machine) self.old.history i
+            → is_some receipt ≡ is_some (M.next self.old.machine i event)) }
+        ensures state { IfOk result (λ receipt.
+            IfSome receipt (λ _.
+            (i : M.Ideal)
+            → Leads (M.next self.old.machine) (M.first self.old.machine) self.new.history i
+            → self.new.state ≡ M.content self.old.machine i)) }
+        ensures history { IfOk result
+            (λ receipt. self.new.history ≡ with_event self.old.history event receipt) }
+        ensures receipt { IfOk result (λ receipt.
+            IfSome receipt (λ r. r ≡ record { number = length self.old.history; event = event })) }
         ensures machine { self.new.machine ≡ self.old.machine }
-        ensures impossible_unchanged { IfOk result (λ receipt. IfNone receipt (self.new ≡ self.old)) }
+        ensures impossible_unchanged { IfOk result
+            (λ receipt. IfNone receipt (self.new ≡ self.old)) }
         ensures error_unchanged { OnErr result (self.new ≡ self.old) }
     {
         self.history.reserve(1)?;

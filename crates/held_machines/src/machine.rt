@@ -41,7 +41,9 @@ pub trait Machine {
     /// `AllocError` where there is no memory for the event. The state is then unchanged.
     fn step(&self, state: &mut Self::State, event: Self::Event) -> Result<bool, AllocError>
         requires { IsReached (next self.now) (first self.now) (content self.now) state.old }
-        ensures answered { IfOk result (λ done. Steps (next self.now) (first self.now) (content self.now) state.old event done state.new) }
+        ensures answered { IfOk result (λ done.
+            Steps (next self.now) (first self.now) (content self.now) state.old event done
+            state.new) }
         ensures impossible_unchanged { IfOk result (λ done. done ≡ false → state.new ≡ state.old) }
         ensures error_unchanged { OnErr result (state.new ≡ state.old) };
 }

@@ -22,7 +22,8 @@ impl World {
         requires asks { may_ask_for self.old.view.jobs actor ≡ true }
         requires other { MadeByOther self.old.view.jobs actor }
         requires done { DoneAreLatest self.old.view.jobs }
-        ensures value { AreOf (ended_in plan.now self.old.view actor) self.old.view result self.new.view }
+        ensures value { AreOf (ended_in plan.now self.old.view actor) self.old.view result
+            self.new.view }
         ensures places { self.new.places ≡ self.old.places }
     {
         match actor {
@@ -35,7 +36,9 @@ impl World {
     }
 
     fn begin_again(&mut self, plan: &Plan, client: usize) -> Option<Outcome>
-        ensures value { AreOf (looped_in plan.now self.old.view client (slice_get self.old.view.clients client)) self.old.view result self.new.view }
+        ensures value { AreOf
+            (looped_in plan.now self.old.view client (slice_get self.old.view.clients client))
+            self.old.view result self.new.view }
         ensures places { self.new.places ≡ self.old.places }
     {
         let kind = self.clients.get(client)?.kind;
@@ -52,8 +55,10 @@ impl World {
         requires going { is_done job.phase ≡ false }
         requires other { job.parent ≢ Job number }
         requires done { DoneAreLatest self.old.view.jobs }
-        requires busy { (pool_in self.old.view (pool_of plan.now job.class)).idle < (pool_in self.old.view (pool_of plan.now job.class)).threads }
-        ensures value { finished_job_in plan.now self.old.view number (Some job) ≡ Some (self.new.view, result) }
+        requires busy { (pool_in self.old.view (pool_of plan.now job.class)).idle
+            < (pool_in self.old.view (pool_of plan.now job.class)).threads }
+        ensures value { finished_job_in plan.now self.old.view number (Some job)
+            ≡ Some (self.new.view, result) }
         ensures places { self.new.places ≡ self.old.places }
     {
         self.pools[pool_of(plan, job.class)].finish();

@@ -20,7 +20,9 @@ impl World {
         requires can_move_on { position + 1 < 2 ^ 64 }
         requires asks { may_ask_for self.old.view.jobs actor ≡ true }
         requires alone { IsAlone self.old.view.jobs actor submit }
-        ensures value { AreOf (got_child_in self.old.view actor position (live_child self.old.view.jobs actor submit)) self.old.view result self.new.view }
+        ensures value { AreOf
+            (got_child_in self.old.view actor position (live_child self.old.view.jobs actor submit))
+            self.old.view result self.new.view }
         ensures places { self.new.places ≡ self.old.places }
     {
         let number = self.jobs.latest(actor, submit)?;

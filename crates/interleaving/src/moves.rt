@@ -12,10 +12,14 @@ use written_machine::Parent;
 pub(crate) fn move_actor(jobs: &mut LiveJobs, clients: &mut Clients, actor: Parent, position: usize)
     requires asks { may_ask_for jobs.old.jobs actor ≡ true }
     requires room { CanMove clients.old actor }
-    ensures jobs { (view : View) → view.jobs ≡ jobs.old.jobs → jobs.new.jobs ≡ moved_live_jobs actor position view }
+    ensures jobs { (view : View)
+        → view.jobs ≡ jobs.old.jobs
+        → jobs.new.jobs ≡ moved_live_jobs actor position view }
     ensures places { jobs.new.places ≡ jobs.old.places }
     ensures room { jobs.new.room ≡ jobs.old.room }
-    ensures clients { (view : View) → view.clients ≡ clients.old.items → clients.new.items ≡ moved_live_clients actor position view }
+    ensures clients { (view : View)
+        → view.clients ≡ clients.old.items
+        → clients.new.items ≡ moved_live_clients actor position view }
 {
     match actor {
         Parent::Client(client) => clients.go_to(client, position),

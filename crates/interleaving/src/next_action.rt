@@ -43,11 +43,14 @@ impl World {
     /// Where the actor stands; None for one that there is not, and for a job that is not at work.
     pub(crate) fn next_action(&self, plan: &Plan, actor: Parent) -> Option<NextAction>
         ensures value { result ≡ option_map next_action_at (point_in plan.now self.now.view actor) }
-        ensures can_move_on { IfSome result (λ next. IsSome next.action → next.position + 1 < 2 ^ 64) }
+        ensures can_move_on { IfSome result
+            (λ next. IsSome next.action → next.position + 1 < 2 ^ 64) }
         ensures well_formed { IsWellFormed plan.now }
-        ensures there { OnSome result (IsAmong (length self.now.view.clients) (length self.now.view.jobs) actor) }
+        ensures there { OnSome result
+            (IsAmong (length self.now.view.clients) (length self.now.view.jobs) actor) }
         ensures asks { OnSome result (may_ask_for self.now.view.jobs actor ≡ true) }
-        ensures stands { IfSome result (λ next. StandsAt self.now.view.clients actor next.position) }
+        ensures stands { IfSome result
+            (λ next. StandsAt self.now.view.clients actor next.position) }
     {
         match actor {
             Parent::Client(client) => self.next_of_client(plan, client),
@@ -57,9 +60,12 @@ impl World {
 
     fn next_of_client(&self, plan: &Plan, client: usize) -> Option<NextAction>
         ensures there { OnSome result (client < length self.now.view.clients) }
-        ensures stands { IfSome result (λ next. StandsAt self.now.view.clients (parent.Client client) next.position) }
-        ensures value { result ≡ option_map next_action_at (point_in plan.now self.now.view (parent.Client client)) }
-        ensures can_move_on { IfSome result (λ next. IsSome next.action → next.position + 1 < 2 ^ 64) }
+        ensures stands { IfSome result
+            (λ next. StandsAt self.now.view.clients (parent.Client client) next.position) }
+        ensures value { result
+            ≡ option_map next_action_at (point_in plan.now self.now.view (parent.Client client)) }
+        ensures can_move_on { IfSome result
+            (λ next. IsSome next.action → next.position + 1 < 2 ^ 64) }
         ensures well_formed { IsWellFormed plan.now }
     {
         let kinds = plan.clients();
@@ -70,8 +76,10 @@ impl World {
     fn next_of_job(&self, plan: &Plan, number: usize) -> Option<NextAction>
         ensures there { OnSome result (number < length self.now.view.jobs) }
         ensures asks { OnSome result (may_ask_for self.now.view.jobs (parent.Job number) ≡ true) }
-        ensures value { result ≡ option_map next_action_at (point_in plan.now self.now.view (parent.Job number)) }
-        ensures can_move_on { IfSome result (λ next. IsSome next.action → next.position + 1 < 2 ^ 64) }
+        ensures value { result
+            ≡ option_map next_action_at (point_in plan.now self.now.view (parent.Job number)) }
+        ensures can_move_on { IfSome result
+            (λ next. IsSome next.action → next.position + 1 < 2 ^ 64) }
         ensures well_formed { IsWellFormed plan.now }
     {
         let classes = plan.classes();

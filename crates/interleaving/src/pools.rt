@@ -31,7 +31,8 @@ impl World {
     pub(crate) fn take(&mut self, plan: &Plan, pool: usize) -> Option<Outcome>
         requires pools { length self.old.view.pools ≡ length plan.now.pools }
         requires of_plan { IsOf plan.now self.old.view }
-        ensures value { AreOf (took_in self.old.view pool (taken (pool_in self.old.view pool))) self.old.view result self.new.view }
+        ensures value { AreOf (took_in self.old.view pool (taken (pool_in self.old.view pool)))
+            self.old.view result self.new.view }
         ensures places { self.new.places ≡ self.old.places }
         ensures well_formed { IsWellFormed plan.now }
     {
@@ -46,7 +47,8 @@ impl World {
     /// An idle worker of the pool ends.
     pub(crate) fn retire(&mut self, plan: &Plan, pool: usize) -> Option<Outcome>
         requires { length self.old.view.pools ≡ length plan.now.pools }
-        ensures value { AreOf (let_go_in self.old.view pool (retired (pool_in self.old.view pool))) self.old.view result self.new.view }
+        ensures value { AreOf (let_go_in self.old.view pool (retired (pool_in self.old.view pool)))
+            self.old.view result self.new.view }
         ensures places { self.new.places ≡ self.old.places }
         ensures well_formed { IsWellFormed plan.now }
     {

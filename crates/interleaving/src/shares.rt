@@ -46,7 +46,9 @@ impl World {
     pub(crate) fn shares(&self, plan: &Plan, members: &Members<'_>) -> [Share; MAX_POOLS]
         requires of_plan { IsOf plan.now self.now.view }
         requires well_formed { IsWellFormed plan.now }
-        ensures { (p : ℕ) → p < MAX_POOLS → share_at result p ≡ share_of plan.now self.now.view members.now p }
+        ensures { (p : ℕ)
+            → p < MAX_POOLS
+            → share_at result p ≡ share_of plan.now self.now.view members.now p }
     {
         let mut shares = [Share {
             queued: false,

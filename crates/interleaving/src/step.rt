@@ -34,8 +34,13 @@ impl World {
         requires { IsOf plan.now self.old.view }
 
         // What comes of the event is what the written machine says, in each state that is seen so.
-        ensures answered { IfOk result (λ answer. (s : State) → IsReached plan.now s → live_view plan.now s ≡ self.old.view → AnswersAs plan.now s event answer self.new.view) }
-        ensures in_view { IfOk result (λ answer. AnswersIn plan.now self.old.view event answer self.new.view) }
+        ensures answered { IfOk result (λ answer.
+            (s : State)
+            → IsReached plan.now s
+            → live_view plan.now s ≡ self.old.view
+            → AnswersAs plan.now s event answer self.new.view) }
+        ensures in_view { IfOk result
+            (λ answer. AnswersIn plan.now self.old.view event answer self.new.view) }
 
         // Whatever came of it, the world is still of this plan.
         ensures of_plan { IsOf plan.now self.new.view }
@@ -52,7 +57,8 @@ impl World {
     // The event, as it is defined on views.
     fn act(&mut self, plan: &Plan, event: Event) -> Result<Option<Outcome>, AllocError>
         requires { IsOf plan.now self.old.view }
-        ensures answered { IfOk result (λ answer. AnswersIn plan.now self.old.view event answer self.new.view) }
+        ensures answered { IfOk result
+            (λ answer. AnswersIn plan.now self.old.view event answer self.new.view) }
         ensures well_formed { IsWellFormed plan.now }
         ensures places { UsesPlacesAgain self.old self.new }
         ensures error_unchanged { OnErr result (self.new ≡ self.old) }
@@ -68,11 +74,14 @@ impl World {
 
     fn step_actor(&mut self, plan: &Plan, actor: Parent) -> Result<Option<Outcome>, AllocError>
         requires { IsOf plan.now self.old.view }
-        ensures answered { IfOk result (λ answer. AreOf (step_actor plan.now self.old.view actor (point_in plan.now self.old.view actor)) self.old.view answer self.new.view) }
+        ensures answered { IfOk result (λ answer.
+            AreOf (step_actor plan.now self.old.view actor (point_in plan.now self.old.view actor))
+            self.old.view answer self.new.view) }
         ensures well_formed { IsWellFormed plan.now }
         ensures places { UsesPlacesAgain self.old self.new }
         ensures error_unchanged { OnErr result (self.new ≡ self.old) }
-        ensures error_only_where_it_grows { OnErr result (ActorMayGrow plan.now self.old.view actor) }
+        ensures error_only_where_it_grows { OnErr result
+            (ActorMayGrow plan.now self.old.view actor) }
     {
         let Some(next) = self.next_action(plan, actor) else {
             return Ok(None);

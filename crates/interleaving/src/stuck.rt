@@ -30,8 +30,14 @@ impl World {
     /// of them is looked up a few times; where they do not, it is looked for among the others.
     pub fn stuck(&self, plan: &Plan, members: &[usize]) -> bool
         requires { IsOf plan.now self.now.view }
-        ensures in_words { (s : State) → IsReached plan.now s → live_view plan.now s ≡ self.now.view → IsTrue result ↔ IsWaitingSet plan.now s members.now }
-        ensures value { (s : State) → IsReached plan.now s → live_view plan.now s ≡ self.now.view → result ≡ is_waiting_set plan.now s members.now }
+        ensures in_words { (s : State)
+            → IsReached plan.now s
+            → live_view plan.now s ≡ self.now.view
+            → IsTrue result ↔ IsWaitingSet plan.now s members.now }
+        ensures value { (s : State)
+            → IsReached plan.now s
+            → live_view plan.now s ≡ self.now.view
+            → result ≡ is_waiting_set plan.now s members.now }
         ensures in_view { result ≡ is_waiting_set_in plan.now self.now.view members.now }
     {
         if members.is_empty() {
@@ -60,7 +66,9 @@ impl World {
     }
 
     fn waits_unless_queued(&self, plan: &Plan, members: &Members<'_>, number: usize) -> bool
-        ensures { result ≡ job_waits_unless_queued plan.now self.now.view members.now number (live_job self.now.view.jobs number) }
+        ensures { result
+            ≡ job_waits_unless_queued plan.now self.now.view members.now number
+            (live_job self.now.view.jobs number) }
     {
         let Some(job) = self.jobs.get(number) else {
             return false;
@@ -77,7 +85,9 @@ impl World {
 
     fn waits_for_member(&self, members: &Members<'_>, number: usize, submit: usize) -> bool
         requires { may_ask_for self.now.view.jobs (parent.Job number) ≡ true }
-        ensures { result ≡ is_some_member members.now (live_child self.now.view.jobs (parent.Job number) submit) }
+        ensures { result
+            ≡ is_some_member members.now
+            (live_child self.now.view.jobs (parent.Job number) submit) }
     {
         match self.jobs.latest(Parent::Job(number), submit) {
             Some(child) => members.contains(child),

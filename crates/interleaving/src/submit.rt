@@ -34,9 +34,12 @@ impl World {
         requires stands { StandsAt self.old.view.clients actor next.position }
         requires can_move_on { next.position + 1 < 2 ^ 64 }
         requires asks { may_ask_for self.old.view.jobs actor ≡ true }
-        requires asked { next.asked ≡ true → live_child self.old.view.jobs actor next.position ≡ None }
+        requires asked { next.asked ≡ true
+            → live_child self.old.view.jobs actor next.position ≡ None }
         requires done { DoneAreLatest self.old.view.jobs }
-        ensures ok { IfOk result (λ outcome. submitted_in plan.now self.old.view actor next.position class ≡ (self.new.view, outcome)) }
+        ensures ok { IfOk result (λ outcome.
+            submitted_in plan.now self.old.view actor next.position class
+            ≡ (self.new.view, outcome)) }
         ensures places { UsesPlacesAgain self.old self.new }
         ensures err { OnErr result (self.new ≡ self.old) }
     {
@@ -69,7 +72,8 @@ impl World {
     // The latest live job that the actor made by this submit so far: none where a get asked for the earlier ones.
     fn latest_before(&self, actor: Parent, next: NextAction) -> Option<usize>
         requires asks { may_ask_for self.now.view.jobs actor ≡ true }
-        requires asked { next.asked ≡ true → live_child self.now.view.jobs actor next.position ≡ None }
+        requires asked { next.asked ≡ true
+            → live_child self.now.view.jobs actor next.position ≡ None }
         ensures { result ≡ live_child self.now.view.jobs actor next.position }
     {
         if next.asked {

@@ -72,7 +72,9 @@ impl World {
 
     /// How many jobs are queued or at work.
     pub fn unfinished(&self) -> u64
-        ensures value { (plan : spec.Plan) (s : State) → live_view plan s ≡ self.now.view → result ≡ count_by (λ job. is_unfinished job.stage) s.jobs }
+        ensures value { (plan : spec.Plan) (s : State)
+            → live_view plan s ≡ self.now.view
+            → result ≡ count_by (λ job. is_unfinished job.stage) s.jobs }
         ensures in_view { result ≡ count_by is_unfinished_job self.now.view.jobs }
     {
         self.jobs.unfinished() as u64
@@ -105,7 +107,8 @@ impl World {
 
     /// Where the client of this number stands in its body; None where there is no such client.
     pub fn client(&self, client: usize) -> Option<usize>
-        ensures { result ≡ option_map (λ client. client.position) (slice_get self.now.view.clients client) }
+        ensures { result
+            ≡ option_map (λ client. client.position) (slice_get self.now.view.clients client) }
     {
         Some(self.clients.get(client)?.position)
     }

@@ -31,7 +31,8 @@ pub(crate) fn check_counts(
 
 #[tactic(auto, using(crate::proofs::Loops::check_each_turn))]
 fn check_class_lengths(classes: &[Class]) -> Result<(), PlanFault>
-    ensures { result ≡ check_each (λ index class. check_length part.Class index class.body) 0 classes.now }
+    ensures { result
+        ≡ check_each (λ index class. check_length part.Class index class.body) 0 classes.now }
 {
     for (index, class) in classes.iter().enumerate() {
         check_length(Part::Class, index, &class.body)?;
@@ -41,7 +42,8 @@ fn check_class_lengths(classes: &[Class]) -> Result<(), PlanFault>
 
 #[tactic(auto, using(crate::proofs::Loops::check_each_turn))]
 fn check_client_lengths(clients: &[Client]) -> Result<(), PlanFault>
-    ensures { result ≡ check_each (λ index client. check_length part.Client index client.body) 0 clients.now }
+    ensures { result
+        ≡ check_each (λ index client. check_length part.Client index client.body) 0 clients.now }
 {
     for (index, client) in clients.iter().enumerate() {
         check_length(Part::Client, index, &client.body)?;
@@ -51,7 +53,8 @@ fn check_client_lengths(clients: &[Client]) -> Result<(), PlanFault>
 
 /// No body is too long.
 pub(crate) fn check_lengths(classes: &[Class], clients: &[Client]) -> Result<(), PlanFault>
-    ensures { (pools : List spec.Pool) → result ≡ check_lengths (given pools classes.now clients.now) }
+    ensures { (pools : List spec.Pool)
+        → result ≡ check_lengths (given pools classes.now clients.now) }
 {
     check_class_lengths(classes)?;
     check_client_lengths(clients)
@@ -116,7 +119,9 @@ fn check_class_bodies(classes: &[Class]) -> Result<(), PlanFault>
 
 #[tactic(auto, using(crate::proofs::Loops::check_each_turn))]
 fn check_client_bodies(classes: usize, clients: &[Client]) -> Result<(), PlanFault>
-    ensures { result ≡ check_each (λ index client. check_body classes part.Client index client.body) 0 clients.now }
+    ensures { result
+        ≡ check_each (λ index client. check_body classes part.Client index client.body) 0
+        clients.now }
 {
     for (index, client) in clients.iter().enumerate() {
         check_body(classes, Part::Client, index, &client.body)?;
@@ -126,7 +131,8 @@ fn check_client_bodies(classes: usize, clients: &[Client]) -> Result<(), PlanFau
 
 /// Bodies are lawful, action by action.
 pub(crate) fn check_bodies(classes: &[Class], clients: &[Client]) -> Result<(), PlanFault>
-    ensures { (pools : List spec.Pool) → result ≡ check_bodies (given pools classes.now clients.now) }
+    ensures { (pools : List spec.Pool)
+        → result ≡ check_bodies (given pools classes.now clients.now) }
 {
     check_class_bodies(classes)?;
     check_client_bodies(classes.len(), clients)

@@ -71,7 +71,9 @@ fn is_got_by(actions: &[Action], got: &[bool; MAX_ACTIONS], submit: usize) -> bo
 
 /// Makes a table of some actions one of these and this action.
 fn add_to_table(got: &mut [bool; MAX_ACTIONS], action: Action)
-    ensures { (actions : List Action) → IsTableOf actions got.old → IsTableOf (actions ++ action ∷ []) got.new }
+    ensures { (actions : List Action)
+        → IsTableOf actions got.old
+        → IsTableOf (actions ++ action ∷ []) got.new }
 {
     if let Action::Get(submit) = action {
         if submit < MAX_ACTIONS {

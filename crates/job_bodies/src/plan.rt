@@ -133,7 +133,8 @@ impl Plan {
     ) -> Result<Plan, PlanFault>
         ensures exact { result ≡ build (given pools.items classes.items clients.items) }
         ensures lists { IfOk result (λ plan. plan ≡ given pools.items classes.items clients.items) }
-        ensures well_formed { IsOk result ↔ IsWellFormed (given pools.items classes.items clients.items) }
+        ensures well_formed { IsOk result
+            ↔ IsWellFormed (given pools.items classes.items clients.items) }
     {
         check_counts(&pools, &classes, &clients)?;
         check_lengths(&classes, &clients)?;

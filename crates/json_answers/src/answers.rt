@@ -53,7 +53,8 @@ pub fn finding_json(
 ///
 /// [`AllocError`] where memory runs out.
 pub fn faults_json(alloc: Global, file: &str, faults: &Faults) -> Result<String, AllocError>
-    ensures { IfOk result (λ text. spec.TellsFault faults.now.first.fault.number (string_bytes text)) }
+    ensures { IfOk result
+        (λ text. spec.TellsFault faults.now.first.fault.number (string_bytes text)) }
 {
     let told = faults_value(alloc, faults)?;
     let rest = only_faults(alloc, file, told)?;

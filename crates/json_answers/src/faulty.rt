@@ -57,7 +57,8 @@ fn fault_value(
     line: Value,
     words: &str,
 ) -> Result<Value, AllocError>
-    ensures { IfOk result (λ value. view value ≡ spec.fault_data (view column) number (view line) words.now) }
+    ensures { IfOk result
+        (λ value. view value ≡ spec.fault_data (view column) number (view line) words.now) }
 {
     json!(in alloc; {"column": column, "fault": number, "line": line, "text": words})
 }

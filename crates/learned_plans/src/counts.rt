@@ -63,8 +63,10 @@ pub(crate) fn kind_counts(
     kinds: &[Option<usize>],
     entries: &[Entry],
 ) -> Result<Vec<KindCount>, Stop>
-    ensures counts { IfOk result (λ counts. AreCountsOf (kinds_in kinds.now) (lines_of recording.now) counts.items) }
-    ensures of_kinds { IfOk result (λ counts. AreOfKinds (kinds_in kinds.now) (names_of entries.now) (lines_of recording.now)) }
+    ensures counts { IfOk result
+        (λ counts. AreCountsOf (kinds_in kinds.now) (lines_of recording.now) counts.items) }
+    ensures of_kinds { IfOk result (λ counts.
+        AreOfKinds (kinds_in kinds.now) (names_of entries.now) (lines_of recording.now)) }
     ensures err { (lines : List RecordedLine) → IfErr result (IsStop lines) }
 {
     let mut counts = no_counts(alloc, entries.len())?;
@@ -82,7 +84,8 @@ pub(crate) fn kind_counts(
 
 // Where the line begins a round, whether that is of a kind whose name is of the label's family.
 fn begins_of_kind(kinds: &[Option<usize>], entries: &[Entry], line: &Line<'_>) -> bool
-    ensures { IsTrue result → BeginsOfKind (kinds_in kinds.now) (names_of entries.now) (line_seen line.now) }
+    ensures { IsTrue result
+        → BeginsOfKind (kinds_in kinds.now) (names_of entries.now) (line_seen line.now) }
 {
     match *line {
         Line::RoundBegins { round, kind } => is_of_kind(kinds, entries, round, kind),
@@ -101,7 +104,10 @@ fn is_of_kind(kinds: &[Option<usize>], entries: &[Entry], round: usize, label: &
 
 // Whether the name of the one of this number is of the label's family.
 fn has_name_of(entries: &[Entry], number: usize, label: &str) -> bool
-    ensures { IsTrue result → (name : List ℕ) × (slice_get (names_of entries.now) number ≡ Some name) × IsOfFamily label.now name }
+    ensures { IsTrue result
+        → (name : List ℕ)
+        × (slice_get (names_of entries.now) number ≡ Some name)
+        × IsOfFamily label.now name }
 {
     match entries.get(number) {
         Some(entry) => is_of_family(label, &entry.name),
@@ -131,7 +137,10 @@ fn note(
     line: &Line<'_>,
 ) -> Result<(), AllocError>
     ensures count { length counts.new ≡ length counts.old }
-    ensures all { (before : List RecordedLine) → AreCountsOf (kinds_in kinds.now) before counts.old → OnOk result (AreCountsOf (kinds_in kinds.now) (before ++ line_seen line.now ∷ []) counts.new) }
+    ensures all { (before : List RecordedLine)
+        → AreCountsOf (kinds_in kinds.now) before counts.old
+        → OnOk result
+        (AreCountsOf (kinds_in kinds.now) (before ++ line_seen line.now ∷ []) counts.new) }
 {
     begin_one(counts, kind_begun(kinds, line))?;
     end_one(counts, kind_ended(kinds, line))?;
@@ -139,7 +148,8 @@ fn note(
 }
 
 fn kind_begun(kinds: &[Option<usize>], line: &Line<'_>) -> Option<usize>
-    ensures { (kind : ℕ) → is_kind kind result ≡ begins_one (kinds_in kinds.now) kind (line_seen line.now) }
+    ensures { (kind : ℕ)
+        → is_kind kind result ≡ begins_one (kinds_in kinds.now) kind (line_seen line.now) }
 {
     match *line {
         Line::RoundBegins { round, .. } => kind_of(kinds, round),
@@ -148,7 +158,8 @@ fn kind_begun(kinds: &[Option<usize>], line: &Line<'_>) -> Option<usize>
 }
 
 fn kind_ended(kinds: &[Option<usize>], line: &Line<'_>) -> Option<usize>
-    ensures { (kind : ℕ) → is_kind kind result ≡ ends_one (kinds_in kinds.now) kind (line_seen line.now) }
+    ensures { (kind : ℕ)
+        → is_kind kind result ≡ ends_one (kinds_in kinds.now) kind (line_seen line.now) }
 {
     match *line {
         Line::RoundEnds { round } => kind_of(kinds, round),

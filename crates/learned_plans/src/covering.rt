@@ -28,8 +28,12 @@ pub(crate) fn cover_all(
     budget: u64,
     working: &mut Working,
 ) -> Result<Vec<Option<usize>>, Stop>
-    ensures ok { (lines : List RecordedLine) → AreWorkingOf lines working.old → OnOk result (AreWorkingOf lines working.new) }
-    ensures err { (lines : List RecordedLine) → AreWorkingOf lines working.old → IfErr result (IsStop lines) }
+    ensures ok { (lines : List RecordedLine)
+        → AreWorkingOf lines working.old
+        → OnOk result (AreWorkingOf lines working.new) }
+    ensures err { (lines : List RecordedLine)
+        → AreWorkingOf lines working.old
+        → IfErr result (IsStop lines) }
 {
     for _ in 0..MAX_PASSES {
         let plan = working.plan(pools)?;

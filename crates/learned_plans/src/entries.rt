@@ -39,7 +39,9 @@ pub(crate) struct Entries {
 impl Entries {
     /// None so far.
     pub(crate) fn new(alloc: Global, limit: usize, beyond: TooMuch) -> Entries
-        ensures { (lines : List RecordedLine) → limit ≤ MAX_CLASSES → AreEntriesOf lines beyond result }
+        ensures { (lines : List RecordedLine)
+            → limit ≤ MAX_CLASSES
+            → AreEntriesOf lines beyond result }
     {
         Entries {
             entries: Vec::new(alloc),
@@ -55,8 +57,14 @@ impl Entries {
     ///
     /// As [`add`](Entries::add).
     pub(crate) fn note(&mut self, label: &str, pool: usize) -> Result<(), Stop>
-        ensures ok { (lines : List RecordedLine) (beyond : Reason) → IsGiven lines beyond label.now pool → AreEntriesOf lines beyond self.old → OnOk result (AreEntriesOf lines beyond self.new) }
-        ensures err { (lines : List RecordedLine) (beyond : Reason) → IsGiven lines beyond label.now pool → AreEntriesOf lines beyond self.old → IfErr result (IsStop lines) }
+        ensures ok { (lines : List RecordedLine) (beyond : Reason)
+            → IsGiven lines beyond label.now pool
+            → AreEntriesOf lines beyond self.old
+            → OnOk result (AreEntriesOf lines beyond self.new) }
+        ensures err { (lines : List RecordedLine) (beyond : Reason)
+            → IsGiven lines beyond label.now pool
+            → AreEntriesOf lines beyond self.old
+            → IfErr result (IsStop lines) }
     {
         if self.has(label, pool) {
             return Ok(());
@@ -66,7 +74,10 @@ impl Entries {
 
     /// Whether there is one of this label, in this pool.
     pub(crate) fn has(&self, label: &str, pool: usize) -> bool
-        ensures { (lines : List RecordedLine) (beyond : Reason) → AreEntriesOf lines beyond self.now → IsTrue result → IsGiven lines beyond label.now pool }
+        ensures { (lines : List RecordedLine) (beyond : Reason)
+            → AreEntriesOf lines beyond self.now
+            → IsTrue result
+            → IsGiven lines beyond label.now pool }
     {
         self.entries.iter().any(|entry| entry.is_of(label, pool))
     }
@@ -78,8 +89,14 @@ impl Entries {
     /// [`Stop::TooMuch`] where a plan may not have one more, or not one of such a name; [`Stop::Memory`] where there is
     /// no memory for it.
     pub(crate) fn add(&mut self, label: &str, pool: usize, body: Vec<Action>) -> Result<(), Stop>
-        ensures ok { (lines : List RecordedLine) (beyond : Reason) → IsGiven lines beyond label.now pool → AreEntriesOf lines beyond self.old → OnOk result (AreEntriesOf lines beyond self.new) }
-        ensures err { (lines : List RecordedLine) (beyond : Reason) → IsGiven lines beyond label.now pool → AreEntriesOf lines beyond self.old → IfErr result (IsStop lines) }
+        ensures ok { (lines : List RecordedLine) (beyond : Reason)
+            → IsGiven lines beyond label.now pool
+            → AreEntriesOf lines beyond self.old
+            → OnOk result (AreEntriesOf lines beyond self.new) }
+        ensures err { (lines : List RecordedLine) (beyond : Reason)
+            → IsGiven lines beyond label.now pool
+            → AreEntriesOf lines beyond self.old
+            → IfErr result (IsStop lines) }
     {
         if self.entries.len() >= self.limit {
             return Err(Stop::TooMuch(self.beyond));
@@ -96,7 +113,8 @@ impl Entries {
     }
 
     fn push(&mut self, entry: Entry) -> Result<(), AllocError>
-        ensures entries { OnOk result (self.new.entries.items ≡ self.old.entries.items ++ entry ∷ []) }
+        ensures entries { OnOk result
+            (self.new.entries.items ≡ self.old.entries.items ++ entry ∷ []) }
         ensures limit { self.new.limit ≡ self.old.limit }
         ensures beyond { self.new.beyond ≡ self.old.beyond }
     {
@@ -114,7 +132,9 @@ impl Entries {
 
     /// The one of this number, where there is one, has this body from here on.
     pub(crate) fn put(&mut self, number: usize, body: Vec<Action>)
-        ensures { (lines : List RecordedLine) (beyond : Reason) → AreEntriesOf lines beyond self.old → AreEntriesOf lines beyond self.new }
+        ensures { (lines : List RecordedLine) (beyond : Reason)
+            → AreEntriesOf lines beyond self.old
+            → AreEntriesOf lines beyond self.new }
     {
         if let Some(entry) = self.entries.get_mut(number) {
             entry.body = body;
@@ -125,7 +145,8 @@ impl Entries {
 impl Entry {
     /// Whether the recording calls it so, in this pool.
     pub(crate) fn is_of(&self, label: &str, pool: usize) -> bool
-        ensures { result ≡ (bytes_eq (string_bytes self.now.label) label.now && self.now.pool == pool) }
+        ensures { result
+            ≡ (bytes_eq (string_bytes self.now.label) label.now && self.now.pool == pool) }
     {
         self.label.as_str() == label && self.pool == pool
     }

@@ -52,8 +52,12 @@ impl Entries {
         did: &Did,
         reached: &[bool],
     ) -> Result<Option<Taken>, Stop>
-        ensures ok { (lines : List RecordedLine) (beyond : Reason) → AreEntriesOf lines beyond self.old → OnOk result (AreEntriesOf lines beyond self.new) }
-        ensures err { (lines : List RecordedLine) (beyond : Reason) → AreEntriesOf lines beyond self.old → IfErr result (IsStop lines) }
+        ensures ok { (lines : List RecordedLine) (beyond : Reason)
+            → AreEntriesOf lines beyond self.old
+            → OnOk result (AreEntriesOf lines beyond self.new) }
+        ensures err { (lines : List RecordedLine) (beyond : Reason)
+            → AreEntriesOf lines beyond self.old
+            → IfErr result (IsStop lines) }
     {
         for number in 0..self.entries.len() {
             if self.is_free(number, label, pool, reached) {
@@ -80,8 +84,14 @@ impl Entries {
         pool: usize,
         body: Vec<Action>,
     ) -> Result<Option<Taken>, Stop>
-        ensures ok { (lines : List RecordedLine) (beyond : Reason) → IsGiven lines beyond label.now pool → AreEntriesOf lines beyond self.old → OnOk result (AreEntriesOf lines beyond self.new) }
-        ensures err { (lines : List RecordedLine) (beyond : Reason) → IsGiven lines beyond label.now pool → AreEntriesOf lines beyond self.old → IfErr result (IsStop lines) }
+        ensures ok { (lines : List RecordedLine) (beyond : Reason)
+            → IsGiven lines beyond label.now pool
+            → AreEntriesOf lines beyond self.old
+            → OnOk result (AreEntriesOf lines beyond self.new) }
+        ensures err { (lines : List RecordedLine) (beyond : Reason)
+            → IsGiven lines beyond label.now pool
+            → AreEntriesOf lines beyond self.old
+            → IfErr result (IsStop lines) }
     {
         let number = self.entries.len();
         self.add(label, pool, body)?;

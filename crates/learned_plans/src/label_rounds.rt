@@ -52,7 +52,9 @@ impl LabelRounds {
     /// [`Stop::TooMuch`] where a round does not have the number that it has by the rules; [`Stop::Memory`] where there is no
     /// memory for it.
     pub(crate) fn take(&mut self, line: &Line<'_>) -> Result<(), Stop>
-        ensures ok { (before : List RecordedLine) → AreLabelRoundsOf self.old before → OnOk result (AreLabelRoundsOf self.new (before ++ line_seen line.now ∷ [])) }
+        ensures ok { (before : List RecordedLine)
+            → AreLabelRoundsOf self.old before
+            → OnOk result (AreLabelRoundsOf self.new (before ++ line_seen line.now ∷ [])) }
         ensures err { (lines : List RecordedLine) → IfErr result (IsStop lines) }
     {
         match *line {
@@ -64,7 +66,9 @@ impl LabelRounds {
 
     // By the rules each round has the next number.
     fn begin(&mut self, round: usize, label: &str) -> Result<(), Stop>
-        ensures ok { (before : List RecordedLine) → AreLabelRoundsOf self.old before → OnOk result (AreLabelRoundsOf self.new (before ++ RoundBegins round label.now ∷ [])) }
+        ensures ok { (before : List RecordedLine)
+            → AreLabelRoundsOf self.old before
+            → OnOk result (AreLabelRoundsOf self.new (before ++ RoundBegins round label.now ∷ [])) }
         ensures err { (lines : List RecordedLine) → IfErr result (IsStop lines) }
     {
         if round != self.kinds.len() {
@@ -78,7 +82,9 @@ impl LabelRounds {
 
     // By the rules it has begun.
     fn end(&mut self, round: usize) -> Result<(), Stop>
-        ensures ok { (before : List RecordedLine) → AreLabelRoundsOf self.old before → OnOk result (AreLabelRoundsOf self.new (before ++ RoundEnds round ∷ [])) }
+        ensures ok { (before : List RecordedLine)
+            → AreLabelRoundsOf self.old before
+            → OnOk result (AreLabelRoundsOf self.new (before ++ RoundEnds round ∷ [])) }
         ensures err { (lines : List RecordedLine) → IfErr result (IsStop lines) }
     {
         let Some(kind) = self.kind_at(round) else {
@@ -96,8 +102,10 @@ impl LabelRounds {
 
     // The number of the label, which is there from here on.
     fn number_of(&mut self, label: &str) -> Result<usize, AllocError>
-        ensures number { IfOk result (λ kind. slice_get (labels_of self.new) kind ≡ Some label.now) }
-        ensures labels { OnOk result ((more : List (List ℕ)) × (labels_of self.new ≡ labels_of self.old ++ more)) }
+        ensures number { IfOk result
+            (λ kind. slice_get (labels_of self.new) kind ≡ Some label.now) }
+        ensures labels { OnOk result
+            ((more : List (List ℕ)) × (labels_of self.new ≡ labels_of self.old ++ more)) }
         ensures kinds { self.new.kinds ≡ self.old.kinds }
         ensures counts { self.new.counts ≡ self.old.counts }
     {

@@ -40,14 +40,20 @@ pub fn learn(
     budget: u64,
 ) -> Result<Learned, AllocError>
     ensures bad { IfOk result (λ told. IsFirstFault (lines_read recording.now) (fault_of told)) }
-    ensures pools { IfOk result (IfSeen (λ seen. seen.plan.pools ≡ pools_seen (lines_of recording.now))) }
-    ensures counts { IfOk result (IfSeen (λ seen. AreCounted (lines_of recording.now) seen.plan.clients)) }
-    ensures classes { IfOk result (IfSeen (λ seen. All (IsNamedClass (lines_of recording.now)) seen.plan.classes)) }
-    ensures clients { IfOk result (IfSeen (λ seen. All (IsNamedClient (lines_of recording.now)) seen.plan.clients)) }
+    ensures pools { IfOk result
+        (IfSeen (λ seen. seen.plan.pools ≡ pools_seen (lines_of recording.now))) }
+    ensures counts { IfOk result
+        (IfSeen (λ seen. AreCounted (lines_of recording.now) seen.plan.clients)) }
+    ensures classes { IfOk result
+        (IfSeen (λ seen. All (IsNamedClass (lines_of recording.now)) seen.plan.classes)) }
+    ensures clients { IfOk result
+        (IfSeen (λ seen. All (IsNamedClient (lines_of recording.now)) seen.plan.clients)) }
     ensures rounds { IfOk result (IfSeen (λ seen. seen.rounds ≡ begins (lines_of recording.now))) }
     ensures jobs { IfOk result (IfSeen (λ seen. seen.jobs ≡ submits (lines_of recording.now))) }
-    ensures unfinished_rounds { IfOk result (IfSeen (λ seen. seen.unfinished_rounds ≡ unfinished_rounds (lines_of recording.now))) }
-    ensures unfinished_jobs { IfOk result (IfSeen (λ seen. seen.unfinished_jobs ≡ unfinished_jobs (lines_of recording.now))) }
+    ensures unfinished_rounds { IfOk result
+        (IfSeen (λ seen. seen.unfinished_rounds ≡ unfinished_rounds (lines_of recording.now))) }
+    ensures unfinished_jobs { IfOk result
+        (IfSeen (λ seen. seen.unfinished_jobs ≡ unfinished_jobs (lines_of recording.now))) }
     ensures too_much { IfOk result (IfTooMuch (IsReason (lines_of recording.now))) }
 {
     match learned(alloc, recording, extent, budget) {
@@ -74,8 +80,10 @@ fn seen_plan(
     budget: u64,
     mut names: SeenNames,
 ) -> Result<SeenPlan, Stop>
-    ensures ok { AreNamesOfAll (lines_read recording.now) names → IfOk result (IsSeenOf (lines_of recording.now)) }
-    ensures err { AreNamesOfAll (lines_read recording.now) names → IfErr result (IsStop (lines_of recording.now)) }
+    ensures ok { AreNamesOfAll (lines_read recording.now) names
+        → IfOk result (IsSeenOf (lines_of recording.now)) }
+    ensures err { AreNamesOfAll (lines_read recording.now) names
+        → IfErr result (IsStop (lines_of recording.now)) }
 {
     let kinds = learned_kinds(alloc, extent.of(recording), budget, &mut names)?;
     let classes = names.working.copied_classes()?;
@@ -100,8 +108,12 @@ fn learned_kinds(
     budget: u64,
     names: &mut SeenNames,
 ) -> Result<Vec<Option<usize>>, Stop>
-    ensures ok { (lines : List RecordedLine) → AreWorkingOf lines names.old.working → OnOk result (AreWorkingOf lines names.new.working) }
-    ensures err { (lines : List RecordedLine) → AreWorkingOf lines names.old.working → IfErr result (IsStop lines) }
+    ensures ok { (lines : List RecordedLine)
+        → AreWorkingOf lines names.old.working
+        → OnOk result (AreWorkingOf lines names.new.working) }
+    ensures err { (lines : List RecordedLine)
+        → AreWorkingOf lines names.old.working
+        → IfErr result (IsStop lines) }
     ensures same { names.new ≡ record names.old { working = names.new.working } }
 {
     let kinds = cover_all(alloc, part, &names.pools, budget, &mut names.working)?;
@@ -117,9 +129,12 @@ fn seen_clients(
     kinds: &[Option<usize>],
     names: &SeenNames,
 ) -> Result<Vec<Client>, Stop>
-    ensures counts { AreLabelRoundsOf names.now.label_rounds (lines_of recording.now) → IfOk result (λ clients. AreCounted (lines_of recording.now) clients.items) }
-    ensures names { IfOk result (λ clients. client_names clients.items ≡ names_of names.now.working.kinds.entries.items) }
-    ensures err { AreLabelRoundsOf names.now.label_rounds (lines_of recording.now) → IfErr result (IsStop (lines_of recording.now)) }
+    ensures counts { AreLabelRoundsOf names.now.label_rounds (lines_of recording.now)
+        → IfOk result (λ clients. AreCounted (lines_of recording.now) clients.items) }
+    ensures names { IfOk result
+        (λ clients. client_names clients.items ≡ names_of names.now.working.kinds.entries.items) }
+    ensures err { AreLabelRoundsOf names.now.label_rounds (lines_of recording.now)
+        → IfErr result (IsStop (lines_of recording.now)) }
 {
     let entries = &names.working.kinds.entries;
     if names.label_rounds.are_of(entries) {
@@ -134,9 +149,15 @@ fn counted_clients(
     counts: &[KindCount],
     entries: &[Entry],
 ) -> Result<Vec<Client>, Stop>
-    ensures counts { (kinds : Kinds) (lines : List RecordedLine) → AreOfKinds kinds (names_of entries.now) lines → AreCountsOf kinds lines counts.now → IfOk result (λ clients. AreCounted lines clients.items) }
+    ensures counts { (kinds : Kinds) (lines : List RecordedLine)
+        → AreOfKinds kinds (names_of entries.now) lines
+        → AreCountsOf kinds lines counts.now
+        → IfOk result (λ clients. AreCounted lines clients.items) }
     ensures names { IfOk result (λ clients. client_names clients.items ≡ names_of entries.now) }
-    ensures err { (kinds : Kinds) (lines : List RecordedLine) → AreOfKinds kinds (names_of entries.now) lines → AreCountsOf kinds lines counts.now → IfErr result (IsStop lines) }
+    ensures err { (kinds : Kinds) (lines : List RecordedLine)
+        → AreOfKinds kinds (names_of entries.now) lines
+        → AreCountsOf kinds lines counts.now
+        → IfErr result (IsStop lines) }
 {
     let mut clients = Vec::new(alloc);
     for kind in 0..entries.len() {
@@ -163,9 +184,14 @@ fn push_client(clients: &mut Vec<Client>, client: Client) -> Result<(), AllocErr
 }
 
 fn counted_client(alloc: Global, entry: &Entry, count: KindCount) -> Result<Client, Stop>
-    ensures counted { (kinds : Kinds) (lines : List RecordedLine) (kind : ℕ) → IsCountOf kinds lines kind count → IfOk result (IsCounted kinds lines kind) }
+    ensures counted { (kinds : Kinds) (lines : List RecordedLine) (kind : ℕ)
+        → IsCountOf kinds lines kind count
+        → IfOk result (IsCounted kinds lines kind) }
     ensures name { IfOk result (λ client. client.name ≡ string_bytes entry.now.name) }
-    ensures err { (kinds : Kinds) (names : List (List ℕ)) (lines : List RecordedLine) (kind : ℕ) → AreOfKinds kinds names lines → IsCountOf kinds lines kind count → IfErr result (IsStop lines) }
+    ensures err { (kinds : Kinds) (names : List (List ℕ)) (lines : List RecordedLine) (kind : ℕ)
+        → AreOfKinds kinds names lines
+        → IsCountOf kinds lines kind count
+        → IfErr result (IsStop lines) }
 {
     if count.most > MAX_SIZE {
         return Err(Stop::TooMuch(TooMuch::Rounds));

@@ -17,7 +17,8 @@ use std::alloc::{AllocError, Global};
 ///
 /// [`Stop::TooMuch`] where that is too long for a plan; [`Stop::Memory`] where there is no memory for it.
 pub(crate) fn free_name(alloc: Global, entries: &[Entry], label: &str) -> Result<String, Stop>
-    ensures ok { length entries.now < MAX_CLASSES → IfOk result (λ name. IsOfFamily label.now (string_bytes name)) }
+    ensures ok { length entries.now < MAX_CLASSES
+        → IfOk result (λ name. IsOfFamily label.now (string_bytes name)) }
     ensures err { length entries.now < MAX_CLASSES → IfErr result (IsNoName label.now) }
 {
     if !has_name(entries, label) {

@@ -48,8 +48,12 @@ pub(crate) fn pass_over(
     budget: u64,
     working: &mut Working,
 ) -> Result<Pass, Stop>
-    ensures ok { (lines : List RecordedLine) → AreWorkingOf lines working.old → OnOk result (AreWorkingOf lines working.new) }
-    ensures err { (lines : List RecordedLine) → AreWorkingOf lines working.old → IfErr result (IsStop lines) }
+    ensures ok { (lines : List RecordedLine)
+        → AreWorkingOf lines working.old
+        → OnOk result (AreWorkingOf lines working.new) }
+    ensures err { (lines : List RecordedLine)
+        → AreWorkingOf lines working.old
+        → IfErr result (IsStop lines) }
 {
     let mut pass = Pass::new(alloc, part.is_cut);
     let mut classes = Classes::new(alloc, budget);
@@ -97,8 +101,12 @@ impl Pass {
         told: &[Settled],
         working: &mut Working,
     ) -> Result<(), Stop>
-        ensures ok { (lines : List RecordedLine) → AreWorkingOf lines working.old → OnOk result (AreWorkingOf lines working.new) }
-        ensures err { (lines : List RecordedLine) → AreWorkingOf lines working.old → IfErr result (IsStop lines) }
+        ensures ok { (lines : List RecordedLine)
+            → AreWorkingOf lines working.old
+            → OnOk result (AreWorkingOf lines working.new) }
+        ensures err { (lines : List RecordedLine)
+            → AreWorkingOf lines working.old
+            → IfErr result (IsStop lines) }
     {
         for one in told {
             self.ended.remove(one.actor);
@@ -116,8 +124,12 @@ impl Pass {
         told: &[Settled],
         working: &mut Working,
     ) -> Result<(), Stop>
-        ensures ok { (lines : List RecordedLine) → AreWorkingOf lines working.old → OnOk result (AreWorkingOf lines working.new) }
-        ensures err { (lines : List RecordedLine) → AreWorkingOf lines working.old → IfErr result (IsStop lines) }
+        ensures ok { (lines : List RecordedLine)
+            → AreWorkingOf lines working.old
+            → OnOk result (AreWorkingOf lines working.new) }
+        ensures err { (lines : List RecordedLine)
+            → AreWorkingOf lines working.old
+            → IfErr result (IsStop lines) }
     {
         for one in told {
             let class = if self.ended.contains(one.actor) {
@@ -168,8 +180,12 @@ impl Pass {
         course: Course,
         working: &mut Working,
     ) -> Result<Option<usize>, Stop>
-        ensures ok { (lines : List RecordedLine) → AreWorkingOf lines working.old → OnOk result (AreWorkingOf lines working.new) }
-        ensures err { (lines : List RecordedLine) → AreWorkingOf lines working.old → IfErr result (IsStop lines) }
+        ensures ok { (lines : List RecordedLine)
+            → AreWorkingOf lines working.old
+            → OnOk result (AreWorkingOf lines working.new) }
+        ensures err { (lines : List RecordedLine)
+            → AreWorkingOf lines working.old
+            → IfErr result (IsStop lines) }
     {
         let member = one.family.members.first().copied();
         if !one.family.is_decided || member.is_some() {
@@ -194,8 +210,12 @@ fn learn_of(
     did: &Did,
     working: &mut Working,
 ) -> Result<Option<Taken>, Stop>
-    ensures ok { (lines : List RecordedLine) → AreWorkingOf lines working.old → OnOk result (AreWorkingOf lines working.new) }
-    ensures err { (lines : List RecordedLine) → AreWorkingOf lines working.old → IfErr result (IsStop lines) }
+    ensures ok { (lines : List RecordedLine)
+        → AreWorkingOf lines working.old
+        → OnOk result (AreWorkingOf lines working.new) }
+    ensures err { (lines : List RecordedLine)
+        → AreWorkingOf lines working.old
+        → IfErr result (IsStop lines) }
 {
     match one.actor {
         RecordedActor::Round(_) => working.learn_round(&one.label, did),

@@ -50,8 +50,12 @@ fn has_core_threads(sizes: PoolSizes) -> bool
 ///
 /// [`Stop::TooMuch`] where a plan may not have one more; [`Stop::Memory`] where there is no memory for it.
 pub(crate) fn note_pool(alloc: Global, pools: &mut Vec<Pool>, line: &Line<'_>) -> Result<(), Stop>
-    ensures ok { OnOk result (pools.new.items ≡ spec.with_first_of (spec.pool_of_line (line_seen line.now)) pools.old.items) }
-    ensures err { (before behind : List RecordedLine) → pools.old.items ≡ spec.pools_seen before → IfErr result (IsStop (before ++ line_seen line.now ∷ behind)) }
+    ensures ok { OnOk result
+        (pools.new.items
+        ≡ spec.with_first_of (spec.pool_of_line (line_seen line.now)) pools.old.items) }
+    ensures err { (before behind : List RecordedLine)
+        → pools.old.items ≡ spec.pools_seen before
+        → IfErr result (IsStop (before ++ line_seen line.now ∷ behind)) }
 {
     match *line {
         Line::Pool { name, sizes } => add_pool(alloc, pools, name, sizes),
@@ -60,8 +64,12 @@ pub(crate) fn note_pool(alloc: Global, pools: &mut Vec<Pool>, line: &Line<'_>) -
 }
 
 fn add_pool(alloc: Global, pools: &mut Vec<Pool>, name: &str, sizes: PoolSizes) -> Result<(), Stop>
-    ensures ok { OnOk result (pools.new.items ≡ spec.with_first pools.old.items (spec.pool_seen name.now sizes)) }
-    ensures err { (lines : List RecordedLine) → (length (spec.with_first pools.old.items (spec.pool_seen name.now sizes)) ≤ length (spec.pools_seen lines)) → IfErr result (IsStop lines) }
+    ensures ok { OnOk result
+        (pools.new.items ≡ spec.with_first pools.old.items (spec.pool_seen name.now sizes)) }
+    ensures err { (lines : List RecordedLine)
+        → (length (spec.with_first pools.old.items (spec.pool_seen name.now sizes))
+        ≤ length (spec.pools_seen lines))
+        → IfErr result (IsStop lines) }
 {
     if has_name(pools, name) {
         return Ok(());

@@ -66,7 +66,8 @@ fn stopped(
     stop: Stop,
 ) -> Result<Result<SeenNames, RecordingFault>, Stop>
     ensures ok { IfOk result (IsNamed (lines_read recording.now)) }
-    ensures err { IsStop (good (lines_read recording.now)) stop → IfErr result (IsStopAt (lines_read recording.now)) }
+    ensures err { IsStop (good (lines_read recording.now)) stop
+        → IfErr result (IsStopAt (lines_read recording.now)) }
 {
     match first_fault(alloc, recording)? {
         Some(fault) => Ok(Err(fault)),
@@ -79,7 +80,8 @@ impl SeenNames {
     fn new(alloc: Global) -> Result<SeenNames, AllocError>
         ensures names { IfOk result (λ names. AreNamesOf names []) }
         ensures rounds { IfOk result (λ names. AreLabelRoundsOf names.label_rounds []) }
-        ensures working { (lines : List RecordedLine) → IfOk result (λ names. AreWorkingOf lines names.working) }
+        ensures working { (lines : List RecordedLine)
+            → IfOk result (λ names. AreWorkingOf lines names.working) }
     {
         Ok(SeenNames {
             pools: Vec::new(alloc),
@@ -95,10 +97,21 @@ impl SeenNames {
     }
 
     fn note(&mut self, line: &Line<'_>) -> Result<(), Stop>
-        ensures names { (before : List RecordedLine) → AreNamesOf self.old before → OnOk result (AreNamesOf self.new (before ++ line_seen line.now ∷ [])) }
-        ensures rounds { (before : List RecordedLine) → AreLabelRoundsOf self.old.label_rounds before → OnOk result (AreLabelRoundsOf self.new.label_rounds (before ++ line_seen line.now ∷ [])) }
-        ensures working { (before behind : List RecordedLine) → AreNamesOf self.old before → AreWorkingOf (before ++ line_seen line.now ∷ behind) self.old.working → OnOk result (AreWorkingOf (before ++ line_seen line.now ∷ behind) self.new.working) }
-        ensures err { (before behind : List RecordedLine) → AreNamesOf self.old before → AreWorkingOf (before ++ line_seen line.now ∷ behind) self.old.working → IfErr result (IsStop (before ++ line_seen line.now ∷ behind)) }
+        ensures names { (before : List RecordedLine)
+            → AreNamesOf self.old before
+            → OnOk result (AreNamesOf self.new (before ++ line_seen line.now ∷ [])) }
+        ensures rounds { (before : List RecordedLine)
+            → AreLabelRoundsOf self.old.label_rounds before
+            → OnOk result
+            (AreLabelRoundsOf self.new.label_rounds (before ++ line_seen line.now ∷ [])) }
+        ensures working { (before behind : List RecordedLine)
+            → AreNamesOf self.old before
+            → AreWorkingOf (before ++ line_seen line.now ∷ behind) self.old.working
+            → OnOk result (AreWorkingOf (before ++ line_seen line.now ∷ behind) self.new.working) }
+        ensures err { (before behind : List RecordedLine)
+            → AreNamesOf self.old before
+            → AreWorkingOf (before ++ line_seen line.now ∷ behind) self.old.working
+            → IfErr result (IsStop (before ++ line_seen line.now ∷ behind)) }
     {
         self.working.note(&self.pools, line)?;
         note_pool(self.alloc, &mut self.pools, line)?;

@@ -42,8 +42,16 @@ impl Working {
     ///
     /// [`Stop::TooMuch`] where a plan may not have one more; [`Stop::Memory`] where there is no memory for it.
     pub(crate) fn note(&mut self, pools: &[Pool], line: &Line<'_>) -> Result<(), Stop>
-        ensures ok { (lines : List RecordedLine) → Contains lines (line_seen line.now) → AreFirstPools lines pools.now → AreWorkingOf lines self.old → OnOk result (AreWorkingOf lines self.new) }
-        ensures err { (lines : List RecordedLine) → Contains lines (line_seen line.now) → AreFirstPools lines pools.now → AreWorkingOf lines self.old → IfErr result (IsStop lines) }
+        ensures ok { (lines : List RecordedLine)
+            → Contains lines (line_seen line.now)
+            → AreFirstPools lines pools.now
+            → AreWorkingOf lines self.old
+            → OnOk result (AreWorkingOf lines self.new) }
+        ensures err { (lines : List RecordedLine)
+            → Contains lines (line_seen line.now)
+            → AreFirstPools lines pools.now
+            → AreWorkingOf lines self.old
+            → IfErr result (IsStop lines) }
     {
         match *line {
             Line::RoundBegins { kind, .. } => self.kinds.note(kind, 0),
@@ -73,7 +81,9 @@ impl Working {
     }
 
     pub(crate) fn copied_classes(&self) -> Result<Vec<Class>, AllocError>
-        ensures { (lines : List RecordedLine) → AreWorkingOf lines self.now → IfOk result (λ classes. All (IsNamedClass lines) classes.items) }
+        ensures { (lines : List RecordedLine)
+            → AreWorkingOf lines self.now
+            → IfOk result (λ classes. All (IsNamedClass lines) classes.items) }
     {
         let mut classes = Vec::new(self.alloc);
         for entry in &self.classes.entries {
@@ -101,8 +111,12 @@ impl Working {
         pool: usize,
         did: &Did,
     ) -> Result<Option<Taken>, Stop>
-        ensures ok { (lines : List RecordedLine) → AreWorkingOf lines self.old → OnOk result (AreWorkingOf lines self.new) }
-        ensures err { (lines : List RecordedLine) → AreWorkingOf lines self.old → IfErr result (IsStop lines) }
+        ensures ok { (lines : List RecordedLine)
+            → AreWorkingOf lines self.old
+            → OnOk result (AreWorkingOf lines self.new) }
+        ensures err { (lines : List RecordedLine)
+            → AreWorkingOf lines self.old
+            → IfErr result (IsStop lines) }
     {
         if let Some(taken) = self.classes.explaining(label, pool, did) {
             return Ok(Some(taken));
@@ -117,8 +131,12 @@ impl Working {
     ///
     /// [`Stop::TooMuch`] where a plan may not have one more kind; [`Stop::Memory`] where there is no memory for it.
     pub(crate) fn learn_round(&mut self, label: &str, did: &Did) -> Result<Option<Taken>, Stop>
-        ensures ok { (lines : List RecordedLine) → AreWorkingOf lines self.old → OnOk result (AreWorkingOf lines self.new) }
-        ensures err { (lines : List RecordedLine) → AreWorkingOf lines self.old → IfErr result (IsStop lines) }
+        ensures ok { (lines : List RecordedLine)
+            → AreWorkingOf lines self.old
+            → OnOk result (AreWorkingOf lines self.new) }
+        ensures err { (lines : List RecordedLine)
+            → AreWorkingOf lines self.old
+            → IfErr result (IsStop lines) }
     {
         if let Some(taken) = self.kinds.explaining(label, 0, did) {
             return Ok(Some(taken));
@@ -136,7 +154,9 @@ fn copied_pools(alloc: Global, pools: &[Pool]) -> Result<Vec<Pool>, AllocError> 
 }
 
 fn class_of(alloc: Global, entry: &Entry) -> Result<Class, AllocError>
-    ensures { (lines : List RecordedLine) → IsEntryOf lines reason.Classes entry.now → IfOk result (IsNamedClass lines) }
+    ensures { (lines : List RecordedLine)
+        → IsEntryOf lines reason.Classes entry.now
+        → IfOk result (IsNamedClass lines) }
 {
     Ok(Class {
         name: String::from_str(alloc, &entry.name)?,

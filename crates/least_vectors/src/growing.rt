@@ -65,7 +65,8 @@ impl Growing<'_> {
         kind: Kind,
         enough: u64,
     ) -> Result<Option<Weighed>, AllocError>
-        ensures workers { IfOk result (λ found. IfSome found (λ weighed. vec_len weighed.workers ≡ length self.now.plan.now.pools)) }
+        ensures workers { IfOk result (λ found.
+            IfSome found (λ weighed. vec_len weighed.workers ≡ length self.now.plan.now.pools)) }
     {
         let target = self.target(pool, kind, enough);
         let Loans {
@@ -95,7 +96,8 @@ impl Growing<'_> {
         kind: Kind,
         workers: &[u64],
     ) -> Result<Option<Vector>, AllocError>
-        ensures { IfOk result (λ found. IfSome found (λ vector. IsTrue (vector_fits self.now.plan.now vector))) }
+        ensures { IfOk result
+            (λ found. IfSome found (λ vector. IsTrue (vector_fits self.now.plan.now vector))) }
     {
         let target = self.target(pool, kind, 0);
         let sketch = Sketch::of(alloc, self.plan, self.levels, &target, workers)?;

@@ -29,7 +29,8 @@ impl Levels {
     ///
     /// [`AllocError`] where memory runs out.
     pub fn of(alloc: Global, plan: &Plan) -> Result<Option<Levels>, AllocError>
-        ensures { IfOk result (λ found. IfSome found (λ levels. vec_len levels.of_classes ≡ length plan.now.classes)) }
+        ensures { IfOk result (λ found.
+            IfSome found (λ levels. vec_len levels.of_classes ≡ length plan.now.classes)) }
     {
         let count = plan.classes().len();
         let mut levels = Levels {

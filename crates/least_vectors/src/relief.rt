@@ -20,7 +20,8 @@ pub(crate) fn relieving_loan(
     place: usize,
 ) -> Result<Option<Loan>, AllocError>
     requires { place < vec_len tried.old.weighings }
-    ensures stands { IfOk result (λ found. IfSome found (λ loan. loan.place < vec_len tried.new.weighings)) }
+    ensures stands { IfOk result
+        (λ found. IfSome found (λ loan. loan.place < vec_len tried.new.weighings)) }
     ensures kept { vec_len tried.old.weighings ≤ vec_len tried.new.weighings }
     ensures workers { length workers.new ≡ length workers.old }
 {

@@ -23,7 +23,8 @@ pub fn pool_bound(
     pool: usize,
 ) -> Result<Option<Bound>, AllocError>
     requires { pool < length plan.now.pools }
-    ensures { IfOk result (λ found. IfSome found (λ bound. IsTrue (vector_fits plan.now (bound_vector bound)))) }
+    ensures { IfOk result
+        (λ found. IfSome found (λ bound. IsTrue (vector_fits plan.now (bound_vector bound)))) }
 {
     let sizes = &plan.pools()[pool];
     let standing = Target::standing(pool, sizes.queue).without_vain_loans();

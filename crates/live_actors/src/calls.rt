@@ -80,7 +80,9 @@ impl Calls {
     #[inline(always)]
     pub(crate) fn set(&mut self, call: Call, number: usize)
         requires { 0 < self.old.room }
-        ensures { (q : ℕ × ℕ) → number_at self.new q ≡ (if same_pair call q then Some number else number_at self.old q) }
+        ensures { (q : ℕ × ℕ)
+            → number_at self.new q
+            ≡ (if same_pair call q then Some number else number_at self.old q) }
     {
         let place = call.0 % TABLE_LEN;
         if place < self.table.len() && is_for(&self.table[place], call) {
@@ -93,7 +95,8 @@ impl Calls {
     /// The job that the call made is not asked for any more.
     #[inline(always)]
     pub(crate) fn forget(&mut self, call: Call)
-        ensures numbers { (q : ℕ × ℕ) → number_at self.new q ≡ (if same_pair call q then None else number_at self.old q) }
+        ensures numbers { (q : ℕ × ℕ)
+            → number_at self.new q ≡ (if same_pair call q then None else number_at self.old q) }
         ensures room { self.old.room ≤ self.new.room }
     {
         forget_in_table(&mut self.table, call);
@@ -117,7 +120,10 @@ fn is_for(entry: &Option<(Call, usize)>, call: Call) -> bool
 // The call's place is free from now on, where it is no other's.
 #[inline(always)]
 fn forget_in_table(table: &mut Vec<Option<(Call, usize)>>, call: Call)
-    ensures { (q : ℕ × ℕ) (other : Option ℕ) → number_or q (entry_at table.new.items (place_of q)) other ≡ (if same_pair call q then other else number_or q (entry_at table.old.items (place_of q)) other) }
+    ensures { (q : ℕ × ℕ) (other : Option ℕ)
+        → number_or q (entry_at table.new.items (place_of q)) other
+        ≡ (if same_pair call q then other else number_or q (entry_at table.old.items (place_of q))
+        other) }
 {
     let place = call.0 % TABLE_LEN;
     if place < table.len() && is_for(&table[place], call) {
@@ -147,7 +153,9 @@ fn get_other(others: &HashMap<Call, usize>, call: Call) -> Option<usize>
 #[inline(never)]
 fn set_other(others: &mut HashMap<Call, usize>, call: Call, number: usize)
     requires { 0 < spare others.old }
-    ensures { (q : ℕ × ℕ) → lookup (same_pair q) others.new.entries ≡ (if same_pair call q then Some number else lookup (same_pair q) others.old.entries) }
+    ensures { (q : ℕ × ℕ)
+        → lookup (same_pair q) others.new.entries
+        ≡ (if same_pair call q then Some number else lookup (same_pair q) others.old.entries) }
 {
     if others.insert(call, number).is_err() {
         return;
@@ -156,7 +164,9 @@ fn set_other(others: &mut HashMap<Call, usize>, call: Call, number: usize)
 
 #[inline(never)]
 fn forget_other(others: &mut HashMap<Call, usize>, call: Call)
-    ensures numbers { (q : ℕ × ℕ) → lookup (same_pair q) others.new.entries ≡ (if same_pair call q then None else lookup (same_pair q) others.old.entries) }
+    ensures numbers { (q : ℕ × ℕ)
+        → lookup (same_pair q) others.new.entries
+        ≡ (if same_pair call q then None else lookup (same_pair q) others.old.entries) }
     ensures spare { spare others.old ≤ spare others.new }
 {
     others.remove(&call);

@@ -46,7 +46,8 @@ impl Clients {
     pub fn new(alloc: Global, kinds: &[Client]) -> Result<Clients, AllocError>
         requires few { length kinds.now ≤ MAX_CLIENT_KINDS }
         requires small { All (λ kind. kind.count ≤ MAX_SIZE) kinds.now }
-        ensures { IfOk result (λ clients. clients.items ≡ flat_map new_clients (enumerate_from 0 kinds.now)) }
+        ensures { IfOk result
+            (λ clients. clients.items ≡ flat_map new_clients (enumerate_from 0 kinds.now)) }
     {
         let ends = ends_of(alloc, kinds)?;
         Ok(Clients {
@@ -85,7 +86,9 @@ impl Clients {
     /// The client of this number comes to this position of its body. There is room for it, if it stands at the start.
     pub fn go_to(&mut self, number: usize, position: usize)
         requires { (client_of self.old.items number).position ≡ 0 → 0 < self.old.room }
-        ensures { self.new.items ≡ slice_set self.old.items number (at_position position (client_of self.old.items number)) }
+        ensures { self.new.items
+            ≡ slice_set self.old.items number
+            (at_position position (client_of self.old.items number)) }
     {
         if self.moved.go_on(number, position) {
             return;
@@ -98,7 +101,8 @@ impl Clients {
 
     /// The client of this number comes to the start of its body again.
     pub fn begin_again(&mut self, number: usize)
-        ensures { self.new.items ≡ slice_set self.old.items number (at_position 0 (client_of self.old.items number)) }
+        ensures { self.new.items
+            ≡ slice_set self.old.items number (at_position 0 (client_of self.old.items number)) }
     {
         self.moved.go_on(number, 0);
     }

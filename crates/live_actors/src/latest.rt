@@ -62,7 +62,9 @@ impl Latest {
     #[inline(always)]
     pub(crate) fn set(&mut self, actor: Parent, submit: usize, number: usize)
         requires { 0 < latest_room self.old actor }
-        ensures { (a : Parent) (t : ℕ) → found self.new a t ≡ (if is_call actor submit a t then Some number else found self.old a t) }
+        ensures { (a : Parent) (t : ℕ)
+            → found self.new a t
+            ≡ (if is_call actor submit a t then Some number else found self.old a t) }
     {
         match actor {
             Parent::Client(client) => self.of_clients.set((client, submit), number),
@@ -73,7 +75,8 @@ impl Latest {
     /// The latest job that the actor made by the submit at this position is not asked for any more.
     #[inline(always)]
     pub(crate) fn forget(&mut self, actor: Parent, submit: usize)
-        ensures found { (a : Parent) (t : ℕ) → found self.new a t ≡ (if is_call actor submit a t then None else found self.old a t) }
+        ensures found { (a : Parent) (t : ℕ)
+            → found self.new a t ≡ (if is_call actor submit a t then None else found self.old a t) }
         ensures room { (a : Parent) → latest_room self.old a ≤ latest_room self.new a }
     {
         match actor {

@@ -129,8 +129,10 @@ impl LiveJobs {
         requires stale { NoOtherIsStale self.old.jobs latest job.parent job.slot }
         requires begins { is_done job.phase ≡ false }
         requires fits { job.slot + 1 < 2 ^ 64 }
-        ensures jobs { self.new.jobs ≡ map (unless_stale job.parent job.slot) self.old.jobs ++ Some job ∷ [] }
-        ensures places { self.new.places ≡ places_made self.old (map (unless_stale job.parent job.slot) self.old.jobs) }
+        ensures jobs { self.new.jobs
+            ≡ map (unless_stale job.parent job.slot) self.old.jobs ++ Some job ∷ [] }
+        ensures places { self.new.places
+            ≡ places_made self.old (map (unless_stale job.parent job.slot) self.old.jobs) }
     {
         free_stale(&mut self.kept, latest, job.parent, job.slot);
         let number = self.kept.made();
@@ -147,7 +149,9 @@ impl LiveJobs {
         requires going { is_done job.phase ≡ false }
         requires other { job.parent ≢ Job number }
         requires done { DoneAreLatest self.old.jobs }
-        ensures jobs { self.new.jobs ≡ map (unless_orphan number) (slice_set self.old.jobs number (finished_or_gone self.old.jobs number job)) }
+        ensures jobs { self.new.jobs
+            ≡ map (unless_orphan number)
+            (slice_set self.old.jobs number (finished_or_gone self.old.jobs number job)) }
         ensures places { self.new.places ≡ self.old.places }
     {
         let finished = self.finished_or_gone(number, job);
@@ -184,7 +188,8 @@ impl LiveJobs {
 // The actor's done job of this submit, which can only be its latest, is live no more.
 fn free_stale(kept: &mut Places, latest: Option<usize>, actor: Parent, submit: usize)
     requires { NoOtherIsStale (jobs_in kept.old.items) latest actor submit }
-    ensures jobs { jobs_in kept.new.items ≡ map (unless_stale actor submit) (jobs_in kept.old.items) }
+    ensures jobs { jobs_in kept.new.items
+        ≡ map (unless_stale actor submit) (jobs_in kept.old.items) }
     ensures reaches { ReachesStay kept.old.items kept.new.items }
     ensures places { kept.new.places ≡ kept.old.places }
     ensures room { kept.old.room ≤ kept.new.room }
@@ -196,7 +201,9 @@ fn free_stale(kept: &mut Places, latest: Option<usize>, actor: Parent, submit: u
 
 // The job of this number is live no more, if it is a stale one of this submit.
 fn free_if_stale(kept: &mut Places, number: usize, actor: Parent, submit: usize)
-    ensures jobs { jobs_in kept.new.items ≡ slice_set (jobs_in kept.old.items) number (unless_stale actor submit (live_job (jobs_in kept.old.items) number)) }
+    ensures jobs { jobs_in kept.new.items
+        ≡ slice_set (jobs_in kept.old.items) number
+        (unless_stale actor submit (live_job (jobs_in kept.old.items) number)) }
     ensures reaches { ReachesStay kept.old.items kept.new.items }
     ensures places { kept.new.places ≡ kept.old.places }
     ensures room { kept.old.room ≤ kept.new.room }
@@ -227,7 +234,8 @@ fn reach_to(kept: &mut Places, actor: Parent, reach: usize)
 // The live job of this number is in another phase, or live no more.
 fn finish_in(kept: &mut Places, number: usize, finished: Option<JobView>)
     requires live { IsSome (live_job (jobs_in kept.old.items) number) }
-    requires phased { IfSome finished (λ job. in_phase job.phase (live_job (jobs_in kept.old.items) number) ≡ Some job) }
+    requires phased { IfSome finished
+        (λ job. in_phase job.phase (live_job (jobs_in kept.old.items) number) ≡ Some job) }
     ensures jobs { jobs_in kept.new.items ≡ slice_set (jobs_in kept.old.items) number finished }
     ensures reaches { ReachesStay kept.old.items kept.new.items }
     ensures places { kept.new.places ≡ kept.old.places }
@@ -260,7 +268,9 @@ fn forget_orphans(kept: &mut Places, latest: &mut Latest, parent: usize)
     requires are_found { AreFound (jobs_in kept.old.items) latest.old }
     requires orphans { OrphansAreFound (jobs_in kept.old.items) latest.old parent }
     ensures jobs { jobs_in kept.new.items ≡ map (unless_orphan parent) (jobs_in kept.old.items) }
-    ensures orphaned { (n : ℕ) × AreOrphaned parent n (jobs_in kept.old.items) (jobs_in kept.new.items) latest.old latest.new }
+    ensures orphaned { (n : ℕ)
+        × AreOrphaned parent n (jobs_in kept.old.items) (jobs_in kept.new.items) latest.old
+        latest.new }
     ensures reaches { ReachesStay kept.old.items kept.new.items }
     ensures places { kept.new.places ≡ kept.old.places }
 {

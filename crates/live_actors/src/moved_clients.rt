@@ -62,7 +62,10 @@ impl MovedClients {
     /// The client of this number, if it moved before, comes to this position of its body. Whether it did.
     pub(crate) fn go_on(&mut self, number: usize, position: usize) -> bool
         ensures is_among { result ≡ is_some (moved_at self.old number) }
-        ensures moves { (q : ℕ) → moved_at self.new q ≡ (if number == q then option_map (at_position position) (moved_at self.old number) else moved_at self.old q) }
+        ensures moves { (q : ℕ)
+            → moved_at self.new q
+            ≡ (if number == q then option_map (at_position position) (moved_at self.old number) else
+            moved_at self.old q) }
         ensures room { self.new.room ≡ self.old.room }
     {
         if number < self.front.len() {
@@ -76,7 +79,8 @@ impl MovedClients {
     pub(crate) fn set_out(&mut self, number: usize, client: ClientState)
         requires room { 0 < self.old.room }
         requires stood { is_some (moved_at self.old number) ≡ false }
-        ensures { (q : ℕ) → moved_at self.new q ≡ (if number == q then Some client else moved_at self.old q) }
+        ensures { (q : ℕ)
+            → moved_at self.new q ≡ (if number == q then Some client else moved_at self.old q) }
     {
         if number == self.front.len() {
             self.front.push_reserved(client);
@@ -88,7 +92,10 @@ impl MovedClients {
 
 fn go_on(moved: &mut HashMap<usize, ClientState>, number: usize, position: usize) -> bool
     ensures is_among { result ≡ is_some (get nat_eq moved.old number) }
-    ensures moves { (q : ℕ) → get nat_eq moved.new q ≡ (if number == q then option_map (at_position position) (get nat_eq moved.old number) else get nat_eq moved.old q) }
+    ensures moves { (q : ℕ)
+        → get nat_eq moved.new q
+        ≡ (if number == q then option_map (at_position position) (get nat_eq moved.old number) else
+        get nat_eq moved.old q) }
     ensures spare { spare moved.new ≡ spare moved.old }
 {
     match moved.get_mut(&number) {
@@ -102,7 +109,8 @@ fn go_on(moved: &mut HashMap<usize, ClientState>, number: usize, position: usize
 
 fn set_out(moved: &mut HashMap<usize, ClientState>, number: usize, client: ClientState)
     requires { 0 < spare moved.old }
-    ensures { (q : ℕ) → get nat_eq moved.new q ≡ (if number == q then Some client else get nat_eq moved.old q) }
+    ensures { (q : ℕ)
+        → get nat_eq moved.new q ≡ (if number == q then Some client else get nat_eq moved.old q) }
 {
     if moved.insert(number, client).is_err() {
         return;

@@ -89,7 +89,9 @@ impl PlaceRow {
     /// The job of this number is in this phase, from now on.
     pub(crate) fn set_phase(&mut self, number: usize, phase: Phase)
         requires { IsSome (place_at self.old.items number) }
-        ensures items { self.new.items ≡ slice_set self.old.items number (place_in_phase phase (place_at self.old.items number)) }
+        ensures items { self.new.items
+            ≡ slice_set self.old.items number
+            (place_in_phase phase (place_at self.old.items number)) }
         ensures span { self.new.span ≡ self.old.span }
         ensures room { self.new.room ≡ self.old.room }
     {
@@ -119,7 +121,8 @@ impl PlaceRow {
     pub(crate) fn reserve(&mut self, live: usize) -> Result<(), AllocError>
         ensures items { self.new.items ≡ self.old.items }
         ensures span { self.new.span ≤ self.old.span }
-        ensures short { OnOk result ((self.new.span < longest live) ⊎ (self.new.span < self.old.span)) }
+        ensures short { OnOk result
+            ((self.new.span < longest live) ⊎ (self.new.span < self.old.span)) }
         ensures room { OnOk result (0 < self.new.room) }
     {
         self.shorten(live)?;
@@ -133,7 +136,8 @@ impl PlaceRow {
     fn shorten(&mut self, live: usize) -> Result<(), AllocError>
         ensures items { self.new.items ≡ self.old.items }
         ensures span { self.new.span ≤ self.old.span }
-        ensures short { OnOk result ((self.new.span < longest live) ⊎ (self.new.span < self.old.span)) }
+        ensures short { OnOk result
+            ((self.new.span < longest live) ⊎ (self.new.span < self.old.span)) }
     {
         if self.recent.len() / 2 <= live.saturating_add(SPARE_NUMBERS) {
             return Ok(());
@@ -190,7 +194,9 @@ fn clear(recent: &mut VecDeque<Option<KeptJob>>, index: usize) -> bool
 
 // What stands at an index is in another phase.
 fn set_phase_at(recent: &mut VecDeque<Option<KeptJob>>, index: usize, phase: Phase)
-    ensures items { recent.new.items ≡ slice_set recent.old.items index (place_in_phase phase (place_at recent.old.items index)) }
+    ensures items { recent.new.items
+        ≡ slice_set recent.old.items index
+        (place_in_phase phase (place_at recent.old.items index)) }
     ensures len { deque_len recent.new ≡ deque_len recent.old }
     ensures capacity { deque_capacity recent.new ≡ deque_capacity recent.old }
 {
@@ -229,7 +235,8 @@ fn put(older: &mut HashMap<usize, KeptJob>, number: usize, place: KeptJob)
 // What stands at a number is in another phase.
 fn put_phase(older: &mut HashMap<usize, KeptJob>, number: usize, phase: Phase)
     requires { IsSome (get nat_eq older.old number) }
-    ensures { Updates nat_eq older.old older.new number (place_in_phase phase (get nat_eq older.old number)) }
+    ensures { Updates nat_eq older.old older.new number
+        (place_in_phase phase (get nat_eq older.old number)) }
 {
     if let Some(kept) = older.get_mut(&number) {
         kept.job.phase = phase;

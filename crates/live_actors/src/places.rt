@@ -92,7 +92,9 @@ impl Places {
     /// The live job of this number is in this phase, from now on.
     pub(crate) fn set_phase(&mut self, number: usize, phase: Phase)
         requires { IsSome (place_at self.old.items number) }
-        ensures items { self.new.items ≡ slice_set self.old.items number (place_in_phase phase (place_at self.old.items number)) }
+        ensures items { self.new.items
+            ≡ slice_set self.old.items number
+            (place_in_phase phase (place_at self.old.items number)) }
         ensures places { self.new.places ≡ self.old.places }
         ensures room { self.new.room ≡ self.old.room }
     {

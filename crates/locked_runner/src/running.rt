@@ -37,14 +37,19 @@ pub fn run<R: Threads + Wait + Sync, G: Gate>(
     rounds: u64,
     gate: &G,
 ) -> Result<RunReport, RunFault>
-    ensures run { IfOk result (λ report. IsRun certified.now.plan rounds report.history report.receipts) }
-    ensures jobs { IfOk result (λ report. report.jobs ≡ jobs certified.now.plan certified.now.cert.ranks rounds) }
+    ensures run { IfOk result
+        (λ report. IsRun certified.now.plan rounds report.history report.receipts) }
+    ensures jobs { IfOk result
+        (λ report. report.jobs ≡ jobs certified.now.plan certified.now.cert.ranks rounds) }
     ensures made { IfOk result (λ report. Makes certified.now.plan report.history report.jobs) }
-    ensures units { IfOk result (λ report. report.units ≡ units certified.now.plan certified.now.cert.ranks rounds) }
+    ensures units { IfOk result
+        (λ report. report.units ≡ units certified.now.plan certified.now.cert.ranks rounds) }
     ensures worked { IfOk result (λ report. Works certified.now.plan report.history report.units) }
     ensures none_refused { IfOk result (λ report. report.refused ≡ 0) }
-    ensures within { IfOk result (λ _. is_too_large certified.now.plan certified.now.cert.ranks rounds ≡ false) }
-    ensures fault { IfErr result (IsFaultOf (is_too_large certified.now.plan certified.now.cert.ranks rounds)) }
+    ensures within { IfOk result
+        (λ _. is_too_large certified.now.plan certified.now.cert.ranks rounds ≡ false) }
+    ensures fault { IfErr result
+        (IsFaultOf (is_too_large certified.now.plan certified.now.cert.ranks rounds)) }
     ensures events { IfErr result (λ fault. IsLengthOfLegal certified.now.plan fault.events) }
 {
     let numbers = numbers_within(alloc, certified.plan(), &certified.cert().ranks, rounds)?;

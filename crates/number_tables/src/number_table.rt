@@ -101,8 +101,12 @@ impl<V> NumberTable<V> {
     pub fn insert(&mut self, number: usize, value: V) -> Result<(), AllocError>
     where
         V: Drop,
-        ensures values { OnOk result ((n : ℕ) → value_at self.new n ≡ (if number == n then Some value else value_at self.old n)) }
-        ensures count { OnOk result (count_of self.new ≡ count_of self.old + (if is_some (value_at self.old number) then 0 else 1)) }
+        ensures values { OnOk result
+            ((n : ℕ)
+            → value_at self.new n ≡ (if number == n then Some value else value_at self.old n)) }
+        ensures count { OnOk result
+            (count_of self.new
+            ≡ count_of self.old + (if is_some (value_at self.old number) then 0 else 1)) }
         ensures same_values { OnErr result ((n : ℕ) → value_at self.new n ≡ value_at self.old n) }
         ensures same_count { OnErr result (count_of self.new ≡ count_of self.old) }
     {
@@ -121,7 +125,8 @@ impl<V> NumberTable<V> {
     #[tactic(auto, unfolding(crate::specs::Numbered::value_at, crate::specs::Numbered::count_of))]
     pub fn remove(&mut self, number: usize) -> Option<V>
         ensures value { result ≡ value_at self.old number }
-        ensures values { (n : ℕ) → value_at self.new n ≡ (if number == n then None else value_at self.old n) }
+        ensures values { (n : ℕ)
+            → value_at self.new n ≡ (if number == n then None else value_at self.old n) }
         ensures count { count_of self.new + (if is_some result then 1 else 0) ≡ count_of self.old }
     {
         if stands_in(&self.slots, number) {
@@ -139,7 +144,8 @@ impl<V> NumberTable<V> {
     ///
     /// `AllocError` where there is no memory for them.
     pub fn numbers(&self, alloc: Global) -> Result<Vec<usize>, AllocError>
-        ensures all { IfOk result (λ numbers. (n : ℕ) → is_member nat_eq numbers.items n ≡ is_some (value_at self.now n)) }
+        ensures all { IfOk result (λ numbers.
+            (n : ℕ) → is_member nat_eq numbers.items n ≡ is_some (value_at self.now n)) }
         ensures ascending { IfOk result (λ numbers. IsStrictlyIncreasing numbers.items) }
         ensures sorted { IfOk result (λ numbers. IsNonDecreasing numbers.items) }
         ensures count { IfOk result (λ numbers. length numbers.items ≡ count_of self.now) }

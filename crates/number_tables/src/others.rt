@@ -76,8 +76,13 @@ impl<V> Others<V> {
     pub(crate) fn insert(&mut self, number: usize, value: V) -> Result<(), AllocError>
     where
         V: Drop,
-        ensures values { OnOk result ((n : ℕ) → lookup (nat_eq n) self.new ≡ (if number == n then Some value else lookup (nat_eq n) self.old)) }
-        ensures len { OnOk result (length self.new ≡ length self.old + (if is_some (lookup (nat_eq number) self.old) then 0 else 1)) }
+        ensures values { OnOk result
+            ((n : ℕ)
+            → lookup (nat_eq n) self.new
+            ≡ (if number == n then Some value else lookup (nat_eq n) self.old)) }
+        ensures len { OnOk result
+            (length self.new
+            ≡ length self.old + (if is_some (lookup (nat_eq number) self.old) then 0 else 1)) }
         ensures same { OnErr result (self.new ≡ self.old) }
     {
         self.map.insert(number, value)?;
@@ -88,7 +93,9 @@ impl<V> Others<V> {
     #[inline(never)]
     pub(crate) fn remove(&mut self, number: usize) -> Option<V>
         ensures value { result ≡ lookup (nat_eq number) self.old }
-        ensures values { (n : ℕ) → lookup (nat_eq n) self.new ≡ (if number == n then None else lookup (nat_eq n) self.old) }
+        ensures values { (n : ℕ)
+            → lookup (nat_eq n) self.new
+            ≡ (if number == n then None else lookup (nat_eq n) self.old) }
         ensures len { length self.new + (if is_some result then 1 else 0) ≡ length self.old }
     {
         self.map.remove(&number)
@@ -99,8 +106,11 @@ impl<V> Others<V> {
     pub(crate) fn forget(&mut self, number: usize)
     where
         V: Drop,
-        ensures values { (n : ℕ) → lookup (nat_eq n) self.new ≡ (if number == n then None else lookup (nat_eq n) self.old) }
-        ensures len { length self.new + (if is_some (lookup (nat_eq number) self.old) then 1 else 0) ≡ length self.old }
+        ensures values { (n : ℕ)
+            → lookup (nat_eq n) self.new
+            ≡ (if number == n then None else lookup (nat_eq n) self.old) }
+        ensures len { length self.new + (if is_some (lookup (nat_eq number) self.old) then 1 else 0)
+            ≡ length self.old }
     {
         if !self.is_empty() {
             self.remove(number);
@@ -113,7 +123,8 @@ impl<V> Others<V> {
     ///
     /// `AllocError` where there is no memory for them.
     pub(crate) fn numbers(&self, alloc: Global) -> Result<Vec<usize>, AllocError>
-        ensures all { IfOk result (λ numbers. (n : ℕ) → is_member nat_eq numbers.items n ≡ is_some (lookup (nat_eq n) self.now)) }
+        ensures all { IfOk result (λ numbers.
+            (n : ℕ) → is_member nat_eq numbers.items n ≡ is_some (lookup (nat_eq n) self.now)) }
         ensures once { IfOk result (λ numbers. IsDistinct nat_eq numbers.items) }
         ensures len { IfOk result (λ numbers. length numbers.items ≡ length self.now) }
     {

@@ -33,7 +33,9 @@ pub(crate) fn stands_in<V>(slots: &Vec<Option<Entry<V>>>, number: usize) -> bool
 /// Whether the place of the number is free or its own.
 #[inline(always)]
 pub(crate) fn may_stand_in<V>(slots: &Vec<Option<Entry<V>>>, number: usize) -> bool
-    ensures { result ≡ (nat_lt (place_of number) (length slots.now.items) && is_free_for number (entry_at slots.now.items (place_of number))) }
+    ensures { result
+        ≡ (nat_lt (place_of number) (length slots.now.items) && is_free_for number
+        (entry_at slots.now.items (place_of number))) }
 {
     let place = place_of(number);
     place < slots.len() && is_free_for(&slots[place], number)
@@ -43,7 +45,9 @@ pub(crate) fn may_stand_in<V>(slots: &Vec<Option<Entry<V>>>, number: usize) -> b
 #[inline(always)]
 pub(crate) fn put<V: Drop>(slots: &mut Vec<Option<Entry<V>>>, number: usize, value: V)
     requires { place_of number < vec_len slots.old }
-    ensures { slots.new.items ≡ slice_set slots.old.items (place_of number) (Some (record { number = number; value = value })) }
+    ensures { slots.new.items
+        ≡ slice_set slots.old.items (place_of number)
+        (Some (record { number = number; value = value })) }
 {
     slots[place_of(number)] = Some(Entry { number, value });
 }
@@ -87,11 +91,18 @@ pub(crate) fn push_numbers<V>(
     numbers: &mut Vec<usize>,
 ) -> Result<(), AllocError>
     requires in_place { AreInPlace slots.now.items }
-    requires others { (n : ℕ) → has_number n (entry_at slots.now.items (place_of n)) ≡ true → is_member nat_eq numbers.old.items n ≡ false }
+    requires others { (n : ℕ)
+        → has_number n (entry_at slots.now.items (place_of n)) ≡ true
+        → is_member nat_eq numbers.old.items n ≡ false }
     requires once { IsDistinct nat_eq numbers.old.items }
-    ensures all { OnOk result ((n : ℕ) → is_member nat_eq numbers.new.items n ≡ (is_member nat_eq numbers.old.items n || has_number n (entry_at slots.now.items (place_of n)))) }
+    ensures all { OnOk result
+        ((n : ℕ)
+        → is_member nat_eq numbers.new.items n
+        ≡ (is_member nat_eq numbers.old.items n || has_number n
+        (entry_at slots.now.items (place_of n)))) }
     ensures once { OnOk result (IsDistinct nat_eq numbers.new.items) }
-    ensures len { OnOk result (length numbers.new.items ≡ length numbers.old.items + taken slots.now.items) }
+    ensures len { OnOk result
+        (length numbers.new.items ≡ length numbers.old.items + taken slots.now.items) }
 {
     for slot in slots {
         if let Some(entry) = slot {

@@ -67,7 +67,8 @@ fn oddities_of_parts(
     needed: &[Option<u64>],
     marks: &[bool],
 ) -> Result<Vec<Oddity>, AllocError>
-    ensures { IfOk result (λ found. found.items ≡ spec.oddities_of_parts plan.now needed.now marks.now) }
+    ensures { IfOk result
+        (λ found. found.items ≡ spec.oddities_of_parts plan.now needed.now marks.now) }
 {
     let mut found = Vec::new(alloc);
     push_pools(&mut found, plan, needed, marks)?;
@@ -82,7 +83,9 @@ fn push_pools(
     needed: &[Option<u64>],
     marks: &[bool],
 ) -> Result<(), AllocError>
-    ensures { OnOk result (found.new.items ≡ found.old.items ++ spec.oddities_of_pools plan.now needed.now marks.now) }
+    ensures { OnOk result
+        (found.new.items
+        ≡ found.old.items ++ spec.oddities_of_pools plan.now needed.now marks.now) }
 {
     for (number, pool) in plan.pools().iter().enumerate() {
         push_pool(found, plan, needed, marks, number, pool)?;
@@ -99,7 +102,9 @@ fn push_pool(
     number: usize,
     pool: &Pool,
 ) -> Result<(), AllocError>
-    ensures { OnOk result (found.new.items ≡ found.old.items ++ spec.oddities_of_pool plan.now needed.now marks.now number pool.now) }
+    ensures { OnOk result
+        (found.new.items
+        ≡ found.old.items ++ spec.oddities_of_pool plan.now needed.now marks.now number pool.now) }
 {
     if gets_a_job(plan, marks, number) {
         push_sizes(found, number, pool, most_at(needed, number))
@@ -115,7 +120,8 @@ fn push_sizes(
     pool: &Pool,
     most: Option<u64>,
 ) -> Result<(), AllocError>
-    ensures { OnOk result (found.new.items ≡ found.old.items ++ spec.oddities_of_sizes number pool.now most) }
+    ensures { OnOk result
+        (found.new.items ≡ found.old.items ++ spec.oddities_of_sizes number pool.now most) }
 {
     match most {
         None => Ok(()),
@@ -129,7 +135,8 @@ fn push_sizes_beside(
     pool: &Pool,
     most: u64,
 ) -> Result<(), AllocError>
-    ensures { OnOk result (found.new.items ≡ found.old.items ++ spec.oddities_beside number pool.now most) }
+    ensures { OnOk result
+        (found.new.items ≡ found.old.items ++ spec.oddities_beside number pool.now most) }
 {
     push_if(found, may_grow(pool), Oddity::UselessMax(number))?;
     push_if(
@@ -140,7 +147,8 @@ fn push_sizes_beside(
 }
 
 fn push_classes(found: &mut Vec<Oddity>, plan: &Plan, marks: &[bool]) -> Result<(), AllocError>
-    ensures { OnOk result (found.new.items ≡ found.old.items ++ spec.oddities_of_classes plan.now marks.now) }
+    ensures { OnOk result
+        (found.new.items ≡ found.old.items ++ spec.oddities_of_classes plan.now marks.now) }
 {
     for (number, class) in plan.classes().iter().enumerate() {
         push_class(found, plan, marks, number, class)?;
@@ -155,7 +163,9 @@ fn push_class(
     number: usize,
     class: &Class,
 ) -> Result<(), AllocError>
-    ensures { OnOk result (found.new.items ≡ found.old.items ++ spec.oddities_of_class plan.now marks.now number class.now) }
+    ensures { OnOk result
+        (found.new.items
+        ≡ found.old.items ++ spec.oddities_of_class plan.now marks.now number class.now) }
 {
     push_if(
         found,
@@ -180,7 +190,8 @@ fn push_client(
     number: usize,
     client: &Client,
 ) -> Result<(), AllocError>
-    ensures { OnOk result (found.new.items ≡ found.old.items ++ spec.oddities_of_client plan.now number client.now) }
+    ensures { OnOk result
+        (found.new.items ≡ found.old.items ++ spec.oddities_of_client plan.now number client.now) }
 {
     push_if(found, !client.repeat, Oddity::GoesOnce(number))?;
     push_if(found, are_a_crowd(plan, client), Oddity::Crowd(number))?;
@@ -195,7 +206,8 @@ fn push_work(
     number: usize,
     body: &[Action],
 ) -> Result<(), AllocError>
-    ensures { OnOk result (found.new.items ≡ found.old.items ++ spec.oddities_of_body plan.now part number body.now) }
+    ensures { OnOk result
+        (found.new.items ≡ found.old.items ++ spec.oddities_of_body plan.now part number body.now) }
 {
     for (place, action) in body.iter().enumerate() {
         push_action(found, plan, part, number, place, *action)?;
@@ -211,7 +223,9 @@ fn push_action(
     place: usize,
     action: Action,
 ) -> Result<(), AllocError>
-    ensures { OnOk result (found.new.items ≡ found.old.items ++ spec.oddities_of_action plan.now part number place action) }
+    ensures { OnOk result
+        (found.new.items
+        ≡ found.old.items ++ spec.oddities_of_action plan.now part number place action) }
 {
     match action {
         Action::Work(units) => push_if(

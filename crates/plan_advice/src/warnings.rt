@@ -34,7 +34,8 @@ pub fn warnings_of(
     plan: &Plan,
     needed: &[Option<u64>],
 ) -> Result<Vec<Warning>, AllocError>
-    ensures { IfOk result (λ warnings. spec.AreOddities plan.now needed.now (spec.warned_of warnings.items)) }
+    ensures { IfOk result
+        (λ warnings. spec.AreOddities plan.now needed.now (spec.warned_of warnings.items)) }
 {
     let oddities = oddities_of(alloc, plan, needed)?;
     let places = Places::of(alloc, text)?;

@@ -37,7 +37,8 @@ impl PoolNames {
     ///
     /// `AllocError` where there is no memory for a name.
     pub(crate) fn insert(&mut self, name: &str) -> Result<(), AllocError>
-        ensures { OnOk result ((q : List ℕ) → has_name self.new q ≡ (has_name self.old q || bytes_eq name.now q)) }
+        ensures { OnOk result
+            ((q : List ℕ) → has_name self.new q ≡ (has_name self.old q || bytes_eq name.now q)) }
     {
         if !self.names.contains(name) {
             let name = String::from_str(self.alloc, name)?;

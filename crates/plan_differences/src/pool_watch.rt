@@ -72,8 +72,14 @@ impl PoolWatch {
         line: &Line<'_>,
         found: &mut Vec<PoolDeviation>,
     ) -> Result<(), AllocError>
-        ensures taken { (before : List RecordedLine) → IsPoolWatchOf plan.now self.old before → OnOk result (IsPoolWatchOf plan.now self.new (before ++ line_seen line.now ∷ [])) }
-        ensures found { (before : List RecordedLine) → IsPoolWatchOf plan.now self.old before → OnOk result (Adds found.old.items (spec.deviations_by_line plan.now before number (line_seen line.now)) found.new.items) }
+        ensures taken { (before : List RecordedLine)
+            → IsPoolWatchOf plan.now self.old before
+            → OnOk result (IsPoolWatchOf plan.now self.new (before ++ line_seen line.now ∷ [])) }
+        ensures found { (before : List RecordedLine)
+            → IsPoolWatchOf plan.now self.old before
+            → OnOk result
+            (Adds found.old.items
+            (spec.deviations_by_line plan.now before number (line_seen line.now)) found.new.items) }
     {
         self.note(plan, number, line, found)
     }
@@ -84,7 +90,10 @@ impl PoolWatch {
     ///
     /// `AllocError` where there is no memory for what is found.
     pub fn finish(&self, plan: &Plan, found: &mut Vec<PoolDeviation>) -> Result<(), AllocError>
-        ensures { (lines : List RecordedLine) → IsPoolWatchOf plan.now self.now lines → OnOk result (Adds found.old.items (spec.deviations_at_end plan.now lines) found.new.items) }
+        ensures { (lines : List RecordedLine)
+            → IsPoolWatchOf plan.now self.now lines
+            → OnOk result
+            (Adds found.old.items (spec.deviations_at_end plan.now lines) found.new.items) }
     {
         if self.closed {
             self.push_unrecorded(plan, found)?;
@@ -100,7 +109,10 @@ impl PoolWatch {
         found: &mut Vec<PoolDeviation>,
     ) -> Result<(), AllocError>
         ensures noted { OnOk result (IsNoted plan.now self.old (line_seen line.now) self.new) }
-        ensures found { OnOk result (Adds found.old.items (spec.told_by_line plan.now (has_name self.old.named) (is_told self.old.told) number (line_seen line.now)) found.new.items) }
+        ensures found { OnOk result
+            (Adds found.old.items
+            (spec.told_by_line plan.now (has_name self.old.named) (is_told self.old.told) number (line_seen line.now))
+            found.new.items) }
     {
         match *line {
             Line::Pool { name, sizes } => self.note_pool(plan, number, name, &sizes, found),
@@ -120,8 +132,12 @@ impl PoolWatch {
         sizes: &PoolSizes,
         found: &mut Vec<PoolDeviation>,
     ) -> Result<(), AllocError>
-        ensures noted { OnOk result (IsNoted plan.now self.old (lines.Pool name.now sizes.now) self.new) }
-        ensures found { OnOk result (Adds found.old.items (spec.told_by_line plan.now (has_name self.old.named) (is_told self.old.told) number (lines.Pool name.now sizes.now)) found.new.items) }
+        ensures noted { OnOk result
+            (IsNoted plan.now self.old (lines.Pool name.now sizes.now) self.new) }
+        ensures found { OnOk result
+            (Adds found.old.items
+            (spec.told_by_line plan.now (has_name self.old.named) (is_told self.old.told) number (lines.Pool name.now sizes.now))
+            found.new.items) }
     {
         let is_first = !self.named.contains(name);
         self.named.insert(name)?;
@@ -143,7 +159,10 @@ impl PoolWatch {
         differences: &[Difference],
         found: &mut Vec<PoolDeviation>,
     ) -> Result<(), AllocError>
-        ensures { OnOk result (Adds found.old.items (map (spec.Differs line pool) (spec.untold (is_told self.now.told pool) differences.now)) found.new.items) }
+        ensures { OnOk result
+            (Adds found.old.items
+            (map (spec.Differs line pool) (spec.untold (is_told self.now.told pool) differences.now))
+            found.new.items) }
     {
         for difference in differences {
             if !self.told.contains(pool, *difference) {
@@ -158,7 +177,9 @@ impl PoolWatch {
     }
 
     fn push_unrecorded(&self, plan: &Plan, found: &mut Vec<PoolDeviation>) -> Result<(), AllocError>
-        ensures { OnOk result (Adds found.old.items (spec.unrecorded_by (has_name self.now.named) plan.now) found.new.items) }
+        ensures { OnOk result
+            (Adds found.old.items (spec.unrecorded_by (has_name self.now.named) plan.now)
+            found.new.items) }
     {
         for (number, pool) in plan.pools().iter().enumerate() {
             self.push_unless_named(number, pool, found)?;
@@ -172,7 +193,10 @@ impl PoolWatch {
         pool: &Pool,
         found: &mut Vec<PoolDeviation>,
     ) -> Result<(), AllocError>
-        ensures { OnOk result (Adds found.old.items (option_to_list (spec.unrecorded_at (has_name self.now.named) (number, pool.now))) found.new.items) }
+        ensures { OnOk result
+            (Adds found.old.items
+            (option_to_list (spec.unrecorded_at (has_name self.now.named) (number, pool.now)))
+            found.new.items) }
     {
         if !self.named.contains(&pool.name) {
             found.push(PoolDeviation::NotRecorded { pool: number })?;
@@ -199,7 +223,9 @@ fn push_unplanned(
     name: &str,
     found: &mut Vec<PoolDeviation>,
 ) -> Result<(), AllocError>
-    ensures { OnOk result (Adds found.old.items (if is_first then spec.NotPlanned number name.now ∷ [] else []) found.new.items) }
+    ensures { OnOk result
+        (Adds found.old.items (if is_first then spec.NotPlanned number name.now ∷ [] else [])
+        found.new.items) }
 {
     if is_first {
         let pool = String::from_str(alloc, name)?;

@@ -65,7 +65,8 @@ impl KindRounds {
         found: &mut Vec<RoundExcess>,
     ) -> Result<(), AllocError>
         ensures begun { OnOk result (self.new ≡ after_begin self.old) }
-        ensures found { OnOk result (found.new.items ≡ found.old.items ++ told_of_begin line kind self.old) }
+        ensures found { OnOk result
+            (found.new.items ≡ found.old.items ++ told_of_begin line kind self.old) }
     {
         match self.begin()? {
             Some(excess) => {
@@ -99,7 +100,8 @@ impl RoundWatch {
     ///
     /// `AllocError` where there is no memory for each kind of clients.
     pub fn new(alloc: Global, plan: &Plan) -> Result<RoundWatch, AllocError>
-        ensures { (kinds : List (Option ℕ)) → IfOk result (λ watch. IsRoundWatchOf plan.now kinds watch []) }
+        ensures { (kinds : List (Option ℕ))
+            → IfOk result (λ watch. IsRoundWatchOf plan.now kinds watch []) }
     {
         let mut kinds = Vec::new(alloc);
         for client in plan.clients() {
@@ -125,8 +127,17 @@ impl RoundWatch {
         line: &Line<'_>,
         found: &mut Vec<RoundExcess>,
     ) -> Result<(), AllocError>
-        ensures taken { (plan : plans.Plan) (before : List RecordedLine) → KeepsRules (before ++ line_seen line.now ∷ []) → IsRoundWatchOf plan kinds.now self.old before → OnOk result (IsRoundWatchOf plan kinds.now self.new (before ++ line_seen line.now ∷ [])) }
-        ensures found { (plan : plans.Plan) (before : List RecordedLine) → IsRoundWatchOf plan kinds.now self.old before → OnOk result (found.new.items ≡ found.old.items ++ spec.excesses_by_line plan kinds.now before number (line_seen line.now)) }
+        ensures taken { (plan : plans.Plan) (before : List RecordedLine)
+            → KeepsRules (before ++ line_seen line.now ∷ [])
+            → IsRoundWatchOf plan kinds.now self.old before
+            → OnOk result
+            (IsRoundWatchOf plan kinds.now self.new (before ++ line_seen line.now ∷ [])) }
+        ensures found { (plan : plans.Plan) (before : List RecordedLine)
+            → IsRoundWatchOf plan kinds.now self.old before
+            → OnOk result
+            (found.new.items
+            ≡ found.old.items
+            ++ spec.excesses_by_line plan kinds.now before number (line_seen line.now)) }
     {
         self.note(kinds, number, line, found)
     }
@@ -139,7 +150,9 @@ impl RoundWatch {
         found: &mut Vec<RoundExcess>,
     ) -> Result<(), AllocError>
         ensures counted { OnOk result (IsCounted kinds.now self.old (line_seen line.now) self.new) }
-        ensures found { OnOk result (found.new.items ≡ found.old.items ++ told_by_line kinds.now self.old number (line_seen line.now)) }
+        ensures found { OnOk result
+            (found.new.items
+            ≡ found.old.items ++ told_by_line kinds.now self.old number (line_seen line.now)) }
     {
         match *line {
             Line::RoundBegins { round, .. } => match kind_of(kinds, round) {
@@ -163,8 +176,14 @@ impl RoundWatch {
         number: usize,
         found: &mut Vec<RoundExcess>,
     ) -> Result<(), AllocError>
-        ensures begun { OnOk result ((k : ℕ) → slice_get self.new.kinds.items k ≡ (if kind == k then option_map after_begin (slice_get self.old.kinds.items k) else slice_get self.old.kinds.items k)) }
-        ensures found { OnOk result (found.new.items ≡ found.old.items ++ told_of_kind number kind (slice_get self.old.kinds.items kind)) }
+        ensures begun { OnOk result
+            ((k : ℕ)
+            → slice_get self.new.kinds.items k
+            ≡ (if kind == k then option_map after_begin (slice_get self.old.kinds.items k) else
+            slice_get self.old.kinds.items k)) }
+        ensures found { OnOk result
+            (found.new.items
+            ≡ found.old.items ++ told_of_kind number kind (slice_get self.old.kinds.items kind)) }
     {
         match self.kinds.get_mut(kind) {
             Some(rounds) => rounds.note_begin(number, kind, found),
@@ -174,7 +193,10 @@ impl RoundWatch {
 
     // A round of this kind ends.
     fn end(&mut self, kind: usize)
-        ensures { (k : ℕ) → slice_get self.new.kinds.items k ≡ (if kind == k then option_map after_end (slice_get self.old.kinds.items k) else slice_get self.old.kinds.items k) }
+        ensures { (k : ℕ)
+            → slice_get self.new.kinds.items k
+            ≡ (if kind == k then option_map after_end (slice_get self.old.kinds.items k) else
+            slice_get self.old.kinds.items k) }
     {
         if let Some(rounds) = self.kinds.get_mut(kind) {
             rounds.end();

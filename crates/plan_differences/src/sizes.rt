@@ -21,8 +21,10 @@ pub fn differences(
     pool: &Pool,
     is_first: bool,
 ) -> Result<Vec<Difference>, AllocError>
-    ensures exact { IfOk result (λ found. found.items ≡ spec.differences is_first sizes.now pool.now) }
-    ensures none { IfOk result (λ found. (found.items ≡ []) ↔ spec.IsAsPlanned is_first sizes.now pool.now) }
+    ensures exact { IfOk result
+        (λ found. found.items ≡ spec.differences is_first sizes.now pool.now) }
+    ensures none { IfOk result
+        (λ found. (found.items ≡ []) ↔ spec.IsAsPlanned is_first sizes.now pool.now) }
 {
     let mut found = Vec::new(alloc);
     let (recorded, planned) = (sizes.core as u64, pool.core);

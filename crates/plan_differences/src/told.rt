@@ -25,7 +25,8 @@ pub(crate) struct ToldDifferences {
 impl ToldDifferences {
     /// None so far.
     pub(crate) fn new(alloc: Global) -> ToldDifferences
-        ensures { (pool : ℕ) (difference : Known.Difference) → is_told result pool difference ≡ false }
+        ensures { (pool : ℕ) (difference : Known.Difference)
+            → is_told result pool difference ≡ false }
     {
         ToldDifferences {
             items: Vec::new(alloc),
@@ -48,7 +49,11 @@ impl ToldDifferences {
         pool: usize,
         differences: &[Difference],
     ) -> Result<(), AllocError>
-        ensures { OnOk result ((one : ℕ) (difference : Known.Difference) → is_told self.new one difference ≡ (is_told self.old one difference || (pool == one && is_among differences.now difference))) }
+        ensures { OnOk result
+            ((one : ℕ) (difference : Known.Difference)
+            → is_told self.new one difference
+            ≡ (is_told self.old one difference ||
+            (pool == one && is_among differences.now difference))) }
     {
         for difference in differences {
             self.insert(pool, *difference)?;
@@ -57,7 +62,11 @@ impl ToldDifferences {
     }
 
     fn insert(&mut self, pool: usize, difference: Difference) -> Result<(), AllocError>
-        ensures { OnOk result ((one : ℕ) (other : Known.Difference) → is_told self.new one other ≡ (is_told self.old one other || (pool == one && is_same_difference difference other))) }
+        ensures { OnOk result
+            ((one : ℕ) (other : Known.Difference)
+            → is_told self.new one other
+            ≡ (is_told self.old one other ||
+            (pool == one && is_same_difference difference other))) }
     {
         if !self.contains(pool, difference) {
             self.items.push(PoolDifference { pool, difference })?;

@@ -26,11 +26,18 @@ pub fn classes_of_path(
     course: Course,
     budget: u64,
 ) -> Result<PathFamily, AllocError>
-    ensures sound { IfOk result (λ told. All (IsClassOf plan.now label.now pool.now course path.now) told.members.items) }
+    ensures sound { IfOk result
+        (λ told. All (IsClassOf plan.now label.now pool.now course path.now) told.members.items) }
     ensures ascending { IfOk result (λ told. IsStrictlyIncreasing told.members.items) }
-    ensures exact { IfOk result (λ told. IsTrue told.is_decided → AreExactly (IsClassOf plan.now label.now pool.now course path.now) told.members.items) }
-    ensures explained { IfOk result (λ told. IsTrue told.is_decided → IsMostExplained (class_bodies plan.now label.now pool.now) path.now told.explained) }
-    ensures decided { IfOk result (λ told. All (IsEnoughFor budget) (class_bodies plan.now label.now pool.now) → IsTrue told.is_decided) }
+    ensures exact { IfOk result (λ told.
+        IsTrue told.is_decided
+        → AreExactly (IsClassOf plan.now label.now pool.now course path.now) told.members.items) }
+    ensures explained { IfOk result (λ told.
+        IsTrue told.is_decided
+        → IsMostExplained (class_bodies plan.now label.now pool.now) path.now told.explained) }
+    ensures decided { IfOk result (λ told.
+        All (IsEnoughFor budget) (class_bodies plan.now label.now pool.now)
+        → IsTrue told.is_decided) }
 {
     let mut told = PathFamily::new(alloc);
     for class in 0..plan.classes().len() {
@@ -55,11 +62,17 @@ pub fn kinds_of_path(
     course: Course,
     budget: u64,
 ) -> Result<PathFamily, AllocError>
-    ensures sound { IfOk result (λ told. All (IsKindOf plan.now label.now course path.now) told.members.items) }
+    ensures sound { IfOk result
+        (λ told. All (IsKindOf plan.now label.now course path.now) told.members.items) }
     ensures ascending { IfOk result (λ told. IsStrictlyIncreasing told.members.items) }
-    ensures exact { IfOk result (λ told. IsTrue told.is_decided → AreExactly (IsKindOf plan.now label.now course path.now) told.members.items) }
-    ensures explained { IfOk result (λ told. IsTrue told.is_decided → IsMostExplained (client_bodies plan.now label.now) path.now told.explained) }
-    ensures decided { IfOk result (λ told. All (IsEnoughFor budget) (client_bodies plan.now label.now) → IsTrue told.is_decided) }
+    ensures exact { IfOk result (λ told.
+        IsTrue told.is_decided
+        → AreExactly (IsKindOf plan.now label.now course path.now) told.members.items) }
+    ensures explained { IfOk result (λ told.
+        IsTrue told.is_decided
+        → IsMostExplained (client_bodies plan.now label.now) path.now told.explained) }
+    ensures decided { IfOk result (λ told.
+        All (IsEnoughFor budget) (client_bodies plan.now label.now) → IsTrue told.is_decided) }
 {
     let mut told = PathFamily::new(alloc);
     for kind in 0..plan.clients().len() {

@@ -27,7 +27,8 @@ pub struct PathFamily {
 impl PathFamily {
     /// No body was asked yet.
     pub(crate) fn new(alloc: Global) -> PathFamily
-        ensures { (body_of : ℕ → List Action) (course : Course) (path : List Deed) (budget : ℕ) → Tells result body_of course path budget [] }
+        ensures { (body_of : ℕ → List Action) (course : Course) (path : List Deed) (budget : ℕ)
+            → Tells result body_of course path budget [] }
     {
         PathFamily {
             members: Vec::new(alloc),
@@ -46,7 +47,10 @@ impl PathFamily {
         budget: u64,
     ) -> Result<(), AllocError>
         requires { length body.now ≤ MAX_ACTIONS }
-        ensures { (body_of : ℕ → List Action) (asked : List ℕ) → body_of number ≡ body.now → Tells self.old body_of course path.now budget asked → OnOk result (Tells self.new body_of course path.now budget (asked ++ number ∷ [])) }
+        ensures { (body_of : ℕ → List Action) (asked : List ℕ)
+            → body_of number ≡ body.now
+            → Tells self.old body_of course path.now budget asked
+            → OnOk result (Tells self.new body_of course path.now budget (asked ++ number ∷ [])) }
     {
         match path_fits(body, path, course, budget) {
             PathFit::Fits => {

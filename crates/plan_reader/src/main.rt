@@ -71,7 +71,8 @@ fn as_texts(alloc: Global, text: &str) -> Result<(), PlanFault> {
 /// Reads the text as JSON alone, and lets the value go.
 fn as_json(alloc: Global, text: &str) -> Result<(), PlanFault>
     ensures ok { OnOk result (IsOk (some_or (read text.now) (at_text NOT_JSON))) }
-    ensures fault { IfErr result (λ fault. fault ≢ at_text MEMORY → some_or (read text.now) (at_text NOT_JSON) ≡ Err fault) }
+    ensures fault { IfErr result
+        (λ fault. fault ≢ at_text MEMORY → some_or (read text.now) (at_text NOT_JSON) ≡ Err fault) }
 {
     match Value::from_str(alloc, text) {
         Ok(_value) => Ok(()),

@@ -36,7 +36,8 @@ impl ActionPlace {
 }
 
 fn class_named(classes: &Names, place: ActionPlace, name: &str) -> Result<usize, TextError>
-    ensures { Gives (λ class. class) result (spec.class_named classes.now (at_action place.part place.index place.action) name.now) }
+    ensures { Gives (λ class. class) result
+        (spec.class_named classes.now (at_action place.part place.index place.action) name.now) }
 {
     classes
         .place(name)
@@ -49,8 +50,14 @@ fn action_of<'a>(
     place: ActionPlace,
     order: Order<'a>,
 ) -> Result<Action, TextError>
-    ensures action { Gives (λ action. action) result (spec.action_of classes.now (position_in slots.old) (at_action place.part place.index place.action) (order_view order.entry)) }
-    ensures slots { OnOk result ((slot : List ℕ) → position_in slots.new slot ≡ filled_by slot place.action (position_in slots.old slot) (Some (order_view order.entry))) }
+    ensures action { Gives (λ action. action) result
+        (spec.action_of classes.now (position_in slots.old)
+        (at_action place.part place.index place.action) (order_view order.entry)) }
+    ensures slots { OnOk result
+        ((slot : List ℕ)
+        → position_in slots.new slot
+        ≡ filled_by slot place.action (position_in slots.old slot)
+        (Some (order_view order.entry))) }
 {
     match order {
         Order::Work(units) => Ok(Action::Work(units)),
@@ -83,8 +90,13 @@ fn action_at<'a>(
     place: ActionPlace,
     text: &'a str,
 ) -> Result<Action, TextError>
-    ensures action { Gives (λ action. action) result (spec.action_at classes.now (position_in slots.old) (at_action place.part place.index place.action) text.now) }
-    ensures slots { OnOk result ((slot : List ℕ) → position_in slots.new slot ≡ filled_by slot place.action (position_in slots.old slot) (order_of text.now)) }
+    ensures action { Gives (λ action. action) result
+        (spec.action_at classes.now (position_in slots.old)
+        (at_action place.part place.index place.action) text.now) }
+    ensures slots { OnOk result
+        ((slot : List ℕ)
+        → position_in slots.new slot
+        ≡ filled_by slot place.action (position_in slots.old slot) (order_of text.now)) }
 {
     match order_of(text) {
         Some(order) => action_of(classes, slots, place, order),
@@ -99,7 +111,8 @@ fn body_of<'a>(
     index: usize,
     texts: &[&'a str],
 ) -> Result<Vec<Action>, TextError>
-    ensures { Gives (λ body. body.items) result (spec.body_of classes.now part index (map (λ text. text.now) texts.now)) }
+    ensures { Gives (λ body. body.items) result
+        (spec.body_of classes.now part index (map (λ text. text.now) texts.now)) }
 {
     let mut slots = Slots::new(alloc);
     let mut body = Vec::new(alloc);
@@ -164,7 +177,8 @@ pub fn classes_of<'p, 'd: 'p>(
     names: &Names<'p>,
     entries: Vec<ClassEntry<'d>>,
 ) -> Result<Vec<Class>, TextError>
-    ensures { Gives (λ classes. classes.items) result (each.read_each (spec.class_of pools.now names.now) 0 entries.entry.items) }
+    ensures { Gives (λ classes. classes.items) result
+        (each.read_each (spec.class_of pools.now names.now) 0 entries.entry.items) }
 {
     let mut classes = Vec::new(alloc);
     for entry in entries {
@@ -180,7 +194,8 @@ pub fn clients_of<'a>(
     names: &Names<'a>,
     entries: &[ClientEntry<'a>],
 ) -> Result<Vec<Client>, TextError>
-    ensures { Gives (λ clients. clients.items) result (each.read_each (spec.client_of names.now) 0 entries.now) }
+    ensures { Gives (λ clients. clients.items) result
+        (each.read_each (spec.client_of names.now) 0 entries.now) }
 {
     read_each(
         alloc,

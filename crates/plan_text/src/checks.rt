@@ -49,7 +49,9 @@ fn check_class<'a>(
     index: usize,
     class: &ClassEntry<'a>,
 ) -> Result<(), TextError>
-    ensures check { Gives (λ _. tt) result (checks.check_class (length pools.now) names.old index (spec.class_head pools.now class.now)) }
+    ensures check { Gives (λ _. tt) result
+        (checks.check_class (length pools.now) names.old index
+        (spec.class_head pools.now class.now)) }
     ensures names { OnOk result (names.new ≡ names.old ++ class.now.name ∷ []) }
 {
     check_name(names, Part::Class, index, class.name)?;
@@ -64,7 +66,8 @@ fn check_client<'a>(
     index: usize,
     client: &ClientEntry<'a>,
 ) -> Result<(), TextError>
-    ensures check { Gives (λ _. tt) result (checks.check_client names.old index (spec.client_head client.now)) }
+    ensures check { Gives (λ _. tt) result
+        (checks.check_client names.old index (spec.client_head client.now)) }
     ensures names { OnOk result (names.new ≡ names.old ++ client.now.name ∷ []) }
 {
     check_name(names, Part::Client, index, client.name)?;

@@ -61,14 +61,17 @@ pub fn has_only(table: &Table, keys: &[&str]) -> bool
 }
 
 fn are_among(table: &Table, known: &[&str]) -> bool
-    ensures { result ≡ list_all (λ key. list_any (λ k. bytes_eq k.now (string_bytes key)) known.now) (keys table.now) }
+    ensures { result
+        ≡ list_all (λ key. list_any (λ k. bytes_eq k.now (string_bytes key)) known.now)
+        (keys table.now) }
 {
     table.keys().all(|key| known.contains(&key.as_str()))
 }
 
 /// The value at a key.
 pub fn value_at<'a>(table: &'a Table, key: &str) -> Option<&'a Value>
-    ensures { option_map (λ value. view value.now) result ≡ get_member key.now (table_view table.now) }
+    ensures { option_map (λ value. view value.now) result
+        ≡ get_member key.now (table_view table.now) }
 {
     table.get(key)
 }
@@ -84,7 +87,8 @@ pub fn list_in(value: &Value) -> Option<&[Value]>
 /// The entries of a list at the top, none where its key is absent.
 #[tactic(auto, unfolding(crate::specs::Document::list_at))]
 pub fn list_at<'a>(document: &'a Table, key: &str, most: usize) -> Result<&'a [Value], TextError>
-    ensures { Gives (λ values. map view values.now) result (spec.list_at key.now most (table_view document.now)) }
+    ensures { Gives (λ values. map view values.now) result
+        (spec.list_at key.now most (table_view document.now)) }
 {
     let values = list_of(value_at(document, key))?;
     if values.len() > most {
@@ -94,7 +98,8 @@ pub fn list_at<'a>(document: &'a Table, key: &str, most: usize) -> Result<&'a [V
 }
 
 fn list_of(value: Option<&Value>) -> Result<&[Value], TextError>
-    ensures { Gives (λ values. map view values.now) result (spec.list_of (option_map (λ value. view value.now) value.entry)) }
+    ensures { Gives (λ values. map view values.now) result
+        (spec.list_of (option_map (λ value. view value.now) value.entry)) }
 {
     let Some(value) = value else {
         return Ok(&[]);

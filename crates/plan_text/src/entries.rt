@@ -109,13 +109,15 @@ fn read_client(alloc: Global, index: usize, value: &Value) -> Result<ClientEntry
 }
 
 fn pools_of(alloc: Global, values: &[Value]) -> Result<Vec<Pool>, TextError>
-    ensures { Gives (λ pools. pools.items) result (each.read_each spec.read_pool 0 (map view values.now)) }
+    ensures { Gives (λ pools. pools.items) result
+        (each.read_each spec.read_pool 0 (map view values.now)) }
 {
     read_each(alloc, values, |index, value| read_pool(alloc, index, value))
 }
 
 fn class_entries_of(alloc: Global, values: &[Value]) -> Result<Vec<ClassEntry<'_>>, TextError>
-    ensures { Gives (λ classes. classes.items) result (each.read_each spec.read_class 0 (map view values.now)) }
+    ensures { Gives (λ classes. classes.items) result
+        (each.read_each spec.read_class 0 (map view values.now)) }
 {
     read_each(
         alloc,
@@ -125,7 +127,8 @@ fn class_entries_of(alloc: Global, values: &[Value]) -> Result<Vec<ClassEntry<'_
 }
 
 fn client_entries_of(alloc: Global, values: &[Value]) -> Result<Vec<ClientEntry<'_>>, TextError>
-    ensures { Gives (λ clients. clients.items) result (each.read_each spec.read_client 0 (map view values.now)) }
+    ensures { Gives (λ clients. clients.items) result
+        (each.read_each spec.read_client 0 (map view values.now)) }
 {
     read_each(
         alloc,

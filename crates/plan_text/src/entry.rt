@@ -39,7 +39,8 @@ impl<'a> Entry<'a> {
         index: usize,
         keys: &[&str],
     ) -> Result<Entry<'a>, TextError>
-        ensures { Gives entry_view result (spec.entry_of part index (map (λ key. key.now) keys.now) (view value.now)) }
+        ensures { Gives entry_view result
+            (spec.entry_of part index (map (λ key. key.now) keys.now) (view value.now)) }
     {
         let Some(table) = value.as_table() else {
             return Err(ReadError::Fault(PlanFault::at_entry(part, index, WRONG_TYPE)));
@@ -57,7 +58,8 @@ impl<'a> Entry<'a> {
     }
 
     fn value(&self, key: &str) -> Result<&'a Value, TextError>
-        ensures { Gives (λ value. view value.now) result (spec.value_at (entry_view self.now) key.now) }
+        ensures { Gives (λ value. view value.now) result
+            (spec.value_at (entry_view self.now) key.now) }
     {
         value_at(self.table, key).ok_or(self.refuses(MISSING_KEY))
     }
@@ -95,7 +97,8 @@ impl<'a> Entry<'a> {
     /// The texts at a key, as many as a body may have.
     #[tactic(auto, unfolding(crate::specs::Entry::texts_at))]
     pub fn texts(&self, alloc: Global, key: &str) -> Result<Vec<&'a str>, TextError>
-        ensures { Gives (λ texts. map (λ text. text.now) texts.items) result (spec.texts_at (entry_view self.now) key.now) }
+        ensures { Gives (λ texts. map (λ text. text.now) texts.items) result
+            (spec.texts_at (entry_view self.now) key.now) }
     {
         let value = self.value(key)?;
         let Some(values) = list_in(value) else {
@@ -109,7 +112,8 @@ impl<'a> Entry<'a> {
 }
 
 fn action_text(part: Part, index: usize, action: usize, value: &Value) -> Result<&str, TextError>
-    ensures { Gives (λ text. text.now) result (spec.action_text part index action (view value.now)) }
+    ensures { Gives (λ text. text.now) result
+        (spec.action_text part index action (view value.now)) }
 {
     value.as_str().ok_or_else(|| ReadError::Fault(PlanFault::at_action(
         part, index, action, WRONG_TYPE,
@@ -122,7 +126,8 @@ fn action_texts(
     index: usize,
     values: &[Value],
 ) -> Result<Vec<&str>, TextError>
-    ensures { Gives (λ texts. map (λ text. text.now) texts.items) result (each.read_each (spec.action_text part index) 0 (map view values.now)) }
+    ensures { Gives (λ texts. map (λ text. text.now) texts.items) result
+        (each.read_each (spec.action_text part index) 0 (map view values.now)) }
 {
     read_each(
         alloc,

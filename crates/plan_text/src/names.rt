@@ -32,8 +32,10 @@ impl<'a> Names<'a> {
 
     /// Adds a name at the end, where it is new, and answers whether it is.
     pub fn add(&mut self, name: &'a str) -> Result<bool, AllocError>
-        ensures is_new { IfOk result (λ is_new. is_new ≡ not (list_any (bytes_eq name.now) self.old)) }
-        ensures names { IfOk result (λ is_new. self.new ≡ (if is_new then self.old ++ name.now ∷ [] else self.old)) }
+        ensures is_new { IfOk result
+            (λ is_new. is_new ≡ not (list_any (bytes_eq name.now) self.old)) }
+        ensures names { IfOk result
+            (λ is_new. self.new ≡ (if is_new then self.old ++ name.now ∷ [] else self.old)) }
     {
         let is_new = self.names.insert(name)?;
         Ok(is_new)

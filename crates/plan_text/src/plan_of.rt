@@ -20,7 +20,8 @@ use std::alloc::Global;
 /// nothing else is then said of the text.
 pub fn read_plan(alloc: Global, bytes: &[u8]) -> Result<Plan, PlanFault>
     ensures plan { IfOk result (λ plan. spec.plan_of bytes.now ≡ Ok plan) }
-    ensures fault { IfErr result (λ fault. fault ≢ at_text MEMORY → spec.plan_of bytes.now ≡ Err fault) }
+    ensures fault { IfErr result
+        (λ fault. fault ≢ at_text MEMORY → spec.plan_of bytes.now ≡ Err fault) }
 {
     match plan_of(alloc, bytes) {
         Ok(plan) => Ok(plan),
@@ -58,7 +59,9 @@ fn bodies_of<'p, 'd: 'p>(
     classes: Vec<ClassEntry<'d>>,
     clients: &[ClientEntry<'d>],
 ) -> Result<Bodies, TextError>
-    ensures { Gives (λ bodies. given pools.now bodies.classes.items bodies.clients.items) result (spec.plan_of_entries (record { pools = pools.now; classes = classes.entry.items; clients = clients.now })) }
+    ensures { Gives (λ bodies. given pools.now bodies.classes.items bodies.clients.items) result
+        (spec.plan_of_entries
+        (record { pools = pools.now; classes = classes.entry.items; clients = clients.now })) }
 {
     let pool_names = check_pools(alloc, pools)?;
     let class_names = check_classes(alloc, &pool_names, &classes)?;

@@ -39,7 +39,10 @@ impl<'a> Slots<'a> {
 
     /// Fills the slot.
     pub fn fill(&mut self, slot: &'a str, position: usize) -> Result<(), AllocError>
-        ensures { OnOk result ((other : List ℕ) → position_in self.new other ≡ (if bytes_eq slot.now other then Some position else position_in self.old other)) }
+        ensures { OnOk result
+            ((other : List ℕ)
+            → position_in self.new other
+            ≡ (if bytes_eq slot.now other then Some position else position_in self.old other)) }
     {
         self.positions.insert(slot, position)?;
         Ok(())
@@ -47,7 +50,9 @@ impl<'a> Slots<'a> {
 
     /// Empties the slot.
     pub fn empty(&mut self, slot: &str)
-        ensures { (other : List ℕ) → position_in self.new other ≡ (if bytes_eq slot.now other then None else position_in self.old other) }
+        ensures { (other : List ℕ)
+            → position_in self.new other
+            ≡ (if bytes_eq slot.now other then None else position_in self.old other) }
     {
         let _position = self.positions.swap_remove(slot);
     }

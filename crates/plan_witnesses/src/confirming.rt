@@ -39,7 +39,8 @@ pub fn confirmed(
     members: Vec<usize>,
     standing: &[Vector],
 ) -> Result<Option<Witness>, AllocError>
-    ensures witness { IfOk result (λ found. IfSome found (λ witness. IsWitness plan.now witness.events.items witness.ending)) }
+    ensures witness { IfOk result (λ found.
+        IfSome found (λ witness. IsWitness plan.now witness.events.items witness.ending)) }
     ensures answer { IfOk result (IsAnswer plan.now events.items members.items standing.now) }
 {
     let mut world = World::start(alloc, plan)?;
@@ -71,7 +72,8 @@ fn stuck(
     standing: &[Vector],
 ) -> Option<Witness>
     requires { ComesTo plan.now events.items world.now.view }
-    ensures witness { IfSome result (λ witness. IsWitness plan.now witness.events.items witness.ending) }
+    ensures witness { IfSome result
+        (λ witness. IsWitness plan.now witness.events.items witness.ending) }
     ensures answer { IsAnswer plan.now events.items members.items standing.now result }
 {
     if !are_rising(&members) {
@@ -90,7 +92,10 @@ fn stuck(
 /// Why members that wait only for each other do so for ever; None where that is not shown.
 fn reason(plan: &Plan, world: &World, members: &[usize], standing: &[Vector]) -> Option<Reason>
     requires { IsOf plan.now world.now.view }
-    ensures { (s : State) → IsReached plan.now s → live_view plan.now s ≡ world.now.view → IsReason plan.now members.now standing.now s result }
+    ensures { (s : State)
+        → IsReached plan.now s
+        → live_view plan.now s ≡ world.now.view
+        → IsReason plan.now members.now standing.now s result }
 {
     // A plan is well formed, which the contract of this call says.
     let _pools = plan.pools();

@@ -27,7 +27,9 @@ pub(crate) fn all_start_none(
 
 fn job_starts_none(plan: &Plan, world: &World, member: usize, standing: &[Vector]) -> bool
     requires { IsOf plan.now world.now.view }
-    ensures { result ≡ spec.job_starts_none plan.now world.now.view standing.now (live_job world.now.view.jobs member) }
+    ensures { result
+        ≡ spec.job_starts_none plan.now world.now.view standing.now
+        (live_job world.now.view.jobs member) }
 {
     let Some(job) = world.job(member) else {
         return true;
@@ -40,7 +42,9 @@ fn job_starts_none(plan: &Plan, world: &World, member: usize, standing: &[Vector
 
 fn class_starts_none(plan: &Plan, world: &World, class: usize, standing: &[Vector]) -> bool
     requires { IsOf plan.now world.now.view }
-    ensures { result ≡ spec.class_starts_none plan.now world.now.view standing.now (slice_get plan.now.classes class) }
+    ensures { result
+        ≡ spec.class_starts_none plan.now world.now.view standing.now
+        (slice_get plan.now.classes class) }
 {
     match plan.classes().get(class) {
         Some(class) => pool_starts_none(plan, world, class.pool, standing),

@@ -16,7 +16,8 @@ use toml::{Table, Value};
 
 /// Puts a value at a key.
 fn put(alloc: Global, table: &mut Table, key: &str, value: Value) -> Result<(), AllocError>
-    ensures { OnOk result (table_view table.new ≡ spec.with_member key.now (view value) (table_view table.old)) }
+    ensures { OnOk result
+        (table_view table.new ≡ spec.with_member key.now (view value) (table_view table.old)) }
 {
     let key = String::from_str(alloc, key)?;
     let _before = table.insert(key, value)?;
@@ -25,7 +26,10 @@ fn put(alloc: Global, table: &mut Table, key: &str, value: Value) -> Result<(), 
 
 /// Puts true at a key, where the flag holds.
 fn put_flag(alloc: Global, table: &mut Table, key: &str, flag: bool) -> Result<(), AllocError>
-    ensures { OnOk result (table_view table.new ≡ (if flag then spec.with_member key.now (boolean true) (table_view table.old) else table_view table.old)) }
+    ensures { OnOk result
+        (table_view table.new
+        ≡ (if flag then spec.with_member key.now (boolean true) (table_view table.old) else
+        table_view table.old)) }
 {
     if flag {
         put(alloc, table, key, Value::Boolean(true))?;
@@ -73,7 +77,10 @@ fn class_value(
     classes: &[Class],
     class: &Class,
 ) -> Result<Value, AllocError>
-    ensures { IfOk result (λ value. view value ≡ spec.class_data (map (λ pool. pool.name) pools.now) (map (λ class. class.name) classes.now) class.now) }
+    ensures { IfOk result (λ value.
+        view value
+        ≡ spec.class_data (map (λ pool. pool.name) pools.now)
+        (map (λ class. class.name) classes.now) class.now) }
 {
     let mut table = Table::new(alloc);
     put(
@@ -99,7 +106,8 @@ fn class_value(
 
 fn client_value(alloc: Global, classes: &[Class], client: &Client) -> Result<Value, AllocError>
     requires { is_within 1 MAX_SIZE client.now.count ≡ true }
-    ensures { IfOk result (λ value. view value ≡ spec.client_data (map (λ class. class.name) classes.now) client.now) }
+    ensures { IfOk result (λ value.
+        view value ≡ spec.client_data (map (λ class. class.name) classes.now) client.now) }
 {
     let mut table = Table::new(alloc);
     put(
@@ -120,7 +128,8 @@ fn client_value(alloc: Global, classes: &[Class], client: &Client) -> Result<Val
 }
 
 fn pool_values(alloc: Global, plan: &Plan) -> Result<Value, AllocError>
-    ensures { IfOk result (λ value. view value ≡ spec.list_data (map spec.pool_data plan.now.pools)) }
+    ensures { IfOk result
+        (λ value. view value ≡ spec.list_data (map spec.pool_data plan.now.pools)) }
 {
     let mut values = Vec::new(alloc);
     for pool in plan.pools() {
@@ -131,7 +140,11 @@ fn pool_values(alloc: Global, plan: &Plan) -> Result<Value, AllocError>
 
 fn class_values(alloc: Global, plan: &Plan) -> Result<Value, AllocError>
     ensures well_formed { IsWellFormed plan.now }
-    ensures value { IfOk result (λ value. view value ≡ spec.list_data (map (spec.class_data (pool_names plan.now) (map (λ class. class.name) plan.now.classes)) plan.now.classes)) }
+    ensures value { IfOk result (λ value.
+        view value
+        ≡ spec.list_data
+        (map (spec.class_data (pool_names plan.now) (map (λ class. class.name) plan.now.classes))
+        plan.now.classes)) }
 {
     let pools = plan.pools();
     let classes = plan.classes();
@@ -143,7 +156,10 @@ fn class_values(alloc: Global, plan: &Plan) -> Result<Value, AllocError>
 }
 
 fn client_values(alloc: Global, plan: &Plan) -> Result<Value, AllocError>
-    ensures { IfOk result (λ value. view value ≡ spec.list_data (map (spec.client_data (map (λ class. class.name) plan.now.classes)) plan.now.clients)) }
+    ensures { IfOk result (λ value.
+        view value
+        ≡ spec.list_data
+        (map (spec.client_data (map (λ class. class.name) plan.now.classes)) plan.now.clients)) }
 {
     let classes = plan.classes();
     let mut values = Vec::new(alloc);

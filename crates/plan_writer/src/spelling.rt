@@ -48,7 +48,9 @@ fn action_text(
     position: usize,
     action: Action,
 ) -> Result<String, AllocError>
-    ensures { IfOk result (λ text. string_bytes text ≡ spec.action_text (map (λ class. class.name) classes.now) body.now position action) }
+    ensures { IfOk result (λ text.
+        string_bytes text
+        ≡ spec.action_text (map (λ class. class.name) classes.now) body.now position action) }
 {
     match action {
         Action::Work(units) => format!(in alloc; "work {units}"),
@@ -63,7 +65,9 @@ fn action_text(
 
 /// The texts of a body.
 pub fn body_value(alloc: Global, classes: &[Class], body: &[Action]) -> Result<Value, AllocError>
-    ensures { IfOk result (λ value. view value ≡ texts_data (spec.body_texts (map (λ class. class.name) classes.now) body.now)) }
+    ensures { IfOk result (λ value.
+        view value
+        ≡ texts_data (spec.body_texts (map (λ class. class.name) classes.now) body.now)) }
 {
     let mut texts = Vec::new(alloc);
     for (position, action) in body.iter().enumerate() {

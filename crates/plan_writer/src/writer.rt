@@ -19,7 +19,8 @@ use std::alloc::{AllocError, Global};
 /// [`AllocError`] where memory runs out.
 pub fn write_plan(alloc: Global, plan: &Plan) -> Result<String, AllocError>
     ensures document { IfOk result (λ text. IsPlanText plan.now (string_bytes text)) }
-    ensures reads_back { IfOk result (λ text. length (string_bytes text) ≤ MAX_PLAN_BYTES → plan_of (string_bytes text) ≡ Ok plan.now) }
+    ensures reads_back { IfOk result (λ text.
+        length (string_bytes text) ≤ MAX_PLAN_BYTES → plan_of (string_bytes text) ≡ Ok plan.now) }
 {
     let document = plan_document(alloc, plan)?;
     match toml::table_to_string(alloc, &document) {

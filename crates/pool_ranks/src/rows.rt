@@ -47,7 +47,9 @@ fn submit_row(plan: &Plan, ranks: &Ranks, number: usize, position: usize, submit
     requires fits { IsTrue (spec.ranks_fit plan.now ranks.now) }
     requires class { number < length plan.now.classes }
     requires submitted { submitted < length plan.now.classes }
-    ensures { result ≡ row K3 (place.ClassAction number position) (spec.level ranks.now submitted + 1) (spec.level ranks.now number) }
+    ensures { result
+        ≡ row K3 (place.ClassAction number position) (spec.level ranks.now submitted + 1)
+        (spec.level ranks.now number) }
 {
     Row::new(
         Rule::K3,
@@ -71,7 +73,8 @@ fn visit_action_row<V: RowVisitor>(
     requires well_formed { IsWellFormed plan.now }
     requires class { slice_get plan.now.classes number ≡ Some class.now }
     requires action { slice_get class.now.body position ≡ Some action }
-    ensures { Takes V.HasSeen visitor.old visitor.new (spec.rank_rows_of_action ranks.now number class.now.body position action) }
+    ensures { Takes V.HasSeen visitor.old visitor.new
+        (spec.rank_rows_of_action ranks.now number class.now.body position action) }
 {
     match action {
         Action::Work(_) => {}
@@ -89,7 +92,9 @@ fn own_row(plan: &Plan, ranks: &Ranks, number: usize, class: &Class) -> Row
     requires fits { IsTrue (spec.ranks_fit plan.now ranks.now) }
     requires well_formed { IsWellFormed plan.now }
     requires class { slice_get plan.now.classes number ≡ Some class.now }
-    ensures { result ≡ row K1 (place.Class number) (spec.rank ranks.now class.now.pool) (spec.reach ranks.now number) }
+    ensures { result
+        ≡ row K1 (place.Class number) (spec.rank ranks.now class.now.pool)
+        (spec.reach ranks.now number) }
 {
     Row::new(
         Rule::K1,
@@ -129,7 +134,8 @@ fn visit_class_rows<V: RowVisitor>(
     requires fits { IsTrue (spec.ranks_fit plan.now ranks.now) }
     requires well_formed { IsWellFormed plan.now }
     requires class { slice_get plan.now.classes number ≡ Some class.now }
-    ensures { Takes V.HasSeen visitor.old visitor.new (spec.rank_rows_of_class ranks.now number class.now) }
+    ensures { Takes V.HasSeen visitor.old visitor.new
+        (spec.rank_rows_of_class ranks.now number class.now) }
 {
     visitor.visit(own_row(plan, ranks, number, class));
     visit_action_rows(plan, ranks, number, class, visitor);

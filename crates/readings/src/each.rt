@@ -16,7 +16,9 @@ pub fn read_each<'a, X, Y: Drop, F, R>(
 where
     R: Fn(usize, &'a X) -> Result<Y, ReadError<F>>,
     requires { R.IsAlwaysCallable read }
-    ensures { IsReadOfEach (λ place x given. (element : Bor X) × (element.now ≡ x) × R.post read place element given) elements.now result }
+    ensures { IsReadOfEach
+        (λ place x given. (element : Bor X) × (element.now ≡ x) × R.post read place element given)
+        elements.now result }
 {
     let mut given = Vec::new(alloc);
     for (place, element) in elements.iter().enumerate() {

@@ -66,7 +66,10 @@ impl ActorTable {
 
     /// The actor comes.
     pub(crate) fn insert(&mut self, actor: RecordedActor, kept: KeptActor) -> Result<(), AllocError>
-        ensures { OnOk result ((one : RecordedActor) → in_table self.new one ≡ (if is_same_actor actor one then Some kept else in_table self.old one)) }
+        ensures { OnOk result
+            ((one : RecordedActor)
+            → in_table self.new one
+            ≡ (if is_same_actor actor one then Some kept else in_table self.old one)) }
     {
         match actor {
             RecordedActor::Job(job) => self.jobs.insert(job, kept),
@@ -100,7 +103,10 @@ impl ActorTable {
 
     /// The job was refused: it is of no path.
     pub(crate) fn forget_submitter(&mut self, job: usize)
-        ensures { (one : RecordedActor) → in_table self.new one ≡ (if is_same_actor (RecordedActor.Job job) one then option_map without_submitter (in_table self.old one) else in_table self.old one) }
+        ensures { (one : RecordedActor)
+            → in_table self.new one
+            ≡ (if is_same_actor (RecordedActor.Job job) one then option_map without_submitter
+            (in_table self.old one) else in_table self.old one) }
     {
         if let Some(kept) = self.jobs.get_mut(job) {
             kept.submitter = None;
@@ -109,7 +115,10 @@ impl ActorTable {
 
     /// The actor, where it is there, is through.
     pub(crate) fn wait(&mut self, actor: RecordedActor, waiting: Waiting)
-        ensures { (one : RecordedActor) → in_table self.new one ≡ (if is_same_actor actor one then option_map (with_waiting waiting) (in_table self.old one) else in_table self.old one) }
+        ensures { (one : RecordedActor)
+            → in_table self.new one
+            ≡ (if is_same_actor actor one then option_map (with_waiting waiting)
+            (in_table self.old one) else in_table self.old one) }
     {
         match actor {
             RecordedActor::Job(job) => {
@@ -127,7 +136,8 @@ impl ActorTable {
 
     /// How far the actor, where it is through, has come.
     pub(crate) fn waiting(&self, actor: RecordedActor) -> Option<&Waiting>
-        ensures { option_copied result ≡ option_and_then (λ kept. kept.waiting) (in_table self.now actor) }
+        ensures { option_copied result
+            ≡ option_and_then (λ kept. kept.waiting) (in_table self.now actor) }
     {
         let kept = match actor {
             RecordedActor::Job(job) => self.jobs.get(job)?,
@@ -139,7 +149,10 @@ impl ActorTable {
     /// Of so many of its first deeds it is known that they submit only jobs that are settled, where the actor is there and
     /// is through.
     pub(crate) fn advance(&mut self, actor: RecordedActor, known: usize)
-        ensures after { (one : RecordedActor) → in_table self.new one ≡ (if is_same_actor actor one then option_map (with_known known) (in_table self.old one) else in_table self.old one) }
+        ensures after { (one : RecordedActor)
+            → in_table self.new one
+            ≡ (if is_same_actor actor one then option_map (with_known known) (in_table self.old one)
+            else in_table self.old one) }
     {
         match actor {
             RecordedActor::Job(job) => {
@@ -158,8 +171,11 @@ impl ActorTable {
     /// The actor goes.
     pub(crate) fn remove(&mut self, actor: RecordedActor) -> Option<KeptActor>
         ensures value { result ≡ in_table self.old actor }
-        ensures after { (one : RecordedActor) → in_table self.new one ≡ (if is_same_actor actor one then None else in_table self.old one) }
-        ensures fewer { count_of self.new.jobs + (if is_some result then is_job actor else 0) ≡ count_of self.old.jobs }
+        ensures after { (one : RecordedActor)
+            → in_table self.new one
+            ≡ (if is_same_actor actor one then None else in_table self.old one) }
+        ensures fewer { count_of self.new.jobs + (if is_some result then is_job actor else 0)
+            ≡ count_of self.old.jobs }
     {
         match actor {
             RecordedActor::Job(job) => self.jobs.remove(job),
@@ -192,7 +208,10 @@ impl ActorTable {
 }
 
 fn numbers_of(alloc: Global, actors: &NumberTable<KeptActor>) -> Result<Vec<usize>, AllocError>
-    ensures all { IfOk result (λ numbers. (number : ℕ) → is_some (value_at actors.now number) ≡ true → is_member nat_eq numbers.items number ≡ true) }
+    ensures all { IfOk result (λ numbers.
+        (number : ℕ)
+        → is_some (value_at actors.now number) ≡ true
+        → is_member nat_eq numbers.items number ≡ true) }
     ensures sorted { IfOk result (λ numbers. IsNonDecreasing numbers.items) }
 {
     actors.numbers(alloc)

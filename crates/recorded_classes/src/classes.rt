@@ -65,11 +65,26 @@ impl Classes {
         line: &Line<'_>,
         told: &mut Vec<Settled>,
     ) -> Result<(), AllocError>
-        ensures taken { (budget : ℕ) (before : List RecordedLine) → KeepsRules (before ++ line_seen line.now ∷ []) → IsClassesOf plan.now budget self.old before → OnOk result (IsClassesOf plan.now budget self.new (before ++ line_seen line.now ∷ [])) }
-        ensures told { (budget : ℕ) (before : List RecordedLine) → KeepsRules (before ++ line_seen line.now ∷ []) → IsClassesOf plan.now budget self.old before → OnOk result (TellsSettled plan.now budget before (before ++ line_seen line.now ∷ []) told.old.items told.new.items) }
+        ensures taken { (budget : ℕ) (before : List RecordedLine)
+            → KeepsRules (before ++ line_seen line.now ∷ [])
+            → IsClassesOf plan.now budget self.old before
+            → OnOk result
+            (IsClassesOf plan.now budget self.new (before ++ line_seen line.now ∷ [])) }
+        ensures told { (budget : ℕ) (before : List RecordedLine)
+            → KeepsRules (before ++ line_seen line.now ∷ [])
+            → IsClassesOf plan.now budget self.old before
+            → OnOk result
+            (TellsSettled plan.now budget before (before ++ line_seen line.now ∷ []) told.old.items
+            told.new.items) }
 
         // what was told earlier may have been taken out of the list
-        ensures all { (budget : ℕ) (before : List RecordedLine) (earlier : List Settled) → KeepsRules (before ++ line_seen line.now ∷ []) → IsClassesOf plan.now budget self.old before → AreTold plan.now budget before (earlier ++ told.old.items) → OnOk result (AreTold plan.now budget (before ++ line_seen line.now ∷ []) (earlier ++ told.new.items)) }
+        ensures all { (budget : ℕ) (before : List RecordedLine) (earlier : List Settled)
+            → KeepsRules (before ++ line_seen line.now ∷ [])
+            → IsClassesOf plan.now budget self.old before
+            → AreTold plan.now budget before (earlier ++ told.old.items)
+            → OnOk result
+            (AreTold plan.now budget (before ++ line_seen line.now ∷ [])
+            (earlier ++ told.new.items)) }
     {
         self.take_line(plan, line, told)
     }
@@ -80,8 +95,17 @@ impl Classes {
         line: &Line<'_>,
         told: &mut Vec<Settled>,
     ) -> Result<(), AllocError>
-        ensures taken { (budget : ℕ) (before : List RecordedLine) → KeepsRules (before ++ line_seen line.now ∷ []) → IsClassesOf plan.now budget self.old before → OnOk result (IsClassesOf plan.now budget self.new (before ++ line_seen line.now ∷ [])) }
-        ensures told { (budget : ℕ) (before : List RecordedLine) → KeepsRules (before ++ line_seen line.now ∷ []) → IsClassesOf plan.now budget self.old before → OnOk result (TellsSettled plan.now budget before (before ++ line_seen line.now ∷ []) told.old.items told.new.items) }
+        ensures taken { (budget : ℕ) (before : List RecordedLine)
+            → KeepsRules (before ++ line_seen line.now ∷ [])
+            → IsClassesOf plan.now budget self.old before
+            → OnOk result
+            (IsClassesOf plan.now budget self.new (before ++ line_seen line.now ∷ [])) }
+        ensures told { (budget : ℕ) (before : List RecordedLine)
+            → KeepsRules (before ++ line_seen line.now ∷ [])
+            → IsClassesOf plan.now budget self.old before
+            → OnOk result
+            (TellsSettled plan.now budget before (before ++ line_seen line.now ∷ []) told.old.items
+            told.new.items) }
     {
         let given = self.paths.take_last_path(line)?;
         let path = given.unwrap_or(Vec::new(self.alloc));
@@ -94,7 +118,8 @@ impl Classes {
 
     // What the line changes in the actors that are kept.
     fn note(&mut self, line: &Line<'_>, waiting: Waiting) -> Result<(), AllocError>
-        ensures noted { OnOk result (Changed self.old.actors (line_seen line.now) waiting self.new.actors) }
+        ensures noted { OnOk result
+            (Changed self.old.actors (line_seen line.now) waiting self.new.actors) }
         ensures known { self.new.known ≡ self.old.known }
         ensures paths { self.new.paths ≡ self.old.paths }
         ensures budget { self.new.budget ≡ self.old.budget }
@@ -132,7 +157,8 @@ impl Classes {
 
     // How far the actor has come, where it is through.
     fn progress(&self, actor: RecordedActor) -> Option<Progress>
-        ensures { MatchOption result (waiting_of self.now.actors actor ≡ None) (λ progress. IsProgressOf self.now.actors self.now.known actor progress.known progress.is_ready) }
+        ensures { MatchOption result (waiting_of self.now.actors actor ≡ None) (λ progress.
+            IsProgressOf self.now.actors self.now.known actor progress.known progress.is_ready) }
     {
         let waiting = self.actors.waiting(actor)?;
         let known = self.known.first_unsettled(&waiting.path, waiting.known);
@@ -149,8 +175,16 @@ impl Classes {
         actor: RecordedActor,
         told: &mut Vec<Settled>,
     ) -> Result<Option<RecordedActor>, AllocError>
-        ensures told { (lines : List RecordedLine) → IsKept plan.now lines self.old.actors self.old.known (Some actor) → (IsEnoughForPlan self.old.budget plan.now → AreDecidedIn self.old.known) → IsReady self.old.actors self.old.known actor → KeepsRules lines → IfOk result (λ next. IsStep plan.now self.old.budget lines self.old.actors self.new.actors self.new.known next told.old.items told.new.items) }
-        ensures fewer { IfOk result (λ next. is_some next ≡ true → count_of self.new.actors.jobs < count_of self.old.actors.jobs) }
+        ensures told { (lines : List RecordedLine)
+            → IsKept plan.now lines self.old.actors self.old.known (Some actor)
+            → (IsEnoughForPlan self.old.budget plan.now → AreDecidedIn self.old.known)
+            → IsReady self.old.actors self.old.known actor
+            → KeepsRules lines
+            → IfOk result (λ next.
+            IsStep plan.now self.old.budget lines self.old.actors self.new.actors self.new.known
+            next told.old.items told.new.items) }
+        ensures fewer { IfOk result (λ next.
+            is_some next ≡ true → count_of self.new.actors.jobs < count_of self.old.actors.jobs) }
         ensures paths { self.new.paths ≡ self.old.paths }
         ensures budget { self.new.budget ≡ self.old.budget }
     {
@@ -181,8 +215,15 @@ impl Classes {
         actor: RecordedActor,
         told: &mut Vec<Settled>,
     ) -> Result<Option<RecordedActor>, AllocError>
-        ensures told { (lines : List RecordedLine) → IsKept plan.now lines self.old.actors self.old.known (Some actor) → (IsEnoughForPlan self.old.budget plan.now → AreDecidedIn self.old.known) → KeepsRules lines → IfOk result (λ next. IsStep plan.now self.old.budget lines self.old.actors self.new.actors self.new.known next told.old.items told.new.items) }
-        ensures fewer { IfOk result (λ next. is_some next ≡ true → count_of self.new.actors.jobs < count_of self.old.actors.jobs) }
+        ensures told { (lines : List RecordedLine)
+            → IsKept plan.now lines self.old.actors self.old.known (Some actor)
+            → (IsEnoughForPlan self.old.budget plan.now → AreDecidedIn self.old.known)
+            → KeepsRules lines
+            → IfOk result (λ next.
+            IsStep plan.now self.old.budget lines self.old.actors self.new.actors self.new.known
+            next told.old.items told.new.items) }
+        ensures fewer { IfOk result (λ next.
+            is_some next ≡ true → count_of self.new.actors.jobs < count_of self.old.actors.jobs) }
         ensures paths { self.new.paths ≡ self.old.paths }
         ensures budget { self.new.budget ≡ self.old.budget }
     {
@@ -206,7 +247,13 @@ impl Classes {
         actor: RecordedActor,
         told: &mut Vec<Settled>,
     ) -> Result<(), AllocError>
-        ensures told { (lines : List RecordedLine) → IsKept plan.now lines self.old.actors self.old.known (Some actor) → (IsEnoughForPlan self.old.budget plan.now → AreDecidedIn self.old.known) → KeepsRules lines → OnOk result (IsStep plan.now self.old.budget lines self.old.actors self.new.actors self.new.known None told.old.items told.new.items) }
+        ensures told { (lines : List RecordedLine)
+            → IsKept plan.now lines self.old.actors self.old.known (Some actor)
+            → (IsEnoughForPlan self.old.budget plan.now → AreDecidedIn self.old.known)
+            → KeepsRules lines
+            → OnOk result
+            (IsStep plan.now self.old.budget lines self.old.actors self.new.actors self.new.known
+            None told.old.items told.new.items) }
         ensures paths { self.new.paths ≡ self.old.paths }
         ensures budget { self.new.budget ≡ self.old.budget }
     {

@@ -28,14 +28,25 @@ impl Classes {
     ///
     /// `AllocError` where there is no memory for it.
     pub fn finish(mut self, plan: &Plan, told: &mut Vec<Settled>) -> Result<(), AllocError>
-        ensures { (budget : ℕ) (lines : List RecordedLine) (earlier : List Settled) → KeepsRules lines → IsClassesOf plan.now budget self lines → AreTold plan.now budget lines (earlier ++ told.old.items) → OnOk result (AreAllTold plan.now budget lines (earlier ++ told.new.items)) }
+        ensures { (budget : ℕ) (lines : List RecordedLine) (earlier : List Settled)
+            → KeepsRules lines
+            → IsClassesOf plan.now budget self lines
+            → AreTold plan.now budget lines (earlier ++ told.old.items)
+            → OnOk result (AreAllTold plan.now budget lines (earlier ++ told.new.items)) }
     {
         self.leave_all(plan, told)
     }
 
     fn leave_all(&mut self, plan: &Plan, told: &mut Vec<Settled>) -> Result<(), AllocError>
-        ensures left { (lines : List RecordedLine) → KeepsRules lines → IsPathsOf self.old.paths lines → IsLeft plan.now self.old.budget lines self.old.actors self.old.known → OnOk result (TellsTaken (IsTold plan.now self.old.budget lines) self.old.actors self.new.actors told.old.items told.new.items) }
-        ensures none { OnOk result ((actor : actors.RecordedActor) → in_table self.new.actors actor ≡ None) }
+        ensures left { (lines : List RecordedLine)
+            → KeepsRules lines
+            → IsPathsOf self.old.paths lines
+            → IsLeft plan.now self.old.budget lines self.old.actors self.old.known
+            → OnOk result
+            (TellsTaken (IsTold plan.now self.old.budget lines) self.old.actors self.new.actors
+            told.old.items told.new.items) }
+        ensures none { OnOk result
+            ((actor : actors.RecordedActor) → in_table self.new.actors actor ≡ None) }
     {
         let jobs = self.actors.job_numbers(self.alloc)?;
         self.leave_jobs(plan, jobs, told)?;
@@ -50,8 +61,18 @@ impl Classes {
         mut jobs: Vec<usize>,
         told: &mut Vec<Settled>,
     ) -> Result<(), AllocError>
-        ensures left { (lines : List RecordedLine) → KeepsRules lines → IsPathsOf self.old.paths lines → IsLeft plan.now self.old.budget lines self.old.actors self.old.known → AreJobsAmong self.old.actors jobs.items → IsNonDecreasing jobs.items → OnOk result (IsLeft plan.now self.old.budget lines self.new.actors self.new.known × TellsTaken (IsTold plan.now self.old.budget lines) self.old.actors self.new.actors told.old.items told.new.items) }
-        ensures none { AreJobsAmong self.old.actors jobs.items → OnOk result (HasNoJobs self.new.actors) }
+        ensures left { (lines : List RecordedLine)
+            → KeepsRules lines
+            → IsPathsOf self.old.paths lines
+            → IsLeft plan.now self.old.budget lines self.old.actors self.old.known
+            → AreJobsAmong self.old.actors jobs.items
+            → IsNonDecreasing jobs.items
+            → OnOk result
+            (IsLeft plan.now self.old.budget lines self.new.actors self.new.known
+            × TellsTaken (IsTold plan.now self.old.budget lines) self.old.actors self.new.actors
+            told.old.items told.new.items) }
+        ensures none { AreJobsAmong self.old.actors jobs.items
+            → OnOk result (HasNoJobs self.new.actors) }
         ensures paths { self.new.paths ≡ self.old.paths }
         ensures budget { self.new.budget ≡ self.old.budget }
     {
@@ -68,8 +89,17 @@ impl Classes {
         mut rounds: Vec<usize>,
         told: &mut Vec<Settled>,
     ) -> Result<(), AllocError>
-        ensures left { (lines : List RecordedLine) → KeepsRules lines → IsPathsOf self.old.paths lines → IsLeft plan.now self.old.budget lines self.old.actors self.old.known → HasNoJobs self.old.actors → OnOk result (IsLeft plan.now self.old.budget lines self.new.actors self.new.known × TellsTaken (IsTold plan.now self.old.budget lines) self.old.actors self.new.actors told.old.items told.new.items) }
-        ensures none { AreRoundsAmong self.old.actors rounds.items → OnOk result (HasNoRounds self.new.actors) }
+        ensures left { (lines : List RecordedLine)
+            → KeepsRules lines
+            → IsPathsOf self.old.paths lines
+            → IsLeft plan.now self.old.budget lines self.old.actors self.old.known
+            → HasNoJobs self.old.actors
+            → OnOk result
+            (IsLeft plan.now self.old.budget lines self.new.actors self.new.known
+            × TellsTaken (IsTold plan.now self.old.budget lines) self.old.actors self.new.actors
+            told.old.items told.new.items) }
+        ensures none { AreRoundsAmong self.old.actors rounds.items
+            → OnOk result (HasNoRounds self.new.actors) }
         ensures jobs { HasNoJobs self.old.actors → HasNoJobs self.new.actors }
     {
         while let Some(round) = rounds.pop() {
@@ -85,8 +115,18 @@ impl Classes {
         actor: RecordedActor,
         told: &mut Vec<Settled>,
     ) -> Result<(), AllocError>
-        ensures left { (lines : List RecordedLine) → KeepsRules lines → IsPathsOf self.old.paths lines → IsLeft plan.now self.old.budget lines self.old.actors self.old.known → AreNoneBelow self.old.actors actor → OnOk result (IsLeft plan.now self.old.budget lines self.new.actors self.new.known × TellsTaken (IsTold plan.now self.old.budget lines) self.old.actors self.new.actors told.old.items told.new.items) }
-        ensures goes { (one : actors.RecordedActor) → in_table self.new.actors one ≡ (if is_same_actor actor one then None else in_table self.old.actors one) }
+        ensures left { (lines : List RecordedLine)
+            → KeepsRules lines
+            → IsPathsOf self.old.paths lines
+            → IsLeft plan.now self.old.budget lines self.old.actors self.old.known
+            → AreNoneBelow self.old.actors actor
+            → OnOk result
+            (IsLeft plan.now self.old.budget lines self.new.actors self.new.known
+            × TellsTaken (IsTold plan.now self.old.budget lines) self.old.actors self.new.actors
+            told.old.items told.new.items) }
+        ensures goes { (one : actors.RecordedActor)
+            → in_table self.new.actors one
+            ≡ (if is_same_actor actor one then None else in_table self.old.actors one) }
         ensures paths { self.new.paths ≡ self.old.paths }
         ensures budget { self.new.budget ≡ self.old.budget }
     {

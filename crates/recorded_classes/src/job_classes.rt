@@ -42,7 +42,10 @@ impl ClassTable {
 
     /// The job is settled, and can be of these classes.
     pub(crate) fn insert(&mut self, job: usize, classes: JobClasses) -> Result<(), AllocError>
-        ensures { OnOk result ((one : ℕ) → classes_in self.new one ≡ (if job == one then Some classes else classes_in self.old one)) }
+        ensures { OnOk result
+            ((one : ℕ)
+            → classes_in self.new one
+            ≡ (if job == one then Some classes else classes_in self.old one)) }
     {
         self.jobs.insert(job, classes)
     }
@@ -58,7 +61,9 @@ impl ClassTable {
         submitter: Option<RecordedActor>,
         family: &PathFamily,
     ) -> Result<(), AllocError>
-        ensures { OnOk result (Keeps self.old actor submitter family.now.members.items family.now.is_decided self.new) }
+        ensures { OnOk result
+            (Keeps self.old actor submitter family.now.members.items family.now.is_decided
+            self.new) }
     {
         if let (RecordedActor::Job(job), Some(_)) = (actor, submitter) {
             let classes = JobClasses {
@@ -73,7 +78,8 @@ impl ClassTable {
     /// The first place of the path, from this one on, that submits a job that is not settled, or its end.
     pub(crate) fn first_unsettled(&self, path: &[RecordedDeed], from: usize) -> usize
         ensures within { from ≤ length path.now → result ≤ length path.now }
-        ensures before { AreSettledBefore self.now path.now from → AreSettledBefore self.now path.now result }
+        ensures before { AreSettledBefore self.now path.now from
+            → AreSettledBefore self.now path.now result }
         ensures there { IsUnsettledAt self.now path.now result }
     {
         let mut place = from;
@@ -104,8 +110,14 @@ impl ClassTable {
         path: &[RecordedDeed],
         deeds: &mut Vec<Deed>,
     ) -> Result<bool, AllocError>
-        ensures stands { (plan : Plan) (lines : List RecordedLine) → AreClassesIn plan lines self.old → IfOk result (λ is_decided. IsTrue is_decided → StandFor plan lines path.now deeds.new.items) }
-        ensures decided { AreDecidedIn self.old → AreAllIn self.old path.now → AreOnce path.now → IfOk result (λ is_decided. IsTrue is_decided) }
+        ensures stands { (plan : Plan) (lines : List RecordedLine)
+            → AreClassesIn plan lines self.old
+            → IfOk result
+            (λ is_decided. IsTrue is_decided → StandFor plan lines path.now deeds.new.items) }
+        ensures decided { AreDecidedIn self.old
+            → AreAllIn self.old path.now
+            → AreOnce path.now
+            → IfOk result (λ is_decided. IsTrue is_decided) }
         ensures gone { OnOk result (AreTaken self.old path.now self.new) }
     {
         deeds.clear();
@@ -119,9 +131,18 @@ impl ClassTable {
 
     // The deed comes behind the others, and its job goes. The answer is whether its classes are decided.
     fn take_deed(&mut self, deed: RecordedDeed, deeds: &mut Vec<Deed>) -> Result<bool, AllocError>
-        ensures stands { (plan : Plan) (lines : List RecordedLine) (path : List RecordedDeed) → AreClassesIn plan lines self.old → StandFor plan lines path deeds.old.items → IfOk result (λ is_known. IsTrue is_known → StandFor plan lines (path ++ deed ∷ []) deeds.new.items) }
-        ensures decided { AreDecidedIn self.old → IsTrue (is_settled_deed self.old deed) → IfOk result (λ is_known. IsTrue is_known) }
-        ensures gone { OnOk result ((one : ℕ) → classes_in self.new one ≡ (if submits one deed then None else classes_in self.old one)) }
+        ensures stands { (plan : Plan) (lines : List RecordedLine) (path : List RecordedDeed)
+            → AreClassesIn plan lines self.old
+            → StandFor plan lines path deeds.old.items
+            → IfOk result (λ is_known.
+            IsTrue is_known → StandFor plan lines (path ++ deed ∷ []) deeds.new.items) }
+        ensures decided { AreDecidedIn self.old
+            → IsTrue (is_settled_deed self.old deed)
+            → IfOk result (λ is_known. IsTrue is_known) }
+        ensures gone { OnOk result
+            ((one : ℕ)
+            → classes_in self.new one
+            ≡ (if submits one deed then None else classes_in self.old one)) }
     {
         match deed {
             RecordedDeed::Gets(place) => {
@@ -138,9 +159,15 @@ impl ClassTable {
 
     // Of a job that is not settled none are known, nor is anything decided.
     fn take_classes(&mut self, job: usize) -> JobClasses
-        ensures classes { (plan : Plan) (lines : List RecordedLine) → AreClassesIn plan lines self.old → IsTrue result.is_decided → AreClassesOf plan lines job result.classes.items }
-        ensures decided { AreDecidedIn self.old → IsTrue (is_some (classes_in self.old job)) → IsTrue result.is_decided }
-        ensures gone { (one : ℕ) → classes_in self.new one ≡ (if job == one then None else classes_in self.old one) }
+        ensures classes { (plan : Plan) (lines : List RecordedLine)
+            → AreClassesIn plan lines self.old
+            → IsTrue result.is_decided
+            → AreClassesOf plan lines job result.classes.items }
+        ensures decided { AreDecidedIn self.old
+            → IsTrue (is_some (classes_in self.old job))
+            → IsTrue result.is_decided }
+        ensures gone { (one : ℕ)
+            → classes_in self.new one ≡ (if job == one then None else classes_in self.old one) }
     {
         match self.jobs.remove(job) {
             Some(known) => known,

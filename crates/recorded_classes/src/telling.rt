@@ -35,7 +35,9 @@ impl Classes {
         done: Done,
         told: &mut Vec<Settled>,
     ) -> Result<(), AllocError>
-        ensures told { OnOk result (TellsOne plan.now self.old.budget actor submitter label pool done self.old.known self.new.known told.old.items told.new.items) }
+        ensures told { OnOk result
+            (TellsOne plan.now self.old.budget actor submitter label pool done self.old.known
+            self.new.known told.old.items told.new.items) }
         ensures actors { self.new.actors ≡ self.old.actors }
         ensures paths { self.new.paths ≡ self.old.paths }
         ensures budget { self.new.budget ≡ self.old.budget }
@@ -69,7 +71,11 @@ impl Classes {
     ///
     /// `AllocError` where there is no memory for it.
     fn path_now(&self, actor: RecordedActor) -> Result<Vec<RecordedDeed>, AllocError>
-        ensures { IfOk result (λ path. (lines : List RecordedLine) → IsPathsOf self.now.paths lines → is_about lines actor ≡ true → path.items ≡ path_of lines actor) }
+        ensures { IfOk result (λ path.
+            (lines : List RecordedLine)
+            → IsPathsOf self.now.paths lines
+            → is_about lines actor ≡ true
+            → path.items ≡ path_of lines actor) }
     {
         match self.paths.path(actor) {
             Some(path) => Vec::from_slice(self.alloc, path),
@@ -87,7 +93,11 @@ impl Classes {
         actor: RecordedActor,
         waiting: Option<Waiting>,
     ) -> Result<Done, AllocError>
-        ensures { IfOk result (λ done. (lines : List RecordedLine) → IsPathsOf self.now.paths lines → IsAt lines actor waiting → IsDoneBy lines actor done) }
+        ensures { IfOk result (λ done.
+            (lines : List RecordedLine)
+            → IsPathsOf self.now.paths lines
+            → IsAt lines actor waiting
+            → IsDoneBy lines actor done) }
     {
         match waiting {
             Some(waiting) => Ok(Done {

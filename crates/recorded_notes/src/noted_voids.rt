@@ -33,7 +33,10 @@ impl NotedVoids {
     ///
     /// `AllocError` where there is no memory for it.
     pub(crate) fn take(&mut self, number: usize, line: &Line<'_>) -> Result<(), AllocError>
-        ensures { OnOk result (self.new.kept.items ≡ noted.kept_with (noted.noted_of number (line_seen line.now)) (noted.settled_by (line_seen line.now) self.old.kept.items)) }
+        ensures { OnOk result
+            (self.new.kept.items
+            ≡ noted.kept_with (noted.noted_of number (line_seen line.now))
+            (noted.settled_by (line_seen line.now) self.old.kept.items)) }
     {
         excuse(&mut self.kept, line);
         close(&mut self.kept, line);
@@ -55,7 +58,8 @@ impl NotedVoids {
     ///
     /// `AllocError` where there is no memory for the answer.
     pub(crate) fn firsts(&self, alloc: Global) -> Result<Vec<Void>, AllocError>
-        ensures { IfOk result (λ firsts. firsts.items ≡ spec.first_of_each (noted.voids_in self.now.kept.items)) }
+        ensures { IfOk result
+            (λ firsts. firsts.items ≡ spec.first_of_each (noted.voids_in self.now.kept.items)) }
     {
         firsts_of(alloc, &self.kept)
     }

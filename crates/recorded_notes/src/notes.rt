@@ -41,7 +41,11 @@ impl RecordedNotes {
     ///
     /// `AllocError` where there is no memory for what the line says. What is noted is then of no use any more.
     pub fn take(&mut self, number: usize, line: &Line<'_>) -> Result<(), AllocError>
-        ensures { (before : List RecordedLine) → KeepsRules (before ++ line_seen line.now ∷ []) → number ≡ length before + 1 → IsNotesOf self.old before → OnOk result (IsNotesOf self.new (before ++ line_seen line.now ∷ [])) }
+        ensures { (before : List RecordedLine)
+            → KeepsRules (before ++ line_seen line.now ∷ [])
+            → number ≡ length before + 1
+            → IsNotesOf self.old before
+            → OnOk result (IsNotesOf self.new (before ++ line_seen line.now ∷ [])) }
     {
         self.voids.take(number, line)?;
         self.note_foreign_get(number, line);
@@ -56,20 +60,25 @@ impl RecordedNotes {
     ///
     /// `AllocError` where there is no memory for the answer.
     pub fn voids(&self, alloc: Global) -> Result<Vec<Void>, AllocError>
-        ensures { (lines : List RecordedLine) → IsNotesOf self.now lines → IfOk result (λ voids. voids.items ≡ voids_of lines) }
+        ensures { (lines : List RecordedLine)
+            → IsNotesOf self.now lines
+            → IfOk result (λ voids. voids.items ≡ voids_of lines) }
     {
         self.voids.firsts(alloc)
     }
 
     /// The first get of a job by an actor that did not submit it, while the one that did had not got it.
     pub fn foreign_get(&self) -> Option<ForeignGet>
-        ensures { (lines : List RecordedLine) → IsNotesOf self.now lines → result ≡ first_foreign_get lines }
+        ensures { (lines : List RecordedLine)
+            → IsNotesOf self.now lines
+            → result ≡ first_foreign_get lines }
     {
         self.foreign
     }
 
     fn note_foreign_get(&mut self, number: usize, line: &Line<'_>)
-        ensures foreign { self.new.foreign ≡ with_foreign self.old.ungot number (line_seen line.now) self.old.foreign }
+        ensures foreign { self.new.foreign
+            ≡ with_foreign self.old.ungot number (line_seen line.now) self.old.foreign }
         ensures voids { self.new.voids ≡ self.old.voids }
         ensures ungot { self.new.ungot ≡ self.old.ungot }
     {

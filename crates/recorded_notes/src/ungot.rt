@@ -42,7 +42,10 @@ impl Ungot {
     ///
     /// `AllocError` where there is no memory for it.
     pub(crate) fn take(&mut self, line: &Line<'_>) -> Result<(), AllocError>
-        ensures { OnOk result ((job : ℕ) → submitter_in self.new job ≡ table_behind (line_seen line.now) job (submitter_in self.old job)) }
+        ensures { OnOk result
+            ((job : ℕ)
+            → submitter_in self.new job
+            ≡ table_behind (line_seen line.now) job (submitter_in self.old job)) }
     {
         match *line {
             Line::Submits { actor, job, .. } => {
@@ -59,7 +62,10 @@ impl Ungot {
 
     // The actor got the job.
     fn got(&mut self, actor: RecordedActor, job: usize)
-        ensures { (one : ℕ) → submitter_in self.new one ≡ (if job == one then ungot_by actor (submitter_in self.old one) else submitter_in self.old one) }
+        ensures { (one : ℕ)
+            → submitter_in self.new one
+            ≡ (if job == one then ungot_by actor (submitter_in self.old one) else submitter_in
+            self.old one) }
     {
         if let Some(submitter) = self.submitters.get(job) {
             if is_same_actor(*submitter, actor) {

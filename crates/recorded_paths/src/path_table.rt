@@ -44,7 +44,8 @@ impl PathTable {
     ///
     /// `AllocError` where there is no memory for it. The paths are then what they were.
     pub(crate) fn begin(&mut self, number: usize) -> Result<(), AllocError>
-        ensures begun { OnOk result ((n : ℕ) → path_in self.new n ≡ (if number == n then Some [] else path_in self.old n)) }
+        ensures begun { OnOk result
+            ((n : ℕ) → path_in self.new n ≡ (if number == n then Some [] else path_in self.old n)) }
         ensures same { OnErr result ((n : ℕ) → path_in self.new n ≡ path_in self.old n) }
     {
         self.paths.insert(number, Vec::new(self.alloc))
@@ -53,7 +54,8 @@ impl PathTable {
     /// One goes, and gives its path away.
     pub(crate) fn end(&mut self, number: usize) -> Option<Vec<RecordedDeed>>
         ensures path { option_map (λ path. path.items) result ≡ path_in self.old number }
-        ensures gone { (n : ℕ) → path_in self.new n ≡ (if number == n then None else path_in self.old n) }
+        ensures gone { (n : ℕ)
+            → path_in self.new n ≡ (if number == n then None else path_in self.old n) }
     {
         self.paths.remove(number)
     }
@@ -64,7 +66,11 @@ impl PathTable {
     ///
     /// `AllocError` where there is no memory for it. The paths are then what they were.
     pub(crate) fn push(&mut self, number: usize, deed: RecordedDeed) -> Result<(), AllocError>
-        ensures done { OnOk result ((n : ℕ) → path_in self.new n ≡ (if number == n then option_map (with_deed deed) (path_in self.old n) else path_in self.old n)) }
+        ensures done { OnOk result
+            ((n : ℕ)
+            → path_in self.new n
+            ≡ (if number == n then option_map (with_deed deed) (path_in self.old n) else path_in
+            self.old n)) }
         ensures same { OnErr result ((n : ℕ) → path_in self.new n ≡ path_in self.old n) }
     {
         if let Some(path) = self.paths.get_mut(number) {
@@ -79,7 +85,11 @@ impl PathTable {
     ///
     /// `AllocError` where there is no memory for it. The paths are then what they were.
     pub(crate) fn note_get(&mut self, number: usize, job: usize) -> Result<(), AllocError>
-        ensures got { OnOk result ((n : ℕ) → path_in self.new n ≡ (if number == n then option_map (with_get job) (path_in self.old n) else path_in self.old n)) }
+        ensures got { OnOk result
+            ((n : ℕ)
+            → path_in self.new n
+            ≡ (if number == n then option_map (with_get job) (path_in self.old n) else path_in
+            self.old n)) }
         ensures same { OnErr result ((n : ℕ) → path_in self.new n ≡ path_in self.old n) }
     {
         if let Some(path) = self.paths.get_mut(number) {
@@ -90,7 +100,10 @@ impl PathTable {
 
     /// The one of this path, where it is there, was refused the job.
     pub(crate) fn drop_submit(&mut self, number: usize, job: usize)
-        ensures { (n : ℕ) → path_in self.new n ≡ (if number == n then option_map (without_submit job) (path_in self.old n) else path_in self.old n) }
+        ensures { (n : ℕ)
+            → path_in self.new n
+            ≡ (if number == n then option_map (without_submit job) (path_in self.old n) else path_in
+            self.old n) }
     {
         if let Some(path) = self.paths.get_mut(number) {
             drop_submit(path, job);

@@ -38,8 +38,13 @@ impl Paths {
     ///
     /// `AllocError` where there is no memory for what the line says. The paths are then those of the lines before.
     pub fn take(&mut self, line: &Line<'_>) -> Result<(), AllocError>
-        ensures taken { (before : List RecordedLine) → KeepsRules (before ++ line_seen line.now ∷ []) → IsPathsOf self.old before → OnOk result (IsPathsOf self.new (before ++ line_seen line.now ∷ [])) }
-        ensures same { (before : List RecordedLine) → IsPathsOf self.old before → OnErr result (IsPathsOf self.new before) }
+        ensures taken { (before : List RecordedLine)
+            → KeepsRules (before ++ line_seen line.now ∷ [])
+            → IsPathsOf self.old before
+            → OnOk result (IsPathsOf self.new (before ++ line_seen line.now ∷ [])) }
+        ensures same { (before : List RecordedLine)
+            → IsPathsOf self.old before
+            → OnErr result (IsPathsOf self.new before) }
     {
         self.note(line)?;
         Ok(())
@@ -55,16 +60,26 @@ impl Paths {
         &mut self,
         line: &Line<'_>,
     ) -> Result<Option<Vec<RecordedDeed>>, AllocError>
-        ensures taken { (before : List RecordedLine) → KeepsRules (before ++ line_seen line.now ∷ []) → IsPathsOf self.old before → OnOk result (IsPathsOf self.new (before ++ line_seen line.now ∷ [])) }
-        ensures path { (before : List RecordedLine) → IsPathsOf self.old before → IfOk result (λ given. option_map (λ path. path.items) given ≡ last_path_of before (line_seen line.now)) }
-        ensures same { (before : List RecordedLine) → IsPathsOf self.old before → OnErr result (IsPathsOf self.new before) }
+        ensures taken { (before : List RecordedLine)
+            → KeepsRules (before ++ line_seen line.now ∷ [])
+            → IsPathsOf self.old before
+            → OnOk result (IsPathsOf self.new (before ++ line_seen line.now ∷ [])) }
+        ensures path { (before : List RecordedLine)
+            → IsPathsOf self.old before
+            → IfOk result (λ given.
+            option_map (λ path. path.items) given ≡ last_path_of before (line_seen line.now)) }
+        ensures same { (before : List RecordedLine)
+            → IsPathsOf self.old before
+            → OnErr result (IsPathsOf self.new before) }
     {
         self.note(line)
     }
 
     /// The path of the actor, where it is about.
     pub fn path(&self, actor: RecordedActor) -> Option<&[RecordedDeed]>
-        ensures { (before : List RecordedLine) → IsPathsOf self.now before → option_map (λ path. path.now) result ≡ live_path_of before actor }
+        ensures { (before : List RecordedLine)
+            → IsPathsOf self.now before
+            → option_map (λ path. path.now) result ≡ live_path_of before actor }
     {
         match actor {
             RecordedActor::Job(job) => self.jobs.path(job),
@@ -75,7 +90,8 @@ impl Paths {
     // The answer is the path of the actor whose last line it is.
     fn note(&mut self, line: &Line<'_>) -> Result<Option<Vec<RecordedDeed>>, AllocError>
         ensures noted { OnOk result (Changes self.old (change_of (line_seen line.now)) self.new) }
-        ensures path { IfOk result (λ given. option_map (λ path. path.items) given ≡ last_path_in self.old (line_seen line.now)) }
+        ensures path { IfOk result (λ given.
+            option_map (λ path. path.items) given ≡ last_path_in self.old (line_seen line.now)) }
         ensures same { OnErr result (Changes self.old no_change self.new) }
     {
         match *line {

@@ -76,7 +76,8 @@ impl Jobs {
     /// unchanged.
     pub(crate) fn submit(&mut self, job: usize) -> Result<(), AllocError>
         ensures submitted { OnOk result (self.new.submitted ≡ self.old.submitted + 1) }
-        ensures unfinished { OnOk result ((j : ℕ) → job_at self.new j ≡ (if job == j then Some new_job else job_at self.old j)) }
+        ensures unfinished { OnOk result
+            ((j : ℕ) → job_at self.new j ≡ (if job == j then Some new_job else job_at self.old j)) }
         ensures same_submitted { OnErr result (self.new.submitted ≡ self.old.submitted) }
         ensures same_unfinished { OnErr result ((j : ℕ) → job_at self.new j ≡ job_at self.old j) }
     {
@@ -94,7 +95,9 @@ impl Jobs {
     /// The job, where it is not done, starts.
     pub(crate) fn start(&mut self, job: usize)
         ensures submitted { self.new.submitted ≡ self.old.submitted }
-        ensures unfinished { (j : ℕ) → job_at self.new j ≡ (if job == j then option_map with_start (job_at self.old j) else job_at self.old j) }
+        ensures unfinished { (j : ℕ)
+            → job_at self.new j
+            ≡ (if job == j then option_map with_start (job_at self.old j) else job_at self.old j) }
     {
         if let Some(state) = self.unfinished.get_mut(job) {
             state.started = true;
@@ -104,7 +107,9 @@ impl Jobs {
     /// The job, where it is not done, is cancelled.
     pub(crate) fn cancel(&mut self, job: usize)
         ensures submitted { self.new.submitted ≡ self.old.submitted }
-        ensures unfinished { (j : ℕ) → job_at self.new j ≡ (if job == j then option_map with_cancel (job_at self.old j) else job_at self.old j) }
+        ensures unfinished { (j : ℕ)
+            → job_at self.new j
+            ≡ (if job == j then option_map with_cancel (job_at self.old j) else job_at self.old j) }
     {
         if let Some(state) = self.unfinished.get_mut(job) {
             state.cancelled = true;
@@ -114,7 +119,10 @@ impl Jobs {
     /// The job, where it is not done, just submitted this one, or did another thing.
     pub(crate) fn set_offered(&mut self, job: usize, offered: Option<usize>)
         ensures submitted { self.new.submitted ≡ self.old.submitted }
-        ensures unfinished { (j : ℕ) → job_at self.new j ≡ (if job == j then option_map (with_offered offered) (job_at self.old j) else job_at self.old j) }
+        ensures unfinished { (j : ℕ)
+            → job_at self.new j
+            ≡ (if job == j then option_map (with_offered offered) (job_at self.old j) else job_at
+            self.old j) }
     {
         if let Some(state) = self.unfinished.get_mut(job) {
             state.offered = offered;
@@ -124,7 +132,8 @@ impl Jobs {
     /// The job is done.
     pub(crate) fn finish(&mut self, job: usize)
         ensures submitted { self.new.submitted ≡ self.old.submitted }
-        ensures unfinished { (j : ℕ) → job_at self.new j ≡ (if job == j then None else job_at self.old j) }
+        ensures unfinished { (j : ℕ)
+            → job_at self.new j ≡ (if job == j then None else job_at self.old j) }
     {
         self.unfinished.remove(job);
     }

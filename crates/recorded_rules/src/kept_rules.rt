@@ -13,7 +13,9 @@ use recording_lines::{Line, RecordedActor};
 
 /// The first rule that the line breaks.
 pub(crate) fn broken_of(lines: &LinesSoFar, line: &Line<'_>) -> Option<LineRule>
-    ensures { (before : List RecordedLine) → StandsFor lines.now before → result ≡ spec.broken_of before (line_seen line.now) }
+    ensures { (before : List RecordedLine)
+        → StandsFor lines.now before
+        → result ≡ spec.broken_of before (line_seen line.now) }
 {
     if !keeps_frame(lines, line) {
         Some(LineRule::Frame)
@@ -35,13 +37,17 @@ pub(crate) fn broken_of(lines: &LinesSoFar, line: &Line<'_>) -> Option<LineRule>
 }
 
 fn keeps_frame(lines: &LinesSoFar, line: &Line<'_>) -> bool
-    ensures { (before : List RecordedLine) → StandsFor lines.now before → result ≡ spec.keeps_frame before (line_seen line.now) }
+    ensures { (before : List RecordedLine)
+        → StandsFor lines.now before
+        → result ≡ spec.keeps_frame before (line_seen line.now) }
 {
     is_head(line) != lines.begun && !lines.closed
 }
 
 fn keeps_pools(lines: &LinesSoFar, line: &Line<'_>) -> bool
-    ensures { (before : List RecordedLine) → StandsFor lines.now before → result ≡ spec.keeps_pools before (line_seen line.now) }
+    ensures { (before : List RecordedLine)
+        → StandsFor lines.now before
+        → result ≡ spec.keeps_pools before (line_seen line.now) }
 {
     match pool_of(line) {
         Some(pool) => lines.pools.contains(pool),
@@ -50,7 +56,9 @@ fn keeps_pools(lines: &LinesSoFar, line: &Line<'_>) -> bool
 }
 
 fn keeps_numbers(lines: &LinesSoFar, line: &Line<'_>) -> bool
-    ensures { (before : List RecordedLine) → StandsFor lines.now before → result ≡ spec.keeps_numbers before (line_seen line.now) }
+    ensures { (before : List RecordedLine)
+        → StandsFor lines.now before
+        → result ≡ spec.keeps_numbers before (line_seen line.now) }
 {
     has_next_number(lines, line)
         && is_known_actor(lines, actor_of(line))
@@ -58,7 +66,9 @@ fn keeps_numbers(lines: &LinesSoFar, line: &Line<'_>) -> bool
 }
 
 fn has_next_number(lines: &LinesSoFar, line: &Line<'_>) -> bool
-    ensures { (before : List RecordedLine) → StandsFor lines.now before → result ≡ spec.has_next_number before (line_seen line.now) }
+    ensures { (before : List RecordedLine)
+        → StandsFor lines.now before
+        → result ≡ spec.has_next_number before (line_seen line.now) }
 {
     match *line {
         Line::Submits { job, .. } => job == lines.jobs.submitted,
@@ -68,7 +78,9 @@ fn has_next_number(lines: &LinesSoFar, line: &Line<'_>) -> bool
 }
 
 fn is_known_actor(lines: &LinesSoFar, actor: Option<RecordedActor>) -> bool
-    ensures { (before : List RecordedLine) → StandsFor lines.now before → result ≡ spec.is_known_actor before actor }
+    ensures { (before : List RecordedLine)
+        → StandsFor lines.now before
+        → result ≡ spec.is_known_actor before actor }
 {
     match actor {
         Some(RecordedActor::Job(job)) => job < lines.jobs.submitted,
@@ -77,7 +89,9 @@ fn is_known_actor(lines: &LinesSoFar, actor: Option<RecordedActor>) -> bool
 }
 
 fn is_known_job(lines: &LinesSoFar, job: Option<usize>) -> bool
-    ensures { (before : List RecordedLine) → StandsFor lines.now before → result ≡ spec.is_known_job before job }
+    ensures { (before : List RecordedLine)
+        → StandsFor lines.now before
+        → result ≡ spec.is_known_job before job }
 {
     match job {
         Some(job) => job < lines.jobs.submitted,
@@ -86,7 +100,9 @@ fn is_known_job(lines: &LinesSoFar, job: Option<usize>) -> bool
 }
 
 fn keeps_rounds(lines: &LinesSoFar, line: &Line<'_>) -> bool
-    ensures { (before : List RecordedLine) → StandsFor lines.now before → result ≡ spec.keeps_rounds before (line_seen line.now) }
+    ensures { (before : List RecordedLine)
+        → StandsFor lines.now before
+        → result ≡ spec.keeps_rounds before (line_seen line.now) }
 {
     match actor_of(line) {
         Some(RecordedActor::Round(round)) => lines.rounds.is_open(round),
@@ -95,13 +111,17 @@ fn keeps_rounds(lines: &LinesSoFar, line: &Line<'_>) -> bool
 }
 
 fn keeps_jobs(lines: &LinesSoFar, line: &Line<'_>) -> bool
-    ensures { (before : List RecordedLine) → StandsFor lines.now before → result ≡ spec.keeps_jobs before (line_seen line.now) }
+    ensures { (before : List RecordedLine)
+        → StandsFor lines.now before
+        → result ≡ spec.keeps_jobs before (line_seen line.now) }
 {
     starts_once(lines, line) && is_running(lines, actor_of(line))
 }
 
 fn starts_once(lines: &LinesSoFar, line: &Line<'_>) -> bool
-    ensures { (before : List RecordedLine) → StandsFor lines.now before → result ≡ spec.starts_once before (line_seen line.now) }
+    ensures { (before : List RecordedLine)
+        → StandsFor lines.now before
+        → result ≡ spec.starts_once before (line_seen line.now) }
 {
     match *line {
         Line::JobStarts { job } => !lines.jobs.has_started(job),
@@ -110,7 +130,9 @@ fn starts_once(lines: &LinesSoFar, line: &Line<'_>) -> bool
 }
 
 fn is_running(lines: &LinesSoFar, actor: Option<RecordedActor>) -> bool
-    ensures { (before : List RecordedLine) → StandsFor lines.now before → result ≡ spec.is_running before actor }
+    ensures { (before : List RecordedLine)
+        → StandsFor lines.now before
+        → result ≡ spec.is_running before actor }
 {
     match actor {
         Some(RecordedActor::Job(job)) => lines.jobs.is_running(job),
@@ -119,7 +141,9 @@ fn is_running(lines: &LinesSoFar, actor: Option<RecordedActor>) -> bool
 }
 
 fn keeps_refusals(lines: &LinesSoFar, line: &Line<'_>) -> bool
-    ensures { (before : List RecordedLine) → StandsFor lines.now before → result ≡ spec.keeps_refusals before (line_seen line.now) }
+    ensures { (before : List RecordedLine)
+        → StandsFor lines.now before
+        → result ≡ spec.keeps_refusals before (line_seen line.now) }
 {
     match *line {
         Line::Refused { actor, job } => {
@@ -130,7 +154,9 @@ fn keeps_refusals(lines: &LinesSoFar, line: &Line<'_>) -> bool
 }
 
 fn just_submitted(lines: &LinesSoFar, actor: RecordedActor, job: usize) -> bool
-    ensures { (before : List RecordedLine) → StandsFor lines.now before → result ≡ said.just_submitted before actor job }
+    ensures { (before : List RecordedLine)
+        → StandsFor lines.now before
+        → result ≡ said.just_submitted before actor job }
 {
     match actor {
         RecordedActor::Job(submitter) => lines.jobs.offered(submitter) == Some(job),
@@ -139,7 +165,9 @@ fn just_submitted(lines: &LinesSoFar, actor: RecordedActor, job: usize) -> bool
 }
 
 fn keeps_gets(lines: &LinesSoFar, line: &Line<'_>) -> bool
-    ensures { (before : List RecordedLine) → StandsFor lines.now before → result ≡ spec.keeps_gets before (line_seen line.now) }
+    ensures { (before : List RecordedLine)
+        → StandsFor lines.now before
+        → result ≡ spec.keeps_gets before (line_seen line.now) }
 {
     match *line {
         Line::Got { job, .. } => lines.jobs.is_settled(job),

@@ -47,7 +47,9 @@ impl LinesSoFar {
     /// `AllocError` where the line keeps the rules, and there is no memory for what it names. The lines so far are then
     /// what they were.
     pub fn take(&mut self, line: &Line<'_>) -> Result<Option<LineRule>, AllocError>
-        ensures { (before : List RecordedLine) → StandsFor self.old before → IsTaken result before (line_seen line.now) self.new }
+        ensures { (before : List RecordedLine)
+            → StandsFor self.old before
+            → IsTaken result before (line_seen line.now) self.new }
     {
         let broken = broken_of(self, line);
         if broken.is_none() {

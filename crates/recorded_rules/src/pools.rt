@@ -46,7 +46,8 @@ impl Pools {
     ///
     /// `AllocError` where there is no memory for a name. The names are then unchanged.
     pub(crate) fn insert(&mut self, name: &str) -> Result<(), AllocError>
-        ensures added { OnOk result ((q : List ℕ) → has_name self.new q ≡ (has_name self.old q || bytes_eq name.now q)) }
+        ensures added { OnOk result
+            ((q : List ℕ) → has_name self.new q ≡ (has_name self.old q || bytes_eq name.now q)) }
         ensures same { OnErr result ((q : List ℕ) → has_name self.new q ≡ has_name self.old q) }
     {
         let kept = String::from_str(self.alloc, name)?;

@@ -48,7 +48,9 @@ impl Rounds {
     /// then unchanged.
     pub(crate) fn begin(&mut self, round: usize) -> Result<(), AllocError>
         ensures begun { OnOk result (self.new.begun ≡ self.old.begun + 1) }
-        ensures going { OnOk result ((r : ℕ) → round_at self.new r ≡ (if round == r then Some None else round_at self.old r)) }
+        ensures going { OnOk result
+            ((r : ℕ)
+            → round_at self.new r ≡ (if round == r then Some None else round_at self.old r)) }
         ensures same_begun { OnErr result (self.new.begun ≡ self.old.begun) }
         ensures same_open { OnErr result ((r : ℕ) → round_at self.new r ≡ round_at self.old r) }
     {
@@ -61,7 +63,8 @@ impl Rounds {
     /// The round ends.
     pub(crate) fn end(&mut self, round: usize)
         ensures begun { self.new.begun ≡ self.old.begun }
-        ensures going { (r : ℕ) → round_at self.new r ≡ (if round == r then None else round_at self.old r) }
+        ensures going { (r : ℕ)
+            → round_at self.new r ≡ (if round == r then None else round_at self.old r) }
     {
         self.open.remove(round);
     }
@@ -69,7 +72,10 @@ impl Rounds {
     /// The round, where it is open, just submitted this job, or did another thing.
     pub(crate) fn set_offered(&mut self, round: usize, offered: Option<usize>)
         ensures begun { self.new.begun ≡ self.old.begun }
-        ensures going { (r : ℕ) → round_at self.new r ≡ (if round == r then option_map (λ _. offered) (round_at self.old r) else round_at self.old r) }
+        ensures going { (r : ℕ)
+            → round_at self.new r
+            ≡ (if round == r then option_map (λ _. offered) (round_at self.old r) else round_at
+            self.old r) }
     {
         if let Some(there) = self.open.get_mut(round) {
             *there = offered;

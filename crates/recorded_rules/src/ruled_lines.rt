@@ -50,7 +50,9 @@ impl<'a> RuledLines<'a> {
     ///
     /// `AllocError` where there is no memory for what the line names. There is nothing more to ask then either.
     pub fn next(&mut self) -> Result<Option<Result<Line<'a>, RecordingFault>>, AllocError>
-        ensures { (all : List (Option RecordedLine)) → IsRuled all self.old → IfOk result (λ next. IsNext all self.old next self.new) }
+        ensures { (all : List (Option RecordedLine))
+            → IsRuled all self.old
+            → IfOk result (λ next. IsNext all self.old next self.new) }
     {
         // There are fewer lines than the greatest number, so that this is always the next one.
         let number = self.number.saturating_add(1);

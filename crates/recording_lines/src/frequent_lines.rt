@@ -20,7 +20,8 @@ const MOST_DIGITS: usize = 9;
 /// The first line, and what stands behind it.
 #[inline(always)]
 pub(crate) fn split_frequent_line(text: &[u8]) -> Option<(Line<'_>, &[u8])>
-    ensures { IfSome result (λ read. lines_read text.now ≡ Some (line_seen read.0) ∷ lines_read read.1.now) }
+    ensures { IfSome result
+        (λ read. lines_read text.now ≡ Some (line_seen read.0) ∷ lines_read read.1.now) }
 {
     match text {
         [b'j', b'o', b'b', b' ', words @ ..] => {
@@ -39,7 +40,9 @@ pub(crate) fn split_frequent_line(text: &[u8]) -> Option<(Line<'_>, &[u8])>
 #[inline(always)]
 fn split_job_line(job: usize, words: &[u8]) -> Option<(Line<'_>, &[u8])>
     requires { is_lawful_number job ≡ true }
-    ensures { IfSome result (λ read. lines_read (behind_actor (Job job) words.now) ≡ Some (line_seen read.0) ∷ lines_read read.1.now) }
+    ensures { IfSome result (λ read.
+        lines_read (behind_actor (Job job) words.now)
+        ≡ Some (line_seen read.0) ∷ lines_read read.1.now) }
 {
     if let [b's', b't', b'a', b'r', b't', b'\n', behind @ ..] = words {
         return Some((Line::JobStarts { job }, behind));
@@ -54,7 +57,9 @@ fn split_job_line(job: usize, words: &[u8]) -> Option<(Line<'_>, &[u8])>
 #[inline(always)]
 fn split_round_line(round: usize, words: &[u8]) -> Option<(Line<'_>, &[u8])>
     requires { is_lawful_number round ≡ true }
-    ensures { IfSome result (λ read. lines_read (behind_actor (Round round) words.now) ≡ Some (line_seen read.0) ∷ lines_read read.1.now) }
+    ensures { IfSome result (λ read.
+        lines_read (behind_actor (Round round) words.now)
+        ≡ Some (line_seen read.0) ∷ lines_read read.1.now) }
 {
     if let [b'b', b'e', b'g', b'i', b'n', b' ', kind @ ..] = words {
         let (kind, behind) = split_name(kind, b'\n')?;
@@ -70,7 +75,9 @@ fn split_round_line(round: usize, words: &[u8]) -> Option<(Line<'_>, &[u8])>
 #[inline(always)]
 fn split_act(actor: RecordedActor, words: &[u8]) -> Option<(Line<'_>, &[u8])>
     requires { is_lawful_actor actor ≡ true }
-    ensures { IfSome result (λ read. lines_read (behind_actor actor words.now) ≡ Some (line_seen read.0) ∷ lines_read read.1.now) }
+    ensures { IfSome result (λ read.
+        lines_read (behind_actor actor words.now)
+        ≡ Some (line_seen read.0) ∷ lines_read read.1.now) }
 {
     if let [b'g', b'o', b't', b' ', job @ ..] = words {
         let (job, behind) = split_number(job, b'\n')?;
@@ -86,7 +93,9 @@ fn split_act(actor: RecordedActor, words: &[u8]) -> Option<(Line<'_>, &[u8])>
 #[inline(always)]
 fn split_submit(actor: RecordedActor, words: &[u8]) -> Option<(Line<'_>, &[u8])>
     requires { is_lawful_actor actor ≡ true }
-    ensures { IfSome result (λ read. lines_read (behind_actor actor (codes "submit" ++ 32 ∷ words.now)) ≡ Some (line_seen read.0) ∷ lines_read read.1.now) }
+    ensures { IfSome result (λ read.
+        lines_read (behind_actor actor (codes "submit" ++ 32 ∷ words.now))
+        ≡ Some (line_seen read.0) ∷ lines_read read.1.now) }
 {
     let (job, words) = split_number(words, b' ')?;
     let (class, words) = split_name(words, b' ')?;
@@ -103,7 +112,8 @@ fn split_submit(actor: RecordedActor, words: &[u8]) -> Option<(Line<'_>, &[u8])>
 /// The number that stands before this byte, and what stands behind the byte.
 #[inline(always)]
 fn split_number(text: &[u8], end: u8) -> Option<(usize, &[u8])>
-    ensures { IfSome result (λ read. (is_lawful_number read.0 ≡ true) × (text.now ≡ decimal read.0 ++ end ∷ read.1.now)) }
+    ensures { IfSome result (λ read.
+        (is_lawful_number read.0 ≡ true) × (text.now ≡ decimal read.0 ++ end ∷ read.1.now)) }
 {
     let [first @ b'1'..=b'9', ..] = text else {
         return None;
@@ -134,7 +144,8 @@ fn digit_of(byte: u8) -> usize
 /// The name that stands before this byte, and what stands behind the byte.
 #[inline(always)]
 fn split_name(text: &[u8], end: u8) -> Option<(&str, &[u8])>
-    ensures { IfSome result (λ read. (is_lawful_name read.0.now ≡ true) × (text.now ≡ read.0.now ++ end ∷ read.1.now)) }
+    ensures { IfSome result
+        (λ read. (is_lawful_name read.0.now ≡ true) × (text.now ≡ read.0.now ++ end ∷ read.1.now)) }
 {
     let (name, behind) = text.split_at(count_name_bytes(text));
     let [b'a'..=b'z', ..] = name else {

@@ -47,7 +47,8 @@ impl<'a> RecordingLines<'a> {
     /// [`BadLine`] in the place of a line that has none of the forms. The lines behind it can be read.
     #[inline(always)]
     pub fn next(&mut self) -> Option<Result<Line<'a>, BadLine>>
-        ensures { MatchOption result ((self.old ≡ []) × (self.new ≡ [])) (λ line. self.old ≡ line_read line ∷ self.new) }
+        ensures { MatchOption result ((self.old ≡ []) × (self.new ≡ []))
+            (λ line. self.old ≡ line_read line ∷ self.new) }
     {
         let (line, behind) = match split_frequent_line(self.rest) {
             Some((line, behind)) => (Ok(line), behind),
@@ -63,7 +64,8 @@ impl<'a> RecordingLines<'a> {
 /// Inlined, since the room for what the calls in it return is cleared at its start, which most lines then don't pay for.
 #[inline(always)]
 fn split_line(text: &[u8]) -> Option<(Result<Line<'_>, BadLine>, &[u8])>
-    ensures { MatchOption result (lines_read text.now ≡ []) (λ read. lines_read text.now ≡ line_read read.0 ∷ lines_read read.1.now) }
+    ensures { MatchOption result (lines_read text.now ≡ [])
+        (λ read. lines_read text.now ≡ line_read read.0 ∷ lines_read read.1.now) }
 {
     let (line, behind) = split_whole_line(text)?;
     match line_of(line) {
@@ -76,7 +78,8 @@ fn split_line(text: &[u8]) -> Option<(Result<Line<'_>, BadLine>, &[u8])>
 #[cold]
 #[inline(never)]
 fn split_whole_line(text: &[u8]) -> Option<(&[u8], &[u8])>
-    ensures { MatchOption result (whole_lines text.now ≡ []) (λ parts. whole_lines text.now ≡ parts.0.now ∷ whole_lines parts.1.now) }
+    ensures { MatchOption result (whole_lines text.now ≡ [])
+        (λ parts. whole_lines text.now ≡ parts.0.now ∷ whole_lines parts.1.now) }
 {
     let newline = memchr(b'\n', text)?;
     Some((&text[..newline], &text[newline + 1..]))

@@ -64,7 +64,8 @@ pub(crate) fn behind<'a>(word: &str, text: &'a [u8]) -> Option<&'a [u8]>
 /// The number behind this word, and the words behind that.
 #[tactic(auto, unfolding(crate::specs::Words::number_behind))]
 pub(crate) fn number_behind<'a>(word: &str, text: &'a [u8]) -> Option<(usize, &'a [u8])>
-    ensures { option_map (λ read. (read.0, read.1.now)) result ≡ spec.number_behind word.now text.now }
+    ensures { option_map (λ read. (read.0, read.1.now)) result
+        ≡ spec.number_behind word.now text.now }
 {
     number_then(behind(word, text)?)
 }

@@ -27,7 +27,8 @@ pub fn push_explanation(
     cert: &Cert,
 ) -> Result<usize, AllocError>
     requires { IsTrue (cert_fits plan.now cert.now) }
-    ensures text { Pushes result text.old text.new (spec.explanation plan.now (failing plan.now cert.now)) }
+    ensures text { Pushes result text.old text.new
+        (spec.explanation plan.now (failing plan.now cert.now)) }
     ensures count { IfOk result (λ count. count ≡ length (failing plan.now cert.now)) }
 {
     let count = push_all_lines(alloc, text, plan, cert)?;
@@ -43,7 +44,8 @@ fn push_all_lines(
     cert: &Cert,
 ) -> Result<usize, AllocError>
     requires { IsTrue (cert_fits plan.now cert.now) }
-    ensures text { Pushes result text.old text.new (spec.lines plan.now (failing plan.now cert.now)) }
+    ensures text { Pushes result text.old text.new
+        (spec.lines plan.now (failing plan.now cert.now)) }
     ensures count { IfOk result (λ count. count ≡ length (failing plan.now cert.now)) }
 {
     let mut notes = Vec::new(alloc);

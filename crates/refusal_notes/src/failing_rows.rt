@@ -33,7 +33,10 @@ impl FailingRows {
 
     /// Puts the failing ones of all rows that it has looked at behind the notes, as notes of this section.
     pub fn push_notes(self, notes: &mut Vec<Note>, section: Section) -> Result<(), AllocError>
-        ensures { (seen : List Seen) → Keeps self seen → OnOk result (notes.new.items ≡ notes.old.items ++ spec.in_section section (filter fails seen)) }
+        ensures { (seen : List Seen)
+            → Keeps self seen
+            → OnOk result
+            (notes.new.items ≡ notes.old.items ++ spec.in_section section (filter fails seen)) }
     {
         self.kept?;
         push_section_notes(notes, section, &self.rows)

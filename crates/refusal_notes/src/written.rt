@@ -57,7 +57,8 @@ fn push_section(text: &mut String, plan: &Plan, section: Section) -> Result<(), 
 
 /// One vector of the pool's certificate.
 fn push_vector(text: &mut String, plan: &Plan, pool: usize, vector: &str) -> Result<(), AllocError>
-    ensures { Pushes result text.old text.new (codes "pool " ++ (pool_at plan.now pool).name ++ vector.now) }
+    ensures { Pushes result text.old text.new
+        (codes "pool " ++ (pool_at plan.now pool).name ++ vector.now) }
 {
     push_named(text, "pool ", plan.pool_name(pool))?;
     text.push_str(vector)
@@ -91,7 +92,12 @@ fn push_place(text: &mut String, plan: &Plan, place: Place) -> Result<(), AllocE
 
 /// What the note's rule compares.
 fn push_sides(text: &mut String, note: &Note) -> Result<(), AllocError>
-    ensures { Pushes result text.old text.new (spec.rule_text note.now.rule ++ codes " " ++ decimal note.now.left ++ codes " above " ++ decimal note.now.right) }
+    ensures { Pushes result text.old text.new
+        (spec.rule_text note.now.rule
+        ++ codes " "
+        ++ decimal note.now.left
+        ++ codes " above "
+        ++ decimal note.now.right) }
 {
     text.push_str(rule_name(note.rule))?;
     text.push_str(" ")?;

@@ -27,7 +27,10 @@ pub(crate) fn is_complete(
     history: &[Event],
 ) -> Result<bool, AllocError>
     requires { kinds.now ≡ kinds_of plan.now }
-    ensures { IfOk result (λ complete. (s : State) → live_view plan.now s ≡ world.now.view → (IsTrue complete ↔ spec.IsComplete plan.now rounds history.now s)) }
+    ensures { IfOk result (λ complete.
+        (s : State)
+        → live_view plan.now s ≡ world.now.view
+        → (IsTrue complete ↔ spec.IsComplete plan.now rounds history.now s)) }
 {
     if world.unfinished() != 0 {
         return Ok(false);
@@ -46,7 +49,13 @@ fn clients_are_through(
 ) -> bool
     requires kinds { kinds.now ≡ kinds_of plan.now }
     requires as_many { length kinds.now ≡ length made.now }
-    ensures { (history : List Event) (s : State) → spec.AreMadeIn history made.now → live_view plan.now s ≡ world.now.view → (IsTrue result ↔ ((c kind : ℕ) → slice_get kinds.now c ≡ Some kind → spec.IsThrough rounds history s c (client_at plan.now kind))) }
+    ensures { (history : List Event) (s : State)
+        → spec.AreMadeIn history made.now
+        → live_view plan.now s ≡ world.now.view
+        → (IsTrue result
+        ↔ ((c kind : ℕ)
+        → slice_get kinds.now c ≡ Some kind
+        → spec.IsThrough rounds history s c (client_at plan.now kind))) }
 {
     for number in 0..kinds.len() {
         let Some(client) = plan.client_at(kinds[number]) else {
@@ -62,7 +71,10 @@ fn clients_are_through(
 /// Whether the client of this number, of this kind, has made all its events, which are so many, and stands at its body's
 /// end.
 fn is_through(client: &Client, number: usize, world: &World, rounds: u64, made: u64) -> bool
-    ensures { (plan : Plan) (history : List Event) (s : State) → made ≡ count_by (spec.is_of_client number) history → live_view plan s ≡ world.now.view → (IsTrue result ↔ spec.IsThrough rounds history s number client.now) }
+    ensures { (plan : Plan) (history : List Event) (s : State)
+        → made ≡ count_by (spec.is_of_client number) history
+        → live_view plan s ≡ world.now.view
+        → (IsTrue result ↔ spec.IsThrough rounds history s number client.now) }
 {
     let Some(position) = world.client(number) else {
         return false;
@@ -92,7 +104,10 @@ fn events_made(alloc: Global, clients: usize, history: &[Event]) -> Result<Vec<u
 /// Counts the event for its client.
 fn count_event(made: &mut [u64], event: Event)
     ensures as_many { length made.new ≡ length made.old }
-    ensures made { (c : ℕ) → c < length made.old → slice_index made.new c ≡ min (slice_index made.old c + (if spec.is_of_client c event then 1 else 0)) (2 ^ 64 - 1) }
+    ensures made { (c : ℕ)
+        → c < length made.old
+        → slice_index made.new c
+        ≡ min (slice_index made.old c + (if spec.is_of_client c event then 1 else 0)) (2 ^ 64 - 1) }
 {
     if let Event::Client(client) = event {
         if client < made.len() {

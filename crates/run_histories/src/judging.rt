@@ -38,11 +38,24 @@ pub fn judge(
     ensures run { IfOk result (λ _. IsRun certified.now.plan rounds met.history met.receipts) }
     ensures made { IfOk result (λ _. Makes certified.now.plan met.history numbers.jobs) }
     ensures worked { IfOk result (λ _. Works certified.now.plan met.history numbers.units) }
-    ensures report { IfOk result (λ report. report ≡ record { jobs = numbers.jobs; units = numbers.units; refused = 0; history = met.history; receipts = met.receipts }) }
+    ensures report { IfOk result (λ report.
+        report
+        ≡ record {
+          jobs = numbers.jobs;
+          units = numbers.units;
+          refused = 0;
+          history = met.history;
+          receipts = met.receipts;
+        }) }
     ensures none_met { IfOk result (λ _. met.fault ≡ None) }
-    ensures events { IfErr result (λ fault. IsLegalFront certified.now.plan met.history fault.events) }
-    ensures replayed { IfErr result (λ fault. fault.number ≢ MEMORY → IsLegalPart certified.now.plan met.history fault.events) }
-    ensures fault { IfErr result (λ fault. fault.number ≢ MEMORY → IsAnswerTo certified.now.plan rounds numbers.jobs numbers.units met.history met.receipts met.fault fault) }
+    ensures events { IfErr result
+        (λ fault. IsLegalFront certified.now.plan met.history fault.events) }
+    ensures replayed { IfErr result
+        (λ fault. fault.number ≢ MEMORY → IsLegalPart certified.now.plan met.history fault.events) }
+    ensures fault { IfErr result (λ fault.
+        fault.number ≢ MEMORY
+        → IsAnswerTo certified.now.plan rounds numbers.jobs numbers.units met.history met.receipts
+        met.fault fault) }
 {
     let Ok(replay) = replay_history(alloc, certified.plan(), &met.history) else {
         return Err(RunFault::at_start(MEMORY));
@@ -60,7 +73,14 @@ pub fn judge(
 /// The report of a run whose history leads to the world.
 fn report(certified: &Certified, numbers: RunNumbers, world: &SeenWorld, met: Met) -> RunReport
     requires { IsReachedBy certified.now.plan met.history world.now }
-    ensures { result ≡ record { jobs = numbers.jobs; units = numbers.units; refused = 0; history = met.history; receipts = met.receipts } }
+    ensures { result
+        ≡ record {
+          jobs = numbers.jobs;
+          units = numbers.units;
+          refused = 0;
+          history = met.history;
+          receipts = met.receipts;
+        } }
 {
     reached_worlds_refuse_nothing(certified, world);
     let refused = world.world().refusals();
@@ -86,15 +106,25 @@ fn fault_of(
     met: &Met,
     replay: &Replay,
 ) -> Result<Option<RunFault>, AllocError>
-    requires replayed { IsReplayedAs plan.now (take (length replay.now.pools.items) met.now.history) replay.now.world replay.now.pools.items replay.now.units }
-    requires part { replay.now.ended_for_memory ≡ false → IsLegalPart plan.now met.now.history (length replay.now.pools.items) }
-    ensures reached { IfOk result (λ found. IfNone found (IsReachedBy plan.now met.now.history replay.now.world)) }
-    ensures run { IfOk result (λ found. IfNone found (IsRun plan.now rounds met.now.history met.now.receipts)) }
-    ensures made { IfOk result (λ found. IfNone found (Makes plan.now met.now.history numbers.jobs)) }
-    ensures worked { IfOk result (λ found. IfNone found (Works plan.now met.now.history numbers.units)) }
+    requires replayed { IsReplayedAs plan.now (take (length replay.now.pools.items) met.now.history)
+        replay.now.world replay.now.pools.items replay.now.units }
+    requires part { replay.now.ended_for_memory ≡ false
+        → IsLegalPart plan.now met.now.history (length replay.now.pools.items) }
+    ensures reached { IfOk result
+        (λ found. IfNone found (IsReachedBy plan.now met.now.history replay.now.world)) }
+    ensures run { IfOk result
+        (λ found. IfNone found (IsRun plan.now rounds met.now.history met.now.receipts)) }
+    ensures made { IfOk result
+        (λ found. IfNone found (Makes plan.now met.now.history numbers.jobs)) }
+    ensures worked { IfOk result
+        (λ found. IfNone found (Works plan.now met.now.history numbers.units)) }
     ensures none_met { IfOk result (λ found. IfNone found (met.now.fault ≡ None)) }
-    ensures part { IfOk result (λ found. IfSome found (λ fault. IsLegalPart plan.now met.now.history fault.events)) }
-    ensures fault { IfOk result (λ found. IfSome found (IsAnswerTo plan.now rounds numbers.jobs numbers.units met.now.history met.now.receipts met.now.fault)) }
+    ensures part { IfOk result
+        (λ found. IfSome found (λ fault. IsLegalPart plan.now met.now.history fault.events)) }
+    ensures fault { IfOk result (λ found.
+        IfSome found
+        (IsAnswerTo plan.now rounds numbers.jobs numbers.units met.now.history met.now.receipts
+        met.now.fault)) }
 {
     if replay.ended_for_memory {
         return Err(AllocError);
@@ -140,11 +170,18 @@ fn is_run(
     replay: &Replay,
 ) -> Result<bool, AllocError>
     requires kinds { kinds.now ≡ owner.kinds_of plan.now }
-    requires replayed { IsReplayedAs plan.now (take (length replay.now.pools.items) met.now.history) replay.now.world replay.now.pools.items replay.now.units }
+    requires replayed { IsReplayedAs plan.now (take (length replay.now.pools.items) met.now.history)
+        replay.now.world replay.now.pools.items replay.now.units }
     requires part { IsLegalPart plan.now met.now.history (length replay.now.pools.items) }
-    requires theirs { AreListsOf plan.now (take (length replay.now.pools.items) met.now.history) (owner.lists_of plan.now) met.now.receipts }
-    ensures reached { IfOk result (λ is_run. IsTrue is_run → IsReachedBy plan.now met.now.history replay.now.world) }
-    ensures run { IfOk result (λ is_run. IsTrue is_run ↔ (IsRun plan.now rounds met.now.history met.now.receipts × Makes plan.now met.now.history numbers.jobs × Works plan.now met.now.history numbers.units)) }
+    requires theirs { AreListsOf plan.now (take (length replay.now.pools.items) met.now.history)
+        (owner.lists_of plan.now) met.now.receipts }
+    ensures reached { IfOk result
+        (λ is_run. IsTrue is_run → IsReachedBy plan.now met.now.history replay.now.world) }
+    ensures run { IfOk result (λ is_run.
+        IsTrue is_run
+        ↔ (IsRun plan.now rounds met.now.history met.now.receipts
+        × Makes plan.now met.now.history numbers.jobs
+        × Works plan.now met.now.history numbers.units)) }
 {
     if replay.events() < met.history.len() {
         return Ok(false);

@@ -34,9 +34,12 @@ pub fn run_numbers(
     ranks: &Ranks,
     rounds: u64,
 ) -> Result<RunNumbers, AllocError>
-    ensures jobs { IfOk result (λ numbers. numbers.jobs ≡ capped (spec.jobs plan.now ranks.now rounds)) }
-    ensures units { IfOk result (λ numbers. numbers.units ≡ capped (spec.units plan.now ranks.now rounds)) }
-    ensures events { IfOk result (λ numbers. numbers.events ≡ capped (spec.bound plan.now ranks.now rounds)) }
+    ensures jobs { IfOk result
+        (λ numbers. numbers.jobs ≡ capped (spec.jobs plan.now ranks.now rounds)) }
+    ensures units { IfOk result
+        (λ numbers. numbers.units ≡ capped (spec.units plan.now ranks.now rounds)) }
+    ensures events { IfOk result
+        (λ numbers. numbers.events ≡ capped (spec.bound plan.now ranks.now rounds)) }
 {
     let jobs = by_jobs(alloc, plan, ranks, rounds, Measure::Jobs)?;
     let units = by_jobs(alloc, plan, ranks, rounds, Measure::Units)?;
@@ -75,7 +78,8 @@ fn by_jobs(
     rounds: u64,
     measure: Measure,
 ) -> Result<u64, AllocError>
-    ensures { IfOk result (λ total. total ≡ capped (spec.by_jobs plan.now ranks.now rounds (spec.own measure))) }
+    ensures { IfOk result
+        (λ total. total ≡ capped (spec.by_jobs plan.now ranks.now rounds (spec.own measure))) }
 {
     let numbers = caused(alloc, plan, ranks, measure)?;
     Ok(submitted_by_all(plan, rounds, &numbers))
@@ -83,7 +87,9 @@ fn by_jobs(
 
 /// The numbers of the classes that the clients submit in all their rounds, added up.
 fn submitted_by_all(plan: &Plan, rounds: u64, numbers: &[u64]) -> u64
-    ensures { (f : ℕ → ℕ) → spec.AreCapped plan.now f numbers.now → result ≡ capped (sum_by (spec.submitted_by rounds f) plan.now.clients) }
+    ensures { (f : ℕ → ℕ)
+        → spec.AreCapped plan.now f numbers.now
+        → result ≡ capped (sum_by (spec.submitted_by rounds f) plan.now.clients) }
 {
     let mut total = 0u64;
     for client in plan.clients() {
@@ -128,7 +134,9 @@ fn events_of_all(plan: &Plan, rounds: u64) -> u64
 
 /// What the clients of a kind have in all their rounds, of what one has in each.
 fn in_all_rounds(client: &Client, rounds: u64, in_one: u64) -> u64
-    ensures { (n : ℕ) → in_one ≡ capped n → result ≡ capped (client.now.count * (complete.rounds_of rounds client.now * n)) }
+    ensures { (n : ℕ)
+        → in_one ≡ capped n
+        → result ≡ capped (client.now.count * (complete.rounds_of rounds client.now * n)) }
 {
     let of_one = rounds_of_client(client, rounds).saturating_mul(in_one);
     client.count.saturating_mul(of_one)
@@ -174,7 +182,8 @@ fn caused(
     ranks: &Ranks,
     measure: Measure,
 ) -> Result<Vec<u64>, AllocError>
-    ensures { IfOk result (λ numbers. spec.AreCapped plan.now (spec.caused plan.now ranks.now (spec.own measure)) numbers.items) }
+    ensures { IfOk result (λ numbers.
+        spec.AreCapped plan.now (spec.caused plan.now ranks.now (spec.own measure)) numbers.items) }
 {
     let mut numbers = one_more(alloc, plan, measure, &[])?;
     for generation in 0..greatest(&ranks.levels) {
@@ -206,7 +215,10 @@ fn one_more(
     measure: Measure,
     numbers: &[u64],
 ) -> Result<Vec<u64>, AllocError>
-    ensures { IfOk result (λ next. (n : ℕ) → spec.AreCaused plan.now (spec.own measure) n numbers.now → spec.AreCaused plan.now (spec.own measure) (suc n) next.items) }
+    ensures { IfOk result (λ next.
+        (n : ℕ)
+        → spec.AreCaused plan.now (spec.own measure) n numbers.now
+        → spec.AreCaused plan.now (spec.own measure) (suc n) next.items) }
 {
     let mut next = Vec::with_capacity(alloc, plan.classes().len())?;
     for class in plan.classes() {

@@ -23,7 +23,11 @@ pub enum Owner {
 
 /// The pool of the event's job, in the world before the event, where it is a job's and is possible there; else 0.
 pub(crate) fn pool_of(plan: &Plan, world: &World, event: Event) -> u8
-    ensures { (s : State) → IsReached plan.now s → live_view plan.now s ≡ world.now.view → step plan.now s event ≢ None → spec.owner_by event result ≡ spec.owner_in plan.now s event }
+    ensures { (s : State)
+        → IsReached plan.now s
+        → live_view plan.now s ≡ world.now.view
+        → step plan.now s event ≢ None
+        → spec.owner_by event result ≡ spec.owner_in plan.now s event }
 {
     match event {
         Event::Job(number) => match world.job(number) {
@@ -92,7 +96,8 @@ pub fn lists_of(alloc: Global, plan: &Plan, kinds: &[usize]) -> Result<Vec<Owner
 }
 
 fn clients_of(alloc: Global, kinds: &[usize]) -> Result<Vec<Owner>, AllocError>
-    ensures { IfOk result (λ lists. lists.items ≡ map spec.client_list (enumerate_from 0 kinds.now)) }
+    ensures { IfOk result
+        (λ lists. lists.items ≡ map spec.client_list (enumerate_from 0 kinds.now)) }
 {
     let mut owners = Vec::new(alloc);
     for number in 0..kinds.len() {

@@ -22,7 +22,8 @@ pub(crate) fn lists_fit(
 ) -> bool
     requires legal { IsLegal plan.now history.now }
     requires pools { ArePoolsOf plan.now history.now pools.now }
-    ensures { IsTrue result ↔ AreListsOf plan.now history.now of_lists.now (map (λ list. list.items) lists.now) }
+    ensures { IsTrue result
+        ↔ AreListsOf plan.now history.now of_lists.now (map (λ list. list.items) lists.now) }
 {
     if of_lists.len() != lists.len() {
         return false;
@@ -113,7 +114,9 @@ pub(crate) fn each_once(
     length: usize,
     lists: &[Vec<KeptReceipt>],
 ) -> Result<bool, AllocError>
-    ensures { IfOk result (λ once. IsTrue once ↔ ((k : ℕ) → k < length → places_of k (map (λ list. list.items) lists.now) ≡ 1)) }
+    ensures { IfOk result (λ once.
+        IsTrue once
+        ↔ ((k : ℕ) → k < length → places_of k (map (λ list. list.items) lists.now) ≡ 1)) }
 {
     let mut marks = vec![in alloc; 0u8; length]?;
     for list in lists {
@@ -125,7 +128,10 @@ pub(crate) fn each_once(
 /// Raises the mark at each receipt's number. A mark of 255 stands for all numbers from there on.
 fn mark_all(marks: &mut [u8], list: &[KeptReceipt])
     ensures len { length marks.new ≡ length marks.old }
-    ensures marks { (k : ℕ) → k < length marks.old → slice_index marks.new k ≡ min (slice_index marks.old k + count_by (λ r. r.number == k) list.now) 255 }
+    ensures marks { (k : ℕ)
+        → k < length marks.old
+        → slice_index marks.new k
+        ≡ min (slice_index marks.old k + count_by (λ r. r.number == k) list.now) 255 }
 {
     for kept in list {
         mark(marks, kept.receipt().number as usize);
@@ -134,7 +140,10 @@ fn mark_all(marks: &mut [u8], list: &[KeptReceipt])
 
 fn mark(marks: &mut [u8], number: usize)
     ensures len { length marks.new ≡ length marks.old }
-    ensures marks { (k : ℕ) → k < length marks.old → slice_index marks.new k ≡ min (slice_index marks.old k + (if number == k then 1 else 0)) 255 }
+    ensures marks { (k : ℕ)
+        → k < length marks.old
+        → slice_index marks.new k
+        ≡ min (slice_index marks.old k + (if number == k then 1 else 0)) 255 }
 {
     if number < marks.len() {
         marks[number] = marks[number].saturating_add(1);

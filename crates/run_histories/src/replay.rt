@@ -36,8 +36,12 @@ pub(crate) fn replay_history(
     plan: &Plan,
     history: &[Event],
 ) -> Result<Replay, AllocError>
-    ensures replayed { IfOk result (λ replay. IsReplayedAs plan.now (take (length replay.pools.items) history.now) replay.world replay.pools.items replay.units) }
-    ensures part { IfOk result (λ replay. replay.ended_for_memory ≡ false → IsLegalPart plan.now history.now (length replay.pools.items)) }
+    ensures replayed { IfOk result (λ replay.
+        IsReplayedAs plan.now (take (length replay.pools.items) history.now) replay.world
+        replay.pools.items replay.units) }
+    ensures part { IfOk result (λ replay.
+        replay.ended_for_memory ≡ false
+        → IsLegalPart plan.now history.now (length replay.pools.items)) }
 {
     let mut replay = Replay {
         world: SeenWorld::start(alloc, plan)?,
@@ -63,9 +67,13 @@ impl Replay {
     ///
     /// `AllocError` where there is no memory for an event. Those before it are made.
     fn follow_all(&mut self, plan: &Plan, history: &[Event]) -> Result<(), AllocError>
-        requires at_start { IsReplayedAs plan.now [] self.old.world self.old.pools.items self.old.units }
-        ensures replayed { IsReplayedAs plan.now (take (length self.new.pools.items) history.now) self.new.world self.new.pools.items self.new.units }
-        ensures ends { IfOk result (λ _. length self.new.pools.items < length history.now → ¬ IsLegal plan.now (take (length self.new.pools.items + 1) history.now)) }
+        requires at_start { IsReplayedAs plan.now [] self.old.world self.old.pools.items
+            self.old.units }
+        ensures replayed { IsReplayedAs plan.now (take (length self.new.pools.items) history.now)
+            self.new.world self.new.pools.items self.new.units }
+        ensures ends { IfOk result (λ _.
+            length self.new.pools.items < length history.now
+            → ¬ IsLegal plan.now (take (length self.new.pools.items + 1) history.now)) }
     {
         for event in history {
             if !self.follow(plan, *event)? {
@@ -82,8 +90,15 @@ impl Replay {
     /// `AllocError` where there is no memory for it. It is not made then.
     fn follow(&mut self, plan: &Plan, event: Event) -> Result<bool, AllocError>
         requires { IsOf plan.now self.old.world }
-        ensures made { IfOk result (λ made. (history : List Event) → IsReplayedAs plan.now history self.old.world self.old.pools.items self.old.units → GoesOn plan.now history event made self.new.world self.new.pools.items self.new.units) }
-        ensures error_unmade { OnErr result ((self.new.world ≡ self.old.world) × (self.new.pools.items ≡ self.old.pools.items) × (self.new.units ≡ self.old.units)) }
+        ensures made { IfOk result (λ made.
+            (history : List Event)
+            → IsReplayedAs plan.now history self.old.world self.old.pools.items self.old.units
+            → GoesOn plan.now history event made self.new.world self.new.pools.items
+            self.new.units) }
+        ensures error_unmade { OnErr result
+            ((self.new.world ≡ self.old.world)
+            × (self.new.pools.items ≡ self.old.pools.items)
+            × (self.new.units ≡ self.old.units)) }
     {
         let pool = pool_of(plan, self.world.world(), event);
         self.pools.reserve(1)?;

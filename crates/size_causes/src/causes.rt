@@ -50,7 +50,8 @@ fn circle(alloc: Global, plan: &Plan) -> Result<Option<Cause>, AllocError>
 /// Whether the class submits itself, at whatever remove.
 fn submits_itself(alloc: Global, plan: &Plan, number: usize) -> Result<bool, AllocError>
     requires { number < length plan.now.classes }
-    ensures { IfOk result (λ yes. (yes ≡ true) ↔ IsSubmitted plan.now ((class_at plan.now number).body ∷ []) number) }
+    ensures { IfOk result
+        (λ yes. (yes ≡ true) ↔ IsSubmitted plan.now ((class_at plan.now number).body ∷ []) number) }
 {
     let class = &plan.classes()[number];
     let mut reached = Reached::nothing(alloc, plan)?;

@@ -24,7 +24,8 @@ pub(crate) struct Reached {
 impl Reached {
     /// No class is submitted.
     pub(crate) fn nothing(alloc: Global, plan: &Plan) -> Result<Reached, AllocError>
-        ensures { IfOk result (λ reached. (bodies : List (List Action)) → IsReaching plan.now bodies reached) }
+        ensures { IfOk result
+            (λ reached. (bodies : List (List Action)) → IsReaching plan.now bodies reached) }
     {
         Ok(Reached {
             is_found: vec![in alloc; false; plan.classes().len()]?,
@@ -65,7 +66,8 @@ impl Reached {
         requires { (k : ℕ) → In (Submit k) body.now → k < length self.old.is_found.items }
         ensures grows { OnOk result (Grows self.old self.new) }
         ensures covers { OnOk result (Covers self.new body.now) }
-        ensures only { OnOk result ((k : ℕ) → Has self.new k → Has self.old k ⊎ In (Submit k) body.now) }
+        ensures only { OnOk result
+            ((k : ℕ) → Has self.new k → Has self.old k ⊎ In (Submit k) body.now) }
     {
         for action in body {
             if let Action::Submit(class) = *action {
@@ -78,11 +80,18 @@ impl Reached {
     /// Looks at the body of one class that was found, where one is left.
     fn follow(&mut self, plan: &Plan) -> Result<(), AllocError>
         requires { length self.old.is_found.items ≡ length plan.now.classes }
-        ensures reaching { OnOk result ((bodies : List (List Action)) → IsReaching plan.now bodies self.old → IsReaching plan.now bodies self.new) }
+        ensures reaching { OnOk result
+            ((bodies : List (List Action))
+            → IsReaching plan.now bodies self.old
+            → IsReaching plan.now bodies self.new) }
         ensures kept { OnOk result ((k : ℕ) → Has self.old k → Has self.new k) }
-        ensures as_many { OnOk result (length self.new.is_found.items ≡ length self.old.is_found.items) }
+        ensures as_many { OnOk result
+            (length self.new.is_found.items ≡ length self.old.is_found.items) }
         ensures idle { OnOk result (self.old.pending.items ≡ [] → self.new.pending.items ≡ []) }
-        ensures fewer { OnOk result ((self.new.pending.items ≡ []) ⊎ (unfound self.new + length self.new.pending.items + 1 ≤ unfound self.old + length self.old.pending.items)) }
+        ensures fewer { OnOk result
+            ((self.new.pending.items ≡ [])
+            ⊎ (unfound self.new + length self.new.pending.items + 1
+            ≤ unfound self.old + length self.old.pending.items)) }
     {
         if let Some(number) = self.pending.pop() {
             self.add_body(body_at(plan, number))?;
@@ -95,7 +104,8 @@ impl Reached {
         requires { length self.old.is_found.items ≡ length plan.now.classes }
         ensures submitted { OnOk result ((bodies : List (List Action)) → IsReaching plan.now bodies self.old → ((body : List Action) → In body bodies → Covers self.old body)
             → (k : ℕ) → Has self.new k ↔ IsSubmitted plan.now bodies k) }
-        ensures as_many { OnOk result (length self.new.is_found.items ≡ length self.old.is_found.items) }
+        ensures as_many { OnOk result
+            (length self.new.is_found.items ≡ length self.old.is_found.items) }
     {
         for _round in 0..plan.classes().len() {
             self.follow(plan)?;

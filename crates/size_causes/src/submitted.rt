@@ -26,7 +26,8 @@ pub fn submitted_by_clients(alloc: Global, plan: &Plan) -> Result<Vec<bool>, All
 
 /// The classes that clients submit who repeat, at whatever remove.
 pub(crate) fn submitted_for_ever(alloc: Global, plan: &Plan) -> Result<Reached, AllocError>
-    ensures { IfOk result (λ reached. (k : ℕ) → Has reached k ↔ IsSubmitted plan.now (repeated_bodies plan.now) k) }
+    ensures { IfOk result
+        (λ reached. (k : ℕ) → Has reached k ↔ IsSubmitted plan.now (repeated_bodies plan.now) k) }
 {
     let mut reached = classes_of_repeating_clients(alloc, plan)?;
     reached.add_all(plan)?;
@@ -36,7 +37,8 @@ pub(crate) fn submitted_for_ever(alloc: Global, plan: &Plan) -> Result<Reached, 
 /// The classes that clients submit themselves.
 fn classes_of_clients(alloc: Global, plan: &Plan) -> Result<Reached, AllocError>
     ensures reaching { IfOk result (IsReaching plan.now (client_bodies plan.now)) }
-    ensures covers { IfOk result (λ reached. (body : List Action) → In body (client_bodies plan.now) → Covers reached body) }
+    ensures covers { IfOk result
+        (λ reached. (body : List Action) → In body (client_bodies plan.now) → Covers reached body) }
 {
     let mut reached = Reached::nothing(alloc, plan)?;
     for number in 0..plan.clients().len() {
@@ -49,7 +51,8 @@ fn classes_of_clients(alloc: Global, plan: &Plan) -> Result<Reached, AllocError>
 /// The classes that clients submit themselves who repeat.
 fn classes_of_repeating_clients(alloc: Global, plan: &Plan) -> Result<Reached, AllocError>
     ensures reaching { IfOk result (IsReaching plan.now (repeated_bodies plan.now)) }
-    ensures covers { IfOk result (λ reached. (body : List Action) → In body (repeated_bodies plan.now) → Covers reached body) }
+    ensures covers { IfOk result (λ reached.
+        (body : List Action) → In body (repeated_bodies plan.now) → Covers reached body) }
 {
     let mut reached = Reached::nothing(alloc, plan)?;
     for number in 0..plan.clients().len() {

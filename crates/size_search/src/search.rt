@@ -55,7 +55,8 @@ pub fn search_sizes(
 ) -> Result<SizesFound, AllocError>
     ensures found { IfOk result (IsFound plan.now) }
     ensures decided { IfOk result (IsDecided plan.now) }
-    ensures unchanged { IfSome first (λ cert. IsTrue (accepted plan.now cert) → IfOk result (λ found. found ≡ Found plan.now cert)) }
+    ensures unchanged { IfSome first (λ cert.
+        IsTrue (accepted plan.now cert) → IfOk result (λ found. found ≡ Found plan.now cert)) }
 {
     if let Some(cert) = first {
         if accepts(plan, &cert) {

@@ -25,7 +25,8 @@ pub fn serve_alone<S: Source, K: Sink>(
     source: &mut S,
     sink: &mut K,
 ) -> Result<Status, ServeFault>
-    ensures { Serves (Alone review) (passage S.remaining S.failures source.old source.new) (passage K.written K.failures sink.old sink.new) result }
+    ensures { Serves (Alone review) (passage S.remaining S.failures source.old source.new)
+        (passage K.written K.failures sink.old sink.new) result }
 {
     let input = read_up_to(alloc, source, MAX_INPUT_BYTES + 1)?;
     let answer = report(alloc, review, input.as_slice())?;

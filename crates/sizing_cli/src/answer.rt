@@ -45,7 +45,8 @@ impl Answer {
 
     /// A line that says no.
     pub fn no(alloc: Global, line: &str) -> Result<Answer, AllocError>
-        ensures { IfOk result (λ answer. answer ≡ record { text = line.now; status = Status.Refused }) }
+        ensures { IfOk result
+            (λ answer. answer ≡ record { text = line.now; status = Status.Refused }) }
     {
         Ok(Answer {
             text: String::from_str(alloc, line)?,
@@ -60,7 +61,8 @@ impl Answer {
         number: &Counter,
         reply: Reply,
     ) -> Result<(), AllocError>
-        ensures { IfOk result (λ _. self.new ≡ spec.followed_by self.old (replied plan.now number.now reply)) }
+        ensures { IfOk result
+            (λ _. self.new ≡ spec.followed_by self.old (replied plan.now number.now reply)) }
     {
         push_reply(&mut self.text, plan, number, reply)?;
         if is_no(reply) {

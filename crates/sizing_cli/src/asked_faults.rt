@@ -32,7 +32,8 @@ pub(crate) fn faults_answer(
 
 /// The faults in this form.
 fn faults_text(alloc: Global, form: Form, file: &str, faults: &Faults) -> Result<String, AllocError>
-    ensures { IfOk result (λ text. spec.TellsFaultIn form faults.now.first.fault (string_bytes text)) }
+    ensures { IfOk result
+        (λ text. spec.TellsFaultIn form faults.now.first.fault (string_bytes text)) }
 {
     match form {
         Form::Json => faults_json(alloc, file, faults),

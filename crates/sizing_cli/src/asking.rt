@@ -54,7 +54,8 @@ pub fn ask<R: Threads + Wait + Sync>(
     file: &str,
     input: &[u8],
 ) -> Result<Replied, ServeFault>
-    ensures answer { IfOk result (λ replied. spec.IsAskAnswer given manner input.now (spec.left_in replied) replied.output) }
+    ensures answer { IfOk result
+        (λ replied. spec.IsAskAnswer given manner input.now (spec.left_in replied) replied.output) }
     ensures fault { IfErr result (λ fault. IsTrue (is_of_search fault.number)) }
 {
     if input.len() > MAX_INPUT_BYTES {
@@ -73,7 +74,9 @@ fn ask_bundle<R: Threads + Wait + Sync>(
     file: &str,
     input: &[u8],
 ) -> Result<Replied, ServeFault>
-    ensures answer { IfOk result (λ replied. spec.AnswersInput Given.WithCertificate manner input.now (spec.left_in replied) replied.output) }
+    ensures answer { IfOk result (λ replied.
+        spec.AnswersInput Given.WithCertificate manner input.now (spec.left_in replied)
+        replied.output) }
     ensures fault { IfErr result (λ fault. IsTrue (is_of_search fault.number)) }
 {
     match bundle_of(input) {
@@ -90,7 +93,9 @@ fn ask_text<R: Threads + Wait + Sync>(
     text: &[u8],
     cert: Option<&[u8]>,
 ) -> Result<Replied, ServeFault>
-    ensures answer { IfOk result (λ replied. spec.AnswersReading manner (option_map (λ cert. cert.now) cert.entry) (plan_of text.now) (spec.left_in replied) replied.output) }
+    ensures answer { IfOk result (λ replied.
+        spec.AnswersReading manner (option_map (λ cert. cert.now) cert.entry) (plan_of text.now)
+        (spec.left_in replied) replied.output) }
     ensures fault { IfErr result (λ fault. IsTrue (is_of_search fault.number)) }
 {
     match plan_in(alloc, text)? {
@@ -109,7 +114,9 @@ fn ask_plan<R: Threads + Wait + Sync>(
     plan: &Plan,
     cert: Option<&[u8]>,
 ) -> Result<Replied, ServeFault>
-    ensures answer { IfOk result (λ replied. spec.AnswersGiven manner (option_map (λ cert. cert.now) cert.entry) plan.now (spec.left_in replied) replied.output) }
+    ensures answer { IfOk result (λ replied.
+        spec.AnswersGiven manner (option_map (λ cert. cert.now) cert.entry) plan.now
+        (spec.left_in replied) replied.output) }
     ensures fault { IfErr result (λ fault. IsTrue (is_of_search fault.number)) }
 {
     match cert {
@@ -127,7 +134,9 @@ fn ask_with<R: Threads + Wait + Sync>(
     plan: &Plan,
     cert: &[u8],
 ) -> Result<Replied, ServeFault>
-    ensures answer { IfOk result (λ replied. spec.AnswersCert manner plan.now (cert_of cert.now plan.now) (spec.left_in replied) replied.output) }
+    ensures answer { IfOk result (λ replied.
+        spec.AnswersCert manner plan.now (cert_of cert.now plan.now) (spec.left_in replied)
+        replied.output) }
     ensures fault { IfErr result (λ fault. IsTrue (is_of_search fault.number)) }
 {
     match cert_in(alloc, cert, plan)? {
@@ -146,7 +155,8 @@ fn ask_found<R: Threads + Wait + Sync>(
     plan: &Plan,
     cert: Option<Cert>,
 ) -> Result<Replied, ServeFault>
-    ensures answer { IfOk result (λ replied. spec.AnswersPlan manner plan.now cert (spec.left_in replied) replied.output) }
+    ensures answer { IfOk result
+        (λ replied. spec.AnswersPlan manner plan.now cert (spec.left_in replied) replied.output) }
     ensures fault { IfErr result (λ fault. IsTrue (is_of_search fault.number)) }
 {
     let (finding, is_stale) = finding_of(rt, alloc, plan, cert)?;

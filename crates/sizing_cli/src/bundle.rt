@@ -17,7 +17,9 @@ pub struct Bundle<'a> {
 ///
 /// It looks at each line with a `%` once, the last one first.
 pub fn bundle_of(input: &[u8]) -> Option<Bundle<'_>>
-    ensures { option_map (λ bundle. record { plan = bundle.plan.now; second = bundle.second.now }) result ≡ spec.bundle_of input.now }
+    ensures { option_map (λ bundle. record { plan = bundle.plan.now; second = bundle.second.now })
+        result
+        ≡ spec.bundle_of input.now }
 {
     // No line that begins behind this front is `%%`.
     let mut front = input;

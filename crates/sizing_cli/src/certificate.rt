@@ -40,7 +40,8 @@ pub(crate) fn certificate_of<R: Threads + Wait + Sync>(
 ) -> Result<Option<Cert>, ServeFault>
     requires some { 1 ≤ workers }
     requires most { workers ≤ MAX_WORKERS }
-    ensures accepted { IfOk result (λ found. IfSome found (λ cert. IsTrue (accepted plan.now cert))) }
+    ensures accepted { IfOk result
+        (λ found. IfSome found (λ cert. IsTrue (accepted plan.now cert))) }
     ensures none { IfOk result (λ found. IfNone found (IsUncertified plan.now)) }
     ensures fault { IfErr result (λ fault. IsTrue (is_of_search fault.number)) }
 {
@@ -62,7 +63,8 @@ fn workers_of(plan: &Plan, most: usize) -> usize
 /// What the search for sizes finds, where it changes none.
 fn certificate_of_sizes(alloc: Global, plan: &Plan) -> Result<Option<Cert>, AllocError>
     requires { accepted plan.now (steady_cert plan.now) ≡ false }
-    ensures accepted { IfOk result (λ found. IfSome found (λ cert. IsTrue (accepted plan.now cert))) }
+    ensures accepted { IfOk result
+        (λ found. IfSome found (λ cert. IsTrue (accepted plan.now cert))) }
     ensures none { IfOk result (λ found. IfNone found (IsUncertified plan.now)) }
 {
     let sizes = search_sizes(alloc, plan, None)?;

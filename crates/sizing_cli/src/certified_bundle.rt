@@ -25,7 +25,8 @@ pub fn certified_bundle<R: Threads + Wait + Sync>(
 ) -> Result<Option<Vec<u8>>, ServeFault>
     requires some { 1 ≤ workers }
     requires most { workers ≤ MAX_WORKERS }
-    ensures bundle { IfOk result (λ found. IfSome found (λ text. IsBundleWith plan.items cert.items text.items)) }
+    ensures bundle { IfOk result
+        (λ found. IfSome found (λ text. IsBundleWith plan.items cert.items text.items)) }
     ensures fault { IfErr result (λ fault. IsTrue (is_of_search fault.number)) }
 {
     let plan_len = plan.len();
@@ -77,7 +78,8 @@ fn says_yes<R: Threads + Wait + Sync>(
 ) -> Result<bool, ServeFault>
     requires some { 1 ≤ workers }
     requires most { workers ≤ MAX_WORKERS }
-    ensures yes { IfOk result (λ yes. IsTrue yes → IsYes bundle.entry.plan.now bundle.entry.second.now) }
+    ensures yes { IfOk result
+        (λ yes. IsTrue yes → IsYes bundle.entry.plan.now bundle.entry.second.now) }
     ensures fault { IfErr result (λ fault. IsTrue (is_of_search fault.number)) }
 {
     match check_on(rt, alloc, workers, bundle.plan, bundle.second, &AtOnce) {

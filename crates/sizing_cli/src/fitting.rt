@@ -94,7 +94,8 @@ fn sizes_of<R: Threads + Wait + Sync>(
 ) -> Result<SizesFound, ServeFault>
     ensures found { IfOk result (IsFound plan.now) }
     ensures decided { IfOk result (IsDecided plan.now) }
-    ensures unchanged { IfOk result (λ found. IsTrue (accepted plan.now (steady_cert plan.now)) → spec.IsAsDeclared plan.now found) }
+    ensures unchanged { IfOk result (λ found.
+        IsTrue (accepted plan.now (steady_cert plan.now)) → spec.IsAsDeclared plan.now found) }
     ensures fault { IfErr result (λ fault. IsTrue (is_of_search fault.number)) }
 {
     let first = search(rt, alloc, plan, WORKERS, &AtOnce)?;

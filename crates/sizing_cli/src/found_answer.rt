@@ -33,8 +33,10 @@ pub(crate) fn answer_of(
     is_stale: bool,
 ) -> Result<Replied, AllocError>
     requires { IsFinding plan.now finding.now }
-    ensures answer { IfOk result (λ replied. spec.AnswersFinding manner plan.now finding.now is_stale replied.output) }
-    ensures leaves { IfOk result (λ replied. spec.IsLeftOf plan.now finding.now (spec.left_in replied)) }
+    ensures answer { IfOk result
+        (λ replied. spec.AnswersFinding manner plan.now finding.now is_stale replied.output) }
+    ensures leaves { IfOk result
+        (λ replied. spec.IsLeftOf plan.now finding.now (spec.left_in replied)) }
 {
     let warnings = warnings_for(alloc, text, plan, finding, is_stale)?;
     let answer = answer_with(alloc, manner, file, plan, finding, is_stale, &warnings)?;
@@ -53,7 +55,8 @@ fn warnings_for(
     finding: &PlanFinding,
     is_stale: bool,
 ) -> Result<Vec<Warning>, AllocError>
-    ensures { IfOk result (λ warnings. spec.AreWarnings plan.now finding.now is_stale warnings.items) }
+    ensures { IfOk result
+        (λ warnings. spec.AreWarnings plan.now finding.now is_stale warnings.items) }
 {
     let needed = needed_of(alloc, plan, finding)?;
     let warnings = warnings_of(alloc, text, plan, &needed)?;
@@ -81,7 +84,8 @@ fn with_stale(
     mut warnings: Vec<Warning>,
     is_stale: bool,
 ) -> Result<Vec<Warning>, AllocError>
-    ensures { IfOk result (λ all. warned_of all.items ≡ warned_of warnings.items ++ spec.stale_if is_stale) }
+    ensures { IfOk result
+        (λ all. warned_of all.items ≡ warned_of warnings.items ++ spec.stale_if is_stale) }
 {
     if is_stale {
         warnings.push(stale(alloc)?)?;
@@ -115,7 +119,8 @@ fn text_of(
     finding: &PlanFinding,
     warnings: &[Warning],
 ) -> Result<String, AllocError>
-    ensures { IfOk result (λ text. spec.TellsFindingIn form plan.now warnings.now finding.now (string_bytes text)) }
+    ensures { IfOk result
+        (λ text. spec.TellsFindingIn form plan.now warnings.now finding.now (string_bytes text)) }
 {
     match form {
         Form::Words => words_of(alloc, file, plan, finding, warnings),
@@ -131,7 +136,8 @@ fn words_of(
     finding: &PlanFinding,
     warnings: &[Warning],
 ) -> Result<String, AllocError>
-    ensures { IfOk result (λ text. spec.TellsFinding plan.now warnings.now finding.now (string_bytes text)) }
+    ensures { IfOk result
+        (λ text. spec.TellsFinding plan.now warnings.now finding.now (string_bytes text)) }
 {
     let words = told(alloc, plan, finding)?;
     let mut text = String::new(alloc);
@@ -158,7 +164,10 @@ fn status_of(strict: bool, warnings: &[Warning], finding: &PlanFinding) -> Statu
 
 /// The text of the certificate that a finding rests on.
 fn certificate_text(alloc: Global, finding: &PlanFinding) -> Result<Option<Vec<u8>>, AllocError>
-    ensures { IfOk result (λ left. (plan : PlanValue) → IsFinding plan finding.now → spec.IsLeftOf plan finding.now (option_map (λ text. text.items) left)) }
+    ensures { IfOk result (λ left.
+        (plan : PlanValue)
+        → IsFinding plan finding.now
+        → spec.IsLeftOf plan finding.now (option_map (λ text. text.items) left)) }
 {
     match finding {
         PlanFinding::Safe(cert) => readable_text(alloc, cert),
@@ -169,7 +178,10 @@ fn certificate_text(alloc: Global, finding: &PlanFinding) -> Result<Option<Vec<u
 
 /// The text of a certificate, with a newline, where it is not too long to be read.
 fn readable_text(alloc: Global, cert: &Cert) -> Result<Option<Vec<u8>>, AllocError>
-    ensures { IfOk result (λ left. (plan : PlanValue) → IsTrue (accepted plan cert.now) → spec.IsTextLeft plan cert.now (option_map (λ text. text.items) left)) }
+    ensures { IfOk result (λ left.
+        (plan : PlanValue)
+        → IsTrue (accepted plan cert.now)
+        → spec.IsTextLeft plan cert.now (option_map (λ text. text.items) left)) }
 {
     let mut text = write_cert(alloc, cert)?;
     if text.len() >= MAX_CERT_BYTES {

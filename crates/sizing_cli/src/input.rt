@@ -22,8 +22,14 @@ pub struct Input<'a> {
 
 /// Reads an input. Its fault is what it is answered, whatever is asked of it.
 pub fn read_input(alloc: Global, input: &[u8]) -> Result<Input<'_>, ReadError<Answer>>
-    ensures input { IfOk result (λ read. (answers : PlanValue → List ℕ → answer_spec.Answer) → spec.answer_by answers input.now ≡ answers read.plan read.second.now) }
-    ensures fault { IfErr result (λ error. (answer : answer_spec.Answer) → error ≡ Fault answer → (answers : PlanValue → List ℕ → answer_spec.Answer) → spec.answer_by answers input.now ≡ answer) }
+    ensures input { IfOk result (λ read.
+        (answers : PlanValue → List ℕ → answer_spec.Answer)
+        → spec.answer_by answers input.now ≡ answers read.plan read.second.now) }
+    ensures fault { IfErr result (λ error.
+        (answer : answer_spec.Answer)
+        → error ≡ Fault answer
+        → (answers : PlanValue → List ℕ → answer_spec.Answer)
+        → spec.answer_by answers input.now ≡ answer) }
 {
     if input.len() > MAX_INPUT_BYTES {
         return Err(ReadError::Fault(input_too_long(alloc)?));

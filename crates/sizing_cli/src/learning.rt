@@ -97,7 +97,8 @@ fn seen_text(
     seen: &SeenPlan,
     findings: &[Finding],
 ) -> Result<Option<String>, AllocError>
-    ensures { IfOk result (λ found. IfSome found (λ text. spec.IsTextOf seen.now findings.now (string_bytes text))) }
+    ensures { IfOk result
+        (λ found. IfSome found (λ text. spec.IsTextOf seen.now findings.now (string_bytes text))) }
 {
     let plan = write_plan(alloc, &seen.plan)?;
     let mut text = head_of(alloc, seen, findings)?;
@@ -126,7 +127,9 @@ fn reads_as(alloc: Global, text: &[u8], written: &[u8]) -> Result<bool, AllocErr
 
 /// The comments at the head of a plan.
 fn head_of(alloc: Global, seen: &SeenPlan, findings: &[Finding]) -> Result<String, AllocError>
-    ensures { IfOk result (λ text. string_bytes text ≡ spec.head_comment seen.now ++ spec.comments seen.now.plan findings.now) }
+    ensures { IfOk result (λ text.
+        string_bytes text
+        ≡ spec.head_comment seen.now ++ spec.comments seen.now.plan findings.now) }
 {
     let mut text = String::new(alloc);
     push_head(&mut text, seen)?;

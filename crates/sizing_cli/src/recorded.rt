@@ -28,7 +28,8 @@ pub fn serve_recording<S: Source, K: Sink>(
     source: &mut S,
     sink: &mut K,
 ) -> Result<Status, ServeFault>
-    ensures { Serves (OnRecording reading) (passage S.remaining S.failures source.old source.new) (passage K.written K.failures sink.old sink.new) result }
+    ensures { Serves (OnRecording reading) (passage S.remaining S.failures source.old source.new)
+        (passage K.written K.failures sink.old sink.new) result }
 {
     let input = read_up_to(alloc, source, MAX_RECORDED_BYTES + 1)?;
     let answer = report(alloc, reading, input.as_slice())?;

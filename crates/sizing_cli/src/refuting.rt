@@ -87,8 +87,10 @@ fn answer_of(
     sought: Sought,
     text: Vec<u8>,
 ) -> Result<Output, AllocError>
-    ensures some { IfSome sought.witness (λ witness. IfOk result (spec.ShowsWitness shown text.items plan.now witness)) }
-    ensures none { IfNone sought.witness (IfOk result (λ answer. answer ≡ spec.not_decided shown sought.states)) }
+    ensures some { IfSome sought.witness
+        (λ witness. IfOk result (spec.ShowsWitness shown text.items plan.now witness)) }
+    ensures none { IfNone sought.witness
+        (IfOk result (λ answer. answer ≡ spec.not_decided shown sought.states)) }
 {
     let Sought { witness, states } = sought;
     match witness {

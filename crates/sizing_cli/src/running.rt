@@ -80,7 +80,8 @@ fn run_certified<R: Threads + Wait + Sync>(
     rounds: u64,
     certified: &Certified,
 ) -> Result<Answer, ServeFault>
-    ensures answer { IfOk result (λ answer. answer ≡ spec.run_of_accepted certified.now.plan certified.now.cert rounds) }
+    ensures answer { IfOk result
+        (λ answer. answer ≡ spec.run_of_accepted certified.now.plan certified.now.cert rounds) }
     ensures fault { IfErr result (λ fault. IsTrue (is_of_run fault.number)) }
 {
     match run(rt, alloc, certified, rounds, &AtOnce) {

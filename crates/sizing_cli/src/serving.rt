@@ -46,7 +46,8 @@ pub fn serve<R: Threads + Wait + Sync, S: Source, K: Sink>(
     sink: &mut K,
 ) -> Result<Status, ServeFault>
     requires { IsInRange command }
-    ensures { Serves command (passage S.remaining S.failures source.old source.new) (passage K.written K.failures sink.old sink.new) result }
+    ensures { Serves command (passage S.remaining S.failures source.old source.new)
+        (passage K.written K.failures sink.old sink.new) result }
 {
     let mut certificate = None;
     serve_named(
@@ -76,10 +77,14 @@ pub fn serve_named<R: Threads + Wait + Sync, S: Source, K: Sink>(
     sink: &mut K,
 ) -> Result<Status, ServeFault>
     requires { IsInRange command }
-    ensures serves { Serves command (passage S.remaining S.failures source.old source.new) (passage K.written K.failures sink.old sink.new) result }
+    ensures serves { Serves command (passage S.remaining S.failures source.old source.new)
+        (passage K.written K.failures sink.old sink.new) result }
 
     // Where `ask` says that the plan is safe, the certificate that this rests on is left, unless it is too long to be read.
-    ensures left { IfOk result (λ status. IfSome (S.remaining source.old) (λ input. Leaves command input status (option_map (λ text. text.items) certificate.new) (K.written sink.old) (K.written sink.new))) }
+    ensures left { IfOk result (λ status.
+        IfSome (S.remaining source.old) (λ input.
+        Leaves command input status (option_map (λ text. text.items) certificate.new)
+        (K.written sink.old) (K.written sink.new))) }
 {
     match command {
         Command::Alone(review) => serve_alone(alloc, review, source, sink),
@@ -101,8 +106,12 @@ fn serve_on_threads<R: Threads + Wait + Sync, S: Source, K: Sink>(
     sink: &mut K,
 ) -> Result<Status, ServeFault>
     requires { IsTaskInRange task }
-    ensures serves { Serves (OnThreads task) (passage S.remaining S.failures source.old source.new) (passage K.written K.failures sink.old sink.new) result }
-    ensures left { IfOk result (λ status. IfSome (S.remaining source.old) (λ input. Leaves (OnThreads task) input status (option_map (λ text. text.items) certificate.new) (K.written sink.old) (K.written sink.new))) }
+    ensures serves { Serves (OnThreads task) (passage S.remaining S.failures source.old source.new)
+        (passage K.written K.failures sink.old sink.new) result }
+    ensures left { IfOk result (λ status.
+        IfSome (S.remaining source.old) (λ input.
+        Leaves (OnThreads task) input status (option_map (λ text. text.items) certificate.new)
+        (K.written sink.old) (K.written sink.new))) }
 {
     let input = read_up_to(alloc, source, MAX_INPUT_BYTES + 1)?;
     let output = answer_on_threads(rt, alloc, task, file, certificate, input)?;
@@ -121,7 +130,8 @@ fn answer_on_threads<R: Threads + Wait + Sync>(
 ) -> Result<Output, ServeFault>
     requires { IsTaskInRange task }
     ensures answer { IfOk result (IsTaskAnswer task input.items) }
-    ensures left { IfOk result (λ output. IsLeftBy task input.items output (option_map (λ text. text.items) certificate.new)) }
+    ensures left { IfOk result (λ output.
+        IsLeftBy task input.items output (option_map (λ text. text.items) certificate.new)) }
     ensures fault { IfErr result (λ fault. IsTrue (is_of_threads task fault.number)) }
 {
     match task {
@@ -145,7 +155,8 @@ fn answer_question<R: Threads + Wait + Sync>(
     certificate: &mut Option<Vec<u8>>,
     input: &[u8],
 ) -> Result<Output, ServeFault>
-    ensures answer { IfOk result (IsAskAnswer given manner input.now (option_map (λ text. text.items) certificate.new)) }
+    ensures answer { IfOk result
+        (IsAskAnswer given manner input.now (option_map (λ text. text.items) certificate.new)) }
     ensures fault { IfErr result (λ fault. IsTrue (is_of_search fault.number)) }
 {
     let Replied {

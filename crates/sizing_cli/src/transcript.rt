@@ -51,7 +51,8 @@ fn reply_to(
     line: EventLine<'_>,
 ) -> Result<Reply, AllocError>
     requires { IsOf plan.now world.old.view }
-    ensures { IfOk result (λ reply. RepliesSo plan.now world.old.view world.new.view (line_seen line.entry) reply) }
+    ensures { IfOk result
+        (λ reply. RepliesSo plan.now world.old.view world.new.view (line_seen line.entry) reply) }
 {
     match line {
         EventLine::Happens(event) => match world.step(plan, event)? {

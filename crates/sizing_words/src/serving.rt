@@ -45,19 +45,58 @@ pub fn serve_words<'a, R: Threads + Wait + Sync, F: TextFiles, S: Source, K: Sin
     sink: &mut K,
 ) -> Result<Status, WordsFault<'a>>
     // What was written, and the status, are an answer that the command of the words may give to the texts that they name.
-    ensures named { IfOk result (λ _. (is_some (command_of (map (λ word. word.now) words.now)) ≡ true) × (faults_of (map (λ word. word.now) words.now) ≡ [])) }
-    ensures answered { IfOk result (λ status. IfSome (command_of (map (λ word. word.now) words.now)) (λ command. IfSome (spec.input_named command (F.content files.now) (S.remaining input.old) (files_of (map (λ word. word.now) words.now))) (λ text. WritesAnswer command text status (K.written sink.old) (K.written sink.new)))) }
-    ensures safe { IfOk result (λ status. status ≡ Status.Done → IfSome (command_of (map (λ word. word.now) words.now)) (λ command. IfSome (spec.input_named command (F.content files.now) (S.remaining input.old) (files_of (map (λ word. word.now) words.now))) (λ text. MeansSafe command text (K.written sink.old) (K.written sink.new)))) }
+    ensures named { IfOk result (λ _.
+        (is_some (command_of (map (λ word. word.now) words.now)) ≡ true)
+        × (faults_of (map (λ word. word.now) words.now) ≡ [])) }
+    ensures answered { IfOk result (λ status.
+        IfSome
+        (command_of (map (λ word. word.now) words.now))
+        (λ command.
+        IfSome
+        (spec.input_named command (F.content files.now) (S.remaining input.old) (files_of (map (λ word. word.now) words.now)))
+        (λ text.
+        WritesAnswer command text status
+        (K.written sink.old) (K.written sink.new)))) }
+    ensures safe { IfOk result (λ status.
+        status ≡ Status.Done
+        → IfSome
+        (command_of (map (λ word. word.now) words.now))
+        (λ command.
+        IfSome
+        (spec.input_named command (F.content files.now) (S.remaining input.old) (files_of (map (λ word. word.now) words.now)))
+        (λ text.
+        MeansSafe command text (K.written sink.old)
+        (K.written sink.new)))) }
 
     // The file that the words name for a certificate was made of the text of the one that the answer rests on.
-    ensures kept { IfOk result (λ status. IfSome (command_of (map (λ word. word.now) words.now)) (λ command. IfSome (spec.input_named command (F.content files.now) (S.remaining input.old) (files_of (map (λ word. word.now) words.now))) (λ text. LeavesKept (F.made files.now) (certificate_of (map (λ word. word.now) words.now)) command text status (K.written sink.old) (K.written sink.new)))) }
-    ensures spared { IfOk result (λ _. IsSpared (F.content files.now) (certificate_of (map (λ word. word.now) words.now))) }
+    ensures kept { IfOk result (λ status.
+        IfSome
+        (command_of (map (λ word. word.now) words.now))
+        (λ command.
+        IfSome
+        (spec.input_named command (F.content files.now) (S.remaining input.old) (files_of (map (λ word. word.now) words.now)))
+        (λ text.
+        LeavesKept (F.made files.now)
+        (certificate_of (map (λ word. word.now) words.now))
+        command text status (K.written sink.old)
+        (K.written sink.new)))) }
+    ensures spared { IfOk result
+        (λ _. IsSpared (F.content files.now) (certificate_of (map (λ word. word.now) words.now))) }
     ensures occupied { IfErr result (IsOccupied (F.content files.now)) }
     ensures fault { IfErr result (IsFaultOf (map (λ word. word.now) words.now)) }
-    ensures nothing { IfErr result (λ fault. is_of_sink fault ≡ false → Keeps (K.written sink.old) (K.written sink.new)) }
+    ensures nothing { IfErr result
+        (λ fault. is_of_sink fault ≡ false → Keeps (K.written sink.old) (K.written sink.new)) }
 
     // Where the sink failed, it has a front of such an answer; where the file of the certificate did, it has the whole answer.
-    ensures before { IfErr result (λ fault. IfSome (command_of (map (λ word. word.now) words.now)) (λ command. IfSome (spec.input_named command (F.content files.now) (S.remaining input.old) (files_of (map (λ word. word.now) words.now))) (λ text. IsWrittenBefore fault command text (K.written sink.old) (K.written sink.new)))) }
+    ensures before { IfErr result (λ fault.
+        IfSome
+        (command_of (map (λ word. word.now) words.now))
+        (λ command.
+        IfSome
+        (spec.input_named command (F.content files.now) (S.remaining input.old) (files_of (map (λ word. word.now) words.now)))
+        (λ text.
+        IsWrittenBefore fault command text
+        (K.written sink.old) (K.written sink.new)))) }
 {
     let Some(asked) = read_words(alloc, words)? else {
         return Err(WordsFault::NoCommand);
@@ -75,7 +114,8 @@ fn spare<'a, F: TextFiles>(
     files: &F,
     name: Option<&'a str>,
 ) -> Result<(), WordsFault<'a>>
-    ensures spared { IfOk result (λ _. IsSpared (F.content files.now) (option_map (λ name. name.now) name.entry)) }
+    ensures spared { IfOk result
+        (λ _. IsSpared (F.content files.now) (option_map (λ name. name.now) name.entry)) }
     ensures occupied { IfErr result (IsOccupied (F.content files.now)) }
     ensures fault { IfErr result (IsOfSparing (option_map (λ name. name.now) name.entry)) }
     ensures before { IfErr result (λ fault. is_of_sink fault ≡ false) }
@@ -113,7 +153,9 @@ fn keep<'a, F: TextFiles>(
     name: Option<&'a str>,
     found: &Option<Vec<u8>>,
 ) -> Result<(), WordsFault<'a>>
-    ensures kept { IfOk result (λ _. IsKept (F.made files.now) (option_map (λ name. name.now) name.entry) (option_map (λ text. text.items) found.now)) }
+    ensures kept { IfOk result (λ _.
+        IsKept (F.made files.now) (option_map (λ name. name.now) name.entry)
+        (option_map (λ text. text.items) found.now)) }
     ensures fault { IfErr result (IsUnwritten (option_map (λ name. name.now) name.entry)) }
     ensures behind { IfErr result (λ fault. is_of_sink fault ≡ true) }
 {
@@ -140,12 +182,36 @@ fn serve_asked<'a, R: Threads + Wait + Sync, F: TextFiles, S: Source, K: Sink>(
     sink: &mut K,
 ) -> Result<Status, WordsFault<'a>>
     requires { IsInRange asked.command }
-    ensures answered { IfOk result (λ status. IfSome (spec.input_named asked.entry.command (F.content files.now) (S.remaining input.old) (files_asked asked.entry)) (λ text. WritesAnswer asked.entry.command text status (K.written sink.old) (K.written sink.new))) }
-    ensures safe { IfOk result (λ status. status ≡ Status.Done → IfSome (spec.input_named asked.entry.command (F.content files.now) (S.remaining input.old) (files_asked asked.entry)) (λ text. MeansSafe asked.entry.command text (K.written sink.old) (K.written sink.new))) }
-    ensures left { IfOk result (λ status. IfSome (spec.input_named asked.entry.command (F.content files.now) (S.remaining input.old) (files_asked asked.entry)) (λ text. Leaves asked.entry.command text status (option_map (λ text. text.items) found.new) (K.written sink.old) (K.written sink.new))) }
+    ensures answered { IfOk result (λ status.
+        IfSome
+        (spec.input_named asked.entry.command (F.content files.now) (S.remaining input.old) (files_asked asked.entry))
+        (λ text.
+        WritesAnswer asked.entry.command text status
+        (K.written sink.old) (K.written sink.new))) }
+    ensures safe { IfOk result (λ status.
+        status ≡ Status.Done
+        → IfSome
+        (spec.input_named asked.entry.command (F.content files.now) (S.remaining input.old) (files_asked asked.entry))
+        (λ text.
+        MeansSafe asked.entry.command text
+        (K.written sink.old) (K.written sink.new))) }
+    ensures left { IfOk result (λ status.
+        IfSome
+        (spec.input_named asked.entry.command (F.content files.now) (S.remaining input.old) (files_asked asked.entry))
+        (λ text.
+        Leaves asked.entry.command text status
+        (option_map (λ text. text.items) found.new)
+        (K.written sink.old) (K.written sink.new))) }
     ensures fault { IfErr result (IsOfTexts asked.entry.command (files_asked asked.entry)) }
-    ensures nothing { IfErr result (λ fault. is_of_sink fault ≡ false → Keeps (K.written sink.old) (K.written sink.new)) }
-    ensures before { IfErr result (λ fault. IfSome (spec.input_named asked.entry.command (F.content files.now) (S.remaining input.old) (files_asked asked.entry)) (λ text. IsWrittenBefore fault asked.entry.command text (K.written sink.old) (K.written sink.new))) }
+    ensures nothing { IfErr result
+        (λ fault. is_of_sink fault ≡ false → Keeps (K.written sink.old) (K.written sink.new)) }
+    ensures before { IfErr result (λ fault.
+        IfSome
+        (spec.input_named asked.entry.command (F.content files.now) (S.remaining input.old) (files_asked asked.entry))
+        (λ text.
+        IsWrittenBefore fault asked.entry.command
+        text (K.written sink.old)
+        (K.written sink.new))) }
 {
     match asked.second {
         Some(second) => {
@@ -165,7 +231,8 @@ fn serve_asked<'a, R: Threads + Wait + Sync, F: TextFiles, S: Source, K: Sink>(
 
 /// The name of the file, where it is not standard input that is named.
 fn file_named(name: Option<&str>) -> Option<&str>
-    ensures { option_map (λ name. name.now) result ≡ spec.file_named (option_map (λ name. name.now) name.entry) }
+    ensures { option_map (λ name. name.now) result
+        ≡ spec.file_named (option_map (λ name. name.now) name.entry) }
 {
     name.filter(|name| *name != STANDARD_INPUT)
 }
@@ -189,12 +256,19 @@ fn serve_text<'a, R: Threads + Wait + Sync, K: Sink>(
     sink: &mut K,
 ) -> Result<Status, WordsFault<'a>>
     requires { IsInRange command }
-    ensures answered { IfOk result (λ status. WritesAnswer command text.now status (K.written sink.old) (K.written sink.new)) }
-    ensures safe { IfOk result (λ status. status ≡ Status.Done → MeansSafe command text.now (K.written sink.old) (K.written sink.new)) }
-    ensures left { IfOk result (λ status. Leaves command text.now status (option_map (λ text. text.items) found.new) (K.written sink.old) (K.written sink.new)) }
+    ensures answered { IfOk result
+        (λ status. WritesAnswer command text.now status (K.written sink.old) (K.written sink.new)) }
+    ensures safe { IfOk result (λ status.
+        status ≡ Status.Done
+        → MeansSafe command text.now (K.written sink.old) (K.written sink.new)) }
+    ensures left { IfOk result (λ status.
+        Leaves command text.now status (option_map (λ text. text.items) found.new)
+        (K.written sink.old) (K.written sink.new)) }
     ensures known { IfErr result (IsOfTexts command (None, None)) }
-    ensures nothing { IfErr result (λ fault. is_of_sink fault ≡ false → Keeps (K.written sink.old) (K.written sink.new)) }
-    ensures before { IfErr result (λ fault. IsWrittenBefore fault command text.now (K.written sink.old) (K.written sink.new)) }
+    ensures nothing { IfErr result
+        (λ fault. is_of_sink fault ≡ false → Keeps (K.written sink.old) (K.written sink.new)) }
+    ensures before { IfErr result (λ fault.
+        IsWrittenBefore fault command text.now (K.written sink.old) (K.written sink.new)) }
 {
     let mut source = MemorySource::new(text);
     Ok(serve_named(rt, alloc, command, shown, found, &mut source, sink)?)
@@ -209,8 +283,13 @@ fn read_both<'a, F: TextFiles, S: Source>(
     first: Option<&'a str>,
     second: &'a str,
 ) -> Result<Vec<u8>, WordsFault<'a>>
-    ensures text { IfOk result (λ text. IfSome (spec.input_named command (F.content files.now) (S.remaining input.old) (option_map (λ name. name.now) first.entry, Some second.now)) (λ known. text.items ≡ known)) }
-    ensures fault { IfErr result (λ fault. (any : CommandValue) → IsOfTexts any (option_map (λ name. name.now) first.entry, Some second.now) fault) }
+    ensures text { IfOk result (λ text.
+        IfSome
+        (spec.input_named command (F.content files.now) (S.remaining input.old) (option_map (λ name. name.now) first.entry, Some second.now))
+        (λ known. text.items ≡ known)) }
+    ensures fault { IfErr result (λ fault.
+        (any : CommandValue)
+        → IsOfTexts any (option_map (λ name. name.now) first.entry, Some second.now) fault) }
     ensures before { IfErr result (λ fault. is_of_sink fault ≡ false) }
 {
     let (plan, behind) = match (file_named(first), file_named(Some(second))) {
@@ -237,7 +316,8 @@ fn read_input<'a, S: Source>(
     command: Command,
     input: &mut S,
 ) -> Result<Vec<u8>, WordsFault<'a>>
-    ensures text { IfOk result (λ text. IfSome (S.remaining input.old) (λ known. text.items ≡ spec.front command known)) }
+    ensures text { IfOk result
+        (λ text. IfSome (S.remaining input.old) (λ known. text.items ≡ spec.front command known)) }
     ensures fault { IfErr result IsOfReading }
 {
     match read_up_to(alloc, input, most_bytes(command) + 1) {
@@ -253,7 +333,8 @@ fn read_file<'a, F: TextFiles>(
     files: &F,
     name: &'a str,
 ) -> Result<Vec<u8>, WordsFault<'a>>
-    ensures text { IfOk result (λ text. IfSome (F.content files.now name.now) (λ known. text.items ≡ spec.front command known)) }
+    ensures text { IfOk result (λ text.
+        IfSome (F.content files.now name.now) (λ known. text.items ≡ spec.front command known)) }
     ensures fault { IfErr result (IsOfFile name.now) }
 {
     match files.read(alloc, name, most_bytes(command) + 1) {

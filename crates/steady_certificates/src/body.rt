@@ -114,7 +114,8 @@ fn weights(
     requires small { JobsAreSmall vector.now }
     requires least { least ≤ 1 }
     requires last { last ≤ 1 + MAX_ACTIONS * MAX_WEIGHT }
-    ensures { IfOk result (λ weights. weights.items ≡ spec.weights_from plan.now vector.now least body.now last body.now) }
+    ensures { IfOk result (λ weights.
+        weights.items ≡ spec.weights_from plan.now vector.now least body.now last body.now) }
 {
     let mut weights = Vec::with_capacity(alloc, body.len() + 1)?;
     let mut weight = last;

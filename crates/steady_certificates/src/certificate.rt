@@ -15,7 +15,8 @@ use std::alloc::{AllocError, Global};
 use weights::{Bound, Vector};
 
 fn copied_rows(alloc: Global, rows: &[Vec<u64>]) -> Result<Vec<Vec<u64>>, AllocError>
-    ensures { IfOk result (λ copies. map (λ row. row.items) copies.items ≡ map (λ row. row.items) rows.now) }
+    ensures { IfOk result
+        (λ copies. map (λ row. row.items) copies.items ≡ map (λ row. row.items) rows.now) }
 {
     let mut copies = Vec::with_capacity(alloc, rows.len())?;
     for row in rows {
@@ -41,8 +42,10 @@ fn copied(alloc: Global, vector: &Vector) -> Result<Vector, AllocError>
 fn steady_vector(alloc: Global, plan: &Plan, levels: &[u64]) -> Result<Option<Vector>, AllocError>
     requires free { NoCircle plan.now }
     requires levels { levels.now ≡ spec.steady_levels plan.now }
-    ensures vector { IfOk result (λ found. IfSome found (λ vector. vector ≡ spec.steady_vector plan.now)) }
-    ensures heavy { IfOk result (λ found. IfNone found (has_small_numbers (spec.steady_vector plan.now) ≡ false)) }
+    ensures vector { IfOk result
+        (λ found. IfSome found (λ vector. vector ≡ spec.steady_vector plan.now)) }
+    ensures heavy { IfOk result
+        (λ found. IfNone found (has_small_numbers (spec.steady_vector plan.now) ≡ false)) }
 {
     let Some(jobs) = jobs_of(alloc, plan, levels)? else {
         return Ok(None);
@@ -72,7 +75,8 @@ fn pool_of(alloc: Global, vector: &Vector) -> Result<PoolCert, AllocError>
 
 /// What it says of each pool.
 fn pools_of(alloc: Global, plan: &Plan, vector: &Vector) -> Result<Vec<PoolCert>, AllocError>
-    ensures { IfOk result (λ pools. pools.items ≡ map (λ (pool : plan_spec.Pool). spec.pool_of vector.now) plan.now.pools) }
+    ensures { IfOk result (λ pools.
+        pools.items ≡ map (λ (pool : plan_spec.Pool). spec.pool_of vector.now) plan.now.pools) }
 {
     let mut pools = Vec::with_capacity(alloc, plan.pools().len())?;
     for _pool in plan.pools() {
@@ -91,8 +95,10 @@ pub fn steady(alloc: Global, plan: &Plan) -> Result<Option<Cert>, AllocError>
     // A class that submits itself has no level.
     requires { NoCircle plan.now }
     ensures cert { IfOk result (λ found. IfSome found (λ cert. cert ≡ spec.steady_cert plan.now)) }
-    ensures small { IfOk result (λ found. IfSome found (λ _. has_small_numbers (spec.steady_vector plan.now) ≡ true)) }
-    ensures heavy { IfOk result (λ found. IfNone found (has_small_numbers (spec.steady_vector plan.now) ≡ false)) }
+    ensures small { IfOk result
+        (λ found. IfSome found (λ _. has_small_numbers (spec.steady_vector plan.now) ≡ true)) }
+    ensures heavy { IfOk result
+        (λ found. IfNone found (has_small_numbers (spec.steady_vector plan.now) ≡ false)) }
 {
     let levels = steady_levels(alloc, plan)?;
     let Some(vector) = steady_vector(alloc, plan, &levels)? else {

@@ -37,7 +37,10 @@ fn level_above(levels: &[u64], body: &[Action]) -> u64
 /// The levels where submits are followed one deeper.
 fn next_levels(alloc: Global, plan: &Plan, levels: &[u64]) -> Result<Vec<u64>, AllocError>
     requires { (k : ℕ) → slice_index levels.now k ≤ MAX_CLASSES }
-    ensures { IfOk result (λ next. next.items ≡ map (λ (class : plan_spec.Class). spec.level_above levels.now class.body) plan.now.classes) }
+    ensures { IfOk result (λ next.
+        next.items
+        ≡ map (λ (class : plan_spec.Class). spec.level_above levels.now class.body)
+        plan.now.classes) }
 {
     let mut next = Vec::with_capacity(alloc, plan.classes().len())?;
     for class in plan.classes() {

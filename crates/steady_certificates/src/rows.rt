@@ -36,8 +36,10 @@ fn settle_class(
     requires number { number < length plan.now.classes }
     requires level { slice_index (spec.steady_levels plan.now) number ≡ level }
     requires settled { IsSettled plan.now jobs.old level number }
-    ensures settled { IfOk result (λ small. OnTrue small (IsSettled plan.now jobs.new level (number + 1))) }
-    ensures heavy { IfOk result (λ small. OnFalse small (has_small_numbers (spec.steady_vector plan.now) ≡ false)) }
+    ensures settled { IfOk result
+        (λ small. OnTrue small (IsSettled plan.now jobs.new level (number + 1))) }
+    ensures heavy { IfOk result
+        (λ small. OnFalse small (has_small_numbers (spec.steady_vector plan.now) ≡ false)) }
 {
     let class = &plan.classes()[number];
     let row = class_row(alloc, plan, jobs, &class.body)?;
@@ -61,8 +63,10 @@ fn settle(
     requires levels { levels.now ≡ spec.steady_levels plan.now }
     requires number { number < length plan.now.classes }
     requires settled { IsSettled plan.now jobs.old level number }
-    ensures settled { IfOk result (λ small. OnTrue small (IsSettled plan.now jobs.new level (number + 1))) }
-    ensures heavy { IfOk result (λ small. OnFalse small (has_small_numbers (spec.steady_vector plan.now) ≡ false)) }
+    ensures settled { IfOk result
+        (λ small. OnTrue small (IsSettled plan.now jobs.new level (number + 1))) }
+    ensures heavy { IfOk result
+        (λ small. OnFalse small (has_small_numbers (spec.steady_vector plan.now) ≡ false)) }
 {
     let own_level = number_at(levels, number);
     if own_level == level {
@@ -83,8 +87,10 @@ fn settle_level(
     requires free { NoCircle plan.now }
     requires levels { levels.now ≡ spec.steady_levels plan.now }
     requires settled { IsSettled plan.now jobs.old level 0 }
-    ensures settled { IfOk result (λ small. OnTrue small (IsSettled plan.now jobs.new (level + 1) 0)) }
-    ensures heavy { IfOk result (λ small. OnFalse small (has_small_numbers (spec.steady_vector plan.now) ≡ false)) }
+    ensures settled { IfOk result
+        (λ small. OnTrue small (IsSettled plan.now jobs.new (level + 1) 0)) }
+    ensures heavy { IfOk result
+        (λ small. OnFalse small (has_small_numbers (spec.steady_vector plan.now) ≡ false)) }
 {
     for number in 0..plan.classes().len() {
         let is_small = settle(alloc, plan, levels, jobs, level, number)?;
@@ -118,8 +124,10 @@ pub(crate) fn jobs_of(
 ) -> Result<Option<Vector>, AllocError>
     requires free { NoCircle plan.now }
     requires levels { levels.now ≡ spec.steady_levels plan.now }
-    ensures settled { IfOk result (λ found. IfSome found (λ jobs. IsSettled plan.now jobs (length plan.now.classes) 0)) }
-    ensures heavy { IfOk result (λ found. IfNone found (has_small_numbers (spec.steady_vector plan.now) ≡ false)) }
+    ensures settled { IfOk result
+        (λ found. IfSome found (λ jobs. IsSettled plan.now jobs (length plan.now.classes) 0)) }
+    ensures heavy { IfOk result
+        (λ found. IfNone found (has_small_numbers (spec.steady_vector plan.now) ≡ false)) }
 {
     let mut jobs = no_jobs(alloc, plan)?;
     for level in 0..plan.classes().len() {
@@ -138,7 +146,9 @@ pub(crate) fn clients_of(
     jobs: &Vector,
 ) -> Result<Vec<Vec<u64>>, AllocError>
     requires small { JobsAreSmall jobs.now }
-    ensures { IfOk result (λ rows. map (λ row. row.items) rows.items ≡ map (spec.client_row plan.now jobs.now) plan.now.clients) }
+    ensures { IfOk result (λ rows.
+        map (λ row. row.items) rows.items
+        ≡ map (spec.client_row plan.now jobs.now) plan.now.clients) }
 {
     let mut rows = Vec::with_capacity(alloc, plan.clients().len())?;
     for client in plan.clients() {

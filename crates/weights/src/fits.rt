@@ -50,7 +50,10 @@ impl Vector {
     /// Whether each class has a number for queued, for each position of its body, and for done.
     fn has_class_shapes(&self, plan: &Plan) -> bool
         requires { length self.now.classes ≡ length plan.now.classes }
-        ensures { result ≡ list_all (λ entry. length (spec.class_weights self.now entry.0) == length entry.1.body + 3) (enumerate_from 0 plan.now.classes) }
+        ensures { result
+            ≡ list_all
+            (λ entry. length (spec.class_weights self.now entry.0) == length entry.1.body + 3)
+            (enumerate_from 0 plan.now.classes) }
     {
         for (number, class) in plan.classes().iter().enumerate() {
             if self.class_weights(number).len() != class.body.as_slice().len() + 3 {
@@ -63,7 +66,10 @@ impl Vector {
     /// Whether each kind of clients has a number for each position of its body.
     fn has_client_shapes(&self, plan: &Plan) -> bool
         requires { length self.now.clients ≡ length plan.now.clients }
-        ensures { result ≡ list_all (λ entry. length (spec.client_weights self.now entry.0) == length entry.1.body + 1) (enumerate_from 0 plan.now.clients) }
+        ensures { result
+            ≡ list_all
+            (λ entry. length (spec.client_weights self.now entry.0) == length entry.1.body + 1)
+            (enumerate_from 0 plan.now.clients) }
     {
         for (number, client) in plan.clients().iter().enumerate() {
             if self.client_weights(number).len() != client.body.as_slice().len() + 1 {

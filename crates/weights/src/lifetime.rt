@@ -40,7 +40,8 @@ fn visit_worker_rows<V: RowVisitor>(plan: &Plan, vector: &Vector, visitor: &mut 
 
 /// Looks at L2 of a class with these weights.
 fn visit_made_rows<V: RowVisitor>(class: usize, weights: &[u64], visitor: &mut V)
-    ensures { Takes V.HasSeen visitor.old visitor.new (map (λ weight. row L2 (place.Class class) 1 weight) weights.now) }
+    ensures { Takes V.HasSeen visitor.old visitor.new
+        (map (λ weight. row L2 (place.Class class) 1 weight) weights.now) }
 {
     for weight in weights {
         visitor.visit(Row::new(Rule::L2, Place::Class(class), 1, *weight));
@@ -84,7 +85,8 @@ impl Vector {
     pub fn visit_lifetime_rows<V: RowVisitor>(&self, plan: &Plan, pool: usize, visitor: &mut V)
         requires fits { IsTrue (spec.vector_fits plan.now self.now) }
         requires pool { pool < length plan.now.pools }
-        ensures { Takes V.HasSeen visitor.old visitor.new (lifetime.lifetime_rows plan.now pool self.now) }
+        ensures { Takes V.HasSeen visitor.old visitor.new
+            (lifetime.lifetime_rows plan.now pool self.now) }
     {
         visit_worker_rows(plan, self, visitor);
         self.visit_rows(plan, AtGet::GivesNothing, visitor);

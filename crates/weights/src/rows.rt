@@ -19,7 +19,9 @@ fn taking_row(plan: &Plan, vector: &Vector, number: usize, class: &Class) -> Row
     requires fits { IsTrue (spec.vector_fits plan.now vector.now) }
     requires well_formed { IsWellFormed plan.now }
     requires class { slice_get plan.now.classes number ≡ Some class.now }
-    ensures { result ≡ row V4 (place.Class number) (spec.job_weight vector.now number 0) (spec.queued_weight vector.now number + spec.workers_weight vector.now class.now.pool) }
+    ensures { result
+        ≡ row V4 (place.Class number) (spec.job_weight vector.now number 0)
+        (spec.queued_weight vector.now number + spec.workers_weight vector.now class.now.pool) }
 {
     let weights = vector.class_weights(number);
     let worker = vector.workers_weight(class.pool);
@@ -62,7 +64,8 @@ fn visit_class_rows<V: RowVisitor>(
     requires fits { IsTrue (spec.vector_fits plan.now vector.now) }
     requires well_formed { IsWellFormed plan.now }
     requires class { slice_get plan.now.classes number ≡ Some class.now }
-    ensures { Takes V.HasSeen visitor.old visitor.new (class_rows at_get plan.now vector.now number class.now) }
+    ensures { Takes V.HasSeen visitor.old visitor.new
+        (class_rows at_get plan.now vector.now number class.now) }
 {
     let body = Body {
         actor: BodyOwner::Class(number),
@@ -103,7 +106,8 @@ fn visit_client_rows<V: RowVisitor>(
     requires fits { IsTrue (spec.vector_fits plan.now vector.now) }
     requires well_formed { IsWellFormed plan.now }
     requires client { slice_get plan.now.clients number ≡ Some client.now }
-    ensures { Takes V.HasSeen visitor.old visitor.new (client_rows at_get plan.now vector.now number client.now) }
+    ensures { Takes V.HasSeen visitor.old visitor.new
+        (client_rows at_get plan.now vector.now number client.now) }
 {
     let body = Body {
         actor: BodyOwner::Client(number),

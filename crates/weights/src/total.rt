@@ -11,7 +11,9 @@ use job_bodies::Plan;
 /// What all clients weigh at their beginning.
 fn clients_total(plan: &Plan, vector: &Vector) -> u64
     requires { IsTrue (spec.vector_fits plan.now vector.now) }
-    ensures value { result ≡ sum_by (λ entry. entry.1.count * spec.client_weight vector.now entry.0 0) (enumerate_from 0 plan.now.clients) }
+    ensures value { result
+        ≡ sum_by (λ entry. entry.1.count * spec.client_weight vector.now entry.0 0)
+        (enumerate_from 0 plan.now.clients) }
     ensures few { result ≤ MAX_CLIENT_KINDS * (MAX_SIZE * MAX_WEIGHT) }
 {
     let mut total = 0;
@@ -24,7 +26,9 @@ fn clients_total(plan: &Plan, vector: &Vector) -> u64
 /// What the workers of all pools weigh, as many as there can be.
 fn workers_total(plan: &Plan, vector: &Vector) -> u64
     requires { IsTrue (spec.vector_fits plan.now vector.now) }
-    ensures value { result ≡ sum_by (λ entry. spec.workers_weight vector.now entry.0 * entry.1.max) (enumerate_from 0 plan.now.pools) }
+    ensures value { result
+        ≡ sum_by (λ entry. spec.workers_weight vector.now entry.0 * entry.1.max)
+        (enumerate_from 0 plan.now.pools) }
     ensures few { result ≤ MAX_POOLS * (MAX_WEIGHT * MAX_SIZE) }
 {
     let mut total = 0;

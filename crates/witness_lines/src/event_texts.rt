@@ -18,7 +18,8 @@ use std::alloc::AllocError;
 ///
 /// [`AllocError`] where memory runs out.
 pub fn push_event_lines(text: &mut String, plan: &Plan, witness: &Witness) -> Result<(), AllocError>
-    ensures { Pushes result text.old text.new (lines_text plan.now (spec.witness_lines witness.now)) }
+    ensures { Pushes result text.old text.new
+        (lines_text plan.now (spec.witness_lines witness.now)) }
 {
     push_lines(text, plan, &witness.events, stuck_members(&witness.ending))
 }
@@ -40,7 +41,8 @@ fn push_lines(
     mut events: &[Event],
     members: &[usize],
 ) -> Result<(), AllocError>
-    ensures { Pushes result text.old text.new (lines_text plan.now (spec.lines_of events.now members.now)) }
+    ensures { Pushes result text.old text.new
+        (lines_text plan.now (spec.lines_of events.now members.now)) }
 {
     while let Some((event, rest)) = events.split_first() {
         push_event(text, plan, *event)?;
