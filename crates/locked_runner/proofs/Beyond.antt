@@ -3,7 +3,7 @@ use Rattle.std.proofs.Common.{◌≡◌, ◌≤◌, ◌∙◌, ℕ, Bool, false,
 use Rattle.std.proofs.lemmas.Bool.{or_parts, ltb-false, lt-ltb, le-ltb, cases_lt}
 use Rattle.job_bodies.specs.Plan.{Plan}
 use Rattle.pool_ranks.specs.Ranks.{Ranks}
-use Rattle.run_histories.specs.RunNumbers.{bound, capped}
+use Rattle.run_histories.specs.RunNumbers.{most_events, capped}
 use Rattle.locked_runner.specs.Limits.{clients, carriers, is_beyond, is_too_large}
 
 more_capped : (n : ℕ) → nat_lt 1000000 (capped n) ≡ nat_lt 1000000 n
@@ -13,12 +13,12 @@ more_capped n = elim (cases_lt 1000000 n) [
 ]
 
 -- what the test of a limit says
-pub passed : (plan : Plan) (ranks : Ranks) (rounds events : ℕ) (answer found : Bool) → events ≡ capped (bound plan ranks rounds) → found ≡ is_beyond plan events → found ≡ answer → is_too_large plan ranks rounds ≡ answer
+pub passed : (plan : Plan) (ranks : Ranks) (rounds events : ℕ) (answer found : Bool) → events ≡ capped (most_events plan ranks rounds) → found ≡ is_beyond plan events → found ≡ answer → is_too_large plan ranks rounds ≡ answer
 passed plan ranks rounds events answer found is tested says =
-    sym (ap (λ (b : Bool). nat_lt 64 (clients plan) || nat_lt 64 (carriers plan) || b) (more_capped (bound plan ranks rounds)))
+    sym (ap (λ (b : Bool). nat_lt 64 (clients plan) || nat_lt 64 (carriers plan) || b) (more_capped (most_events plan ranks rounds)))
     ∙ (ap (is_beyond plan) (sym is) ∙ (sym tested ∙ says))
 
-pub few_events : (plan : Plan) (ranks : Ranks) (rounds : ℕ) → is_too_large plan ranks rounds ≡ false → bound plan ranks rounds ≤ 1000000
+pub few_events : (plan : Plan) (ranks : Ranks) (rounds : ℕ) → is_too_large plan ranks rounds ≡ false → most_events plan ranks rounds ≤ 1000000
 few_events plan ranks rounds not =
-    let n = bound plan ranks rounds in
+    let n = most_events plan ranks rounds in
     ltb-false 1000000 n (or_parts (nat_lt 64 (clients plan) || nat_lt 64 (carriers plan)) (nat_lt 1000000 n) not).1

@@ -12,7 +12,7 @@ use Rattle.job_bodies.proofs.Bodies.{ordered}
 use Rattle.pool_ranks.specs.Ranks.{Ranks}
 use Rattle.run_histories.specs.Complete.{rounds_of, events_of_client}
 use Rattle.starvation_laws.specs.Drain.{of_submit}
-use Rattle.run_histories.specs.RunNumbers.{units_of, units_in, submitted, caused_within, caused, greatest, submitted_by, by_jobs, units_of_clients, events_of_clients, jobs, units, bound, capped}
+use Rattle.run_histories.specs.RunNumbers.{units_of, units_in, submitted, caused_within, caused, greatest, submitted_by, by_jobs, units_of_clients, events_of_clients, jobs, units, most_events, capped}
 
 -- at most c times as much, so many times
 scaled : (c n x y : ℕ) → x ≤ c * y → n * x ≤ c * (n * y)
@@ -90,19 +90,19 @@ own_units class = units_in class.body
 abbrev own_events : Class → ℕ
 own_events class = length class.body + 2
 
-jobs_in : (plan : Plan) (ranks : Ranks) (rounds : ℕ) → jobs plan ranks rounds ≤ bound plan ranks rounds
+jobs_in : (plan : Plan) (ranks : Ranks) (rounds : ℕ) → jobs plan ranks rounds ≤ most_events plan ranks rounds
 jobs_in plan ranks rounds =
     let most : jobs plan ranks rounds ≤ 1 * by_jobs plan ranks rounds own_events = by_jobs_in plan ranks rounds 1 one_job own_events (λ k. omega arith) in
     omega arith
 
-units_in_bound : (plan : Plan) (ranks : Ranks) (rounds : ℕ) → IsWellFormed plan → units plan ranks rounds ≤ 1000000 * bound plan ranks rounds
+units_in_bound : (plan : Plan) (ranks : Ranks) (rounds : ℕ) → IsWellFormed plan → units plan ranks rounds ≤ 1000000 * most_events plan ranks rounds
 units_in_bound plan ranks rounds formed =
     added 1000000 _ _ _ _
     (by_jobs_in plan ranks rounds 1000000 own_units own_events (λ k. let most = work_in plan (class_at plan k).body ((ordered plan formed).classes k) in omega arith))
     (clients_in plan rounds formed)
 
-pub few_jobs : (plan : Plan) (ranks : Ranks) (rounds : ℕ) → bound plan ranks rounds ≤ 1000000 → capped (jobs plan ranks rounds) ≡ jobs plan ranks rounds
+pub few_jobs : (plan : Plan) (ranks : Ranks) (rounds : ℕ) → most_events plan ranks rounds ≤ 1000000 → capped (jobs plan ranks rounds) ≡ jobs plan ranks rounds
 few_jobs plan ranks rounds few = let most = jobs_in plan ranks rounds in omega arith
 
-pub few_units : (plan : Plan) (ranks : Ranks) (rounds : ℕ) → IsWellFormed plan → bound plan ranks rounds ≤ 1000000 → capped (units plan ranks rounds) ≡ units plan ranks rounds
+pub few_units : (plan : Plan) (ranks : Ranks) (rounds : ℕ) → IsWellFormed plan → most_events plan ranks rounds ≤ 1000000 → capped (units plan ranks rounds) ≡ units plan ranks rounds
 few_units plan ranks rounds formed few = let most = units_in_bound plan ranks rounds formed in omega arith

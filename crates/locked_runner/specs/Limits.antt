@@ -2,7 +2,7 @@
 use Rattle.std.specs.Prelude.{ℕ, Bool, ◌||◌, nat_lt, sum_by}
 use Rattle.job_bodies.specs.Plan.{Plan}
 use Rattle.pool_ranks.specs.Ranks.{Ranks}
-use Rattle.run_histories.specs.RunNumbers.{bound}
+use Rattle.run_histories.specs.RunNumbers.{most_events}
 use Rattle.job_bodies.specs.declared.limits.TheConstants.{MAX_RUN_CLIENTS, MAX_RUN_CARRIERS, MAX_RUN_EVENTS}
 
 -- the clients of all kinds
@@ -18,4 +18,4 @@ abbrev pub is_beyond : Plan → ℕ → Bool
 is_beyond plan events = nat_lt MAX_RUN_CLIENTS (clients plan) || nat_lt MAX_RUN_CARRIERS (carriers plan) || nat_lt MAX_RUN_EVENTS events
 
 abbrev pub is_too_large : Plan → Ranks → ℕ → Bool
-is_too_large plan ranks rounds = is_beyond plan (bound plan ranks rounds)
+is_too_large plan ranks rounds = is_beyond plan (most_events plan ranks rounds)

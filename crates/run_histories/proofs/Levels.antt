@@ -84,5 +84,5 @@ numbers_are_of_the_plan plan rounds ranks ranks' hold hold' =
     record {
       jobs = by_jobs_agree plan ranks ranks' rounds (own Jobs) laws laws';
       units = ap (λ (x : ℕ). x + sum_by (units_of_clients rounds) plan.clients) (by_jobs_agree plan ranks ranks' rounds (own Units) laws laws');
-      bound = ap (λ (x : ℕ). x + sum_by (events_of_clients rounds) plan.clients) (by_jobs_agree plan ranks ranks' rounds (own Events) laws laws');
+      most_events = ap (λ (x : ℕ). x + sum_by (events_of_clients rounds) plan.clients) (by_jobs_agree plan ranks ranks' rounds (own Events) laws laws');
     }

@@ -62,9 +62,9 @@ jobs plan ranks rounds = by_jobs plan ranks rounds (own Jobs)
 abbrev pub units : Plan → Ranks → ℕ → ℕ
 units plan ranks rounds = by_jobs plan ranks rounds (own Units) + sum_by (units_of_clients rounds) plan.clients
 
--- the bound on events, of jobs and clients
-abbrev pub bound : Plan → Ranks → ℕ → ℕ
-bound plan ranks rounds = by_jobs plan ranks rounds (own Events) + sum_by (events_of_clients rounds) plan.clients
+-- the most that the events of a run come to, those of jobs and of clients
+abbrev pub most_events : Plan → Ranks → ℕ → ℕ
+most_events plan ranks rounds = by_jobs plan ranks rounds (own Events) + sum_by (events_of_clients rounds) plan.clients
 
 -- where the rows of the ranks hold, a job's number is its own with those of the jobs that it submits: it is whole
 abbrev pub CausedIsWhole : Type 0
@@ -74,7 +74,7 @@ CausedIsWhole = (plan : Plan) (ranks : Ranks) (own : Class → ℕ) (k : ℕ) �
 pub record HaveSameNumbers (plan : Plan) (rounds : ℕ) (ranks ranks' : Ranks) : Type 0 where
   pub jobs : jobs plan ranks rounds ≡ jobs plan ranks' rounds
   pub units : units plan ranks rounds ≡ units plan ranks' rounds
-  pub bound : bound plan ranks rounds ≡ bound plan ranks' rounds
+  pub most_events : most_events plan ranks rounds ≡ most_events plan ranks' rounds
 
 -- all ranks whose rows hold give the same numbers
 abbrev pub NumbersAreOfThePlan : Type 0

@@ -39,7 +39,7 @@ pub fn run_numbers(
     ensures units { IfOk result
         (λ numbers. numbers.units ≡ capped (spec.units plan.now ranks.now rounds)) }
     ensures events { IfOk result
-        (λ numbers. numbers.events ≡ capped (spec.bound plan.now ranks.now rounds)) }
+        (λ numbers. numbers.events ≡ capped (spec.most_events plan.now ranks.now rounds)) }
 {
     let jobs = by_jobs(alloc, plan, ranks, rounds, Measure::Jobs)?;
     let units = by_jobs(alloc, plan, ranks, rounds, Measure::Units)?;

@@ -2,8 +2,8 @@
 
 use crate::certified::cert_of;
 use crate::found::Halt;
+use crate::pool_threads::{PoolThreads, declared_threads};
 use crate::remembered::Remembered;
-use crate::rooms::{Room, rooms_of};
 use crate::rounds::ranked_at_last;
 use crate::settled::settled;
 use certificates::Cert;
@@ -15,7 +15,7 @@ use std::alloc::Global;
 pub(crate) struct Attempt {
     pub(crate) cert: Cert,
     /// The core and the maximum that each pool needs.
-    pub(crate) rooms: Vec<Room>,
+    pub(crate) threads: Vec<PoolThreads>,
     /// By how much the plan's sizes have to grow, all together.
     pub(crate) cost: u64,
     /// The most pools that there were to choose from in a round where none had core enough, before rounds began again.
@@ -27,19 +27,19 @@ pub(crate) struct Attempt {
 pub(crate) fn tried(
     alloc: Global,
     known: &mut Remembered,
-    rooms: Vec<Room>,
+    threads: Vec<PoolThreads>,
     passed_over: usize,
 ) -> Result<Attempt, Halt> {
-    let placing = ranked_at_last(alloc, known, rooms, passed_over)?;
+    let placing = ranked_at_last(alloc, known, threads, passed_over)?;
     let cert = cert_of(alloc, known, &placing)?;
     match settled(alloc, known.plan, &cert)? {
         Ok(fit) => Ok(Attempt {
             cert,
-            rooms: rooms_of(alloc, &fit)?,
+            threads: declared_threads(alloc, &fit)?,
             cost: growth(known.plan, &fit),
             choices: placing.choices,
         }),
-        Err(limit) => Err(Halt::Limit(limit)),
+        Err(obstacle) => Err(Halt::Obstacle(obstacle)),
     }
 }
 

@@ -1,21 +1,21 @@
 //! The vector that bounds a pool's queue.
 
-use crate::found::{Halt, Limit};
+use crate::found::{Halt, Obstacle};
+use crate::pool_threads::PoolThreads;
 use crate::remembered::Remembered;
-use crate::rooms::Room;
 use job_bodies::Pool;
 use least_vectors::Kind;
 use std::alloc::Global;
 use weights::Bound;
 
-/// A bound of the pool that misses the least queue, where the pool has this room and the pools have these maximums: the
+/// A bound of the pool that misses the least queue, where the pool has these threads and the pools have these maximums: the
 /// standing vector, or else the lifetime one.
 pub(crate) fn bound_of(
     alloc: Global,
     known: &mut Remembered,
     number: usize,
     pool: &Pool,
-    room: Room,
+    pool_threads: PoolThreads,
     maxes: &[u64],
 ) -> Result<Bound, Halt> {
     let mut look = known.lightest(alloc, number, Kind::Standing, maxes, pool.queue)?;
@@ -23,14 +23,14 @@ pub(crate) fn bound_of(
     let mut is_lifetime = false;
     if missing > 0 {
         let lifetime = known.lightest(alloc, number, Kind::Lifetime, maxes, 0)?;
-        is_lifetime = lifetime_queue(pool, room, lifetime.total).saturating_sub(pool.queue)
+        is_lifetime = lifetime_queue(pool, pool_threads, lifetime.total).saturating_sub(pool.queue)
             < missing;
         if is_lifetime {
             look = lifetime;
         }
     }
     let Some(workers) = known.workers_at(look) else {
-        return Err(Halt::Limit(Limit::Pool(number)));
+        return Err(Halt::Obstacle(Obstacle::Pool(number)));
     };
     let kind = if is_lifetime {
         Kind::Lifetime
@@ -40,12 +40,13 @@ pub(crate) fn bound_of(
     match known.growing(maxes).vector(alloc, number, kind, workers)? {
         Some(vector) if is_lifetime => Ok(Bound::Lifetime(vector)),
         Some(vector) => Ok(Bound::Standing(vector)),
-        None => Err(Halt::Limit(Limit::Pool(number))),
+        None => Err(Halt::Obstacle(Obstacle::Pool(number))),
     }
 }
 
 /// The queue that the pool needs for so many jobs that are ever made: the threads take as many of them as do not begin idle.
-fn lifetime_queue(pool: &Pool, room: Room, jobs: u64) -> u64 {
-    let first_workers = if pool.prestart { room.core } else { 0 };
-    jobs.saturating_add(first_workers).saturating_sub(room.max)
+fn lifetime_queue(pool: &Pool, pool_threads: PoolThreads, jobs: u64) -> u64 {
+    let first_workers = if pool.prestart { pool_threads.core } else { 0 };
+    jobs.saturating_add(first_workers)
+        .saturating_sub(pool_threads.max)
 }

@@ -1,9 +1,9 @@
 //! The certificate of pools that all have ranks.
 
 use crate::bounds::bound_of;
-use crate::found::{Halt, Limit};
+use crate::found::{Halt, Obstacle};
+use crate::pool_threads::maxes_of;
 use crate::remembered::{Look, Remembered};
-use crate::rooms::maxes_of;
 use crate::rounds::Placing;
 use certificates::{Cert, PoolCert};
 use least_vectors::{Kind, reach};
@@ -18,19 +18,19 @@ pub(crate) fn cert_of(
     known: &mut Remembered,
     placing: &Placing,
 ) -> Result<Cert, Halt> {
-    let maxes = maxes_of(alloc, &placing.rooms)?;
+    let maxes = maxes_of(alloc, &placing.threads)?;
     let ranks = placing.ranks_or(alloc, 0)?;
     let reach = reach(alloc, known.plan, known.levels, &ranks)?;
     let mut pools = Vec::with_capacity(alloc, ranks.len())?;
     for (number, pool) in known.plan.pools().iter().enumerate() {
-        let (Some(room), Some(Some((rank, look)))) = (
-            placing.rooms.get(number),
+        let (Some(pool_threads), Some(Some((rank, look)))) = (
+            placing.threads.get(number),
             placing.placed.get(number),
         ) else {
-            return Err(Halt::Limit(Limit::Unknown));
+            return Err(Halt::Obstacle(Obstacle::Unknown));
         };
         let blocked = blocked_of(alloc, known, *look, &maxes, *rank, &reach)?;
-        let bound = bound_of(alloc, known, number, pool, *room, &maxes)?;
+        let bound = bound_of(alloc, known, number, pool, *pool_threads, &maxes)?;
         let cert = PoolCert { bound, blocked };
         pools.push(cert).map_err(AllocError::from)?;
     }
@@ -65,5 +65,5 @@ fn blocked_of(
             .vector(alloc, look.pool, kind, workers)?,
         None => None,
     };
-    vector.ok_or(Halt::Limit(Limit::Pool(look.pool)))
+    vector.ok_or(Halt::Obstacle(Obstacle::Pool(look.pool)))
 }

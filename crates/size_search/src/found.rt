@@ -29,21 +29,21 @@ pub enum NoSizes {
 
 /// What an attempt did not get past.
 #[derive(Clone, Copy, Debug, PartialEq, Eq)]
-pub(crate) enum Limit {
+pub(crate) enum Obstacle {
     /// A size of the pool of this number.
     Pool(usize),
     /// Something else.
     Unknown,
 }
 
-impl Limit {
+impl Obstacle {
     /// The pool that is told of it; the first one where it names none. The search is not trusted to name a pool of the plan.
     pub(crate) fn pool(self, plan: &Plan) -> usize
         requires { 0 < length plan.now.pools }
         ensures { result < length plan.now.pools }
     {
         match self {
-            Limit::Pool(pool) if pool < plan.pools().len() => pool,
+            Obstacle::Pool(pool) if pool < plan.pools().len() => pool,
             _ => 0,
         }
     }
@@ -55,7 +55,7 @@ pub(crate) enum Halt {
     /// Memory ran out.
     Memory(AllocError),
     /// There is no certificate that way.
-    Limit(Limit),
+    Obstacle(Obstacle),
 }
 
 impl From<AllocError> for Halt {

@@ -6,7 +6,7 @@ ghost use Rattle.job_bodies.specs.WellFormed.{IsWellFormed};
 ghost use Rattle.size_search.specs.Sized.{IsSized, IsFound};
 
 use crate::attempt::growth;
-use crate::found::{Limit, SizesFound};
+use crate::found::{Obstacle, SizesFound};
 use crate::search::looked_for;
 use crate::settled::settled;
 use crate::steadily::steadily;
@@ -55,7 +55,7 @@ pub(crate) fn lasting(
                 fit = wider;
                 cert = more;
             }
-            Err(_limit) => return or_steadily(alloc, plan, fit, cert),
+            Err(_obstacle) => return or_steadily(alloc, plan, fit, cert),
         }
     }
     or_steadily(alloc, plan, fit, cert)
@@ -74,7 +74,7 @@ fn found_again(alloc: Global, plan: &Plan, fit: &Plan) -> Result<Again, AllocErr
                 Again::More(cert)
             }
         }
-        Err(_limit) => Again::Nothing,
+        Err(_obstacle) => Again::Nothing,
     })
 }
 
@@ -85,7 +85,7 @@ fn or_steadily(alloc: Global, plan: &Plan, fit: Plan, cert: Cert) -> Result<Size
     requires sized { IsSized plan.now cert fit }
     ensures { IfOk result (IsFound plan.now) }
 {
-    match steadily(alloc, plan, Limit::Unknown)? {
+    match steadily(alloc, plan, Obstacle::Unknown)? {
         SizesFound::NotFound(_) => Ok(SizesFound::Found { plan: fit, cert }),
         found => Ok(found),
     }

@@ -1,6 +1,6 @@
 //! Vectors that were looked for before. Most attempts ask again for what an earlier one asked for.
 
-use crate::found::{Halt, Limit};
+use crate::found::{Halt, Obstacle};
 use job_bodies::{Action, Plan};
 use least_vectors::{Growing, Kind, Levels, Weighed};
 use std::alloc::{AllocError, Global};
@@ -144,7 +144,7 @@ impl<'a> Remembered<'a> {
             return Ok(memory.look(pool, place));
         }
         if self.vectors_left == 0 {
-            return Err(Halt::Limit(Limit::Unknown));
+            return Err(Halt::Obstacle(Obstacle::Unknown));
         }
         self.vectors_left = self.vectors_left.saturating_sub(1);
         let answer = growing.lightest(alloc, pool, kind, enough)?;

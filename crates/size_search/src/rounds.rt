@@ -1,8 +1,8 @@
 //! Rounds in which pools get their ranks, while their cores grow.
 
-use crate::found::{Halt, Limit};
+use crate::found::{Halt, Obstacle};
+use crate::pool_threads::{PoolThreads, maxes_of};
 use crate::remembered::{Look, Remembered};
-use crate::rooms::{Room, maxes_of};
 use job_bodies::MAX_SIZE;
 use least_vectors::{Kind, reach};
 use std::alloc::{AllocError, Global};
@@ -11,7 +11,7 @@ use std::alloc::{AllocError, Global};
 #[derive(Debug, Drop)]
 pub(crate) struct Placing {
     /// The core and the maximum that each pool has by now.
-    pub(crate) rooms: Vec<Room>,
+    pub(crate) threads: Vec<PoolThreads>,
     /// The rank and the blocked vector of each pool that has them.
     pub(crate) placed: Vec<Option<(u64, Look)>>,
     /// Whether a maximum has grown.
@@ -22,10 +22,10 @@ pub(crate) struct Placing {
 
 impl Placing {
     /// No pool has a rank.
-    fn at(alloc: Global, rooms: Vec<Room>) -> Result<Placing, AllocError> {
-        let placed = vec![in alloc; None; rooms.len()]?;
+    fn at(alloc: Global, threads: Vec<PoolThreads>) -> Result<Placing, AllocError> {
+        let placed = vec![in alloc; None; threads.len()]?;
         Ok(Placing {
-            rooms,
+            threads,
             placed,
             has_widened: false,
             choices: 0,
@@ -48,7 +48,7 @@ impl Placing {
         rank: u64,
         lending: bool,
     ) -> Result<Vec<Look>, Halt> {
-        let maxes = maxes_of(alloc, &self.rooms)?;
+        let maxes = maxes_of(alloc, &self.threads)?;
         let ranks = self.ranks_or(alloc, rank)?;
         let reach = reach(alloc, known.plan, known.levels, &ranks)?;
         let kind = Kind::Blocked {
@@ -57,9 +57,9 @@ impl Placing {
             lending,
         };
         let mut looks = Vec::new(alloc);
-        for (pool, (room, placed)) in self.rooms.iter().zip(&self.placed).enumerate() {
+        for (pool, (pool_threads, placed)) in self.threads.iter().zip(&self.placed).enumerate() {
             if placed.is_none() {
-                let enough = room.core.saturating_sub(1);
+                let enough = pool_threads.core.saturating_sub(1);
                 let look = known.lightest(alloc, pool, kind, &maxes, enough)?;
                 looks.push(look).map_err(AllocError::from)?;
             }
@@ -82,22 +82,22 @@ impl Placing {
     /// Gives the rank to one pool, of those that lack least the one of this number, and the core to it that it lacks.
     fn place_one(&mut self, looks: &[Look], rank: u64, choice: usize) -> Result<(), Halt> {
         let Some(look) = self.choice_of(looks, choice) else {
-            return Err(Halt::Limit(Limit::Unknown));
+            return Err(Halt::Obstacle(Obstacle::Unknown));
         };
         let core = core_for(&look);
-        if let Some(room) = self.rooms.get_mut(look.pool) {
-            self.has_widened = self.has_widened || core > room.max;
-            *room = room.raised(core);
+        if let Some(pool_threads) = self.threads.get_mut(look.pool) {
+            self.has_widened = self.has_widened || core > pool_threads.max;
+            *pool_threads = pool_threads.raised(core);
         }
         self.place(look, rank);
         Ok(())
     }
 
     /// Why no pool can get the core that it lacks.
-    fn limit_of(&self, looks: &[Look]) -> Limit {
+    fn obstacle_of(&self, looks: &[Look]) -> Obstacle {
         match self.choice_of(looks, 0) {
-            Some(look) => Limit::Pool(look.pool),
-            None => Limit::Unknown,
+            Some(look) => Obstacle::Pool(look.pool),
+            None => Obstacle::Unknown,
         }
     }
 
@@ -127,8 +127,8 @@ impl Placing {
 
     /// How much core and maximum the pool lacks.
     fn lack(&self, look: &Look) -> u64 {
-        match self.rooms.get(look.pool) {
-            Some(room) => room.lack(core_for(look)),
+        match self.threads.get(look.pool) {
+            Some(pool_threads) => pool_threads.lack(core_for(look)),
             None => u64::MAX,
         }
     }
@@ -154,11 +154,11 @@ fn within_limit(alloc: Global, looks: &[Look]) -> Result<Vec<Look>, AllocError> 
 pub(crate) fn ranked(
     alloc: Global,
     known: &mut Remembered,
-    rooms: Vec<Room>,
+    threads: Vec<PoolThreads>,
     lending: bool,
     passed_over: usize,
 ) -> Result<Placing, Halt> {
-    let mut placing = Placing::at(alloc, rooms)?;
+    let mut placing = Placing::at(alloc, threads)?;
     for rank in 0..known.plan.pools().len() as u64 {
         let looks = placing.looks(alloc, known, rank, lending)?;
         if looks.is_empty() {
@@ -167,7 +167,7 @@ pub(crate) fn ranked(
         if !placing.place_all(&looks, rank) {
             let choices = within_limit(alloc, &looks)?;
             if choices.is_empty() {
-                return Err(Halt::Limit(placing.limit_of(&looks)));
+                return Err(Halt::Obstacle(placing.obstacle_of(&looks)));
             }
             let choice = if placing.choices == 0 { passed_over } else { 0 };
             placing.choices = placing.choices.max(choices.len());
@@ -182,17 +182,17 @@ pub(crate) fn ranked(
 pub(crate) fn ranked_at_last(
     alloc: Global,
     known: &mut Remembered,
-    rooms: Vec<Room>,
+    threads: Vec<PoolThreads>,
     passed_over: usize,
 ) -> Result<Placing, Halt> {
     let turns = known.plan.pools().len().saturating_mul(2).saturating_add(4);
-    let mut placing = ranked(alloc, known, rooms, true, passed_over)?;
+    let mut placing = ranked(alloc, known, threads, true, passed_over)?;
     let choices = placing.choices;
     for turn in 0..=turns {
         if !placing.has_widened {
             break;
         }
-        placing = ranked(alloc, known, placing.rooms, turn < turns, 0)?;
+        placing = ranked(alloc, known, placing.threads, turn < turns, 0)?;
     }
     placing.choices = choices;
     Ok(placing)

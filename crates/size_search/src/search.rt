@@ -9,10 +9,10 @@ ghost use Rattle.size_search.specs.Decided.{IsDecided};
 ghost use Rattle.size_search.specs.declared.found.SizesFound.TheVariants.{Found};
 
 use crate::attempt::{Attempt, tried};
-use crate::found::{Halt, Limit, NoSizes, SizesFound};
+use crate::found::{Halt, NoSizes, Obstacle, SizesFound};
 use crate::lasting::lasting;
+use crate::pool_threads::{PoolThreads, declared_threads};
 use crate::remembered::Remembered;
-use crate::rooms::{Room, rooms_of};
 use crate::settled::settled;
 use crate::steadily::steadily;
 use cert_check::accepts;
@@ -87,39 +87,42 @@ fn without_cause(alloc: Global, plan: &Plan) -> Result<SizesFound, AllocError>
 {
     match by_rounds(alloc, plan)? {
         Ok((fit, cert)) => lasting(alloc, plan, fit, cert),
-        Err(limit) => steadily(alloc, plan, limit),
+        Err(obstacle) => steadily(alloc, plan, obstacle),
     }
 }
 
 /// The plan with the sizes that the rounds found, and their certificate.
-fn by_rounds(alloc: Global, plan: &Plan) -> Result<Result<(Plan, Cert), Limit>, AllocError>
+fn by_rounds(alloc: Global, plan: &Plan) -> Result<Result<(Plan, Cert), Obstacle>, AllocError>
     ensures { IfOk result (λ answer. IfOk answer (λ found. IsSized plan.now found.1 found.0)) }
 {
     let cert = match looked_for(alloc, plan)? {
         Ok(cert) => cert,
-        Err(limit) => return Ok(Err(limit)),
+        Err(obstacle) => return Ok(Err(obstacle)),
     };
     match settled(alloc, plan, &cert)? {
         Ok(fit) => Ok(Ok((fit, cert))),
-        Err(limit) => Ok(Err(limit)),
+        Err(obstacle) => Ok(Err(obstacle)),
     }
 }
 
 /// A certificate that other sizes make accepted, which nobody has tested.
-pub(crate) fn looked_for(alloc: Global, plan: &Plan) -> Result<Result<Cert, Limit>, AllocError> {
+pub(crate) fn looked_for(alloc: Global, plan: &Plan) -> Result<Result<Cert, Obstacle>, AllocError> {
     let Some(levels) = Levels::of(alloc, plan)? else {
-        return Ok(Err(Limit::Unknown));
+        return Ok(Err(Obstacle::Unknown));
     };
     let mut known = Remembered::of(alloc, plan, &levels)?;
     Ok(match cheapest(alloc, &mut known)? {
         Ok(best) => Ok(best.cert),
-        Err(limit) => Err(limit),
+        Err(obstacle) => Err(obstacle),
     })
 }
 
 /// The cheapest attempt.
-fn cheapest(alloc: Global, known: &mut Remembered) -> Result<Result<Attempt, Limit>, AllocError> {
-    let declared = rooms_of(alloc, known.plan)?;
+fn cheapest(
+    alloc: Global,
+    known: &mut Remembered,
+) -> Result<Result<Attempt, Obstacle>, AllocError> {
+    let declared = declared_threads(alloc, known.plan)?;
     let first = outcome(tried(alloc, known, Vec::from_slice(alloc, &declared)?, 0))?;
     let choices = match &first {
         Ok(first) => first.choices,
@@ -127,33 +130,36 @@ fn cheapest(alloc: Global, known: &mut Remembered) -> Result<Result<Attempt, Lim
     };
     let mut best = first;
     for passed_over in 1..choices.min(1 + FURTHER_ATTEMPTS) {
-        let rooms = Vec::from_slice(alloc, &declared)?;
-        let next = outcome(tried(alloc, known, rooms, passed_over))?;
+        let threads = Vec::from_slice(alloc, &declared)?;
+        let next = outcome(tried(alloc, known, threads, passed_over))?;
         best = better(best, next);
     }
     let mut best = match best {
         Ok(best) => best,
-        Err(limit) => return Ok(Err(limit)),
+        Err(obstacle) => return Ok(Err(obstacle)),
     };
     for pool in most_raised(alloc, &best, &declared)? {
-        let rooms = put_back(alloc, &best, &declared, pool)?;
-        let next = outcome(tried(alloc, known, rooms, 0))?;
+        let threads = put_back(alloc, &best, &declared, pool)?;
+        let next = outcome(tried(alloc, known, threads, 0))?;
         best = cheaper(best, next);
     }
     Ok(Ok(best))
 }
 
 /// What came of the better of two attempts. Where neither found anything it is the first one.
-fn better(first: Result<Attempt, Limit>, second: Result<Attempt, Limit>) -> Result<Attempt, Limit> {
+fn better(
+    first: Result<Attempt, Obstacle>,
+    second: Result<Attempt, Obstacle>,
+) -> Result<Attempt, Obstacle> {
     match (first, second) {
         (Ok(first), second) => Ok(cheaper(first, second)),
         (Err(_), Ok(second)) => Ok(second),
-        (Err(limit), Err(_)) => Err(limit),
+        (Err(obstacle), Err(_)) => Err(obstacle),
     }
 }
 
 /// The first attempt, unless the second one found something cheaper.
-fn cheaper(first: Attempt, second: Result<Attempt, Limit>) -> Attempt {
+fn cheaper(first: Attempt, second: Result<Attempt, Obstacle>) -> Attempt {
     if let Ok(second) = second {
         if second.cost < first.cost {
             return second;
@@ -163,16 +169,20 @@ fn cheaper(first: Attempt, second: Result<Attempt, Limit>) -> Attempt {
 }
 
 /// What an attempt came to, where memory did not run out.
-fn outcome(tried: Result<Attempt, Halt>) -> Result<Result<Attempt, Limit>, AllocError> {
+fn outcome(tried: Result<Attempt, Halt>) -> Result<Result<Attempt, Obstacle>, AllocError> {
     match tried {
         Ok(attempt) => Ok(Ok(attempt)),
-        Err(Halt::Limit(limit)) => Ok(Err(limit)),
+        Err(Halt::Obstacle(obstacle)) => Ok(Err(obstacle)),
         Err(Halt::Memory(error)) => Err(error),
     }
 }
 
 /// The pools whose core and maximum have grown most: at most three, of few pools all.
-fn most_raised(alloc: Global, best: &Attempt, declared: &[Room]) -> Result<Vec<usize>, AllocError> {
+fn most_raised(
+    alloc: Global,
+    best: &Attempt,
+    declared: &[PoolThreads],
+) -> Result<Vec<usize>, AllocError> {
     let mut raised = Vec::new(alloc);
     let wanted = if declared.len() <= FEW_POOLS {
         declared.len()
@@ -182,8 +192,8 @@ fn most_raised(alloc: Global, best: &Attempt, declared: &[Room]) -> Result<Vec<u
     for _ in 0..wanted {
         let mut most = 0;
         let mut chosen = None;
-        for (pool, (room, declared)) in best.rooms.iter().zip(declared).enumerate() {
-            let growth = room.growth(*declared);
+        for (pool, (pool_threads, declared)) in best.threads.iter().zip(declared).enumerate() {
+            let growth = pool_threads.growth(*declared);
             if growth > most && !raised.contains(&pool) {
                 most = growth;
                 chosen = Some(pool);
@@ -200,12 +210,12 @@ fn most_raised(alloc: Global, best: &Attempt, declared: &[Room]) -> Result<Vec<u
 fn put_back(
     alloc: Global,
     best: &Attempt,
-    declared: &[Room],
+    declared: &[PoolThreads],
     pool: usize,
-) -> Result<Vec<Room>, AllocError> {
-    let mut rooms = Vec::from_slice(alloc, &best.rooms)?;
-    if let (Some(room), Some(declared)) = (rooms.get_mut(pool), declared.get(pool)) {
-        *room = *declared;
+) -> Result<Vec<PoolThreads>, AllocError> {
+    let mut threads = Vec::from_slice(alloc, &best.threads)?;
+    if let (Some(pool_threads), Some(declared)) = (threads.get_mut(pool), declared.get(pool)) {
+        *pool_threads = *declared;
     }
-    Ok(rooms)
+    Ok(threads)
 }

@@ -4,7 +4,7 @@ ghost use Rattle.std.specs.Prelude.{IfOk};
 ghost use Rattle.fitted_sizes.specs.Widened.{IsLeastWide};
 ghost use Rattle.size_search.specs.Sized.{IsSized};
 
-use crate::found::Limit;
+use crate::found::Obstacle;
 use certificates::Cert;
 use fitted_sizes::{Unfit, fitted, widened};
 use job_bodies::Plan;
@@ -15,16 +15,16 @@ pub(crate) fn settled(
     alloc: Global,
     plan: &Plan,
     cert: &Cert,
-) -> Result<Result<Plan, Limit>, AllocError>
+) -> Result<Result<Plan, Obstacle>, AllocError>
     ensures { IfOk result (λ answer. IfOk answer (IsSized plan.now cert.now)) }
 {
     let wide = match widest(alloc, plan, cert)? {
         Ok(wide) => wide,
-        Err(unfit) => return Ok(Err(limit_of_wide(unfit))),
+        Err(unfit) => return Ok(Err(obstacle_of_wide(unfit))),
     };
     Ok(match fitted(alloc, wide, cert)? {
         Ok(fit) => Ok(fit),
-        Err((_plan, unfit)) => Err(limit_of_fit(unfit)),
+        Err((_plan, unfit)) => Err(obstacle_of_fit(unfit)),
     })
 }
 
@@ -60,17 +60,17 @@ fn have_same_maxes(plan: &Plan, other: &Plan) -> bool {
 }
 
 /// Why the plan was not widened.
-fn limit_of_wide(unfit: Unfit) -> Limit {
+fn obstacle_of_wide(unfit: Unfit) -> Obstacle {
     match unfit {
-        Unfit::Core(pool) => Limit::Pool(pool),
-        Unfit::Shape | Unfit::Condition(_) | Unfit::Queue(_) => Limit::Unknown,
+        Unfit::Core(pool) => Obstacle::Pool(pool),
+        Unfit::Shape | Unfit::Condition(_) | Unfit::Queue(_) => Obstacle::Unknown,
     }
 }
 
 /// Why the widened plan was not fitted. A core that passes its maximum there is not known to pass its limit.
-fn limit_of_fit(unfit: Unfit) -> Limit {
+fn obstacle_of_fit(unfit: Unfit) -> Obstacle {
     match unfit {
-        Unfit::Queue(pool) => Limit::Pool(pool),
-        Unfit::Shape | Unfit::Condition(_) | Unfit::Core(_) => Limit::Unknown,
+        Unfit::Queue(pool) => Obstacle::Pool(pool),
+        Unfit::Shape | Unfit::Condition(_) | Unfit::Core(_) => Obstacle::Unknown,
     }
 }

@@ -10,7 +10,7 @@ ghost use Rattle.steady_certificates.specs.Submitted.{IsWithoutCause};
 ghost use Rattle.steady_certificates.specs.Steady.{steady_vector, steady_total, steady_cert};
 ghost use Rattle.size_search.specs.Sized.{IsSized, IsFound, IsTooLarge};
 
-use crate::found::{Limit, NoSizes, SizesFound};
+use crate::found::{NoSizes, Obstacle, SizesFound};
 use certificates::Cert;
 use fitted_sizes::{fitted, widened};
 use job_bodies::Plan;
@@ -19,14 +19,18 @@ use steady_certificates::steady;
 
 /// The plan with the least sizes that its steady certificate needs. Else that one is too large, and the pool is told that
 /// an attempt did not get past.
-pub(crate) fn steadily(alloc: Global, plan: &Plan, limit: Limit) -> Result<SizesFound, AllocError>
+pub(crate) fn steadily(
+    alloc: Global,
+    plan: &Plan,
+    obstacle: Obstacle,
+) -> Result<SizesFound, AllocError>
     requires free { IsWithoutCause plan.now }
     requires well_formed { IsWellFormed plan.now }
     ensures found { IfOk result (IsFound plan.now) }
 {
     match steady(alloc, plan)? {
-        Some(cert) => settled_steadily(alloc, plan, cert, limit),
-        None => Ok(too_large(plan, limit)),
+        Some(cert) => settled_steadily(alloc, plan, cert, obstacle),
+        None => Ok(too_large(plan, obstacle)),
     }
 }
 
@@ -35,7 +39,7 @@ fn settled_steadily(
     alloc: Global,
     plan: &Plan,
     cert: Cert,
-    limit: Limit,
+    obstacle: Obstacle,
 ) -> Result<SizesFound, AllocError>
     requires free { IsWithoutCause plan.now }
     requires well_formed { IsWellFormed plan.now }
@@ -45,16 +49,16 @@ fn settled_steadily(
 {
     match least_steadily(alloc, plan, &cert)? {
         Some(plan) => Ok(SizesFound::Found { plan, cert }),
-        None => Ok(too_large(plan, limit)),
+        None => Ok(too_large(plan, obstacle)),
     }
 }
 
-fn too_large(plan: &Plan, limit: Limit) -> SizesFound
+fn too_large(plan: &Plan, obstacle: Obstacle) -> SizesFound
     requires large { IsTooLarge plan.now }
     requires well_formed { IsWellFormed plan.now }
     ensures { IsFound plan.now result }
 {
-    SizesFound::NotFound(NoSizes::TooLarge(limit.pool(plan)))
+    SizesFound::NotFound(NoSizes::TooLarge(obstacle.pool(plan)))
 }
 
 /// The plan with the least sizes for its steady certificate; None where its total leaves no room below the limit.

@@ -5,15 +5,15 @@ use std::alloc::{AllocError, Global};
 
 /// How many threads a pool keeps, and how many it may have.
 #[derive(Clone, Copy, Debug, PartialEq, Eq)]
-pub(crate) struct Room {
+pub(crate) struct PoolThreads {
     pub(crate) core: u64,
     pub(crate) max: u64,
 }
 
-impl Room {
+impl PoolThreads {
     /// What the pool declares.
-    pub(crate) fn of(pool: &Pool) -> Room {
-        Room {
+    pub(crate) fn of(pool: &Pool) -> PoolThreads {
+        PoolThreads {
             core: pool.core,
             max: pool.max,
         }
@@ -26,14 +26,14 @@ impl Room {
     }
 
     /// By how much core and maximum together are above the others.
-    pub(crate) fn growth(self, other: Room) -> u64 {
+    pub(crate) fn growth(self, other: PoolThreads) -> u64 {
         let max = self.max.saturating_sub(other.max);
         self.core.saturating_sub(other.core).saturating_add(max)
     }
 
     /// With so much core at least.
-    pub(crate) fn raised(self, core: u64) -> Room {
-        Room {
+    pub(crate) fn raised(self, core: u64) -> PoolThreads {
+        PoolThreads {
             core: self.core.max(core),
             max: self.max.max(core),
         }
@@ -41,11 +41,14 @@ impl Room {
 }
 
 /// What each pool of the plan declares.
-pub(crate) fn rooms_of(alloc: Global, plan: &Plan) -> Result<Vec<Room>, AllocError> {
-    plan.pools().iter().map(Room::of).collect(alloc)
+pub(crate) fn declared_threads(alloc: Global, plan: &Plan) -> Result<Vec<PoolThreads>, AllocError> {
+    plan.pools().iter().map(PoolThreads::of).collect(alloc)
 }
 
 /// The maximum of each pool.
-pub(crate) fn maxes_of(alloc: Global, rooms: &[Room]) -> Result<Vec<u64>, AllocError> {
-    rooms.iter().map(|room| room.max).collect(alloc)
+pub(crate) fn maxes_of(alloc: Global, threads: &[PoolThreads]) -> Result<Vec<u64>, AllocError> {
+    threads
+        .iter()
+        .map(|pool_threads| pool_threads.max)
+        .collect(alloc)
 }
