@@ -1,5 +1,5 @@
 -- The rounds of each label, where one more line stands behind the others.
-use Rattle.std.proofs.Common.{◌≡◌, ◌<◌, ℕ, zero, suc, false, List, [], ◌∷◌, ◌++◌, length, get_or, slice_get, Some, None, refl, ap, sym, subst, ◌∙◌, inl, append_assoc, map, string_bytes, arith}
+use Rattle.std.proofs.Common.{◌≡◌, ◌<◌, ℕ, zero, suc, ◌+◌, ◌==◌, Bool, true, false, if◌then◌else◌, List, [], ◌∷◌, ◌++◌, length, length-append, get_or, slice_get, Option, Some, None, refl, ap, sym, subst, ◌∙◌, inl, append_assoc, map, string_bytes, arith}
 use Rattle.std.specs.List.{position}
 use Rattle.std.specs.Option.{option_map}
 use Rattle.std.specs.Str.{bytes_eq}
@@ -7,6 +7,7 @@ use Rattle.std.proofs.lemmas.List.Elements.{All-push}
 use Rattle.std.proofs.lemmas.List.Quantifiers.{position-Some}
 use Rattle.std.proofs.lemmas.Option.{slice_get-map, slice_get-get_or}
 use Rattle.std.proofs.lemmas.Slice.Eq.{bytes_eq-Decides}
+use Rattle.number_tables.specs.Numbered.{value_at}
 use Rattle.recording_lines.specs.RecordingLine.{RecordedLine, RoundBegins, RoundEnds}
 use Rattle.learned_plans.specs.declared.counts.KindCount.{KindCount}
 use Rattle.learned_plans.specs.declared.label_rounds.LabelRounds.{LabelRounds}
@@ -76,14 +77,22 @@ begin_kinds kinds more kind round label before old new extra names is grown at o
     All-push (BeginsOfKind now (new ++ names)) before (RoundBegins round label) all
     (record { kind = kind; is_kind = at_seam kinds more kind round is; name = label; is_name = still_there new names kind label at; named = inl refl })
 
-pub begun_after : (old new : LabelRounds) (kind round : ℕ) (label : List ℕ) (extra : List (List ℕ)) (before : List RecordedLine) → round ≡ length old.kinds.items → new.kinds.items ≡ old.kinds.items ++ kind ∷ []
-    → labels_of new ≡ labels_of old ++ extra → slice_get (labels_of new) kind ≡ Some label → ChangesOne (Some kind) with_begin old.counts.items new.counts.items → AreLabelRoundsOf old before
-    → AreLabelRoundsOf new (before ++ RoundBegins round label ∷ [])
-begun_after old new kind round label extra before is kinds labels at one rounds = record {
-  counts = λ more. subst (λ ks. AreCountsOf (slice_get (ks ++ more)) (before ++ RoundBegins round label ∷ []) new.counts.items) (sym kinds)
-      (begin_counts old.kinds.items more kind round label before old.counts.items new.counts.items is one rounds.counts);
-  of_kinds = λ more names. subst (λ ks. AreOfKinds (slice_get (ks ++ more)) (labels_of new ++ names) (before ++ RoundBegins round label ∷ [])) (sym kinds)
-      (begin_kinds old.kinds.items more kind round label before (labels_of old) (labels_of new) extra names is labels at rounds.of_kinds);
+-- one that is about is of the kind that stands at its number, the new one too
+about_begun : (kinds : List ℕ) (kind round one : ℕ) (old : Option ℕ) (is_new : Bool) → (length kinds == round) ≡ is_new → (if is_new then Some kind else old) ≡ Some one → (old ≡ Some one → slice_get kinds round ≡ Some one)
+    → slice_get (kinds ++ kind ∷ []) round ≡ Some one
+about_begun kinds kind round one old true is there so = at_end kinds kind round (grind (arith, is)) ∙ there
+about_begun kinds kind round one old false is there so = still_there kinds (kind ∷ []) round one (so there)
+
+pub begun_after : (old new : LabelRounds) (kind round : ℕ) (label : List ℕ) (extra : List (List ℕ)) (before : List RecordedLine) → round ≡ old.begun → new.begun ≡ old.begun + 1
+    → ((round : ℕ) → value_at new.about round ≡ (if old.begun == round then Some kind else value_at old.about round)) → labels_of new ≡ labels_of old ++ extra → slice_get (labels_of new) kind ≡ Some label
+    → ChangesOne (Some kind) with_begin old.counts.items new.counts.items → AreLabelRoundsOf old before → AreLabelRoundsOf new (before ++ RoundBegins round label ∷ [])
+begun_after old new kind round label extra before is begun about labels at one rounds = record {
+  kinds = rounds.kinds ++ kind ∷ [];
+  begun = length-append rounds.kinds (kind ∷ []) ∙ ap (λ (n : ℕ). n + 1) rounds.begun ∙ sym begun;
+  about = λ r one there. about_begun rounds.kinds kind r one (value_at old.about r) (length rounds.kinds == r) refl
+      (ap (λ (n : ℕ). if n == r then Some kind else value_at old.about r) rounds.begun ∙ sym (about r) ∙ there) (rounds.about r one);
+  counts = λ more. begin_counts rounds.kinds more kind round label before old.counts.items new.counts.items (is ∙ sym rounds.begun) one rounds.counts;
+  of_kinds = λ more names. begin_kinds rounds.kinds more kind round label before (labels_of old) (labels_of new) extra names (is ∙ sym rounds.begun) labels at rounds.of_kinds;
 }
 
 -- ---- a line that ends one
@@ -93,21 +102,32 @@ end_counts kinds more kind round before old new at one counts =
     let now : Kinds = slice_get (kinds ++ more) in
     all_counted now None (Some kind) before (RoundEnds round) old old new (λ k. refl) (λ k. ap (is_kind k) (sym (still_there kinds more round kind at))) (λ k. refl) one (counts more)
 
-pub ended_after : (old new : LabelRounds) (kind round : ℕ) (before : List RecordedLine) → slice_get old.kinds.items round ≡ Some kind → new.kinds.items ≡ old.kinds.items → new.labels.items ≡ old.labels.items
+-- one that is about behind the line was about before it
+still_about : (has_ended : Bool) (kind : ℕ) (old : Option ℕ) → (if has_ended then None else old) ≡ Some kind → old ≡ Some kind
+still_about true kind old there = absurd (grind (arith, there))
+still_about false kind old there = there
+
+pub ended_after : (old new : LabelRounds) (kind round : ℕ) (before : List RecordedLine) → value_at old.about round ≡ Some kind
+    → ((one : ℕ) → value_at new.about one ≡ (if round == one then None else value_at old.about one)) → new.begun ≡ old.begun → new.labels.items ≡ old.labels.items
     → ChangesOne (Some kind) with_end old.counts.items new.counts.items → AreLabelRoundsOf old before → AreLabelRoundsOf new (before ++ RoundEnds round ∷ [])
-ended_after old new kind round before at kinds labels one rounds = record {
-  counts = λ more. subst (λ ks. AreCountsOf (slice_get (ks ++ more)) (before ++ RoundEnds round ∷ []) new.counts.items) (sym kinds) (end_counts old.kinds.items more kind round before old.counts.items new.counts.items at one rounds.counts);
-  of_kinds = λ more names. subst (λ ks. AreOfKinds (slice_get (ks ++ more)) (labels_of new ++ names) (before ++ RoundEnds round ∷ [])) (sym kinds)
-      (subst (λ ls. AreOfKinds (slice_get (old.kinds.items ++ more)) (map string_bytes ls ++ names) (before ++ RoundEnds round ∷ [])) (sym labels)
-      (All-push (BeginsOfKind (slice_get (old.kinds.items ++ more)) (labels_of old ++ names)) before (RoundEnds round) (rounds.of_kinds more names) tt));
+ended_after old new kind round before at about begun labels one rounds = record {
+  kinds = rounds.kinds;
+  begun = rounds.begun ∙ sym begun;
+  about = λ n k there. rounds.about n k (still_about (round == n) k (value_at old.about n) (sym (about n) ∙ there));
+  counts = λ more. end_counts rounds.kinds more kind round before old.counts.items new.counts.items (rounds.about round kind at) one rounds.counts;
+  of_kinds = λ more names. subst (λ ls. AreOfKinds (slice_get (rounds.kinds ++ more)) (map string_bytes ls ++ names) (before ++ RoundEnds round ∷ [])) (sym labels)
+      (All-push (BeginsOfKind (slice_get (rounds.kinds ++ more)) (labels_of old ++ names)) before (RoundEnds round) (rounds.of_kinds more names) tt);
 }
 
 -- ---- any other line
 pub other_after : (rounds : LabelRounds) (before : List RecordedLine) (line : RecordedLine) → ((kinds : Kinds) (kind : ℕ) → begins_one kinds kind line ≡ false) → ((kinds : Kinds) (kind : ℕ) → ends_one kinds kind line ≡ false)
     → ((kinds : Kinds) (names : List (List ℕ)) → BeginsOfKind kinds names line) → AreLabelRoundsOf rounds before → AreLabelRoundsOf rounds (before ++ line ∷ [])
 other_after rounds before line begins ends of_kinds so = record {
-  counts = λ more. let now : Kinds = slice_get (rounds.kinds.items ++ more) in
+  kinds = so.kinds;
+  begun = so.begun;
+  about = so.about;
+  counts = λ more. let now : Kinds = slice_get (so.kinds ++ more) in
       all_counted now None None before line rounds.counts.items rounds.counts.items rounds.counts.items (λ k. sym (begins now k)) (λ k. sym (ends now k)) (λ k. refl) (λ k. refl) (so.counts more);
-  of_kinds = λ more names. let now : Kinds = slice_get (rounds.kinds.items ++ more) in
+  of_kinds = λ more names. let now : Kinds = slice_get (so.kinds ++ more) in
       All-push (BeginsOfKind now (labels_of rounds ++ names)) before line (so.of_kinds more names) (of_kinds now (labels_of rounds ++ names));
 }

@@ -1,8 +1,9 @@
 //! How many rounds there are of each label.
 
-ghost use Rattle.std.specs.Prelude.{◌≡◌, ◌++◌, ◌∷◌, [], ℕ, List, Some, slice_get, map, string_bytes, OnOk, IfOk, IfErr, IsTrue};
+ghost use Rattle.std.specs.Prelude.{◌≡◌, ◌+◌, ◌++◌, ◌∷◌, ◌==◌, [], ℕ, List, None, Some, if◌then◌else◌, slice_get, map, string_bytes, OnOk, IfOk, IfErr, IsTrue};
 ghost use Rattle.std.specs.List.{position};
 ghost use Rattle.std.specs.Str.{bytes_eq};
+ghost use Rattle.number_tables.specs.Numbered.{value_at};
 ghost use Rattle.recording_lines.specs.RecordingLine.{RecordedLine, RoundBegins, RoundEnds, line_seen};
 ghost use Rattle.learned_plans.specs.Kept.{ChangesOne, IsStop, names_of, with_begin, with_end};
 ghost use Rattle.learned_plans.specs.LabelRounds.{AreLabelRoundsOf, labels_of};
@@ -12,6 +13,7 @@ use crate::entries::Entry;
 use crate::stop::Stop;
 use crate::too_much::TooMuch;
 use job_bodies::MAX_CLIENT_KINDS;
+use number_tables::NumberTable;
 use plan_families::is_of_family;
 use recording_lines::Line;
 use std::alloc::{AllocError, Global};
@@ -20,8 +22,10 @@ use std::alloc::{AllocError, Global};
 #[derive(Debug, Drop)]
 pub(crate) struct LabelRounds {
     labels: Vec<String>,
-    /// The number of the label of each round, by the round's number.
-    kinds: Vec<usize>,
+    /// The number of the label of each round that is about, by the round's number.
+    about: NumberTable<usize>,
+    /// How many rounds began.
+    begun: usize,
     /// By the number of each label that a plan has room for.
     pub(crate) counts: Vec<KindCount>,
     alloc: Global,
@@ -39,7 +43,8 @@ impl LabelRounds {
         let counts = no_counts(alloc, MAX_CLIENT_KINDS)?;
         Ok(LabelRounds {
             labels: Vec::new(alloc),
-            kinds: Vec::new(alloc),
+            about: NumberTable::new(alloc),
+            begun: 0,
             counts,
             alloc,
         })
@@ -71,7 +76,7 @@ impl LabelRounds {
             → OnOk result (AreLabelRoundsOf self.new (before ++ RoundBegins round label.now ∷ [])) }
         ensures err { (lines : List RecordedLine) → IfErr result (IsStop lines) }
     {
-        if round != self.kinds.len() {
+        if round != self.begun {
             return Err(Stop::TooMuch(TooMuch::Paths));
         }
         let kind = self.number_of(label)?;
@@ -80,24 +85,18 @@ impl LabelRounds {
         Ok(())
     }
 
-    // By the rules it has begun.
+    // By the rules it is about.
     fn end(&mut self, round: usize) -> Result<(), Stop>
         ensures ok { (before : List RecordedLine)
             → AreLabelRoundsOf self.old before
             → OnOk result (AreLabelRoundsOf self.new (before ++ RoundEnds round ∷ [])) }
         ensures err { (lines : List RecordedLine) → IfErr result (IsStop lines) }
     {
-        let Some(kind) = self.kind_at(round) else {
+        let Some(kind) = self.about.remove(round) else {
             return Err(Stop::TooMuch(TooMuch::Paths));
         };
         end_one(&mut self.counts, Some(kind))?;
         Ok(())
-    }
-
-    fn kind_at(&self, round: usize) -> Option<usize>
-        ensures { result ≡ slice_get self.now.kinds.items round }
-    {
-        self.kinds.get(round).copied()
     }
 
     // The number of the label, which is there from here on.
@@ -106,7 +105,8 @@ impl LabelRounds {
             (λ kind. slice_get (labels_of self.new) kind ≡ Some label.now) }
         ensures labels { OnOk result
             ((more : List (List ℕ)) × (labels_of self.new ≡ labels_of self.old ++ more)) }
-        ensures kinds { self.new.kinds ≡ self.old.kinds }
+        ensures about { self.new.about ≡ self.old.about }
+        ensures begun { self.new.begun ≡ self.old.begun }
         ensures counts { self.new.counts ≡ self.old.counts }
     {
         match place_of(&self.labels, label) {
@@ -121,20 +121,26 @@ impl LabelRounds {
 
     fn add(&mut self, label: &str) -> Result<(), AllocError>
         ensures labels { OnOk result (labels_of self.new ≡ labels_of self.old ++ label.now ∷ []) }
-        ensures kinds { self.new.kinds ≡ self.old.kinds }
+        ensures about { self.new.about ≡ self.old.about }
+        ensures begun { self.new.begun ≡ self.old.begun }
         ensures counts { self.new.counts ≡ self.old.counts }
     {
         self.labels.push(String::from_str(self.alloc, label)?)?;
         Ok(())
     }
 
-    // The next round is of this kind.
+    // The next round is of this kind, and is about.
     fn push(&mut self, kind: usize) -> Result<(), AllocError>
-        ensures kinds { OnOk result (self.new.kinds.items ≡ self.old.kinds.items ++ kind ∷ []) }
+        ensures about { OnOk result
+            ((round : ℕ)
+            → value_at self.new.about round
+            ≡ (if self.old.begun == round then Some kind else value_at self.old.about round)) }
+        ensures begun { OnOk result (self.new.begun ≡ self.old.begun + 1) }
         ensures labels { self.new.labels ≡ self.old.labels }
         ensures counts { self.new.counts ≡ self.old.counts }
     {
-        self.kinds.push(kind)?;
+        self.about.insert(self.begun, kind)?;
+        self.begun = self.begun.checked_add(1).ok_or(AllocError)?;
         Ok(())
     }
 

@@ -25,8 +25,8 @@
 //! of it the bodies are learned from. Nor is it promised that there is a plan wherever there could be one, or that its
 //! bodies are the shortest.
 //!
-//! **Cost.** Memory grows with the actors that are about at once, with the plan and with a number for each round. Time is that of
-//! one walk that holds the lines to the rules, and, for the part that bodies are learned from, of a few walks, mostly two: along the
+//! **Cost.** Memory grows with the actors that are about at once, with the plan, and with a number for each round of the part that
+//! bodies are learned from. Time is that of one walk that holds the lines to the rules, and, for the part that bodies are learned from, of a few walks, mostly two: along the
 //! first one all bodies grow, and along the second one each actor is of one. Where a label has several kinds, this part has to be
 //! all of the recording, and one walk more is needed. It is in no contract.
 #![tactic(auto)]

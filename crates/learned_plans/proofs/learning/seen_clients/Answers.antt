@@ -10,7 +10,7 @@ pub returns-then-are_of-clause-counts : goal.returns-then-are_of-clause-counts
 returns-then-are_of-clause-counts c = λ rounds.
     let lines = lines_of c.args.recording.now in
     let labels = labels_of c.args.names.now.label_rounds in
-    let kinds : Kinds = slice_get (c.args.names.now.label_rounds.kinds.items ++ []) in
+    let kinds : Kinds = slice_get (rounds.kinds ++ []) in
     let named : labels ++ [] ≡ names_of c.deref-then-are_of-2.result.now =
     append-nil labels ∙ sym (c.are_of.ensures c.if-are_of.true) ∙ ap names_of (c.deref.ensures.value ∙ sym c.deref-then-are_of-2.ensures.value) in
     c.counted_clients.ensures.counts kinds lines (subst (λ ns. AreOfKinds kinds ns lines) named (rounds.of_kinds [] [])) (subst (AreCountsOf kinds lines) (sym c.deref-then-are_of.ensures.value) (rounds.counts []))
@@ -19,7 +19,7 @@ pub returns-then-are_of-clause-err : goal.returns-then-are_of-clause-err
 returns-then-are_of-clause-err c = λ rounds.
     let lines = lines_of c.args.recording.now in
     let labels = labels_of c.args.names.now.label_rounds in
-    let kinds : Kinds = slice_get (c.args.names.now.label_rounds.kinds.items ++ []) in
+    let kinds : Kinds = slice_get (rounds.kinds ++ []) in
     let named : labels ++ [] ≡ names_of c.deref-then-are_of-2.result.now =
     append-nil labels ∙ sym (c.are_of.ensures c.if-are_of.true) ∙ ap names_of (c.deref.ensures.value ∙ sym c.deref-then-are_of-2.ensures.value) in
     c.counted_clients.ensures.err kinds lines (subst (λ ns. AreOfKinds kinds ns lines) named (rounds.of_kinds [] [])) (subst (AreCountsOf kinds lines) (sym c.deref-then-are_of.ensures.value) (rounds.counts []))

@@ -1,11 +1,11 @@
-use Rattle.std.proofs.Common.{◌≡◌, ◌++◌, ◌∷◌, [], ℕ, List, drop, take, Option, Some, Result, Ok, ap, sym, subst, ◌∙◌}
+use Rattle.std.proofs.Common.{◌≡◌, ◌++◌, ◌∷◌, [], ℕ, List, drop, take, Option, Some, Result, Ok, Err, ap, sym, subst, ◌∙◌}
 use Rattle.std.proofs.lemmas.List.{append_assoc, take-append-drop}
 use Rattle.std.proofs.lemmas.List.Elements.{filter_map-append}
 use Rattle.recording_lines.specs.declared.recording_line.Line.{Line}
 use Rattle.recording_lines.specs.RecordingLine.{RecordedLine, line_seen, lines_read}
 use Rattle.recorded_rules.specs.declared.fault.RecordingFault.{RecordingFault}
 use Rattle.recorded_rules.specs.Faults.{lines_before}
-use Rattle.recorded_rules.specs.RuledLines.{IsNext, IsTakenNext}
+use Rattle.recorded_rules.specs.RuledLines.{AreAllTaken, IsNext, IsTakenNext}
 use Rattle.learned_plans.specs.Kept.{AreNamesOf, AreWorkingOf, IsStop}
 use Rattle.learned_plans.specs.LabelRounds.{AreLabelRoundsOf}
 use Rattle.learned_plans.specs.Named.{good}
@@ -27,6 +27,12 @@ loop-lines-init c =
       rounds = subst (AreLabelRoundsOf c.in_ok-names.names.label_rounds) (sym nothing) c.in_ok-names.ensures.rounds;
       working = c.in_ok-names.ensures.working (good all);
     }
+
+pub returns-in-Err-clause-ok : goal.returns-in-Err-clause-ok
+returns-in-Err-clause-ok c =
+    let all = lines_read c.args.recording.now in
+    let is : c.in_ok-line.field-0 ≡ Some (Err c.in-Err.fault) = c.in-Some.is ∙ ap (λ (next : Result Line RecordingFault). Some next) c.in-Err.is in
+    subst (λ (next : Option (Result Line RecordingFault)). IsNext all c.loop-lines.lines next c.next.new.self) is (c.in_ok-line.ensures all c.loop-lines.invariant.ruled)
 
 pub returns-in-Err-note-clause-err : goal.returns-in-Err-note-clause-err
 returns-in-Err-note-clause-err c =
@@ -58,4 +64,19 @@ loop-lines-preserved c =
       named = subst (AreNamesOf c.note.new.self) (sym next.taken) (c.in_default-note.ensures.names before so_far.named);
       rounds = subst (AreLabelRoundsOf c.note.new.self.label_rounds) (sym next.taken) (c.in_default-note.ensures.rounds before so_far.rounds);
       working = subst (λ ls. AreWorkingOf ls c.note.new.self.working) (sym whole) (c.in_default-note.ensures.working before behind so_far.named (subst (λ ls. AreWorkingOf ls c.loop-lines.names.working) whole so_far.working));
+    }
+
+pub returns-clause-ok : goal.returns-clause-ok
+returns-clause-ok c =
+    let all = lines_read c.args.recording.now in
+    let so_far = c.loop-lines.invariant in
+    let names = c.loop-lines.names in
+    let old = c.loop-lines.lines in
+    let new = c.next.new.self in
+    let taken : AreAllTaken all old new = subst (λ (next : Option (Result Line RecordingFault)). IsNext all old next new) c.in_default.is (c.in_ok-line.ensures all so_far.ruled) in
+    record {
+      no_fault = taken.none;
+      named = subst (AreNamesOf names) taken.taken so_far.named;
+      rounds = subst (AreLabelRoundsOf names.label_rounds) taken.taken so_far.rounds;
+      working = so_far.working;
     }

@@ -11,4 +11,4 @@ returns-clause-ok c = λ before rounds.
     let long : length new ≡ old.len = grind (arith, c.in_ok-end_one.ensures.count, c.deref_mut.ensures.value, c.deref_mut.ensures.len, old.ok) in
     let one = subst (λ items. ChangesOne (Some c.in-Some.kind) with_end old.items items) (sym (with_items_is old new long))
     (subst (λ items. ChangesOne (Some c.in-Some.kind) with_end items new) c.deref_mut.ensures.value c.in_ok-end_one.ensures.one) in
-    ended_after c.args.self.now _ c.in-Some.kind c.args.round before (sym c.in-Some.ensures) refl refl one rounds
+    ended_after c.args.self.now _ c.in-Some.kind c.args.round before (sym c.in-Some.ensures.value) c.in-Some.ensures.values refl refl one rounds
