@@ -1,18 +1,12 @@
 -- The verdict on a plan and a certificate.
-use Rattle.std.specs.Prelude.{ℕ, ◌-◌, Bool, true, false, List, map}
+use Rattle.std.specs.Prelude.{ℕ, ◌-◌, Bool, List, map}
 use Rattle.std.specs.List.{enumerate_from}
 use Rattle.job_bodies.specs.Plan.{Plan, pool_at}
-use Rattle.weights.specs.declared.bound.Bound.{Bound}
-use Rattle.weights.specs.declared.bound.Bound.TheVariants.{Standing, Lifetime}
 use Rattle.weights.specs.Vector.{total}
-use Rattle.weights.specs.Bound.{bound_vector, bound_limit}
+use Rattle.weights.specs.Bound.{bound_vector, bound_limit, is_lifetime}
 use Rattle.certificates.specs.Cert.{Cert, pool_cert_at}
 use Rattle.headline.specs.Accepted.{accepted}
 use Rattle.cert_check.specs.declared.answer.PoolLine.{PoolLine}
-
-abbrev pub is_lifetime : Bound → Bool
-is_lifetime (Standing v) = false
-is_lifetime (Lifetime v) = true
 
 -- of pool p: the total of its bound and what it is compared with, and the same of its blocked vector
 abbrev pub pool_line : Plan → Cert → ℕ → PoolLine
