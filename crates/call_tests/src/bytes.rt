@@ -8,14 +8,16 @@ use std::io;
 use std::io::{ErrorKind, Read, Write};
 use std::test::Fail;
 
+/// A limit, what is read of `one two three` below it, and what is left.
+const LIMITED: &[(usize, &[u8], &[u8])] = &[
+    (100, b"one two three", b""),
+    (7, b"one two", b" three"),
+];
+
 /// All bytes up to the limit are read in pieces, and none past it. A fault in mid-stream is told.
 #[test]
 fn inputs_of_memory(rt: HostRuntime) -> Result<(), Fail> {
-    let table: [(usize, &[u8], &[u8]); 2] = [
-        (100, b"one two three", b""),
-        (7, b"one two", b" three"),
-    ];
-    for (limit, read, left) in table {
+    for (limit, read, left) in LIMITED.iter().copied() {
         let mut source = MemorySource::new(b"one two three").at_most(4);
         let bytes = read_up_to(rt.alloc(), &mut source, limit)?;
         assert_eq!(rt; bytes.as_slice(), read);

@@ -38,19 +38,20 @@ const BAD_LINES: &[&str] = &[
     "stuck 0  1",
 ];
 
+const EVENTS_READ: &[Event] = &[
+    Event::Client(0),
+    Event::Job(1_000_000_000),
+    Event::Take(1),
+    Event::Retire(0),
+];
+
 /// Each form of line is read. A line of none of them is told in its place, and the lines around it are read.
 #[test]
 fn lines_that_are_read(rt: HostRuntime) -> Result<(), Fail> {
     let plan = plan_of_p_and_q(rt.alloc())?;
     let text = b"client 0\njob 1000000000\ntake q\nretire p\nstuck 0 1";
     let mut lines = EventLines::new(&plan, text);
-    let events = [
-        Event::Client(0),
-        Event::Job(1_000_000_000),
-        Event::Take(1),
-        Event::Retire(0),
-    ];
-    for event in events {
+    for event in EVENTS_READ.iter().copied() {
         let line = lines.next();
         assert!(rt; matches!(line, Some(Ok(EventLine::Happens(happens))) if happens == event));
     }

@@ -8,7 +8,7 @@ use faults::number::{BAD_NUMBER, NOT_JSON, WEIGHT_TOO_LARGE, WRONG_SHAPE};
 use job_bodies::{Part, Plan, PlanFault};
 use plan_text::read_plan;
 use pool_ranks::{Ranks, RanksOf};
-use std::alloc::Global;
+use std::alloc::{AllocError, Global};
 use std::test::*;
 use weights::{Bound, Place, Row, Rule};
 
@@ -312,34 +312,52 @@ fn gets_that_are_counted(rt: HostRuntime) -> Result<(), Fail> {
     Ok(())
 }
 
-/// Whether the standing vectors alone are accepted, whether the whole is, and that what is handed back was handed in.
+/// A plan and a certificate, whether the standing vectors alone are accepted, and whether the whole is.
+type Judged = (&'static str, &'static str, bool, bool);
+
+const JUDGED: &[Judged] = &[
+    (ONE_POOL, ONE_POOL_CERT, true, true),
+    (WITH_A_QUEUE_OF_1, ONE_POOL_CERT, false, false),
+    (ONCE, LIFETIME_CERT, false, true),
+    (ONCE_AND_ONE_MORE, LIFETIME_CERT, false, false),
+    (FAN_OUT, FAN_OUT_CERT, false, false),
+    (THERE_AND_BACK, THERE_AND_BACK_CERT, true, false),
+];
+
 #[test]
 fn what_is_accepted(rt: HostRuntime) -> Result<(), Fail> {
-    for (plan, cert, stands, is_accepted) in [
-        (ONE_POOL, ONE_POOL_CERT, true, true),
-        (WITH_A_QUEUE_OF_1, ONE_POOL_CERT, false, false),
-        (ONCE, LIFETIME_CERT, false, true),
-        (ONCE_AND_ONE_MORE, LIFETIME_CERT, false, false),
-        (FAN_OUT, FAN_OUT_CERT, false, false),
-        (THERE_AND_BACK, THERE_AND_BACK_CERT, true, false),
-    ] {
+    for (plan, cert, stands, is_accepted) in JUDGED.iter().copied() {
         let (plan, cert) = read(rt.alloc(), plan, cert)?;
         assert!(rt; cert.fits(&plan));
         assert_eq!(rt; accepts_standing(&plan, &cert), stands);
         assert_eq!(rt; accepts(&plan, &cert), is_accepted);
+    }
+    Ok(())
+}
 
-        let handed_in = format!(in rt.alloc(); "{plan:?} {cert:?}")?;
-        let (certified, handed_back) = match Certified::check(plan, cert) {
-            Ok(both) => {
-                let (plan, cert) = (both.plan(), both.cert());
-                (true, format!(in rt.alloc(); "{plan:?} {cert:?}")?)
-            }
-            Err((plan, cert)) => (false, format!(in rt.alloc(); "{plan:?} {cert:?}")?),
-        };
+/// A certified plan and its certificate, and those that are not certified, are handed back as they were handed in.
+#[test]
+fn what_is_certified(rt: HostRuntime) -> Result<(), Fail> {
+    for (plan, cert, _, is_accepted) in JUDGED.iter().copied() {
+        let (plan, cert) = read(rt.alloc(), plan, cert)?;
+        let handed_in = shown(rt.alloc(), &plan, &cert)?;
+        let (certified, handed_back) = certified(rt.alloc(), plan, cert)?;
         assert_eq!(rt; certified, is_accepted);
         assert_eq!(rt; handed_back, handed_in);
     }
     Ok(())
+}
+
+// Whether the plan is certified, and what is handed back.
+fn certified(alloc: Global, plan: Plan, cert: Cert) -> Result<(bool, String), AllocError> {
+    match Certified::check(plan, cert) {
+        Ok(both) => Ok((true, shown(alloc, both.plan(), both.cert())?)),
+        Err((plan, cert)) => Ok((false, shown(alloc, &plan, &cert)?)),
+    }
+}
+
+fn shown(alloc: Global, plan: &Plan, cert: &Cert) -> Result<String, AllocError> {
+    format!(in alloc; "{plan:?} {cert:?}")
 }
 
 /// Both sides of the bounds of each pool, in plan order.
