@@ -13,6 +13,7 @@ use Rattle.conformance.specs.declared.stray.StrayDeed.{StrayDeed}
 use Rattle.conformance.specs.declared.survey.Survey.{Survey}
 use Rattle.conformance.specs.Described.{IsStrayDeed}
 use Rattle.conformance.specs.Described as deeds
+use Rattle.conformance.specs.FirstKinds.{AreFirstKinds}
 use Rattle.conformance.specs.Findings.{AreFindingsOf, is_classless_in}
 use Rattle.conformance.specs.Gathered.{AreGathered, AreStrays, IsStrayTold, is_lasting, one_behind_another}
 use Rattle.conformance.specs.Gathered as made
@@ -45,18 +46,18 @@ same_strays lines one other same (first ∷ told) [] all = absurd all
 same_strays lines one other same (first ∷ told) (stray ∷ found) all = (same_told lines one other same first stray all.0, same_strays lines one other same told found all.1)
 
 -- ---- all
-pub all_found : (plan : Plan) (budget : ℕ) (lines : List RecordedLine) (survey : Survey) (excesses : List RoundExcess) (gathered findings : List Finding)
-    → IsSurveyOf plan budget lines survey → excesses ≡ excesses_by_lines plan survey.judged.kinds.kinds.items lines → AreGathered lines survey excesses gathered → IsPermutation gathered findings
+pub all_found : (plan : Plan) (budget : ℕ) (lines : List RecordedLine) (survey : Survey) (kinds : List (Option ℕ)) (excesses : List RoundExcess) (gathered findings : List Finding)
+    → (so : IsSurveyOf plan budget lines survey) → AreFirstKinds plan lines so.judged.told kinds → excesses ≡ excesses_by_lines plan kinds lines → AreGathered lines survey excesses gathered → IsPermutation gathered findings
     → AreFindingsOf plan budget lines findings
-all_found plan budget lines survey excesses gathered findings so counted are moved =
+all_found plan budget lines survey kinds excesses gathered findings so first counted are moved =
     let verdicts = survey.judged.verdicts in
     let found = survey.watched in
     let as_counted = ap (λ (rounds : List RoundExcess). one_behind_another found.deviations.items found.unplanned.found.items are.strays verdicts.undecided.actors.items rounds are.foreign (filter is_lasting (voids_of lines))) counted in
     record {
       told = so.judged.told;
       all_told = so.judged.all;
-      kinds = survey.judged.kinds.kinds.items;
-      kinds_so = so.judged.kinds;
+      kinds = kinds;
+      kinds_so = first;
       deviations = found.deviations.items;
       deviations_so = so.watched.deviations;
       labels = found.unplanned.found.items;

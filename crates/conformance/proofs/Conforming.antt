@@ -164,10 +164,10 @@ none_before xs ys moved none = empty_if xs (sym (length_permutation xs ys moved)
 
 -- ---- all
 -- where nothing is found of the actors, they do as planned
-pub actors_do : (plan : Plan) (budget : ℕ) (lines : List RecordedLine) (survey : Survey) (excesses : List RoundExcess) (found : List Finding)
-    → RoundsAreWithinPlan → IsSurveyOf plan budget lines survey → excesses ≡ excesses_by_lines plan survey.judged.kinds.kinds.items lines → AreGathered lines survey excesses found → list_any is_of_actors found ≡ false
-    → DoAsPlanned plan lines
-actors_do plan budget lines survey excesses found are_within so counted gathered none =
+pub actors_do : (plan : Plan) (budget : ℕ) (lines : List RecordedLine) (survey : Survey) (kinds : List (Option ℕ)) (excesses : List RoundExcess) (found : List Finding)
+    → RoundsAreWithinPlan → (so : IsSurveyOf plan budget lines survey) → AreFirstKinds plan lines so.judged.told kinds → excesses ≡ excesses_by_lines plan kinds lines → AreGathered lines survey excesses found
+    → list_any is_of_actors found ≡ false → DoAsPlanned plan lines
+actors_do plan budget lines survey kinds excesses found are_within so first counted gathered none =
     let parts = none_in_parts survey.watched.deviations.items survey.watched.unplanned.found.items gathered.strays survey.judged.verdicts.undecided.actors.items excesses gathered.foreign (filter is_lasting (voids_of lines))
     (ap (list_any is_of_actors) (sym gathered.all) ∙ none) in
     let no_strays = none_told lines (has_job survey.judged.verdicts.classless) survey.judged.verdicts.strays.actors.items gathered.strays gathered.strays_so parts.astray_none in
@@ -176,22 +176,21 @@ actors_do plan budget lines survey excesses found are_within so counted gathered
       all = judged.all;
       good = λ one among. all_good plan budget lines judged.told survey.judged.verdicts survey.watched.unplanned one judged.all.told judged.verdicts so.watched.unplanned no_strays parts.undecided_none parts.labels_none among;
     } in
-    let kinds = survey.judged.kinds.kinds.items in
     record {
       jobs = λ job. job_so plan budget lines judged.told job are;
       rounds = λ round. round_so plan budget lines judged.told round are;
       clients = record {
         kinds = kinds;
-        each = λ round. kind_so plan budget lines judged.told kinds round are judged.kinds;
+        each = λ round. kind_so plan budget lines judged.told kinds round are first;
         within = λ before behind is. are_within plan kinds before behind (ap (excesses_by_lines plan kinds) (sym is) ∙ (sym counted ∙ parts.excesses_none));
       };
     }
 
-pub conforms : (plan : Plan) (budget : ℕ) (lines : List RecordedLine) (survey : Survey) (excesses : List RoundExcess) (found : List Finding)
+pub conforms : (plan : Plan) (budget : ℕ) (lines : List RecordedLine) (survey : Survey) (kinds : List (Option ℕ)) (excesses : List RoundExcess) (found : List Finding)
     → PoolsAreAsPlanned → PoolsAreRecorded → RoundsAreWithinPlan
-    → IsSurveyOf plan budget lines survey → excesses ≡ excesses_by_lines plan survey.judged.kinds.kinds.items lines → AreGathered lines survey excesses found → found ≡ []
+    → (so : IsSurveyOf plan budget lines survey) → AreFirstKinds plan lines so.judged.told kinds → excesses ≡ excesses_by_lines plan kinds lines → AreGathered lines survey excesses found → found ≡ []
     → Conforms plan lines × IsNotVoid lines
-conforms plan budget lines survey excesses found as_planned are_recorded are_within so counted gathered none =
+conforms plan budget lines survey kinds excesses found as_planned are_recorded are_within so first counted gathered none =
     let p6 = both_none _ _ (sym gathered.all ∙ none) in
     let p5 = both_none _ _ p6.0 in
     let p4 = both_none _ _ p5.0 in
@@ -204,7 +203,7 @@ conforms plan budget lines survey excesses found as_planned are_recorded are_wit
       record {
         pools = as_planned plan lines pools.0;
         recorded = λ closed. are_recorded plan lines closed pools.1;
-        actors = actors_do plan budget lines survey excesses found are_within so counted gathered (ap (list_any is_of_actors) none);
+        actors = actors_do plan budget lines survey kinds excesses found are_within so first counted gathered (ap (list_any is_of_actors) none);
         gets = no_foreign lines _ _ gathered.foreign_so p5.1;
       },
       not_void lines no_voids,

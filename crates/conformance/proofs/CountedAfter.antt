@@ -1,57 +1,41 @@
--- What is counted of the rounds, where there may be more of them.
-use Rattle.std.proofs.Common.{◌≡◌, ◌<◌, ℕ, zero, suc, false, List, [], ◌∷◌, ◌++◌, length, set, slice_get, Option, Some, refl, ap, sym, ◌∙◌, append-nil, append_assoc, arith}
-use Rattle.std.specs.Option.{option_and_then}
-use Rattle.std.specs.Prelude.{Result, Ok, Err, OnOk}
+-- What is counted of the rounds, behind more lines, and where one of them turns out to be of another kind.
+use Rattle.std.proofs.Common.{◌≡◌, ℕ, false, List, [], ◌∷◌, ◌++◌, Option, Some, None, ap, sym, subst, ◌∙◌}
+use Rattle.number_tables.specs.Numbered.{value_at}
 use Rattle.job_bodies.specs.Plan.{Plan}
 use Rattle.recording_lines.specs.RecordingLine.{RecordedLine}
-use Rattle.recorded_rules.specs.Before.{begins}
 use Rattle.recorded_paths.specs.StandsFor.{KeepsRules}
-use Rattle.plan_differences.proofs.AlikeKinds.{AreAlike, find_alike, watch_alike}
+use Rattle.recorded_classes.specs.Label.{kind_of}
+use Rattle.recorded_classes.proofs.Labels.{kind_more, kind_stays}
 use Rattle.conformance.specs.declared.counted.Counted.{Counted}
-use Rattle.conformance.specs.declared.first_kinds.FirstKinds.{FirstKinds}
-use Rattle.conformance.specs.FirstKinds.{Continues}
-use Rattle.conformance.specs.Counted.{IsCountedOf}
+use Rattle.conformance.specs.declared.other_kinds.OtherKinds.{OtherKinds}
+use Rattle.conformance.specs.Counted.{IsCountedOf, IsCountedFirst}
+use Rattle.conformance.specs.OtherKinds.{first_of, kind_or, AreGiven, AreOfFirst}
 
--- ---- no round is of another kind
-pub continues_itself : (kinds : FirstKinds) → kinds.corrected ≡ false → Continues kinds kinds
-continues_itself kinds so = record { more = []; behind = sym (append-nil kinds.kinds.items); was = so }
-
-pub continues_both : (one two three : FirstKinds) → Continues one two → Continues two three → Continues one three
-continues_both one two three first second = record {
-  more = first.more ++ second.more;
-  behind = second.behind ∙ (ap (λ (kinds : List (Option ℕ)). kinds ++ second.more) first.behind ∙ append_assoc one.kinds.items first.more second.more);
-  was = first.was;
+-- ---- the first of the lines
+pub given_before : (plan : Plan) (others : OtherKinds) (before behind lines : List RecordedLine) (kinds : List (Option ℕ)) → lines ≡ before ++ behind → KeepsRules lines → AreGiven plan others lines kinds → AreGiven plan others before kinds
+given_before plan others before behind lines kinds is keeps given = record {
+  each = λ round label named.
+      given.each round label (subst (λ (ls : List RecordedLine). kind_of ls round ≡ Some label) (sym is) (kind_stays before behind round label (subst KeepsRules is keeps) named));
 }
 
--- what is there already is written
-pub written_there : (kinds : List (Option ℕ)) (round : ℕ) (kind : Option ℕ) → slice_get kinds round ≡ Some kind → set kinds round kind ≡ kinds
-written_there [] round kind is = refl
-written_there (one ∷ kinds) zero kind is = let same : one ≡ kind = grind (arith, is) in ap (λ (k : Option ℕ). k ∷ kinds) (sym same)
-written_there (one ∷ kinds) (suc round) kind is = ap (λ (ks : List (Option ℕ)). one ∷ ks) (written_there kinds round kind is)
+first_before : (plan : Plan) (before : List RecordedLine) (line : RecordedLine) (kinds : List (Option ℕ)) → AreOfFirst plan (before ++ line ∷ []) kinds → AreOfFirst plan before kinds
+first_before plan before line kinds are = record { each = λ round label named. are.each round label (kind_more before line round label named) }
 
--- ---- more rounds
-there_first : (kinds more : List (Option ℕ)) (round : ℕ) → round < length kinds → slice_get (kinds ++ more) round ≡ slice_get kinds round
-there_first [] more round below = absurd (omega arith)
-there_first (one ∷ kinds) more zero below = refl
-there_first (one ∷ kinds) more (suc round) below = there_first kinds more round (omega arith)
+-- ---- no round is of another kind
+first_given : (plan : Plan) (others : OtherKinds) (lines : List RecordedLine) (kinds : List (Option ℕ)) → ((round : ℕ) → value_at others.kinds round ≡ None) → AreOfFirst plan lines kinds → AreGiven plan others lines kinds
+first_given plan others lines kinds none are = record {
+  each = λ round label named. are.each round label named ∙ sym (ap (λ (there : Option ℕ). kind_or there (first_of plan label)) (none round));
+}
 
-alike : (lines : List RecordedLine) (kinds more all : List (Option ℕ)) → all ≡ kinds ++ more → length kinds ≡ begins lines → AreAlike kinds all lines
-alike lines kinds more all behind many = λ round below.
-    ap (option_and_then (λ (kind : Option ℕ). kind)) (sym (ap (λ (ks : List (Option ℕ)). slice_get ks round) behind ∙ there_first kinds more round (omega (arith, below, many))))
-
-pub counted_on : (plan : Plan) (lines : List RecordedLine) (old new : FirstKinds) (counted : Counted) → KeepsRules lines → length old.kinds.items ≡ begins lines → (new.corrected ≡ false → Continues old new) → IsCountedOf plan old lines counted → IsCountedOf plan new lines counted
-counted_on plan lines old new counted keeps many on so = record {
-  watch = λ none.
-      let is = on none in
-      let found = find_alike plan old.kinds.items new.kinds.items lines keeps (alike lines old.kinds.items is.more new.kinds.items is.behind many) in
-      watch_alike plan old.kinds.items new.kinds.items counted.watch lines found (so.watch is.was);
-  found = λ none.
-      let is = on none in
-      let found = find_alike plan old.kinds.items new.kinds.items lines keeps (alike lines old.kinds.items is.more new.kinds.items is.behind many) in
-      so.found is.was ∙ found.excesses;
+pub given_first : (plan : Plan) (others : OtherKinds) (lines : List RecordedLine) (kinds : List (Option ℕ)) → ((round : ℕ) → value_at others.kinds round ≡ None) → AreGiven plan others lines kinds → AreOfFirst plan lines kinds
+given_first plan others lines kinds none given = record {
+  each = λ round label named. given.each round label named ∙ ap (λ (there : Option ℕ). kind_or there (first_of plan label)) (none round);
 }
 
 -- ---- one more line
-pub on_ok_under : {T E A : Type 0} (P : Type 0) (r : Result T E) → (A → OnOk r P) → OnOk r (A → P)
-on_ok_under P (Ok x) f = f
-on_ok_under P (Err e) f = tt
+pub next_counted : (plan : Plan) (before : List RecordedLine) (line : RecordedLine) (earlier others : OtherKinds) (old new : Counted) → (others.has_any ≡ false → earlier.has_any ≡ false)
+    → (others.has_any ≡ false → (round : ℕ) → value_at others.kinds round ≡ None) → IsCountedFirst plan earlier before old
+    → ((kinds : List (Option ℕ)) → AreGiven plan others (before ++ line ∷ []) kinds → IsCountedOf plan kinds before old → IsCountedOf plan kinds (before ++ line ∷ []) new) → IsCountedFirst plan others (before ++ line ∷ []) new
+next_counted plan before line earlier others old new had none counted taken = record {
+  so = λ still kinds are. taken kinds (first_given plan others (before ++ line ∷ []) kinds (none still) are) (counted.so (had still) kinds (first_before plan before line kinds are));
+}

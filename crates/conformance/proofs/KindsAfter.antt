@@ -1,20 +1,17 @@
--- The kind that each round is counted as, behind one more line, and behind one more of which it is told.
+-- The kind that each round is counted as, where it is told of none, behind one more line.
 use Rattle.std.proofs.Common.{◌≡◌, ◌<◌, ◌+◌, ℕ, zero, suc, Bool, true, false, cond, ◌&&◌, not, ◌==◌, List, [], ◌∷◌, ◌++◌, length, set, Option, Some, None, refl, ap, sym, subst, ◌∙◌, inl, inr, slice_get, length-append, arith}
 use Rattle.std.specs.Prelude.{◌⊎◌}
 use Rattle.std.specs.List.{filter_map, cons_option}
 use Rattle.std.proofs.lemmas.Bool.{eqb-true}
 use Rattle.std.proofs.lemmas.List.Elements.{filter_map-append}
 use Rattle.recording_lines.specs.RecordingLine.{RecordedLine, RoundBegins}
-use Rattle.recording_lines.specs.declared.recording_line.Line.{Line}
-use Rattle.recording_lines.specs.declared.recording_line.Line.TheVariants as code
-use Rattle.recording_lines.specs.RecordingLine.{line_seen}
-use Rattle.std.proofs.Common.{Bor}
 use Rattle.recorded_rules.specs.declared.rule.LineRule.{LineRule}
 use Rattle.recorded_rules.specs.declared.rule.LineRule.TheVariants as rule
 use Rattle.recorded_rules.specs.LineParts.{is_begin}
 use Rattle.recorded_rules.specs.Before.{begins}
 use Rattle.recorded_rules.specs.Rules.{keeps_frame, keeps_pools, keeps_numbers, has_next_number}
 use Rattle.recorded_paths.specs.StandsFor.{KeepsRules}
+use Rattle.recorded_paths.proofs.ByLast.{by_last, keeps_before}
 use Rattle.job_bodies.specs.Plan.{Plan}
 use Rattle.plan_families.specs.Family.{client_family}
 use Rattle.recorded_classes.specs.declared.settled.Settled.{Settled}
@@ -117,15 +114,17 @@ none_yet plan = record {
   others = λ r name named none. absurd (grind (arith, named));
 }
 
--- ---- lines as the program keeps them
-pub behind_begin_line : (plan : Plan) (before : List RecordedLine) (told : List Settled) (old new : List (Option ℕ)) (line : Line) (round : ℕ) (label : Bor (List ℕ)) → line ≡ code.RoundBegins round label
-    → KeepsRules (before ++ line_seen line ∷ []) → AreFirstKinds plan before told old → new ≡ old ++ slice_get (client_family plan label.now) 0 ∷ [] → AreFirstKinds plan (before ++ line_seen line ∷ []) told new
-behind_begin_line plan before told old new line round label is keeps are pushed =
-    let seen : line_seen line ≡ RoundBegins round label.now = ap line_seen is in
-    subst (λ (l : RecordedLine). AreFirstKinds plan (before ++ l ∷ []) told new) (sym seen)
-    (subst (λ (kinds : List (Option ℕ)). AreFirstKinds plan (before ++ RoundBegins round label.now ∷ []) told kinds) (sym pushed)
-    (behind_begin plan before told old round label.now (subst (λ (l : RecordedLine). KeepsRules (before ++ l ∷ [])) seen keeps) are))
+-- ---- all lines
+-- where it is told of none, each round is of the first of its label
+pub record HasFirstKinds (plan : Plan) (lines : List RecordedLine) (told : List Settled) : Type 0 where
+  pub kinds : List (Option ℕ)
+  pub so : AreFirstKinds plan lines told kinds
 
-pub other_line : (line : Line) → ((round : ℕ) (kind : Bor (List ℕ)) → line ≡ code.RoundBegins round kind → ⊥) → is_begin (line_seen line) ≡ false
-other_line (code.RoundBegins round kind) other = absurd (other round kind refl)
-other_line _ other = refl
+behind : (plan : Plan) (before : List RecordedLine) (line : RecordedLine) → KeepsRules (before ++ line ∷ []) → HasFirstKinds plan before [] → HasFirstKinds plan (before ++ line ∷ []) []
+behind plan before (RoundBegins round label) keeps has = record { kinds = has.kinds ++ slice_get (client_family plan label) 0 ∷ []; so = behind_begin plan before [] has.kinds round label keeps has.so }
+behind plan before line keeps has = record { kinds = has.kinds; so = behind_other plan before line [] has.kinds refl has.so }
+
+pub first_kinds : (plan : Plan) (lines : List RecordedLine) → KeepsRules lines → HasFirstKinds plan lines []
+first_kinds plan =
+    by_last (λ lines. KeepsRules lines → HasFirstKinds plan lines []) (λ keeps. record { kinds = []; so = none_yet plan })
+    (λ before line has keeps. behind plan before line keeps (has (keeps_before before line keeps)))

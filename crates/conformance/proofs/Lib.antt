@@ -12,6 +12,8 @@ pub mod FirstsAfter
 pub mod KindsAfter
 pub mod VerdictsAfter
 pub mod ToldKinds
+pub mod OtherKindsTold
+pub mod OpenAfter
 pub mod WatchedAfter
 pub mod CountedAfter
 pub mod GatheredAll

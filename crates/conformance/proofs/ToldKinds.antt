@@ -1,8 +1,8 @@
 -- The kind that each round is counted as, behind those of which it is told.
-use Rattle.std.proofs.Common.{◌≡◌, ◌≤◌, ◌<◌, ◌+◌, ℕ, Bool, true, cond, List, [], ◌∷◌, ◌++◌, length, set, All, Contains, Option, Some, None, refl, ap, sym, subst, ◌∙◌, inl, inr, string_bytes, slice_get, count_by, append_assoc, arith}
+use Rattle.std.proofs.Common.{◌≡◌, ◌≤◌, ◌<◌, ◌+◌, ℕ, Bool, true, cond, List, [], ◌∷◌, ◌++◌, length, set, All, Contains, Option, Some, None, refl, ap, sym, subst, ◌∙◌, inl, inr, string_bytes, slice_get, slice_set, count_by, append_assoc, arith}
 use Rattle.std.proofs.Math.ListN.{length-set}
 use Rattle.std.proofs.lemmas.Bool.{cases_eq, eq-eqb}
-use Rattle.std.proofs.lemmas.List.Elements.{All-head, All-tail, Contains-push, Contains-push_cases, Contains-append_left}
+use Rattle.std.proofs.lemmas.List.Elements.{All-head, All-tail, All-weaker, Contains-push, Contains-push_cases, Contains-append_left}
 use Rattle.std.proofs.lemmas.List.{append-nil}
 use Rattle.std.proofs.lemmas.List.Sums.{sum_by-cons, sum_by-append}
 use Rattle.recording_lines.specs.declared.recording_line.RecordedActor.{RecordedActor}
@@ -14,12 +14,28 @@ use Rattle.recorded_paths.specs.StandsFor.{KeepsRules}
 use Rattle.job_bodies.specs.Plan.{Plan}
 use Rattle.recorded_classes.specs.declared.settled.Settled.{Settled}
 use Rattle.recorded_classes.specs.Label.{HasLabel}
-use Rattle.recorded_classes.specs.Settled.{IsTold, IsOnceEach, is_told}
-use Rattle.conformance.specs.FirstKinds.{has_kind, round_told, with_round, with_told, with_all, AreFirstKinds}
+use Rattle.recorded_classes.specs.Settled.{IsTold, IsOnceEach, AreAllTold, is_told}
+use Rattle.conformance.specs.FirstKinds.{has_kind, round_told, AreFirstKinds}
 use Rattle.conformance.proofs.Among.{head_or_later, is_among_none}
 use Rattle.conformance.proofs.Kept.{keeps_front}
-use Rattle.conformance.proofs.KindsAfter.{round_is, written, elsewhere}
+use Rattle.conformance.proofs.KindsAfter.{HasFirstKinds, first_kinds, round_is, written, elsewhere}
 use Rattle.conformance.proofs.Yes.{begun_so}
+
+-- ---- what is written
+abbrev with_kind : ℕ → ℕ → List (Option ℕ) → List (Option ℕ)
+with_kind round kind kinds = slice_set kinds round (Some kind)
+
+abbrev with_round : Option (ℕ × ℕ) → List (Option ℕ) → List (Option ℕ)
+with_round None kinds = kinds
+with_round (Some (round, kind)) kinds = with_kind round kind kinds
+
+abbrev with_told : Settled → List (Option ℕ) → List (Option ℕ)
+with_told told kinds = with_round (round_told told) kinds
+
+-- one after another
+abbrev with_all : List Settled → List (Option ℕ) → List (Option ℕ)
+with_all [] kinds = kinds
+with_all (one ∷ told) kinds = with_all told (with_told one kinds)
 
 -- ---- rounds that have begun
 -- the lines before one, and those behind it
@@ -74,10 +90,10 @@ pub round_of : (one : Settled) (round kind : ℕ) → round_told one ≡ Some (r
 round_of one round kind is = by_members one.family.members.items one.actor round kind is
 
 -- the round of which it is told has begun
-pub record HasBegun (lines : List RecordedLine) (one : Settled) : Type 0 where
-  pub begun : (round kind : ℕ) → round_told one ≡ Some (round, kind) → round < begins lines
+record HasBegun (lines : List RecordedLine) (one : Settled) : Type 0 where
+  begun : (round kind : ℕ) → round_told one ≡ Some (round, kind) → round < begins lines
 
-pub has_begun : (plan : Plan) (budget : ℕ) (lines : List RecordedLine) (one : Settled) → KeepsRules lines → IsTold plan budget lines one → HasBegun lines one
+has_begun : (plan : Plan) (budget : ℕ) (lines : List RecordedLine) (one : Settled) → KeepsRules lines → IsTold plan budget lines one → HasBegun lines one
 has_begun plan budget lines one keeps told = record {
   begun = λ round kind is.
       let named : HasLabel lines (Round round) (string_bytes one.label) (string_bytes one.pool) = subst (λ (a : RecordedActor). HasLabel lines a (string_bytes one.label) (string_bytes one.pool)) (round_of one round kind is) told.label in
@@ -88,10 +104,10 @@ has_begun plan budget lines one keeps told = record {
 abbrev pub IsNew : List Settled → Settled → Type 0
 IsNew told one = (other : Settled) (round kind more : ℕ) → Contains told other → round_told other ≡ Some (round, kind) → round_told one ≡ Some (round, more) → ⊥
 
-abbrev pair_some : ℕ → ℕ → Option (ℕ × ℕ)
+abbrev pub pair_some : ℕ → ℕ → Option (ℕ × ℕ)
 pair_some a b = Some (a, b)
 
-pair_is : (a b c d : ℕ) → pair_some a b ≡ pair_some c d → (a ≡ c) × (b ≡ d)
+pub pair_is : (a b c d : ℕ) → pair_some a b ≡ pair_some c d → (a ≡ c) × (b ≡ d)
 pair_is a b c d is =
     let one_pair : ℕ × ℕ = (a, b) in
     let other_pair : ℕ × ℕ = (c, d) in
@@ -156,7 +172,7 @@ is_new told rest one once = λ other round kind more among other_is one_is.
     let few : count_by test (told ++ one ∷ rest) ≤ 1 = once (Round round) in
     omega (arith, first, second, both, few)
 
-pub told_all : (plan : Plan) (lines : List RecordedLine) (told more : List Settled) (kinds : List (Option ℕ)) → AreFirstKinds plan lines told kinds → All (HasBegun lines) more → IsOnceEach (told ++ more) → AreFirstKinds plan lines (told ++ more) (with_all more kinds)
+told_all : (plan : Plan) (lines : List RecordedLine) (told more : List Settled) (kinds : List (Option ℕ)) → AreFirstKinds plan lines told kinds → All (HasBegun lines) more → IsOnceEach (told ++ more) → AreFirstKinds plan lines (told ++ more) (with_all more kinds)
 told_all plan lines told [] kinds are begun once = subst (λ (all : List Settled). AreFirstKinds plan lines all kinds) (sym (append-nil told)) are
 told_all plan lines told (one ∷ more) kinds are begun once =
     let same : (told ++ one ∷ []) ++ more ≡ told ++ one ∷ more = append_assoc told (one ∷ []) more in
@@ -164,10 +180,9 @@ told_all plan lines told (one ∷ more) kinds are begun once =
     let all = told_all plan lines (told ++ one ∷ []) more (with_told one kinds) next (All-tail (HasBegun lines) one more begun) (subst IsOnceEach (sym same) once) in
     subst (λ (xs : List Settled). AreFirstKinds plan lines xs (with_all more (with_told one kinds))) same all
 
-pub all_push : (told : List Settled) (one : Settled) (kinds : List (Option ℕ)) → with_all (told ++ one ∷ []) kinds ≡ with_told one (with_all told kinds)
-all_push [] one kinds = refl
-all_push (first ∷ told) one kinds = all_push told one (with_told first kinds)
-
-pub all_right : (P : Settled → Type 0) (xs ys : List Settled) → All P (xs ++ ys) → All P ys
-all_right P [] ys all = all
-all_right P (x ∷ xs) ys all = all_right P xs ys (All-tail P x (xs ++ ys) all)
+-- of each round the kind that it is counted as, by all of which it is told
+pub all_first_kinds : (plan : Plan) (budget : ℕ) (lines : List RecordedLine) (told : List Settled) → KeepsRules lines → AreAllTold plan budget lines told → HasFirstKinds plan lines told
+all_first_kinds plan budget lines told keeps all =
+    let first = first_kinds plan lines keeps in
+    let begun = All-weaker (IsTold plan budget lines) (HasBegun lines) (λ one so. has_begun plan budget lines one keeps so) told all.told in
+    record { kinds = with_all told first.kinds; so = told_all plan lines [] told first.kinds first.so begun all.once }

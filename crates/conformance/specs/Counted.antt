@@ -1,13 +1,20 @@
 -- What is counted of the rounds, and how it stands for the lines.
-use Rattle.std.specs.Prelude.{◌≡◌, false, List}
+use Rattle.std.specs.Prelude.{◌≡◌, ℕ, false, List, Option}
 use Rattle.job_bodies.specs.Plan.{Plan}
 use Rattle.recording_lines.specs.RecordingLine.{RecordedLine}
 use Rattle.plan_differences.specs.RoundExcesses.{excesses_by_lines}
 use Rattle.plan_differences.specs.RoundWatch.{IsRoundWatchOf}
 use Rattle.conformance.specs.declared.counted.Counted.{Counted}
-use Rattle.conformance.specs.declared.first_kinds.FirstKinds.{FirstKinds}
+use Rattle.conformance.specs.declared.other_kinds.OtherKinds.{OtherKinds}
+use Rattle.conformance.specs.OtherKinds.{AreOfFirst}
+use Rattle.conformance.specs.OpenRounds.{AreOpen}
 
--- unless some round turned out to be of another kind, the rounds of the lines are counted
-pub record IsCountedOf (plan : Plan) (kinds : FirstKinds) (lines : List RecordedLine) (counted : Counted) : Type 0 where
-  pub watch : kinds.corrected ≡ false → IsRoundWatchOf plan kinds.kinds.items counted.watch lines
-  pub found : kinds.corrected ≡ false → counted.found.items ≡ excesses_by_lines plan kinds.kinds.items lines
+-- the rounds of the lines are counted, each as of its kind here
+pub record IsCountedOf (plan : Plan) (kinds : List (Option ℕ)) (lines : List RecordedLine) (counted : Counted) : Type 0 where
+  pub rounds : AreOpen kinds lines counted.rounds
+  pub watch : IsRoundWatchOf plan kinds counted.watch lines
+  pub found : counted.found.items ≡ excesses_by_lines plan kinds lines
+
+-- unless some round turned out to be of another kind, they are counted as of the first of their label
+pub record IsCountedFirst (plan : Plan) (others : OtherKinds) (lines : List RecordedLine) (counted : Counted) : Type 0 where
+  pub so : others.has_any ≡ false → (kinds : List (Option ℕ)) → AreOfFirst plan lines kinds → IsCountedOf plan kinds lines counted

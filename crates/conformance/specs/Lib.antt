@@ -9,6 +9,8 @@ pub mod FindingText
 pub mod Firsts
 pub mod Verdicts
 pub mod FirstKinds
+pub mod OtherKinds
+pub mod OpenRounds
 pub mod Counted
 pub mod Survey
 pub mod Described

@@ -17,8 +17,8 @@ use Rattle.conformance.specs.declared.survey.Survey.{Survey}
 use Rattle.conformance.specs.Lines.{lines_of}
 use Rattle.conformance.specs.Unplanned.{IsUnplannedOf}
 use Rattle.conformance.specs.Verdicts.{IsVerdictsOf}
-use Rattle.conformance.specs.FirstKinds.{AreFirstKinds}
-use Rattle.conformance.specs.Counted.{IsCountedOf}
+use Rattle.conformance.specs.OtherKinds.{AreOtherKinds}
+use Rattle.conformance.specs.Counted.{IsCountedFirst}
 
 -- ---- line by line
 pub record IsWatchedOf (plan : Plan) (lines : List RecordedLine) (watched : Watched) : Type 0 where
@@ -38,7 +38,7 @@ pub record IsWatched (plan : Plan) (lines : List RecordedLine) (watched : Watche
 pub record IsJudgedOf (plan : Plan) (budget : ℕ) (lines : List RecordedLine) (told : List Settled) (judged : Judged) : Type 0 where
   pub told_so : AreTold plan budget lines told
   pub verdicts : IsVerdictsOf plan told judged.verdicts
-  pub kinds : AreFirstKinds plan lines told judged.kinds.kinds.items
+  pub others : AreOtherKinds plan told judged.others
 
 -- it was told of each that is settled
 pub record IsSoFar (plan : Plan) (budget : ℕ) (lines : List RecordedLine) (classes : Classes) (judged : Judged) : Type 0 where
@@ -51,12 +51,12 @@ pub record IsJudged (plan : Plan) (budget : ℕ) (lines : List RecordedLine) (ju
   pub told : List Settled
   pub all : AreAllTold plan budget lines told
   pub verdicts : IsVerdictsOf plan told judged.verdicts
-  pub kinds : AreFirstKinds plan lines told judged.kinds.kinds.items
+  pub others : AreOtherKinds plan told judged.others
 
 pub record IsSurveyOf (plan : Plan) (budget : ℕ) (lines : List RecordedLine) (survey : Survey) : Type 0 where
   pub watched : IsWatched plan lines survey.watched
   pub judged : IsJudged plan budget lines survey.judged
-  pub counted : IsCountedOf plan survey.judged.kinds lines survey.counted
+  pub counted : IsCountedFirst plan survey.judged.others lines survey.counted
 
 -- ---- of a text
 -- where the lines of the text keep the rules, they are surveyed; else it is told which is the first that does not

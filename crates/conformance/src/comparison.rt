@@ -1,6 +1,6 @@
 //! Whether a service still is its plan.
 
-ghost use Rattle.std.specs.Prelude.{◌≡◌, [], ℕ, false, IfOk};
+ghost use Rattle.std.specs.Prelude.{◌≡◌, [], ℕ, false, List, Option, IfOk};
 ghost use Rattle.std.specs.List.{list_any};
 ghost use Rattle.recording_lines.specs.RecordingLine.{lines_read};
 ghost use Rattle.recorded_rules.specs.Faults.{IsFirstFault};
@@ -9,6 +9,7 @@ ghost use Rattle.plan_differences.specs.RoundExcesses.{excesses_by_lines};
 ghost use Rattle.conformance.specs.Lines.{lines_of};
 ghost use Rattle.conformance.specs.Conforms.{Conforms, DoAsPlanned, IsNotVoid};
 ghost use Rattle.conformance.specs.Findings.{AreFindingsOf, is_of_actors};
+ghost use Rattle.conformance.specs.FirstKinds.{AreFirstKinds};
 ghost use Rattle.conformance.specs.Survey.{IsSurveyOf};
 ghost use Rattle.conformance.specs.Outcome as spec;
 
@@ -109,24 +110,24 @@ fn compared(
     Ok(findings)
 }
 
-// Where there are first more rounds of a kind than the plan says. Only where a round turned out to be of another kind than it
-// was counted as, the rounds are counted once more.
+// Where there are first more rounds of a kind than the plan says. Only where a round turned out to be of another kind than the
+// first of its label, as which it was counted, the rounds are counted once more.
 fn counted(
     alloc: Global,
     plan: &Plan,
     recording: &[u8],
     survey: &Survey,
 ) -> Result<Vec<RoundExcess>, AllocError>
-    ensures { (budget : ℕ)
+    ensures { (budget : ℕ) (kinds : List (Option ℕ))
         → KeepsRules (lines_of recording.now)
-        → IsSurveyOf plan.now budget (lines_of recording.now) survey.now
-        → IfOk result (λ found.
-        found.items
-        ≡ excesses_by_lines plan.now survey.now.judged.kinds.kinds.items (lines_of recording.now)) }
+        → (so : IsSurveyOf plan.now budget (lines_of recording.now) survey.now)
+        → AreFirstKinds plan.now (lines_of recording.now) so.judged.told kinds
+        → IfOk result
+        (λ found. found.items ≡ excesses_by_lines plan.now kinds (lines_of recording.now)) }
 {
-    let kinds = &survey.judged.kinds;
-    if kinds.corrected {
-        excesses(alloc, plan, recording, &kinds.kinds)
+    let others = &survey.judged.others;
+    if others.has_any {
+        excesses(alloc, plan, recording, others)
     } else {
         Vec::from_slice(alloc, &survey.counted.found)
     }

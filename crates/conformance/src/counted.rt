@@ -1,26 +1,26 @@
 //! How many rounds there are of each kind.
 
-ghost use Rattle.std.specs.Prelude.{◌≡◌, ◌++◌, ◌∷◌, [], List, OnOk, IfOk};
-ghost use Rattle.job_bodies.specs.Plan as plans;
+ghost use Rattle.std.specs.Prelude.{◌≡◌, ◌++◌, ◌∷◌, [], ℕ, List, Option, OnOk, IfOk};
 ghost use Rattle.recording_lines.specs.RecordingLine.{RecordedLine, line_seen};
 ghost use Rattle.recorded_paths.specs.StandsFor.{KeepsRules};
 ghost use Rattle.plan_differences.specs.RoundExcesses.{excesses_by_lines};
 ghost use Rattle.conformance.specs.Counted.{IsCountedOf};
 ghost use Rattle.conformance.specs.Lines.{lines_of};
+ghost use Rattle.conformance.specs.OtherKinds.{AreGiven};
 ghost use Rattle.conformance.specs.Unplanned.{IsNext};
-ghost use Rattle.conformance.specs.declared.first_kinds.FirstKinds as kept;
 
-use crate::first_kinds::FirstKinds;
 use crate::good_lines::GoodLines;
+use crate::open_rounds::OpenRounds;
+use crate::other_kinds::OtherKinds;
 use job_bodies::Plan;
 use plan_differences::{RoundExcess, RoundWatch, rounds_are_within_plan};
 use recording_lines::Line;
 use std::alloc::{AllocError, Global};
 
-/// Where there are first more rounds of a kind than the plan says, by the lines so far, where each round is of the kind that
-/// it is counted as by these lines. Once one turned out to be of another kind, that says nothing any more.
+/// Where there are first more rounds of a kind than the plan says, by the lines so far.
 #[derive(Debug, Drop)]
 pub(crate) struct Counted {
+    rounds: OpenRounds,
     watch: RoundWatch,
     pub(crate) found: Vec<RoundExcess>,
 }
@@ -32,62 +32,67 @@ impl Counted {
     ///
     /// `AllocError` where there is no memory for each kind of clients.
     pub(crate) fn new(alloc: Global, plan: &Plan) -> Result<Counted, AllocError>
-        ensures { (kinds : kept.FirstKinds) → IfOk result (IsCountedOf plan.now kinds []) }
+        ensures { (kinds : List (Option ℕ)) → IfOk result (IsCountedOf plan.now kinds []) }
     {
         let watch = RoundWatch::new(alloc, plan)?;
         Ok(Counted {
+            rounds: OpenRounds::new(alloc),
             watch,
             found: Vec::new(alloc),
         })
     }
 
-    /// Takes the next line of a recording that keeps the rules, which has this number.
+    /// Takes the next line of a recording that keeps the rules, which has this number. Each round is counted as of the other
+    /// kind that is given, or else as of the first of its label.
     ///
     /// # Errors
     ///
-    /// `AllocError` where there is no memory for what is found.
+    /// `AllocError` where there is no memory for a round, or for what is found.
     pub(crate) fn take(
         &mut self,
-        kinds: &FirstKinds,
+        plan: &Plan,
+        others: &OtherKinds,
         number: usize,
         line: &Line<'_>,
     ) -> Result<(), AllocError>
-        ensures { (plan : plans.Plan) (before : List RecordedLine)
+        ensures { (kinds : List (Option ℕ)) (before : List RecordedLine)
             → KeepsRules (before ++ line_seen line.now ∷ [])
             → IsNext number before
-            → IsCountedOf plan kinds.now before self.old
+            → AreGiven plan.now others.now (before ++ line_seen line.now ∷ []) kinds
+            → IsCountedOf plan.now kinds before self.old
             → OnOk result
-            (IsCountedOf plan kinds.now (before ++ line_seen line.now ∷ []) self.new) }
+            (IsCountedOf plan.now kinds (before ++ line_seen line.now ∷ []) self.new) }
     {
         rounds_are_within_plan();
-        self.watch.take(&kinds.kinds, number, line, &mut self.found)
+        let kind = self.rounds.take(plan, others, line)?;
+        self.watch.take(kind, number, line, &mut self.found)
     }
 }
 
 /// Where there are first more rounds of a kind than the plan says, in a recording that keeps the rules, where each round is of
-/// the kind at its number.
+/// the other kind that is given, or else of the first of its label.
 ///
 /// # Errors
 ///
-/// `AllocError` where there is no memory for what is found.
+/// `AllocError` where there is no memory for a round, or for what is found.
 pub(crate) fn excesses(
     alloc: Global,
     plan: &Plan,
     recording: &[u8],
-    kinds: &[Option<usize>],
+    others: &OtherKinds,
 ) -> Result<Vec<RoundExcess>, AllocError>
-    ensures { KeepsRules (lines_of recording.now)
+    ensures { (kinds : List (Option ℕ))
+        → KeepsRules (lines_of recording.now)
+        → AreGiven plan.now others.now (lines_of recording.now) kinds
         → IfOk result
-        (λ found. found.items ≡ excesses_by_lines plan.now kinds.now (lines_of recording.now)) }
+        (λ found. found.items ≡ excesses_by_lines plan.now kinds (lines_of recording.now)) }
 {
-    rounds_are_within_plan();
-    let mut watch = RoundWatch::new(alloc, plan)?;
-    let mut found = Vec::new(alloc);
+    let mut counted = Counted::new(alloc, plan)?;
     let mut lines = GoodLines::new(recording);
     let mut number = 0;
     while let Some(line) = lines.next() {
         number += 1;
-        watch.take(kinds, number, &line, &mut found)?;
+        counted.take(plan, others, number, &line)?;
     }
-    Ok(found)
+    Ok(counted.found)
 }

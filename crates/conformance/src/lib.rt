@@ -9,8 +9,9 @@
 //!
 //! The text is gone along once, once more where a round turns out to be of another kind than the first of its label, and once
 //! for each look-up of an actor that strays, of which there are no more than labels of the plan. What is kept is what
-//! [`recorded_classes`], [`recorded_notes`] and [`plan_differences`] keep, the kind of each round, and the labels and jobs
-//! that are of no class of the plan. That is seen in the code and is in no contract.
+//! [`recorded_classes`], [`recorded_notes`] and [`plan_differences`] keep, the kind of each round that is about and of each
+//! that is of another kind than the first of its label, and the labels and jobs that are of no class of the plan. That is seen
+//! in the code and is in no contract.
 #![tactic(auto)]
 
 mod comparison;
@@ -18,13 +19,14 @@ mod counted;
 mod described;
 mod finding;
 mod finding_lines;
-mod first_kinds;
 mod firsts;
 mod gathered;
 mod good_lines;
 mod job_set;
 mod labels;
 mod numbers;
+mod open_rounds;
+mod other_kinds;
 mod stray;
 mod survey;
 mod unplanned;

@@ -6,13 +6,13 @@ ghost use Rattle.recording_lines.specs.RecordingLine.{RecordedLine, line_seen};
 ghost use Rattle.recorded_paths.specs.StandsFor.{KeepsRules};
 ghost use Rattle.recorded_classes.specs.declared.settled.Settled as settleds;
 ghost use Rattle.recorded_classes.specs.Settled.{AreTold, AreAllTold};
-ghost use Rattle.conformance.specs.FirstKinds.{with_all, Continues};
+ghost use Rattle.conformance.specs.OtherKinds.{AreOtherKinds};
 ghost use Rattle.conformance.specs.Unplanned.{IsNext};
 ghost use Rattle.conformance.specs.Verdicts.{IsVerdictsOf};
 ghost use Rattle.conformance.specs.Survey as spec;
 
 use crate::counted::Counted;
-use crate::first_kinds::FirstKinds;
+use crate::other_kinds::OtherKinds;
 use crate::unplanned::Unplanned;
 use crate::verdicts::Verdicts;
 use job_bodies::Plan;
@@ -90,7 +90,7 @@ impl Watched {
 #[derive(Debug, Drop)]
 pub(crate) struct Judged {
     pub(crate) verdicts: Verdicts,
-    pub(crate) kinds: FirstKinds,
+    pub(crate) others: OtherKinds,
 }
 
 impl Judged {
@@ -101,8 +101,8 @@ impl Judged {
             → spec.IsJudgedOf plan budget [] [] result }
     {
         let verdicts = Verdicts::new(alloc);
-        let kinds = FirstKinds::new(alloc);
-        Judged { verdicts, kinds }
+        let others = OtherKinds::new(alloc);
+        Judged { verdicts, others }
     }
 
     /// It is told of these actors, which go.
@@ -118,17 +118,18 @@ impl Judged {
         ensures verdicts { (earlier : List settleds.Settled)
             → IsVerdictsOf plan.now earlier self.old.verdicts
             → OnOk result (IsVerdictsOf plan.now (earlier ++ told.old.items) self.new.verdicts) }
-        ensures kinds { OnOk result
-            (self.new.kinds.kinds.items ≡ with_all told.old.items self.old.kinds.kinds.items) }
-        ensures continued { OnOk result
-            (self.new.kinds.corrected ≡ false → Continues self.old.kinds self.new.kinds) }
+        ensures others { (earlier : List settleds.Settled)
+            → AreOtherKinds plan.now earlier self.old.others
+            → OnOk result (AreOtherKinds plan.now (earlier ++ told.old.items) self.new.others) }
+        ensures had { OnOk result
+            (self.new.others.has_any ≡ false → self.old.others.has_any ≡ false) }
         ensures emptied { OnOk result (told.new.items ≡ []) }
     {
         if told.is_empty() {
             return Ok(());
         }
         for settled in told.drain(..) {
-            self.kinds.note(&settled);
+            self.others.note(plan, &settled)?;
             self.verdicts.note(plan, settled)?;
         }
         Ok(())
@@ -169,7 +170,7 @@ pub(crate) fn surveyed(
         };
         watched.take(plan, lines.number(), &line)?;
         take_line(plan, &line, &mut classes, &mut judged, &mut told)?;
-        counted.take(&judged.kinds, lines.number(), &line)?;
+        counted.take(plan, &judged.others, lines.number(), &line)?;
     }
     watched.finish(plan)?;
     finish(alloc, plan, classes, &mut judged)?;
@@ -189,8 +190,8 @@ fn take_line(
     told: &mut Vec<Settled>,
 ) -> Result<(), AllocError>
     ensures emptied { OnOk result (told.new.items ≡ []) }
-    ensures continued { OnOk result
-        (judged.new.kinds.corrected ≡ false → Continues judged.old.kinds judged.new.kinds) }
+    ensures had { OnOk result
+        (judged.new.others.has_any ≡ false → judged.old.others.has_any ≡ false) }
     ensures so_far { (budget : ℕ) (before : List RecordedLine)
         → KeepsRules (before ++ line_seen line.now ∷ [])
         → told.old.items ≡ []
@@ -199,7 +200,6 @@ fn take_line(
         (spec.IsSoFar plan.now budget (before ++ line_seen line.now ∷ []) classes.new judged.new) }
 {
     classes.take(plan, line, told)?;
-    judged.kinds.take(plan, line)?;
     judged.note_all(plan, told)
 }
 
@@ -210,8 +210,8 @@ fn finish(
     classes: Classes,
     judged: &mut Judged,
 ) -> Result<(), AllocError>
-    ensures continued { OnOk result
-        (judged.new.kinds.corrected ≡ false → Continues judged.old.kinds judged.new.kinds) }
+    ensures had { OnOk result
+        (judged.new.others.has_any ≡ false → judged.old.others.has_any ≡ false) }
     ensures all { (budget : ℕ) (lines : List RecordedLine)
         → KeepsRules lines
         → spec.IsSoFar plan.now budget lines classes judged.old

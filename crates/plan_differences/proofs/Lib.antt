@@ -8,4 +8,3 @@ pub mod RoundsFound
 pub mod WatchAfter
 pub mod Unrecorded
 pub mod KindSet
-pub mod AlikeKinds

@@ -195,17 +195,3 @@ is_open kinds kind before round kept here =
     = tally_below (ended_of_kind kinds kind before) (of_kind kinds kind) (begins before) round (λ one h. (and_parts (of_kind kinds kind one) _ h).0) (n.begun_below round is.0)
     (ap (λ b. of_kind kinds kind round && b) is.1 ∙ and_false _) here in
     grind (arith, n.begun, n.ended, less)
-
--- ---- rounds that have begun
-pub more_begins : (before : List RecordedLine) (line : RecordedLine) (round : ℕ) → round < begins before → round < begins (before ++ line ∷ [])
-more_begins before line round below = omega (arith, begins_more before line, below)
-
-pub begin_within : (before : List RecordedLine) (round : ℕ) (name : List ℕ) → KeepsRules (before ++ RoundBegins round name ∷ []) → round < begins (before ++ RoundBegins round name ∷ [])
-begin_within before round name kept =
-    let n = numbered [] 0 (before ++ RoundBegins round name ∷ []) kept in
-    n.begun_below round (begun_more before (RoundBegins round name) round ∙ (ap (λ b. is_begun before round || b) (same_number round) ∙ or_true _))
-
-pub end_within : (before : List RecordedLine) (round : ℕ) → KeepsRules (before ++ RoundEnds round ∷ []) → round < begins (before ++ RoundEnds round ∷ [])
-end_within before round kept =
-    let n = numbered [] 0 (before ++ RoundEnds round ∷ []) kept in
-    n.ended_below round (ended_more before (RoundEnds round) round ∙ (ap (λ b. is_ended before round || b) (same_number round) ∙ or_true _))

@@ -28,14 +28,14 @@ exceeded_none plan kinds kind = refl
 abbrev pub counted : Plan → ℕ → ℕ → ℕ → Rounds
 counted plan kind begun ended = record { count = (client_at plan kind).count; repeat = (client_at plan kind).repeat; begun = begun; ended = ended }
 
-pub counts_of : (plan : Plan) (kinds : List (Option ℕ)) (lines : List RecordedLine) (kind : ℕ) → rounds_of plan kinds lines kind ≡ counted plan kind (count_by (begins_kind kinds kind) lines) (count_by (ends_kind kinds kind) lines)
+counts_of : (plan : Plan) (kinds : List (Option ℕ)) (lines : List RecordedLine) (kind : ℕ) → rounds_of plan kinds lines kind ≡ counted plan kind (count_by (begins_kind kinds kind) lines) (count_by (ends_kind kinds kind) lines)
 unfolding rounds_of
 counts_of plan kinds lines kind = refl
 
-abbrev pub with_one : Bool → ℕ → ℕ
+abbrev with_one : Bool → ℕ → ℕ
 with_one b n = n + (if b then 1 else 0)
 
-pub counts_more : (plan : Plan) (kinds : List (Option ℕ)) (before : List RecordedLine) (line : RecordedLine) (kind : ℕ) (begins ends : Bool) → begins_kind kinds kind line ≡ begins → ends_kind kinds kind line ≡ ends
+counts_more : (plan : Plan) (kinds : List (Option ℕ)) (before : List RecordedLine) (line : RecordedLine) (kind : ℕ) (begins ends : Bool) → begins_kind kinds kind line ≡ begins → ends_kind kinds kind line ≡ ends
     → rounds_of plan kinds (before ++ line ∷ []) kind
     ≡ counted plan kind (with_one begins (count_by (begins_kind kinds kind) before)) (with_one ends (count_by (ends_kind kinds kind) before))
 counts_more plan kinds before line kind begins ends is_begin is_end =

@@ -18,7 +18,7 @@ use Rattle.plan_differences.specs.Sizes.{differences}
 use Rattle.plan_differences.specs.Rounds.{no_rounds, excess_of}
 use Rattle.plan_differences.specs.PoolDeviations.{Differs, pool_named, is_pool, is_among, has_difference, has_told, deviations_of_pool, told_by_line as pool_told, deviations_by_line}
 use Rattle.plan_differences.specs.PoolWatch.{has_name, is_told, IsPoolWatchOf, IsNoted}
-use Rattle.plan_differences.specs.RoundExcesses.{kind_of, is_kind, rounds_of, has_exceeded, excess_at, first_excess, excesses_of_kind, excesses_by_line}
+use Rattle.plan_differences.specs.RoundExcesses.{kind_of, kind_at, is_kind, rounds_of, has_exceeded, excess_at, first_excess, excesses_of_kind, excesses_by_line}
 use Rattle.plan_differences.specs.RoundWatch.{kept_of, IsRoundWatchOf, after_begin, after_end, kind_after, IsCounted, told_of_kind, told_at, told_by_line}
 use Rattle.plan_differences.proofs.LineByLine.{any_more}
 use Rattle.plan_differences.proofs.PoolsFound.{has_pool_more, told_more}
@@ -106,15 +106,17 @@ end_kept plan kinds before round kind known true kept is = mapped after_end know
 end_kept plan kinds before round kind known false kept is = same_kept known _ _ (kept_same plan kinds before (RoundEnds round) kind refl is)
 
 after : (plan : Plan) (kinds : List (Option ℕ)) (before : List RecordedLine) (line : RecordedLine) (kind : ℕ) (known : Bool) → KeepsRules (before ++ line ∷ [])
-    → kind_after kinds line kind (if known then Some (kept_of plan kinds before kind) else None) ≡ (if known then Some (kept_of plan kinds (before ++ line ∷ []) kind) else None)
+    → kind_after (kind_at kinds line) line kind (if known then Some (kept_of plan kinds before kind) else None) ≡ (if known then Some (kept_of plan kinds (before ++ line ∷ []) kind) else None)
 after plan kinds before (RoundBegins round name) kind known kept = begin_kept plan kinds before round name kind known _ refl
 after plan kinds before (RoundEnds round) kind known kept = end_kept plan kinds before round kind known _ kept refl
 after plan kinds before line kind known kept = same_kept known _ _ (kept_same plan kinds before line kind refl refl)
 
-pub rounds_after : (plan : Plan) (kinds : List (Option ℕ)) (old new : RoundWatch) (before : List RecordedLine) (line : RecordedLine) → KeepsRules (before ++ line ∷ []) → IsRoundWatchOf plan kinds old before → IsCounted kinds old line new
-    → IsRoundWatchOf plan kinds new (before ++ line ∷ [])
-rounds_after plan kinds old new before line kept s counted = record {
-  kept = λ kind. counted.after kind ∙ (ap (kind_after kinds line kind) (s.kept kind) ∙ after plan kinds before line kind (nat_lt kind (length plan.clients)) kept);
+pub rounds_after : (plan : Plan) (kinds : List (Option ℕ)) (given : Option ℕ) (old new : RoundWatch) (before : List RecordedLine) (line : RecordedLine) → kind_at kinds line ≡ given → KeepsRules (before ++ line ∷ [])
+    → IsRoundWatchOf plan kinds old before → IsCounted given old line new → IsRoundWatchOf plan kinds new (before ++ line ∷ [])
+rounds_after plan kinds given old new before line is kept s counted = record {
+  kept = λ kind. counted.after kind
+      ∙ (ap (λ (one : Option ℕ). kind_after one line kind (slice_get old.kinds.items kind)) (sym is)
+      ∙ (ap (kind_after (kind_at kinds line) line kind) (s.kept kind) ∙ after plan kinds before line kind (nat_lt kind (length plan.clients)) kept));
 }
 
 -- ---- what of them is told
@@ -135,6 +137,11 @@ told_kind plan kinds watch before number round name None is s = refl
 told_kind plan kinds watch before number round name (Some kind) is s =
     ap (told_of_kind number kind) (s.kept kind) ∙ told_known plan kinds before number round name kind (nat_lt kind (length plan.clients)) (same_kind kind (kind_of kinds round) is)
 
-pub rounds_told : (plan : Plan) (kinds : List (Option ℕ)) (watch : RoundWatch) (before : List RecordedLine) (number : ℕ) (line : RecordedLine) → IsRoundWatchOf plan kinds watch before → told_by_line kinds watch number line ≡ excesses_by_line plan kinds before number line
-rounds_told plan kinds watch before number (RoundBegins round name) s = told_kind plan kinds watch before number round name (kind_of kinds round) refl s
-rounds_told plan kinds watch before number line s = refl
+told_line : (plan : Plan) (kinds : List (Option ℕ)) (watch : RoundWatch) (before : List RecordedLine) (number : ℕ) (line : RecordedLine) → IsRoundWatchOf plan kinds watch before
+    → told_by_line (kind_at kinds line) watch number line ≡ excesses_by_line plan kinds before number line
+told_line plan kinds watch before number (RoundBegins round name) s = told_kind plan kinds watch before number round name (kind_of kinds round) refl s
+told_line plan kinds watch before number line s = refl
+
+pub rounds_told : (plan : Plan) (kinds : List (Option ℕ)) (given : Option ℕ) (watch : RoundWatch) (before : List RecordedLine) (number : ℕ) (line : RecordedLine) → kind_at kinds line ≡ given → IsRoundWatchOf plan kinds watch before
+    → told_by_line given watch number line ≡ excesses_by_line plan kinds before number line
+rounds_told plan kinds given watch before number line is s = ap (λ (one : Option ℕ). told_by_line one watch number line) (sym is) ∙ told_line plan kinds watch before number line s

@@ -14,6 +14,12 @@ use Rattle.plan_differences.specs.Rounds.{Rounds, excess_of}
 abbrev pub kind_of : List (Option ℕ) → ℕ → Option ℕ
 kind_of kinds round = option_and_then (λ kind. kind) (slice_get kinds round)
 
+-- the kind of the round that the line begins or ends
+abbrev pub kind_at : List (Option ℕ) → RecordedLine → Option ℕ
+kind_at kinds (RoundBegins round name) = kind_of kinds round
+kind_at kinds (RoundEnds round) = kind_of kinds round
+kind_at kinds line = None
+
 abbrev pub is_kind : ℕ → Option ℕ → Bool
 is_kind kind None = false
 is_kind kind (Some one) = one == kind

@@ -8,7 +8,7 @@ use Rattle.plan_differences.specs.declared.round_watch.RoundExcess.{RoundExcess}
 use Rattle.plan_differences.specs.declared.round_watch.KindRounds.{KindRounds}
 use Rattle.plan_differences.specs.declared.round_watch.RoundWatch.{RoundWatch}
 use Rattle.plan_differences.specs.Rounds.{Rounds, excess_of}
-use Rattle.plan_differences.specs.RoundExcesses.{kind_of, is_kind, rounds_of, has_exceeded, excess_at}
+use Rattle.plan_differences.specs.RoundExcesses.{is_kind, rounds_of, has_exceeded, excess_at}
 
 abbrev pub kept_of : Plan → List (Option ℕ) → List RecordedLine → ℕ → KindRounds
 kept_of plan kinds lines kind = record { rounds = rounds_of plan kinds lines kind; has_exceeded = has_exceeded plan kinds lines kind }
@@ -41,19 +41,19 @@ with_ended rounds = record rounds { ended = rounds.ended + 1 }
 abbrev pub after_end : KindRounds → KindRounds
 after_end kept = record kept { rounds = if nat_lt kept.rounds.ended kept.rounds.begun then with_ended kept.rounds else kept.rounds }
 
--- ---- what a line changes, and what it tells
-abbrev pub kind_after : List (Option ℕ) → RecordedLine → ℕ → Option KindRounds → Option KindRounds
-kind_after kinds (RoundBegins round name) kind there = if is_kind kind (kind_of kinds round) then option_map after_begin there else there
-kind_after kinds (RoundEnds round) kind there = if is_kind kind (kind_of kinds round) then option_map after_end there else there
-kind_after kinds line kind there = there
+-- ---- what a line changes, and what it tells, where the round that it begins or ends is of this kind
+abbrev pub kind_after : Option ℕ → RecordedLine → ℕ → Option KindRounds → Option KindRounds
+kind_after given (RoundBegins round name) kind there = if is_kind kind given then option_map after_begin there else there
+kind_after given (RoundEnds round) kind there = if is_kind kind given then option_map after_end there else there
+kind_after given line kind there = there
 
-pub record IsCounted (kinds : List (Option ℕ)) (old : RoundWatch) (line : RecordedLine) (new : RoundWatch) : Type 0 where
-  pub after : (kind : ℕ) → slice_get new.kinds.items kind ≡ kind_after kinds line kind (slice_get old.kinds.items kind)
+pub record IsCounted (given : Option ℕ) (old : RoundWatch) (line : RecordedLine) (new : RoundWatch) : Type 0 where
+  pub after : (kind : ℕ) → slice_get new.kinds.items kind ≡ kind_after given line kind (slice_get old.kinds.items kind)
 
 abbrev pub told_at : RoundWatch → ℕ → Option ℕ → List RoundExcess
 told_at watch number None = []
 told_at watch number (Some kind) = told_of_kind number kind (slice_get watch.kinds.items kind)
 
-abbrev pub told_by_line : List (Option ℕ) → RoundWatch → ℕ → RecordedLine → List RoundExcess
-told_by_line kinds watch number (RoundBegins round name) = told_at watch number (kind_of kinds round)
-told_by_line kinds watch number line = []
+abbrev pub told_by_line : Option ℕ → RoundWatch → ℕ → RecordedLine → List RoundExcess
+told_by_line given watch number (RoundBegins round name) = told_at watch number given
+told_by_line given watch number line = []

@@ -113,8 +113,8 @@ impl RoundWatch {
     /// Takes the next line of a recording that keeps the rules, which has this number. It finds the first excess of each kind
     /// of clients of the plan.
     ///
-    /// `kinds` has the kind of each round by the round's number, and is the same for all lines. None, a round behind its
-    /// end, and a number of which the plan has no kind are of no kind of the plan.
+    /// Where the line begins or ends a round, `kind` is the round's kind, the same with both lines. None and a number of which
+    /// the plan has no kind are of no kind of the plan. With any other line it is none.
     ///
     /// # Errors
     ///
@@ -122,45 +122,47 @@ impl RoundWatch {
     /// numbers for. The watch is then of no use any more.
     pub fn take(
         &mut self,
-        kinds: &[Option<usize>],
+        kind: Option<usize>,
         number: usize,
         line: &Line<'_>,
         found: &mut Vec<RoundExcess>,
     ) -> Result<(), AllocError>
-        ensures taken { (plan : plans.Plan) (before : List RecordedLine)
+        ensures taken { (plan : plans.Plan) (kinds : List (Option ℕ)) (before : List RecordedLine)
+            → spec.kind_at kinds (line_seen line.now) ≡ kind
             → KeepsRules (before ++ line_seen line.now ∷ [])
-            → IsRoundWatchOf plan kinds.now self.old before
+            → IsRoundWatchOf plan kinds self.old before
             → OnOk result
-            (IsRoundWatchOf plan kinds.now self.new (before ++ line_seen line.now ∷ [])) }
-        ensures found { (plan : plans.Plan) (before : List RecordedLine)
-            → IsRoundWatchOf plan kinds.now self.old before
+            (IsRoundWatchOf plan kinds self.new (before ++ line_seen line.now ∷ [])) }
+        ensures found { (plan : plans.Plan) (kinds : List (Option ℕ)) (before : List RecordedLine)
+            → spec.kind_at kinds (line_seen line.now) ≡ kind
+            → IsRoundWatchOf plan kinds self.old before
             → OnOk result
             (found.new.items
             ≡ found.old.items
-            ++ spec.excesses_by_line plan kinds.now before number (line_seen line.now)) }
+            ++ spec.excesses_by_line plan kinds before number (line_seen line.now)) }
     {
-        self.note(kinds, number, line, found)
+        self.note(kind, number, line, found)
     }
 
     fn note(
         &mut self,
-        kinds: &[Option<usize>],
+        kind: Option<usize>,
         number: usize,
         line: &Line<'_>,
         found: &mut Vec<RoundExcess>,
     ) -> Result<(), AllocError>
-        ensures counted { OnOk result (IsCounted kinds.now self.old (line_seen line.now) self.new) }
+        ensures counted { OnOk result (IsCounted kind self.old (line_seen line.now) self.new) }
         ensures found { OnOk result
             (found.new.items
-            ≡ found.old.items ++ told_by_line kinds.now self.old number (line_seen line.now)) }
+            ≡ found.old.items ++ told_by_line kind self.old number (line_seen line.now)) }
     {
         match *line {
-            Line::RoundBegins { round, .. } => match kind_of(kinds, round) {
+            Line::RoundBegins { .. } => match kind {
                 Some(kind) => self.begin(kind, number, found),
                 None => Ok(()),
             },
-            Line::RoundEnds { round } => {
-                if let Some(kind) = kind_of(kinds, round) {
+            Line::RoundEnds { .. } => {
+                if let Some(kind) = kind {
                     self.end(kind);
                 }
                 Ok(())
@@ -202,10 +204,4 @@ impl RoundWatch {
             rounds.end();
         }
     }
-}
-
-fn kind_of(kinds: &[Option<usize>], round: usize) -> Option<usize>
-    ensures { result ≡ spec.kind_of kinds.now round }
-{
-    *kinds.get(round)?
 }

@@ -5,31 +5,35 @@ use Rattle.conformance.specs.Finding.{place_of}
 use Rattle.conformance.specs.Findings.{is_of_actors}
 use Rattle.conformance.proofs.AllFound.{all_found}
 use Rattle.conformance.proofs.Conforming.{conforms, actors_do, none_before}
+use Rattle.conformance.proofs.ToldKinds.{all_first_kinds}
 use Rattle.conformance.proofs.comparison.compared.Goals as goal
 
 pub returns-clause-conforms : goal.returns-clause-conforms
 returns-clause-conforms c = λ budget keeps so none.
     let lines = lines_of c.args.recording.now in
     let plan = c.args.plan.now in
-    conforms plan budget lines c.args.survey c.in_ok-excesses.excesses.items c.in_ok-findings.findings.items
+    let first = all_first_kinds plan budget lines so.judged.told keeps so.judged.all in
+    conforms plan budget lines c.args.survey first.kinds c.in_ok-excesses.excesses.items c.in_ok-findings.findings.items
     c.pools_are_as_planned.ensures.as_planned c.pools_are_as_planned.ensures.recorded c.rounds_are_within_plan.ensures.within
-    so (c.in_ok-excesses.ensures budget keeps so) (c.in_ok-findings.ensures so.watched.notes)
+    so first.so (c.in_ok-excesses.ensures budget first.kinds keeps so first.so) (c.in_ok-findings.ensures so.watched.notes)
     (none_before _ _ c.in_ok-sort_by_key.ensures.permutation none)
 
 pub returns-clause-actors : goal.returns-clause-actors
 returns-clause-actors c = λ budget keeps so none.
     let lines = lines_of c.args.recording.now in
     let plan = c.args.plan.now in
-    actors_do plan budget lines c.args.survey c.in_ok-excesses.excesses.items c.in_ok-findings.findings.items c.rounds_are_within_plan.ensures.within
-    so (c.in_ok-excesses.ensures budget keeps so) (c.in_ok-findings.ensures so.watched.notes)
+    let first = all_first_kinds plan budget lines so.judged.told keeps so.judged.all in
+    actors_do plan budget lines c.args.survey first.kinds c.in_ok-excesses.excesses.items c.in_ok-findings.findings.items c.rounds_are_within_plan.ensures.within
+    so first.so (c.in_ok-excesses.ensures budget first.kinds keeps so first.so) (c.in_ok-findings.ensures so.watched.notes)
     (list_any-IsPermutation is_of_actors _ _ c.in_ok-sort_by_key.ensures.permutation ∙ none)
 
 pub returns-clause-found : goal.returns-clause-found
 returns-clause-found c = λ budget keeps so.
     let lines = lines_of c.args.recording.now in
     let plan = c.args.plan.now in
-    all_found plan budget lines c.args.survey c.in_ok-excesses.excesses.items c.in_ok-findings.findings.items _
-    so (c.in_ok-excesses.ensures budget keeps so) (c.in_ok-findings.ensures so.watched.notes)
+    let first = all_first_kinds plan budget lines so.judged.told keeps so.judged.all in
+    all_found plan budget lines c.args.survey first.kinds c.in_ok-excesses.excesses.items c.in_ok-findings.findings.items _
+    so first.so (c.in_ok-excesses.ensures budget first.kinds keeps so first.so) (c.in_ok-findings.ensures so.watched.notes)
     c.in_ok-sort_by_key.ensures.permutation
 
 pub returns-clause-ascending : goal.returns-clause-ascending

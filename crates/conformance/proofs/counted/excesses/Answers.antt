@@ -1,11 +1,11 @@
-use Rattle.std.proofs.Common.{◌≡◌, ◌≤◌, ◌+◌, ◌∷◌, [], drop, take, length, ap, sym, subst, ◌∙◌, arith}
+use Rattle.std.proofs.Common.{◌≡◌, ◌≤◌, ◌∷◌, [], drop, take, length, ap, sym, subst, ◌∙◌, arith}
 use Rattle.recording_lines.specs.RecordingLine.{line_seen}
 use Rattle.plan_differences.specs.RoundExcesses.{excesses_by_lines}
-use Rattle.plan_differences.specs.RoundWatch.{IsRoundWatchOf}
+use Rattle.conformance.specs.Counted.{IsCountedOf}
 use Rattle.conformance.specs.Lines.{lines_of}
-use Rattle.conformance.proofs.Steps.{rest_next, within_next, front_next, all_taken, number_next}
+use Rattle.conformance.proofs.CountedAfter.{given_before}
 use Rattle.conformance.proofs.Kept.{keeps_next}
-use Rattle.conformance.proofs.WatchedAfter.{excesses_after, no_excesses}
+use Rattle.conformance.proofs.Steps.{both_next, rest_next, within_next, front_next, all_taken, number_next}
 use Rattle.conformance.proofs.counted.excesses.Goals as goal
 
 pub loop-line-init : goal.loop-line-init
@@ -13,29 +13,28 @@ loop-line-init c = record {
   rest = c.new-lines.ensures.lines;
   within = omega arith;
   few = subst (λ (n : _). n ≤ length c.args.recording.now) (ap length c.new-lines.ensures.lines) c.new-lines.ensures.few;
-  watch = λ keeps. c.in_ok-watch.ensures c.args.kinds.now;
-  found = λ keeps. c.new-found.ensures.items ∙ no_excesses c.args.plan.now c.args.kinds.now;
+  counted = λ kinds keeps given. c.in_ok-counted.ensures kinds;
 }
 
 pub loop-line-preserved : goal.loop-line-preserved
 loop-line-preserved c =
     let lines = lines_of c.args.recording.now in
     let n = c.loop-line.number in
-    let next : drop n lines ≡ line_seen c.in-Some.line ∷ c.next.new.self = sym c.loop-line.invariant.rest ∙ c.in-Some.ensures in
+    let line = line_seen c.in-Some.line in
+    let next : drop n lines ≡ line ∷ c.next.new.self = sym c.loop-line.invariant.rest ∙ c.in-Some.ensures in
+    let plan = c.args.plan.now in
     record {
       rest = rest_next lines _ n _ next;
       within = within_next lines _ n _ next;
       few = c.loop-line.invariant.few;
-      watch = λ keeps. subst (IsRoundWatchOf c.args.plan.now c.args.kinds.now c.take.new.self) (sym (front_next lines _ n _ next))
-          (c.in_ok-take.ensures.taken c.args.plan.now (take n lines) (keeps_next lines _ n _ next keeps) (c.loop-line.invariant.watch keeps));
-      found = λ keeps. subst (λ (ls : _). c.take.new.found.items ≡ excesses_by_lines c.args.plan.now c.args.kinds.now ls) (sym (front_next lines _ n _ next))
-          (excesses_after c.args.plan.now c.args.kinds.now (take n lines) (line_seen c.in-Some.line) (n + 1) _ _ c.rounds_are_within_plan.ensures.adds_up (number_next lines _ n _ next) (c.loop-line.invariant.found keeps)
-          (c.in_ok-take.ensures.found c.args.plan.now (take n lines) (c.loop-line.invariant.watch keeps)));
+      counted = λ kinds keeps given. subst (λ (ls : _). IsCountedOf plan kinds ls c.take.new.self) (sym (front_next lines _ n _ next))
+          (c.in_ok-take.ensures kinds (take n lines) (keeps_next lines _ n _ next keeps) (number_next lines _ n _ next)
+          (given_before plan c.args.others.now _ _ lines kinds (both_next lines _ n _ next) keeps given) (c.loop-line.invariant.counted kinds keeps given));
     }
 
 pub returns : goal.returns
-returns c = λ keeps.
+returns c = λ kinds keeps given.
     let lines = lines_of c.args.recording.now in
     let n = c.loop-line.number in
     let rest : drop n lines ≡ [] = sym c.loop-line.invariant.rest ∙ c.in_default.ensures.0 in
-    c.loop-line.invariant.found keeps ∙ ap (excesses_by_lines c.args.plan.now c.args.kinds.now) (all_taken lines n rest)
+    (c.loop-line.invariant.counted kinds keeps given).found ∙ ap (excesses_by_lines c.args.plan.now kinds) (all_taken lines n rest)

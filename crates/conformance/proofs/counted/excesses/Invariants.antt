@@ -1,8 +1,8 @@
-use Rattle.std.proofs.Common.{◌≡◌, ◌≤◌, drop, take, length}
+use Rattle.std.proofs.Common.{◌≡◌, ◌≤◌, ℕ, drop, take, length, List, Option}
 use Rattle.recorded_paths.specs.StandsFor.{KeepsRules}
-use Rattle.plan_differences.specs.RoundExcesses.{excesses_by_lines}
-use Rattle.plan_differences.specs.RoundWatch.{IsRoundWatchOf}
+use Rattle.conformance.specs.Counted.{IsCountedOf}
 use Rattle.conformance.specs.Lines.{lines_of}
+use Rattle.conformance.specs.OtherKinds.{AreGiven}
 use Rattle.conformance.proofs.counted.excesses.Given as goal
 
 abbrev pub invariant-loop-line : goal.invariant-loop-line
@@ -10,8 +10,7 @@ invariant-loop-line l = record {
   rest : l.lines ≡ drop l.number (lines_of l.recording);
   within : l.number ≤ length (lines_of l.recording);
   few : length (lines_of l.recording) ≤ length l.recording;
-  watch : KeepsRules (lines_of l.recording) → IsRoundWatchOf l.plan l.kinds l.watch (take l.number (lines_of l.recording));
-  found : KeepsRules (lines_of l.recording) → l.found.items ≡ excesses_by_lines l.plan l.kinds (take l.number (lines_of l.recording));
+  counted : (kinds : List (Option ℕ)) → KeepsRules (lines_of l.recording) → AreGiven l.plan l.others (lines_of l.recording) kinds → IsCountedOf l.plan kinds (take l.number (lines_of l.recording)) l.counted;
 }
 
 abbrev pub decreases-loop-line : goal.decreases-loop-line

@@ -1,4 +1,4 @@
-use Rattle.std.proofs.Common.{◌≡◌, ◌+◌, ◌++◌, ◌∷◌, [], ℕ, List, length, Option, Some, Result, Ok, Err, refl, ap, sym, subst, ◌∙◌}
+use Rattle.std.proofs.Common.{◌≡◌, ◌+◌, ◌++◌, ◌∷◌, [], ℕ, List, length, Option, Some, Result, Ok, Err, ap, sym, subst, ◌∙◌}
 use Rattle.recording_lines.specs.declared.recording_line.Line.{Line}
 use Rattle.recording_lines.specs.RecordingLine.{RecordedLine, line_seen, lines_read}
 use Rattle.recorded_rules.specs.declared.fault.RecordingFault.{RecordingFault}
@@ -6,11 +6,9 @@ use Rattle.recorded_rules.specs.Faults.{lines_before}
 use Rattle.recorded_rules.specs.RuledLines.{AreUnbroken, AreAllTaken, IsNext, IsTakenNext}
 use Rattle.recorded_paths.specs.StandsFor.{KeepsRules}
 use Rattle.conformance.specs.Lines.{lines_of}
-use Rattle.recorded_rules.specs.Before.{begins}
-use Rattle.conformance.specs.Counted.{IsCountedOf}
+use Rattle.conformance.specs.Counted.{IsCountedFirst}
 use Rattle.conformance.specs.Survey.{IsWatchedOf, IsSoFar}
-use Rattle.conformance.proofs.CountedAfter.{counted_on}
-use Rattle.conformance.proofs.Kept.{keeps_front}
+use Rattle.conformance.proofs.CountedAfter.{next_counted}
 use Rattle.conformance.proofs.survey.surveyed.Goals as goal
 
 pub loop-lines-init : goal.loop-lines-init
@@ -23,7 +21,7 @@ loop-lines-init c =
       judged = subst (λ (ls : List RecordedLine). IsSoFar c.args.plan.now c.args.budget ls c.new-classes.result c.new-judged.result) (sym nothing)
           (record { told = []; classes_stand = c.new-classes.ensures.stands c.args.plan.now; judged_so = c.new-judged.ensures c.args.plan.now c.args.budget (c.new-classes.ensures.told c.args.plan.now) });
       nothing = c.new-told.ensures.items;
-      counted = subst (λ (ls : List RecordedLine). IsCountedOf c.args.plan.now c.new-judged.result.kinds ls c.in_ok-counted.counted) (sym nothing) (c.in_ok-counted.ensures c.new-judged.result.kinds);
+      counted = subst (λ (ls : List RecordedLine). IsCountedFirst c.args.plan.now c.new-judged.result.others ls c.in_ok-counted.counted) (sym nothing) (record { so = λ none kinds are. c.in_ok-counted.ensures kinds });
     }
 
 pub loop-lines-preserved : goal.loop-lines-preserved
@@ -37,16 +35,15 @@ loop-lines-preserved c =
     let next : IsTakenNext all old line new = subst (λ (next : Option (Result Line RecordingFault)). IsNext all old next new) is (c.in_ok-line.ensures all c.loop-lines.invariant.ruled) in
     let keeps : KeepsRules (before ++ line ∷ []) = record { unbroken = subst AreUnbroken next.taken next.ruled.unbroken } in
     let number : c.number.result ≡ length before + 1 = c.number.ensures ∙ next.number ∙ ap (λ (n : ℕ). n + 1) (sym c.loop-lines.invariant.ruled.counted) in
+    let judged = c.in_ok-take_line.ensures.so_far c.args.budget before keeps c.loop-lines.invariant.nothing c.loop-lines.invariant.judged in
     record {
       ruled = next.ruled;
       watched = subst (λ (ls : List RecordedLine). IsWatchedOf c.args.plan.now ls c.take.new.self) (sym next.taken) (c.in_ok-take.ensures before keeps number c.loop-lines.invariant.watched);
-      judged = subst (λ (ls : List RecordedLine). IsSoFar c.args.plan.now c.args.budget ls c.take_line.new.classes c.take_line.new.judged) (sym next.taken)
-          (c.in_ok-take_line.ensures.so_far c.args.budget before keeps c.loop-lines.invariant.nothing c.loop-lines.invariant.judged);
+      judged = subst (λ (ls : List RecordedLine). IsSoFar c.args.plan.now c.args.budget ls c.take_line.new.classes c.take_line.new.judged) (sym next.taken) judged;
       nothing = c.in_ok-take_line.ensures.emptied;
-      counted = subst (λ (ls : List RecordedLine). IsCountedOf c.args.plan.now c.take_line.new.judged.kinds ls c.take-in-Some.new.self) (sym next.taken)
-          (c.in_ok-take-2.ensures c.args.plan.now before keeps (c.number-in-Some.ensures ∙ sym c.number.ensures ∙ number)
-          (counted_on c.args.plan.now before c.loop-lines.judged.kinds c.take_line.new.judged.kinds c.loop-lines.counted (keeps_front before (line ∷ []) (before ++ line ∷ []) refl keeps) c.loop-lines.invariant.judged.judged_so.kinds.many
-          c.in_ok-take_line.ensures.continued c.loop-lines.invariant.counted));
+      counted = subst (λ (ls : List RecordedLine). IsCountedFirst c.args.plan.now c.take_line.new.judged.others ls c.take-in-Some.new.self) (sym next.taken)
+          (next_counted c.args.plan.now before line c.loop-lines.judged.others c.take_line.new.judged.others c.loop-lines.counted c.take-in-Some.new.self c.in_ok-take_line.ensures.had judged.judged_so.others.none c.loop-lines.invariant.counted
+          (λ kinds given so. c.in_ok-take-2.ensures kinds before keeps (c.number-in-Some.ensures ∙ sym c.number.ensures ∙ number) given so));
     }
 
 pub returns-in-Err : goal.returns-in-Err
@@ -70,7 +67,8 @@ returns c =
       record {
         watched = c.in_ok-finish.ensures lines (subst (λ (ls : List RecordedLine). IsWatchedOf c.args.plan.now ls c.loop-lines.watched) taken.taken so_far.watched);
         judged = c.in_ok-finish-2.ensures.all c.args.budget lines keeps (subst (λ (ls : List RecordedLine). IsSoFar c.args.plan.now c.args.budget ls c.loop-lines.classes c.loop-lines.judged) taken.taken so_far.judged);
-        counted = counted_on c.args.plan.now lines c.loop-lines.judged.kinds c.finish-2.new.judged.kinds c.loop-lines.counted keeps (so_far.judged.judged_so.kinds.many ∙ ap begins taken.taken) c.in_ok-finish-2.ensures.continued
-            (subst (λ (ls : List RecordedLine). IsCountedOf c.args.plan.now c.loop-lines.judged.kinds ls c.loop-lines.counted) taken.taken so_far.counted);
+        counted = record {
+          so = λ none. (subst (λ (ls : List RecordedLine). IsCountedFirst c.args.plan.now c.loop-lines.judged.others ls c.loop-lines.counted) taken.taken so_far.counted).so (c.in_ok-finish-2.ensures.had none);
+        };
       },
     )

@@ -2,7 +2,7 @@ use Rattle.std.proofs.Common.{◌≡◌, []}
 use Rattle.recording_lines.specs.RecordingLine.{lines_read}
 use Rattle.recorded_rules.specs.Faults.{lines_before}
 use Rattle.recorded_rules.specs.RuledLines.{IsRuled, lines_left}
-use Rattle.conformance.specs.Counted.{IsCountedOf}
+use Rattle.conformance.specs.Counted.{IsCountedFirst}
 use Rattle.conformance.specs.Survey as spec
 use Rattle.conformance.proofs.survey.surveyed.Given as goal
 
@@ -11,7 +11,7 @@ invariant-loop-lines l = record {
   ruled : IsRuled (lines_read l.recording) l.lines;
   watched : spec.IsWatchedOf l.plan (lines_before (lines_read l.recording) l.lines.number) l.watched;
   judged : spec.IsSoFar l.plan l.budget (lines_before (lines_read l.recording) l.lines.number) l.classes l.judged;
-  counted : IsCountedOf l.plan l.judged.kinds (lines_before (lines_read l.recording) l.lines.number) l.counted;
+  counted : IsCountedFirst l.plan l.judged.others (lines_before (lines_read l.recording) l.lines.number) l.counted;
   nothing : l.told.items ≡ [];
 }
 

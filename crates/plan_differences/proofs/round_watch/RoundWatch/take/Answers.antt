@@ -5,11 +5,11 @@ use Rattle.plan_differences.proofs.WatchAfter.{rounds_after, rounds_told}
 use Rattle.plan_differences.proofs.round_watch.RoundWatch.take.Goals as goal
 
 pub returns-clause-taken : goal.returns-clause-taken
-returns-clause-taken c = λ plan before kept stands.
-    on_ok_weaker c.note.result (λ counted. rounds_after plan c.args.kinds.now c.args.self.now c.note.new.self before (line_seen c.args.line.now) kept stands counted) c.note.ensures.counted
+returns-clause-taken c = λ plan kinds before is kept stands.
+    on_ok_weaker c.note.result (λ counted. rounds_after plan kinds c.args.kind c.args.self.now c.note.new.self before (line_seen c.args.line.now) is kept stands counted) c.note.ensures.counted
 
 pub returns-clause-found : goal.returns-clause-found
-returns-clause-found c = λ plan before stands.
+returns-clause-found c = λ plan kinds before is stands.
     on_ok_weaker c.note.result
-    (λ found. found ∙ ap (λ told. c.args.found.now.items ++ told) (rounds_told plan c.args.kinds.now c.args.self.now before c.args.number (line_seen c.args.line.now) stands))
+    (λ found. found ∙ ap (λ told. c.args.found.now.items ++ told) (rounds_told plan kinds c.args.kind c.args.self.now before c.args.number (line_seen c.args.line.now) is stands))
     c.note.ensures.found

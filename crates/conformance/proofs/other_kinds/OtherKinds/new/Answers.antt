@@ -1,0 +1,5 @@
+use Rattle.conformance.proofs.OtherKindsTold.{none_other}
+use Rattle.conformance.proofs.other_kinds.OtherKinds.new.Goals as goal
+
+pub returns : goal.returns
+returns c = λ plan. none_other plan _ c.new.ensures.values

@@ -1,0 +1,36 @@
+-- The kinds of the rounds that are between their begin and their end.
+use Rattle.std.specs.Prelude.{◌≡◌, ℕ, ◌==◌, if◌then◌else◌, List, Option, Some, None}
+use Rattle.std.specs.Option.{option_and_then}
+use Rattle.number_tables.specs.Numbered.{value_at}
+use Rattle.recording_lines.specs.declared.recording_line.RecordedActor.TheVariants.{Round}
+use Rattle.recording_lines.specs.RecordingLine.{RecordedLine, RoundBegins, RoundEnds}
+use Rattle.recorded_paths.specs.StandsFor.{is_about}
+use Rattle.job_bodies.specs.Plan.{Plan}
+use Rattle.plan_differences.specs.RoundExcesses.{kind_of}
+use Rattle.conformance.specs.declared.open_rounds.OpenRounds.{OpenRounds}
+use Rattle.conformance.specs.declared.other_kinds.OtherKinds.{OtherKinds}
+use Rattle.conformance.specs.OtherKinds.{kind_by}
+
+-- of each round that is about its kind is kept, and of no other one
+pub record AreOpen (kinds : List (Option ℕ)) (lines : List RecordedLine) (open_now : OpenRounds) : Type 0 where
+  pub kept : (round : ℕ) → value_at open_now.kinds round ≡ (if is_about lines (Round round) then Some (kind_of kinds round) else None)
+
+-- ---- one line
+abbrev pub kept_without : ℕ → ℕ → Option (Option ℕ) → Option (Option ℕ)
+kept_without round one there = if round == one then None else there
+
+-- what is kept of one round, behind the line
+abbrev pub kept_behind : Plan → OtherKinds → RecordedLine → ℕ → Option (Option ℕ) → Option (Option ℕ)
+kept_behind plan others (RoundBegins round label) one there = if round == one then Some (kind_by plan others round label) else there
+kept_behind plan others (RoundEnds round) one there = kept_without round one there
+kept_behind plan others line one there = there
+
+-- the kind that is kept of a round
+abbrev pub kind_in : OpenRounds → ℕ → Option ℕ
+kind_in open_now round = option_and_then (λ (kind : Option ℕ). kind) (value_at open_now.kinds round)
+
+-- the kind of the round that the line begins or ends, by what is kept before it
+abbrev pub kind_by_line : Plan → OtherKinds → OpenRounds → RecordedLine → Option ℕ
+kind_by_line plan others open_now (RoundBegins round label) = kind_by plan others round label
+kind_by_line plan others open_now (RoundEnds round) = kind_in open_now round
+kind_by_line plan others open_now line = None

@@ -1,0 +1,92 @@
+//! The rounds that are between their begin and their end.
+
+ghost use Rattle.std.specs.Prelude.{◌≡◌, ◌++◌, ◌∷◌, [], ℕ, List, Option, OnOk, IfOk};
+ghost use Rattle.number_tables.specs.Numbered.{value_at};
+ghost use Rattle.recording_lines.specs.RecordingLine.{RecordedLine, line_seen};
+ghost use Rattle.recorded_paths.specs.StandsFor.{KeepsRules};
+ghost use Rattle.plan_differences.specs.RoundExcesses.{kind_at};
+ghost use Rattle.conformance.specs.OtherKinds.{AreGiven};
+ghost use Rattle.conformance.specs.OpenRounds as spec;
+
+use crate::other_kinds::OtherKinds;
+use job_bodies::Plan;
+use number_tables::NumberTable;
+use recording_lines::Line;
+use std::alloc::{AllocError, Global};
+
+/// The kind of each round that has begun and not ended, or none where it has none.
+#[derive(Debug, Drop)]
+pub(crate) struct OpenRounds {
+    kinds: NumberTable<Option<usize>>,
+}
+
+impl OpenRounds {
+    /// No lines so far.
+    pub(crate) fn new(alloc: Global) -> OpenRounds
+        ensures { (kinds : List (Option ℕ)) → spec.AreOpen kinds [] result }
+    {
+        OpenRounds {
+            kinds: NumberTable::new(alloc),
+        }
+    }
+
+    /// Takes the next line of a recording that keeps the rules. Answers the kind of the round that it begins or ends.
+    ///
+    /// # Errors
+    ///
+    /// `AllocError` where there is no memory for a round.
+    pub(crate) fn take(
+        &mut self,
+        plan: &Plan,
+        others: &OtherKinds,
+        line: &Line<'_>,
+    ) -> Result<Option<usize>, AllocError>
+        ensures kind { (kinds : List (Option ℕ)) (before : List RecordedLine)
+            → KeepsRules (before ++ line_seen line.now ∷ [])
+            → AreGiven plan.now others.now (before ++ line_seen line.now ∷ []) kinds
+            → spec.AreOpen kinds before self.old
+            → IfOk result (λ kind. kind_at kinds (line_seen line.now) ≡ kind) }
+        ensures kept { (kinds : List (Option ℕ)) (before : List RecordedLine)
+            → KeepsRules (before ++ line_seen line.now ∷ [])
+            → AreGiven plan.now others.now (before ++ line_seen line.now ∷ []) kinds
+            → spec.AreOpen kinds before self.old
+            → OnOk result (spec.AreOpen kinds (before ++ line_seen line.now ∷ []) self.new) }
+    {
+        self.note(plan, others, line)
+    }
+
+    fn note(
+        &mut self,
+        plan: &Plan,
+        others: &OtherKinds,
+        line: &Line<'_>,
+    ) -> Result<Option<usize>, AllocError>
+        ensures kind { IfOk result (λ kind.
+            kind ≡ spec.kind_by_line plan.now others.now self.old (line_seen line.now)) }
+        ensures kept { OnOk result
+            ((round : ℕ)
+            → value_at self.new.kinds round
+            ≡ spec.kept_behind plan.now others.now (line_seen line.now) round
+            (value_at self.old.kinds round)) }
+    {
+        match *line {
+            Line::RoundBegins { round, kind } => {
+                let kind = others.kind_of(plan, round, kind);
+                self.kinds.insert(round, kind)?;
+                Ok(kind)
+            }
+            Line::RoundEnds { round } => Ok(self.end(round)),
+            _ => Ok(None),
+        }
+    }
+
+    // The round ends. Answers its kind.
+    fn end(&mut self, round: usize) -> Option<usize>
+        ensures kind { result ≡ spec.kind_in self.old round }
+        ensures kept { (one : ℕ)
+            → value_at self.new.kinds one
+            ≡ spec.kept_without round one (value_at self.old.kinds one) }
+    {
+        self.kinds.remove(round)?
+    }
+}
