@@ -1,7 +1,7 @@
 -- The labels of the lines, and the classes and kinds that are made of them.
-use Rattle.std.proofs.Common.{◌≡◌, ℕ, List, true, Some, get_or, slice_get, Result, Ok, Err, IfErr, OnOk, sym, subst, inl, inr}
+use Rattle.std.proofs.Common.{◌≡◌, ◌<◌, ◌==◌, ◌&&◌, ℕ, List, [], ◌∷◌, length, true, false, string_bytes, arith, Some, get_or, slice_get, Result, Ok, Err, IfErr, OnOk, sym, subst, inl, inr}
 use Rattle.std.specs.Result.{IsErrAnd}
-use Rattle.std.specs.List.{Contains, position}
+use Rattle.std.specs.List.{All, Contains, position}
 use Rattle.std.specs.Str.{bytes_eq}
 use Rattle.std.proofs.lemmas.List.Quantifiers.{position-Some}
 use Rattle.std.proofs.lemmas.Option.{slice_get-get_or}
@@ -9,27 +9,41 @@ use Rattle.std.proofs.lemmas.Slice.Eq.{bytes_eq-Decides}
 use Rattle.job_bodies.specs.Plan.{Pool, no_pool}
 use Rattle.recording_lines.specs.declared.recording_line.RecordedActor.{RecordedActor}
 use Rattle.recording_lines.specs.RecordingLine.{RecordedLine, Submits}
+use Rattle.learned_plans.specs.declared.entries.Entry.{Entry}
 use Rattle.learned_plans.specs.declared.stop.Stop.{Stop}
 use Rattle.learned_plans.specs.declared.stop.Stop.TheVariants as stop
 use Rattle.learned_plans.specs.declared.too_much.TooMuch.{TooMuch}
 use Rattle.learned_plans.specs.declared.too_much.TooMuch.TheVariants.{Pools, Classes, Kinds, Names, Rounds, Paths, Text}
-use Rattle.learned_plans.specs.Names.{IsLong}
-use Rattle.learned_plans.specs.TooMuch.{IsReason}
-use Rattle.learned_plans.specs.Kept.{AreFirstPools, IsGiven, IsNoName, IsStop}
+use Rattle.learned_plans.specs.declared.working.Working.{Working}
+use Rattle.learned_plans.specs.TooMuch.{HasActors, IsLabel, IsReason}
+use Rattle.learned_plans.specs.Kept.{AreFirstPools, AreWorkingOf, IsEntryOf, IsGiven, IsNoName, IsStop}
 
--- ---- a label that is too long
-long_label : (lines : List RecordedLine) (beyond : TooMuch) (label : List ℕ) (pool : ℕ) → IsGiven lines beyond label pool → IsLong label → IsReason lines Names
-long_label lines Pools label pool given long = absurd given
-long_label lines Classes label pool given long = (label, inr (given.pool.name, given.submitted), long)
-long_label lines Kinds label pool given long = (label, inl given, long)
-long_label lines Names label pool given long = absurd given
-long_label lines Rounds label pool given long = absurd given
-long_label lines Paths label pool given long = absurd given
-long_label lines Text label pool given long = absurd given
+-- ---- a label of the lines
+given_label : (lines : List RecordedLine) (beyond : TooMuch) (label : List ℕ) (pool : ℕ) → IsGiven lines beyond label pool → IsLabel lines label
+given_label lines Pools label pool given = absurd given
+given_label lines Classes label pool given = inr (given.pool.name, given.submitted)
+given_label lines Kinds label pool given = inl given
+given_label lines Names label pool given = absurd given
+given_label lines Rounds label pool given = absurd given
+given_label lines Paths label pool given = absurd given
+given_label lines Text label pool given = absurd given
 
 pub no_name : (lines : List RecordedLine) (beyond : TooMuch) (label : List ℕ) (pool : ℕ) (one : Stop) → IsGiven lines beyond label pool → IsNoName label one → IsStop lines one
 no_name lines beyond label pool (stop.Memory error) given none = none
-no_name lines beyond label pool (stop.TooMuch why) given none = subst (IsReason lines) (sym none.0) (long_label lines beyond label pool given none.1)
+no_name lines beyond label pool (stop.TooMuch why) given none = subst (IsReason lines) (sym none.0) (label, given_label lines beyond label pool given, none.1)
+
+-- where something was entered, the lines name it
+pub entered_actors : (lines : List RecordedLine) (beyond : TooMuch) (entries : List Entry) → All (IsEntryOf lines beyond) entries → 0 < length entries → HasActors lines
+entered_actors lines beyond [] each some = absurd (omega (arith, some))
+entered_actors lines beyond (entry ∷ entries) each some = (string_bytes entry.label, given_label lines beyond (string_bytes entry.label) entry.pool (each 0 entry (omega arith)).given)
+
+some_actors : (lines : List RecordedLine) (classes kinds : List Entry) → All (IsEntryOf lines Classes) classes → All (IsEntryOf lines Kinds) kinds → (length classes == 0 && length kinds == 0) ≡ false → HasActors lines
+some_actors lines [] [] classes kinds some = absurd (grind (arith, some))
+some_actors lines [] (kind ∷ rest) classes kinds some = entered_actors lines Kinds (kind ∷ rest) kinds (omega arith)
+some_actors lines (class ∷ rest) others classes kinds some = entered_actors lines Classes (class ∷ rest) classes (omega arith)
+
+pub working_actors : (lines : List RecordedLine) (working : Working) → AreWorkingOf lines working → (length working.classes.entries.items == 0 && length working.kinds.entries.items == 0) ≡ false → HasActors lines
+working_actors lines working of some = some_actors lines working.classes.entries.items working.kinds.entries.items of.classes.each of.kinds.each some
 
 -- ---- what ends a call ends its caller
 pub still_stops : {A : Type 0} (lines : List RecordedLine) (one : Stop) (result : Result A Stop) → IsErrAnd result (λ other. other ≡ one) → IsStop lines one → IfErr result (IsStop lines)

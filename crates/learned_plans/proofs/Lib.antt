@@ -5,3 +5,5 @@ pub mod Tallies
 pub mod Pushed
 pub mod Entered
 pub mod LabelRounds
+pub mod Actors
+pub mod LawfulPools

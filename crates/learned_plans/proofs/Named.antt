@@ -1,6 +1,8 @@
 -- What the lines name, where one more line stands behind the others.
-use Rattle.std.proofs.Common.{◌≡◌, ◌+◌, if◌then◌else◌, List, [], ◌∷◌, ◌++◌, ◌∙◌, ap, sym, subst, arith}
+use Rattle.std.proofs.Common.{◌≡◌, ◌≤◌, ◌+◌, length, if◌then◌else◌, List, [], ◌∷◌, ◌++◌, ◌∙◌, ap, sym, subst, arith}
 use Rattle.std.proofs.lemmas.List.Sums.{sum_by_push}
+use Rattle.job_bodies.specs.declared.limits.TheConstants.{MAX_POOLS}
+use Rattle.job_bodies.specs.Plan.{Pool}
 use Rattle.recording_lines.specs.RecordingLine.{RecordedLine}
 use Rattle.recorded_rules.specs.LineParts.{is_begin, is_submit}
 use Rattle.recorded_rules.specs.Before.{begins, submits}
@@ -30,16 +32,20 @@ job_ends_more : (before : List RecordedLine) (line : RecordedLine) → job_ends 
 unfolding job_ends
 job_ends_more before line = sum_by_push (λ x. if is_job_end x then 1 else 0) before line
 
+few_none : (pools : List Pool) → pools ≡ [] → length pools ≤ MAX_POOLS
+few_none pools none = omega (arith, ap (λ (ps : List Pool). length ps) none)
+
 pub none_named : (names : SeenNames) → names.pools.items ≡ [] → names.rounds ≡ 0 → names.jobs ≡ 0 → names.ended_rounds ≡ 0 → names.started_jobs ≡ 0 → names.ended_jobs ≡ 0 → AreNamesOf names []
 unfolding pools_seen begins submits round_ends job_starts job_ends
 none_named names pools rounds jobs ended_rounds started_jobs ended_jobs =
-    record { pools = pools; rounds = rounds; jobs = jobs; ended_rounds = ended_rounds; started_jobs = started_jobs; ended_jobs = ended_jobs }
+    record { pools = pools; few_pools = few_none names.pools.items pools; rounds = rounds; jobs = jobs; ended_rounds = ended_rounds; started_jobs = started_jobs; ended_jobs = ended_jobs }
 
-pub named_after : (old new : SeenNames) (before : List RecordedLine) (line : RecordedLine) → AreNamesOf old before → new.pools.items ≡ with_first_of (pool_of_line line) old.pools.items
+pub named_after : (old new : SeenNames) (before : List RecordedLine) (line : RecordedLine) → AreNamesOf old before → new.pools.items ≡ with_first_of (pool_of_line line) old.pools.items → (length old.pools.items ≤ MAX_POOLS → length new.pools.items ≤ MAX_POOLS)
     → new.rounds ≡ old.rounds + (if is_begin line then 1 else 0) → new.jobs ≡ old.jobs + (if is_submit line then 1 else 0) → new.ended_rounds ≡ old.ended_rounds + (if is_round_end line then 1 else 0)
     → new.started_jobs ≡ old.started_jobs + (if is_job_start line then 1 else 0) → new.ended_jobs ≡ old.ended_jobs + (if is_job_end line then 1 else 0) → AreNamesOf new (before ++ line ∷ [])
-named_after old new before line names pools rounds jobs ended_rounds started_jobs ended_jobs = record {
+named_after old new before line names pools few rounds jobs ended_rounds started_jobs ended_jobs = record {
   pools = pools ∙ ap (with_first_of (pool_of_line line)) names.pools ∙ sym (pools_more before line);
+  few_pools = few names.few_pools;
   rounds = grind (arith, rounds, names.rounds, begins_more before line);
   jobs = grind (arith, jobs, names.jobs, submits_more before line);
   ended_rounds = grind (arith, ended_rounds, names.ended_rounds, round_ends_more before line);
@@ -51,4 +57,4 @@ named_after old new before line names pools rounds jobs ended_rounds started_job
 pub same_names : (old new : SeenNames) (lines : List RecordedLine) → new ≡ record old { working = new.working } → AreNamesOf old lines → AreNamesOf new lines
 same_names old new lines same named =
     subst (λ (names : SeenNames). AreNamesOf names lines) (sym same)
-    (record { pools = named.pools; rounds = named.rounds; jobs = named.jobs; ended_rounds = named.ended_rounds; started_jobs = named.started_jobs; ended_jobs = named.ended_jobs })
+    (record { pools = named.pools; few_pools = named.few_pools; rounds = named.rounds; jobs = named.jobs; ended_rounds = named.ended_rounds; started_jobs = named.started_jobs; ended_jobs = named.ended_jobs })

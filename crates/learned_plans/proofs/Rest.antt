@@ -1,7 +1,8 @@
 -- What holds of the lines so far, while one line after another is taken.
-use Rattle.std.proofs.Common.{◌≡◌, List, [], ◌∷◌, ◌++◌, Option, Some, None, refl, ap, sym, subst, ◌∙◌}
-use Rattle.std.specs.List.{filter_map}
+use Rattle.std.proofs.Common.{◌≡◌, List, [], ◌∷◌, ◌++◌, Option, Some, None, refl, ap, sym, subst, ◌∙◌, arith}
+use Rattle.std.specs.List.{Contains, filter_map}
 use Rattle.std.proofs.lemmas.List.{append-nil, append_assoc}
+use Rattle.std.proofs.lemmas.List.Elements.{Contains-append_right}
 use Rattle.recording_lines.specs.RecordingLine.{RecordedLine}
 
 -- the good ones of some lines
@@ -23,6 +24,11 @@ next_good P Q all old new line there r q = record {
   lines = r.lines ∙ ap (λ rest. r.before ++ good rest) there ∙ sym (append_assoc r.before (line ∷ []) (good new));
   holds = q;
 }
+
+-- the next one is one of them
+pub is_there : (P : List RecordedLine → Type 0) (all : List RecordedLine) (old new : List (Option RecordedLine)) (line : RecordedLine) → old ≡ Some line ∷ new → Rest P all old → Contains all line
+is_there P all old new line there r =
+    subst (λ lines. Contains lines line) (sym (r.lines ∙ ap (λ rest. r.before ++ good rest) there)) (Contains-append_right r.before (line ∷ good new) line (0, omega arith, refl))
 
 pub next_bad : (P : List RecordedLine → Type 0) (all : List RecordedLine) (old new : List (Option RecordedLine)) → old ≡ None ∷ new → Rest P all old → Rest P all new
 next_bad P all old new there r = record { before = r.before; lines = r.lines ∙ ap (λ rest. r.before ++ good rest) there; holds = r.holds }

@@ -1,8 +1,8 @@
 -- What is kept of the lines so far, and how it stands for them.
-use Rattle.std.specs.Prelude.{◌≡◌, ◌≤◌, ℕ, ◌+◌, ◌-◌, max, if◌then◌else◌, List, map, slice_get, string_bytes, Option, Some, ⊤}
+use Rattle.std.specs.Prelude.{◌≡◌, ◌≤◌, ℕ, ◌+◌, ◌-◌, max, if◌then◌else◌, List, length, map, slice_get, string_bytes, Option, Some, ⊤}
 use Rattle.std.specs.List.{All}
 use Rattle.std.specs.Option.{option_map, option_and_then}
-use Rattle.job_bodies.specs.declared.limits.TheConstants.{MAX_CLASSES}
+use Rattle.job_bodies.specs.declared.limits.TheConstants.{MAX_CLASSES, MAX_POOLS}
 use Rattle.job_bodies.specs.Plan.{Pool}
 use Rattle.plan_families.specs.Family.{IsOfFamily}
 use Rattle.recording_lines.specs.RecordingLine.{RecordedLine}
@@ -25,6 +25,7 @@ use Rattle.learned_plans.specs.Unfinished.{round_ends, job_starts, job_ends}
 -- ---- what the lines name
 pub record AreNamesOf (names : SeenNames) (lines : List RecordedLine) : Type 0 where
   pub pools : names.pools.items ≡ pools_seen lines
+  pub few_pools : length names.pools.items ≤ MAX_POOLS
   pub rounds : names.rounds ≡ begins lines
   pub jobs : names.jobs ≡ submits lines
   pub ended_rounds : names.ended_rounds ≡ round_ends lines

@@ -1,5 +1,5 @@
 -- Why no plan was learned of a good recording: when, and in which words.
-use Rattle.std.specs.Prelude.{◌<◌, ◌⊎◌, ℕ, List, length, codes, ⊤}
+use Rattle.std.specs.Prelude.{◌<◌, ◌⊎◌, ℕ, List, length, codes}
 use Rattle.job_bodies.specs.declared.limits.TheConstants.{MAX_POOLS}
 use Rattle.recording_lines.specs.RecordingLine.{RecordedLine}
 use Rattle.learned_plans.specs.declared.too_much.TooMuch.{TooMuch}
@@ -13,15 +13,20 @@ use Rattle.learned_plans.specs.Pools.{pools_seen}
 abbrev pub IsLabel : List RecordedLine → List ℕ → Type 0
 IsLabel lines label = HasBegun lines label ⊎ ((pool : List ℕ) × WasSubmitted lines label pool)
 
--- what the lines have where this is the reason. There may be too many classes, or kinds, once there are jobs, or rounds: how
--- many bodies they need is not said, nor which of their paths have none. No text is written here, and so none is too long.
+-- a round began, or a job was submitted
+abbrev pub HasActors : List RecordedLine → Type 0
+HasActors lines = (label : List ℕ) × IsLabel lines label
+
+-- what the lines have where this is the reason. There may be too many classes, or kinds, or a path without a body, once there
+-- are jobs, or rounds: how many bodies they need is not said, nor which of their paths have none. No text is written here, and
+-- so none is too long.
 abbrev pub IsReason : List RecordedLine → TooMuch → Type 0
 IsReason lines Pools = MAX_POOLS < length (pools_seen lines)
 IsReason lines Classes = (label : List ℕ) × (pool : List ℕ) × WasSubmitted lines label pool
 IsReason lines Kinds = (label : List ℕ) × HasBegun lines label
 IsReason lines Names = (label : List ℕ) × IsLabel lines label × IsLong label
 IsReason lines Rounds = IsCrowded lines
-IsReason lines Paths = ⊤
+IsReason lines Paths = HasActors lines
 IsReason lines Text = ⊥
 
 -- ---- in which words

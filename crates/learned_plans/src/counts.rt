@@ -1,8 +1,9 @@
 //! How many clients there are of each kind.
 
-ghost use Rattle.std.specs.Prelude.{◌≡◌, ◌++◌, ◌∷◌, [], ℕ, List, Some, length, slice_get, OnOk, IfOk, IfErr, IsTrue};
+ghost use Rattle.std.specs.Prelude.{◌≡◌, ◌++◌, ◌∷◌, [], ℕ, List, Some, true, false, length, slice_get, OnOk, IfOk, IfErr, IsTrue};
 ghost use Rattle.plan_families.specs.Family.{IsOfFamily};
 ghost use Rattle.recording_lines.specs.RecordingLine.{RecordedLine, line_seen};
+ghost use Rattle.recorded_rules.specs.LineParts.{is_begin};
 ghost use Rattle.learned_plans.specs.Counts.{AreOfKinds, BeginsOfKind, IsOfKind, Kinds, is_kind, begins_one, ends_one};
 ghost use Rattle.learned_plans.specs.Kept.{IsCountOf, AreCountsOf, ChangesOne, IsStop, kinds_in, names_of, with_begin, with_end};
 ghost use Rattle.learned_plans.specs.Learned.{lines_of};
@@ -67,7 +68,7 @@ pub(crate) fn kind_counts(
         (λ counts. AreCountsOf (kinds_in kinds.now) (lines_of recording.now) counts.items) }
     ensures of_kinds { IfOk result (λ counts.
         AreOfKinds (kinds_in kinds.now) (names_of entries.now) (lines_of recording.now)) }
-    ensures err { (lines : List RecordedLine) → IfErr result (IsStop lines) }
+    ensures err { IfErr result (IsStop (lines_of recording.now)) }
 {
     let mut counts = no_counts(alloc, entries.len())?;
     let mut lines = RecordingLines::new(recording);
@@ -84,8 +85,9 @@ pub(crate) fn kind_counts(
 
 // Where the line begins a round, whether that is of a kind whose name is of the label's family.
 fn begins_of_kind(kinds: &[Option<usize>], entries: &[Entry], line: &Line<'_>) -> bool
-    ensures { IsTrue result
+    ensures of_kind { IsTrue result
         → BeginsOfKind (kinds_in kinds.now) (names_of entries.now) (line_seen line.now) }
+    ensures other { result ≡ false → is_begin (line_seen line.now) ≡ true }
 {
     match *line {
         Line::RoundBegins { round, kind } => is_of_kind(kinds, entries, round, kind),

@@ -3,6 +3,7 @@
 ghost use Rattle.std.specs.Prelude.{◌≡◌, List, OnOk, IfErr};
 ghost use Rattle.recording_lines.specs.RecordingLine.{RecordedLine};
 ghost use Rattle.learned_plans.specs.Kept.{AreWorkingOf, IsStop};
+ghost use Rattle.learned_plans.specs.TooMuch.{HasActors};
 
 use crate::extent::Part;
 use crate::pass::pass_over;
@@ -32,6 +33,7 @@ pub(crate) fn cover_all(
         → AreWorkingOf lines working.old
         → OnOk result (AreWorkingOf lines working.new) }
     ensures err { (lines : List RecordedLine)
+        → HasActors lines
         → AreWorkingOf lines working.old
         → IfErr result (IsStop lines) }
 {

@@ -5,8 +5,10 @@ ghost use Rattle.std.specs.List.{position};
 ghost use Rattle.std.specs.Str.{bytes_eq};
 ghost use Rattle.number_tables.specs.Numbered.{value_at};
 ghost use Rattle.recording_lines.specs.RecordingLine.{RecordedLine, RoundBegins, RoundEnds, line_seen};
+ghost use Rattle.recorded_rules.specs.Rules.{broken_of};
 ghost use Rattle.learned_plans.specs.Kept.{ChangesOne, IsStop, names_of, with_begin, with_end};
 ghost use Rattle.learned_plans.specs.LabelRounds.{AreLabelRoundsOf, labels_of};
+ghost use Rattle.learned_plans.specs.Names.{HasBegun};
 
 use crate::counts::{KindCount, begin_one, end_one, no_counts};
 use crate::entries::Entry;
@@ -60,7 +62,9 @@ impl LabelRounds {
         ensures ok { (before : List RecordedLine)
             → AreLabelRoundsOf self.old before
             → OnOk result (AreLabelRoundsOf self.new (before ++ line_seen line.now ∷ [])) }
-        ensures err { (lines : List RecordedLine) → IfErr result (IsStop lines) }
+        ensures err { (before behind : List RecordedLine)
+            → broken_of before (line_seen line.now) ≡ None
+            → IfErr result (IsStop (before ++ line_seen line.now ∷ behind)) }
     {
         match *line {
             Line::RoundBegins { round, kind } => self.begin(round, kind),
@@ -74,7 +78,9 @@ impl LabelRounds {
         ensures ok { (before : List RecordedLine)
             → AreLabelRoundsOf self.old before
             → OnOk result (AreLabelRoundsOf self.new (before ++ RoundBegins round label.now ∷ [])) }
-        ensures err { (lines : List RecordedLine) → IfErr result (IsStop lines) }
+        ensures err { (lines : List RecordedLine)
+            → HasBegun lines label.now
+            → IfErr result (IsStop lines) }
     {
         if round != self.begun {
             return Err(Stop::TooMuch(TooMuch::Paths));
@@ -90,7 +96,9 @@ impl LabelRounds {
         ensures ok { (before : List RecordedLine)
             → AreLabelRoundsOf self.old before
             → OnOk result (AreLabelRoundsOf self.new (before ++ RoundEnds round ∷ [])) }
-        ensures err { (lines : List RecordedLine) → IfErr result (IsStop lines) }
+        ensures err { (lines : List RecordedLine) (label : List ℕ)
+            → HasBegun lines label
+            → IfErr result (IsStop lines) }
     {
         let Some(kind) = self.about.remove(round) else {
             return Err(Stop::TooMuch(TooMuch::Paths));

@@ -1,6 +1,6 @@
 //! The plan that a recording shows.
 
-ghost use Rattle.std.specs.Prelude.{◌≡◌, ◌++◌, ◌∷◌, [], ℕ, List, Ok, slice_get, string_bytes, OnOk, IfOk, IfErr};
+ghost use Rattle.std.specs.Prelude.{◌≡◌, ◌<◌, ◌++◌, ◌∷◌, [], ℕ, List, Ok, length, slice_get, string_bytes, OnOk, IfOk, IfErr};
 ghost use Rattle.std.specs.List.{All};
 ghost use Rattle.recording_lines.specs.RecordingLine.{RecordedLine, lines_read};
 ghost use Rattle.recorded_rules.specs.Faults.{IsFirstFault};
@@ -12,7 +12,7 @@ ghost use Rattle.learned_plans.specs.Learned.{lines_of, fault_of, IfSeen, IfTooM
 ghost use Rattle.learned_plans.specs.Named.{AreNamesOfAll, IsStopAt, IsToldOf, IsSeenOf};
 ghost use Rattle.learned_plans.specs.Names.{IsNamedClass, IsNamedClient};
 ghost use Rattle.learned_plans.specs.Pools.{pools_seen};
-ghost use Rattle.learned_plans.specs.TooMuch.{IsReason};
+ghost use Rattle.learned_plans.specs.TooMuch.{HasActors, IsReason};
 ghost use Rattle.learned_plans.specs.Unfinished.{unfinished_rounds, unfinished_jobs};
 
 use crate::counts::{KindCount, kind_counts};
@@ -116,6 +116,9 @@ fn learned_kinds(
         → IfErr result (IsStop lines) }
     ensures same { names.new ≡ record names.old { working = names.new.working } }
 {
+    if names.working.is_empty() {
+        return Ok(Vec::new(alloc));
+    }
     let kinds = cover_all(alloc, part, &names.pools, budget, &mut names.working)?;
     if part.is_cut && !names.label_rounds.are_of(&names.working.kinds.entries) {
         return Err(Stop::TooMuch(TooMuch::Paths));
@@ -134,6 +137,7 @@ fn seen_clients(
     ensures names { IfOk result
         (λ clients. client_names clients.items ≡ names_of names.now.working.kinds.entries.items) }
     ensures err { AreLabelRoundsOf names.now.label_rounds (lines_of recording.now)
+        → AreWorkingOf (lines_of recording.now) names.now.working
         → IfErr result (IsStop (lines_of recording.now)) }
 {
     let entries = &names.working.kinds.entries;
@@ -157,6 +161,7 @@ fn counted_clients(
     ensures err { (kinds : Kinds) (lines : List RecordedLine)
         → AreOfKinds kinds (names_of entries.now) lines
         → AreCountsOf kinds lines counts.now
+        → (0 < length entries.now → HasActors lines)
         → IfErr result (IsStop lines) }
 {
     let mut clients = Vec::new(alloc);

@@ -19,16 +19,18 @@
 //! family of a label: of a job that was submitted to its pool, or of a round that began. Each round is of a kind whose name
 //! is of its label's family, and each `count` and `repeat` is what the rounds of the kind were. Where there is no plan,
 //! what is too much is so by the lines: more pools, or more rounds of a kind at once, than a plan may have, or a label so
-//! long that the names made of it are none; of too many classes or kinds it is only promised that there are jobs, or
-//! rounds. Of the bodies, and of which kind of its label's family a round is, it promises nothing but that they make a
+//! long that the names made of it are none; of too many classes or kinds, and of paths without a body, it is only promised
+//! that there are jobs, or rounds. So where no round began and no job was submitted, there is a plan, unless there are too many
+//! pools. Of the bodies, and of which kind of its label's family a round is, it promises nothing but that they make a
 //! plan: whoever tells the plan first holds the recording against it. All this is so of the whole recording, whatever part
 //! of it the bodies are learned from. Nor is it promised that there is a plan wherever there could be one, or that its
 //! bodies are the shortest.
 //!
 //! **Cost.** Memory grows with the actors that are about at once, with the plan, and with a number for each round of the part that
-//! bodies are learned from. Time is that of one walk that holds the lines to the rules, and, for the part that bodies are learned from, of a few walks, mostly two: along the
-//! first one all bodies grow, and along the second one each actor is of one. Where a label has several kinds, this part has to be
-//! all of the recording, and one walk more is needed. It is in no contract.
+//! bodies are learned from. Time is that of one walk that holds the lines to the rules, and, for the part that bodies are
+//! learned from, of a few walks, mostly two: along the first one all bodies grow, and along the second one each actor is of
+//! one. Where a label has several kinds, this part has to be all of the recording, and one walk more is needed. It is in no
+//! contract.
 #![tactic(auto)]
 
 mod counts;

@@ -53,6 +53,8 @@ pub(crate) fn note_pool(alloc: Global, pools: &mut Vec<Pool>, line: &Line<'_>) -
     ensures ok { OnOk result
         (pools.new.items
         ≡ spec.with_first_of (spec.pool_of_line (line_seen line.now)) pools.old.items) }
+    ensures few { length pools.old.items ≤ MAX_POOLS
+        → OnOk result (length pools.new.items ≤ MAX_POOLS) }
     ensures err { (before behind : List RecordedLine)
         → pools.old.items ≡ spec.pools_seen before
         → IfErr result (IsStop (before ++ line_seen line.now ∷ behind)) }
@@ -66,6 +68,8 @@ pub(crate) fn note_pool(alloc: Global, pools: &mut Vec<Pool>, line: &Line<'_>) -
 fn add_pool(alloc: Global, pools: &mut Vec<Pool>, name: &str, sizes: PoolSizes) -> Result<(), Stop>
     ensures ok { OnOk result
         (pools.new.items ≡ spec.with_first pools.old.items (spec.pool_seen name.now sizes)) }
+    ensures few { length pools.old.items ≤ MAX_POOLS
+        → OnOk result (length pools.new.items ≤ MAX_POOLS) }
     ensures err { (lines : List RecordedLine)
         → (length (spec.with_first pools.old.items (spec.pool_seen name.now sizes))
         ≤ length (spec.pools_seen lines))

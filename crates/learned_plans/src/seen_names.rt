@@ -1,7 +1,8 @@
 //! What the lines of a recording name.
 
-ghost use Rattle.std.specs.Prelude.{◌≡◌, ◌+◌, ◌++◌, ◌∷◌, [], List, OnOk, IfOk, IfErr, if◌then◌else◌};
+ghost use Rattle.std.specs.Prelude.{◌≡◌, ◌+◌, ◌++◌, ◌∷◌, [], List, None, OnOk, IfOk, IfErr, if◌then◌else◌};
 ghost use Rattle.recorded_rules.specs.LineParts as parts;
+ghost use Rattle.recorded_rules.specs.Rules.{broken_of};
 ghost use Rattle.recording_lines.specs.RecordingLine.{RecordedLine, line_seen, lines_read};
 ghost use Rattle.learned_plans.specs.Kept.{AreNamesOf, AreWorkingOf, IsStop};
 ghost use Rattle.learned_plans.specs.LabelRounds.{AreLabelRoundsOf};
@@ -111,6 +112,7 @@ impl SeenNames {
         ensures err { (before behind : List RecordedLine)
             → AreNamesOf self.old before
             → AreWorkingOf (before ++ line_seen line.now ∷ behind) self.old.working
+            → broken_of before (line_seen line.now) ≡ None
             → IfErr result (IsStop (before ++ line_seen line.now ∷ behind)) }
     {
         self.working.note(&self.pools, line)?;

@@ -1,10 +1,11 @@
 //! The plan, while its bodies are learned.
 
-ghost use Rattle.std.specs.Prelude.{◌≡◌, List, OnOk, IfOk, IfErr, string_bytes};
+ghost use Rattle.std.specs.Prelude.{◌≡◌, ◌==◌, ◌&&◌, length, List, OnOk, IfOk, IfErr, string_bytes};
 ghost use Rattle.std.specs.List.{All, Contains};
 ghost use Rattle.recording_lines.specs.RecordingLine.{RecordedLine, line_seen};
 ghost use Rattle.learned_plans.specs.Kept.{AreFirstPools, AreWorkingOf, IsEntryOf, IsStop};
 ghost use Rattle.learned_plans.specs.Names.{IsNamedClass};
+ghost use Rattle.learned_plans.specs.TooMuch.{HasActors};
 ghost use Rattle.learned_plans.specs.declared.too_much.TooMuch.TheVariants as reason;
 
 use crate::entries::{Entries, Entry};
@@ -63,13 +64,22 @@ impl Working {
         }
     }
 
+    /// Whether there are no classes and no kinds.
+    pub(crate) fn is_empty(&self) -> bool
+        ensures { result
+            ≡ (length self.now.classes.entries.items == 0
+            && length self.now.kinds.entries.items == 0) }
+    {
+        self.classes.entries.is_empty() && self.kinds.entries.is_empty()
+    }
+
     /// The plan so far: each kind has one client, which does not repeat.
     ///
     /// # Errors
     ///
     /// [`Stop::TooMuch`] where that is no plan; [`Stop::Memory`] where there is no memory for it.
     pub(crate) fn plan(&self, pools: &[Pool]) -> Result<Plan, Stop>
-        ensures { (lines : List RecordedLine) → IfErr result (IsStop lines) }
+        ensures { (lines : List RecordedLine) → HasActors lines → IfErr result (IsStop lines) }
     {
         let pools = copied_pools(self.alloc, pools)?;
         let classes = self.copied_classes()?;

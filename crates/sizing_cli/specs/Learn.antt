@@ -21,7 +21,7 @@ use Rattle.learned_plans.specs.TooMuch.{IsReason, too_much_text}
 use Rattle.learned_plans.specs.Unfinished.{unfinished_rounds, unfinished_jobs}
 use Rattle.learned_plans.specs.declared.learned.SeenPlan.{SeenPlan}
 use Rattle.learned_plans.specs.declared.too_much.TooMuch.{TooMuch}
-use Rattle.learned_plans.specs.declared.too_much.TooMuch.TheVariants.{Text}
+use Rattle.learned_plans.specs.declared.too_much.TooMuch.TheVariants.{Paths, Text}
 use Rattle.job_bodies.specs.declared.limits.TheConstants.{MAX_PATH_STEPS, MAX_RECORDED_BYTES}
 use Rattle.sizing_cli.specs.declared.status.Status.TheVariants.{Done, Refused}
 use Rattle.sizing_cli.specs.Answer.{Answer, input_too_long}
@@ -93,11 +93,12 @@ pub record IsLearned (recording : List ℕ) (answer : Answer) : Type 0 where
 abbrev pub not_learned : TooMuch → Answer
 not_learned reason = record { text = codes "no plan was learned: " ++ too_much_text reason ++ 10 ∷ []; status = Refused }
 
--- no plan was found that the recording conforms to: for a reason that its lines have, or since the plan's text is too long
+-- no plan was found that the recording conforms to: for a reason that its lines have, or since what it shows is no plan that it
+-- conforms to, or since the plan's text is too long
 pub record IsNotLearned (recording : List ℕ) (answer : Answer) : Type 0 where
   pub no_fault : IsFirstFault (lines_read recording) None
   pub reason : TooMuch
-  pub because : (reason ≡ Text) ⊎ IsReason (lines_of recording) reason
+  pub because : (reason ≡ Text) ⊎ ((reason ≡ Paths) ⊎ IsReason (lines_of recording) reason)
   pub answer_is : answer ≡ not_learned reason
 
 pub record IsBadRecording (recording : List ℕ) (answer : Answer) : Type 0 where

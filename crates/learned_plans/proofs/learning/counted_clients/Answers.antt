@@ -9,7 +9,7 @@ use Rattle.learned_plans.proofs.Pushed.{pushed, names_pushed}
 use Rattle.learned_plans.proofs.learning.counted_clients.Goals as goal
 
 pub returns-in_err-client-clause-err : goal.returns-in_err-client-clause-err
-returns-in_err-client-clause-err c = λ kinds lines of_kinds counts.
+returns-in_err-client-clause-err c = λ kinds lines of_kinds counts actors.
     let kind = c.loop-kind.kind in
     let at : slice_get c.args.counts.now kind ≡ Some c.in-Some-Some.count = sym c.count_at.ensures ∙ c.in-Some-Some.is-1 in
     still_stops lines _ _ c.from_residual.ensures.1 (c.in_err-client.ensures.err kinds (names_of c.args.entries.now) lines kind of_kinds (counts kind c.in-Some-Some.count at))

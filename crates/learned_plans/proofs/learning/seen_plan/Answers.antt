@@ -8,6 +8,7 @@ use Rattle.learned_plans.specs.Learned.{lines_of}
 use Rattle.learned_plans.specs.Names.{IsNamedClass, IsNamedClient}
 use Rattle.learned_plans.proofs.Entered.{still_stops}
 use Rattle.learned_plans.proofs.Named.{same_names}
+use Rattle.learned_plans.proofs.LawfulPools.{unplanned_actors}
 use Rattle.learned_plans.proofs.Pushed.{clients_named}
 use Rattle.learned_plans.proofs.learning.seen_plan.Goals as goal
 
@@ -18,7 +19,17 @@ pub returns-in_err-clients-clause-err : goal.returns-in_err-clients-clause-err
 returns-in_err-clients-clause-err c = λ all.
     let lines = lines_of c.args.recording.now in
     let rounds = subst (λ rs. AreLabelRoundsOf rs lines) (sym (ap (λ (names : SeenNames). names.label_rounds) c.in_ok-kinds.ensures.same)) all.rounds in
-    still_stops lines _ _ c.from_residual-in_err-clients.ensures.1 (c.in_err-clients.ensures.err rounds)
+    still_stops lines _ _ c.from_residual-in_err-clients.ensures.1 (c.in_err-clients.ensures.err rounds (c.in_ok-kinds.ensures.ok lines all.working))
+
+pub returns-clause-err : goal.returns-clause-err
+returns-clause-err c = λ all.
+    let lines = lines_of c.args.recording.now in
+    let names = c.learned_kinds.new.names in
+    let named = same_names c.args.names names lines c.in_ok-kinds.ensures.same all.named in
+    let working = c.in_ok-kinds.ensures.ok lines all.working in
+    let clients = clients_named lines names.working.kinds.entries.items c.in_ok-clients.clients.items c.in_ok-clients.ensures.names working.kinds.each in
+    unplanned_actors c.args.recording.now names.pools.items c.in_ok-classes.classes.items c.in_ok-clients.clients.items named.pools named.few_pools (c.in_ok-classes.ensures lines working) clients
+    (λ is. grind (arith, c.in-Err.ensures.well_formed.1 is))
 
 pub returns-in-Ok-clause-ok : goal.returns-in-Ok-clause-ok
 returns-in-Ok-clause-ok c = λ all.

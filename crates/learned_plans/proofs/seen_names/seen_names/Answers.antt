@@ -45,7 +45,7 @@ returns-in-Err-note-clause-err c =
     let next : IsTakenNext all old line new = subst (λ (next : Option (Result Line RecordingFault)). IsNext all old next new) is (c.in_ok-line.ensures all so_far.ruled) in
     let whole = with_next all new.number (lines_before all old.number) line next.taken in
     c.stopped.ensures.err (subst (λ ls. IsStop ls c.in-Err-note.stop) (sym whole)
-    (c.in-Err-note.ensures.err (lines_before all old.number) (good (drop new.number all)) so_far.named (subst (λ ls. AreWorkingOf ls c.loop-lines.names.working) whole so_far.working)))
+    (c.in-Err-note.ensures.err (lines_before all old.number) (good (drop new.number all)) so_far.named (subst (λ ls. AreWorkingOf ls c.loop-lines.names.working) whole so_far.working) next.kept))
 
 pub loop-lines-preserved : goal.loop-lines-preserved
 loop-lines-preserved c =

@@ -1,4 +1,4 @@
-use Rattle.std.proofs.Common.{◌≡◌, inl, inr, subst, None}
+use Rattle.std.proofs.Common.{◌≡◌, inl, inr, refl, subst, None}
 use Rattle.recording_lines.specs.RecordingLine.{lines_read}
 use Rattle.recorded_rules.specs.Faults.{IsFirstFault}
 use Rattle.learned_plans.specs.declared.learned.Learned.{Learned}
@@ -14,4 +14,4 @@ returns c =
     let lines = lines_read c.args.recording.now in
     let no_fault : IsFirstFault lines None = subst (λ (told : Learned). IsFirstFault lines (fault_of told)) c.in-Seen.is c.in_ok-fault.ensures.bad in
     if_ok_map c.not_learned-in-None.result (λ (answer : Answer). answer ≡ not_learned Paths) (AnswersLines c.args.recording.now)
-    (λ answer is. inr (inl (record { no_fault = no_fault; reason = Paths; because = inr tt; answer_is = is }))) c.not_learned-in-None.ensures
+    (λ answer is. inr (inl (record { no_fault = no_fault; reason = Paths; because = inr (inl refl); answer_is = is }))) c.not_learned-in-None.ensures

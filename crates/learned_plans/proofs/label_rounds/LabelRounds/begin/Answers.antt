@@ -1,4 +1,4 @@
-use Rattle.std.proofs.Common.{◌≡◌, ◌∙◌, ℕ, ◌+◌, ◌==◌, if◌then◌else◌, length, ap, sym, subst, Some, slice_get, map, string_bytes, arith}
+use Rattle.std.proofs.Common.{◌≡◌, ◌∙◌, ℕ, ◌+◌, ◌==◌, if◌then◌else◌, length, ap, sym, subst, inl, Some, slice_get, map, string_bytes, arith}
 use Rattle.std.proofs.lemmas.List.{with_items_is}
 use Rattle.number_tables.specs.Numbered.{value_at}
 use Rattle.learned_plans.specs.Kept.{ChangesOne, with_begin}
@@ -26,3 +26,6 @@ returns-clause-ok c = λ before rounds.
     let at : slice_get (labels_of pushed) kind ≡ Some label = ap (λ labels. slice_get labels kind) same ∙ c.in_ok-kind.ensures.number in
     let is : c.args.round ≡ self.begun = grind (arith, c.if-round-self.false) in
     begun_after self _ kind c.args.round label more.0 before is begun about (same ∙ more.1) at one rounds
+
+pub returns-then-round-self-clause-err : goal.returns-then-round-self-clause-err
+returns-then-round-self-clause-err c = λ lines begun. (c.args.label.now, inl begun)

@@ -1,4 +1,4 @@
-use Rattle.std.proofs.Common.{◌≡◌, length, refl, sym, subst, Some, arith}
+use Rattle.std.proofs.Common.{◌≡◌, length, refl, sym, subst, inl, Some, arith}
 use Rattle.std.proofs.lemmas.List.{with_items_is}
 use Rattle.learned_plans.specs.Kept.{ChangesOne, with_end}
 use Rattle.learned_plans.proofs.LabelRounds.{ended_after}
@@ -12,3 +12,6 @@ returns-clause-ok c = λ before rounds.
     let one = subst (λ items. ChangesOne (Some c.in-Some.kind) with_end old.items items) (sym (with_items_is old new long))
     (subst (λ items. ChangesOne (Some c.in-Some.kind) with_end items new) c.deref_mut.ensures.value c.in_ok-end_one.ensures.one) in
     ended_after c.args.self.now _ c.in-Some.kind c.args.round before (sym c.in-Some.ensures.value) c.in-Some.ensures.values refl refl one rounds
+
+pub returns-in_default-clause-err : goal.returns-in_default-clause-err
+returns-in_default-clause-err c = λ lines label begun. (label, inl begun)

@@ -1,4 +1,4 @@
-use Rattle.std.proofs.Common.{◌++◌, [], refl, slice_get, rules, arith}
+use Rattle.std.proofs.Common.{[], refl, slice_get, rules, arith}
 use Rattle.learned_plans.proofs.label_rounds.LabelRounds.new.Goals as goal
 
 pub returns : goal.returns

@@ -1,6 +1,8 @@
-use Rattle.std.proofs.Common.{◌∷◌, ◌++◌, ◌∙◌, [], refl, ap, sym, subst, arith}
+use Rattle.std.proofs.Common.{◌≤◌, List, length, ◌∷◌, ◌++◌, ◌∙◌, [], refl, ap, sym, subst, arith}
 use Rattle.std.specs.List.{Contains}
 use Rattle.std.proofs.lemmas.List.Elements.{Contains-append_right}
+use Rattle.job_bodies.specs.declared.limits.TheConstants.{MAX_POOLS}
+use Rattle.job_bodies.specs.Plan.{Pool}
 use Rattle.recording_lines.specs.RecordingLine.{line_seen}
 use Rattle.learned_plans.specs.Kept.{AreFirstPools, AreWorkingOf}
 use Rattle.learned_plans.specs.LabelRounds.{AreLabelRoundsOf}
@@ -10,7 +12,7 @@ use Rattle.learned_plans.proofs.Named.{named_after}
 use Rattle.learned_plans.proofs.seen_names.SeenNames.note.Goals as goal
 
 pub returns-in_err-note-clause-err : goal.returns-in_err-note-clause-err
-returns-in_err-note-clause-err c = λ before behind names working.
+returns-in_err-note-clause-err c = λ before behind names working kept.
     let line = line_seen c.args.line.now in
     let all = before ++ line ∷ behind in
     let there : Contains all line = Contains-append_right before (line ∷ behind) line (0, omega arith, refl) in
@@ -18,12 +20,13 @@ returns-in_err-note-clause-err c = λ before behind names working.
     still_stops all _ _ c.from_residual.ensures.1 (c.in_err-note.ensures.err all there first working)
 
 pub returns-in_err-take-clause-err : goal.returns-in_err-take-clause-err
-returns-in_err-take-clause-err c = λ before behind names working. let all = before ++ line_seen c.args.line.now ∷ behind in still_stops all _ _ c.from_residual-in_err-take.ensures.1 (c.in_err-take.ensures.err all)
+returns-in_err-take-clause-err c = λ before behind names working kept. let all = before ++ line_seen c.args.line.now ∷ behind in still_stops all _ _ c.from_residual-in_err-take.ensures.1 (c.in_err-take.ensures.err before behind kept)
 
 pub returns-clause-names : goal.returns-clause-names
 returns-clause-names c = λ before names.
     let counts = c.in_ok-count.ensures in
     named_after c.args.self.now c.count.new.self before (line_seen c.args.line.now) names (ap (λ pools. pools.items) counts.pools ∙ c.in_ok-note_pool.ensures.ok)
+    (λ few. subst (λ (pools : List Pool). length pools ≤ MAX_POOLS) (sym (ap (λ pools. pools.items) counts.pools)) (c.in_ok-note_pool.ensures.few few))
     counts.rounds counts.jobs counts.ended_rounds counts.started_jobs counts.ended_jobs
 
 pub returns-clause-working : goal.returns-clause-working
