@@ -29,7 +29,7 @@ keeps_both before line unbroken =
     let p4 = passes (keeps_rounds before line) Rounds _ p3.1 in
     record { numbers = p3.0; rounds = p4.0 }
 
-pub keeps_before : (before : List RecordedLine) (line : RecordedLine) → KeepsRules (before ++ line ∷ []) → KeepsRules before
+keeps_before : (before : List RecordedLine) (line : RecordedLine) → KeepsRules (before ++ line ∷ []) → KeepsRules before
 keeps_before before line kept = record {
   unbroken = λ front one behind is. kept.unbroken front one (behind ++ line ∷ []) (ap (λ (lines : List RecordedLine). lines ++ line ∷ []) is ∙ append_assoc front (one ∷ behind) (line ∷ []));
 }

@@ -25,7 +25,7 @@ unfolding has_exceeded
 exceeded_none plan kinds kind = refl
 
 -- ---- the counts
-abbrev pub counted : Plan → ℕ → ℕ → ℕ → Rounds
+abbrev counted : Plan → ℕ → ℕ → ℕ → Rounds
 counted plan kind begun ended = record { count = (client_at plan kind).count; repeat = (client_at plan kind).repeat; begun = begun; ended = ended }
 
 counts_of : (plan : Plan) (kinds : List (Option ℕ)) (lines : List RecordedLine) (kind : ℕ) → rounds_of plan kinds lines kind ≡ counted plan kind (count_by (begins_kind kinds kind) lines) (count_by (ends_kind kinds kind) lines)
