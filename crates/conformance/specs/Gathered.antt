@@ -18,6 +18,7 @@ use Rattle.conformance.specs.declared.finding.Finding.TheVariants as finding
 use Rattle.conformance.specs.declared.stray.Stray.{Stray}
 use Rattle.conformance.specs.declared.survey.Survey.{Survey}
 use Rattle.conformance.specs.declared.unplanned.NotPlanned.{NotPlanned}
+use Rattle.conformance.specs.declared.verdicts.Verdicts.{Verdicts}
 use Rattle.conformance.specs.Described.{IsDescribed}
 use Rattle.conformance.specs.JobSet.{has_job}
 use Rattle.conformance.specs.Wanted.{IsLabelOf}
@@ -53,6 +54,18 @@ abbrev pub is_lasting : Void → Bool
 is_lasting void = lasts void.what
 
 -- ---- all
+-- behind what was found before stand the actors that are of no body, and those of which that is not decided
+pub record AddsJudged (lines : List RecordedLine) (verdicts : Verdicts) (old new : List Finding) : Type 0 where
+  pub strays : List Finding
+  pub strays_so : AreStrays lines (has_job verdicts.classless) verdicts.strays.actors.items strays
+  pub behind : new ≡ old ++ strays ++ map not_decided verdicts.undecided.actors.items
+
+-- behind what was found before stand the first get of another one's job, and the first line of each word that voids a yes
+pub record AddsNoted (lines : List RecordedLine) (old new : List Finding) : Type 0 where
+  pub foreign : List Finding
+  pub foreign_so : AreForeign lines (first_foreign_get lines) foreign
+  pub behind : new ≡ old ++ foreign ++ map finding.Void (filter is_lasting (voids_of lines))
+
 -- what was found, each kind behind another
 abbrev pub one_behind_another : List PoolDeviation → List NotPlanned → List Finding → List Settled → List RoundExcess → List Finding → List Void → List Finding
 one_behind_another deviations labels astray undecided excesses gets voids =

@@ -1,5 +1,5 @@
 -- What is kept of the lines of a recording, and how it stands for them.
-use Rattle.std.specs.Prelude.{◌≡◌, ℕ, List, ◌++◌, map, Some, None, Result, Ok, Err}
+use Rattle.std.specs.Prelude.{◌≡◌, ℕ, List, ◌++◌, map, Option, Some, None, [], Result, Ok, Err}
 use Rattle.job_bodies.specs.Plan.{Plan}
 use Rattle.recording_lines.specs.RecordingLine.{RecordedLine, lines_read}
 use Rattle.recorded_rules.specs.declared.fault.RecordingFault.{RecordingFault}
@@ -7,6 +7,7 @@ use Rattle.recorded_rules.specs.Faults.{IsFirstFault}
 use Rattle.plan_differences.specs.PoolDeviations.{deviation_seen, deviations_by_lines, deviations_at_end}
 use Rattle.plan_differences.specs.PoolWatch.{IsPoolWatchOf}
 use Rattle.recorded_notes.specs.StandsFor.{IsNotesOf}
+use Rattle.recorded_paths.specs.StandsFor.{KeepsRules}
 use Rattle.recorded_classes.specs.declared.classes.Classes.{Classes}
 use Rattle.recorded_classes.specs.declared.settled.Settled.{Settled}
 use Rattle.recorded_classes.specs.Settled.{AreTold, AreAllTold}
@@ -14,6 +15,7 @@ use Rattle.recorded_classes.specs.StandsFor.{IsClassesOf}
 use Rattle.conformance.specs.declared.survey.Watched.{Watched}
 use Rattle.conformance.specs.declared.survey.Judged.{Judged}
 use Rattle.conformance.specs.declared.survey.Survey.{Survey}
+use Rattle.conformance.specs.declared.survey.Underway.{Underway}
 use Rattle.conformance.specs.Lines.{lines_of}
 use Rattle.conformance.specs.Unplanned.{IsUnplannedOf}
 use Rattle.conformance.specs.Verdicts.{IsVerdictsOf}
@@ -58,7 +60,19 @@ pub record IsSurveyOf (plan : Plan) (budget : ℕ) (lines : List RecordedLine) (
   pub judged : IsJudged plan budget lines survey.judged
   pub counted : IsCountedFirst plan survey.judged.others lines survey.counted
 
+-- the same, before the lines end
+pub record IsUnderway (plan : Plan) (budget : ℕ) (lines : List RecordedLine) (underway : Underway) : Type 0 where
+  pub watched : IsWatchedOf plan lines underway.survey.watched
+  pub judged : IsSoFar plan budget lines underway.classes underway.survey.judged
+  pub counted : IsCountedFirst plan underway.survey.judged.others lines underway.survey.counted
+  pub nothing : underway.told.items ≡ []
+
 -- ---- of a text
+-- all lines were taken, or the first bad one is told
+abbrev pub IsThrough : Plan → ℕ → List ℕ → Underway → Option RecordingFault → Type 0
+IsThrough plan budget text underway None = IsFirstFault (lines_read text) None × KeepsRules (lines_of text) × IsUnderway plan budget (lines_of text) underway
+IsThrough plan budget text underway (Some fault) = IsFirstFault (lines_read text) (Some fault)
+
 -- where the lines of the text keep the rules, they are surveyed; else it is told which is the first that does not
 abbrev pub IsSurveyed : Plan → ℕ → List ℕ → Result Survey RecordingFault → Type 0
 IsSurveyed plan budget text (Ok survey) = IsFirstFault (lines_read text) None × IsSurveyOf plan budget (lines_of text) survey

@@ -18,7 +18,7 @@ use recording_lines::Line;
 use std::alloc::{AllocError, Global};
 
 /// Where there are first more rounds of a kind than the plan says, by the lines so far.
-#[derive(Debug, Drop)]
+#[derive(Drop)]
 pub(crate) struct Counted {
     rounds: OpenRounds,
     watch: RoundWatch,

@@ -56,7 +56,7 @@ fn number_of(found: Option<(usize, Line<'_>)>) -> Option<usize>
 }
 
 /// What an actor did with a job.
-#[derive(Clone, Copy, Debug)]
+#[derive(Clone, Copy)]
 enum JobDeed {
     Submits(usize),
     Gets(usize),

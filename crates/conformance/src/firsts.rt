@@ -9,7 +9,7 @@ use recording_lines::RecordedActor;
 use std::alloc::{AllocError, Global};
 
 /// Actors, of each label the one with the smallest number.
-#[derive(Debug, Drop)]
+#[derive(Drop)]
 pub(crate) struct Firsts {
     pub(crate) actors: Vec<Settled>,
 }

@@ -47,7 +47,40 @@ pub(crate) fn gathered(
         unplanned,
         ..
     } = watched;
-    let Unplanned { found: labels, .. } = unplanned;
+    let mut findings = Vec::new(alloc);
+    push_unlike(&mut findings, deviations, unplanned)?;
+    push_judged(&mut findings, alloc, recording, judged)?;
+    push_excesses(&mut findings, &excesses)?;
+    push_noted(&mut findings, alloc, recording, &notes)?;
+    Ok(findings)
+}
+
+// The pools that are not as the plan says, and the labels that it has not.
+fn push_unlike(
+    findings: &mut Vec<Finding>,
+    deviations: Vec<PoolDeviation>,
+    unplanned: Unplanned,
+) -> Result<(), AllocError>
+    ensures { OnOk result
+        (findings.new.items
+        ≡ findings.old.items ++ map kinds.Pool deviations.items ++ map kinds.NotPlanned unplanned.found.items) }
+{
+    let Unplanned { found, .. } = unplanned;
+    push_pools(findings, deviations)?;
+    push_labels(findings, found)
+}
+
+// The actors that are of no body, and those of which that is not decided.
+fn push_judged(
+    findings: &mut Vec<Finding>,
+    alloc: Global,
+    recording: &[u8],
+    judged: Judged,
+) -> Result<(), AllocError>
+    ensures { OnOk result
+        (spec.AddsJudged (lines_of recording.now) judged.verdicts findings.old.items
+        findings.new.items) }
+{
     let Judged { verdicts, .. } = judged;
     let Verdicts {
         strays,
@@ -55,15 +88,23 @@ pub(crate) fn gathered(
         classless,
         ..
     } = verdicts;
-    let mut findings = Vec::new(alloc);
-    push_pools(&mut findings, deviations)?;
-    push_labels(&mut findings, labels)?;
-    push_strays(&mut findings, alloc, recording, &classless, &strays.actors)?;
-    push_undecided(&mut findings, undecided.actors)?;
-    push_excesses(&mut findings, &excesses)?;
-    push_foreign_get(&mut findings, alloc, recording, &notes)?;
-    push_voids(&mut findings, alloc, &notes)?;
-    Ok(findings)
+    push_strays(findings, alloc, recording, &classless, &strays.actors)?;
+    push_undecided(findings, undecided.actors)
+}
+
+// The get of another one's job, and the words that void a yes.
+fn push_noted(
+    findings: &mut Vec<Finding>,
+    alloc: Global,
+    recording: &[u8],
+    notes: &RecordedNotes,
+) -> Result<(), AllocError>
+    ensures { IsNotesOf notes.now (lines_of recording.now)
+        → OnOk result
+        (spec.AddsNoted (lines_of recording.now) findings.old.items findings.new.items) }
+{
+    push_foreign_get(findings, alloc, recording, notes)?;
+    push_voids(findings, alloc, notes)
 }
 
 fn push_pools(findings: &mut Vec<Finding>, deviations: Vec<PoolDeviation>) -> Result<(), AllocError>

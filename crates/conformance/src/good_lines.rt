@@ -8,7 +8,7 @@ use recording_lines::{Line, RecordingLines};
 use std::marker::Model;
 
 /// The lines of a recording, without those that have none of the forms.
-#[derive(Debug, Drop)]
+#[derive(Drop)]
 pub(crate) struct GoodLines<'a> {
     lines: RecordingLines<'a>,
 }

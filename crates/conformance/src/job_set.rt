@@ -7,7 +7,7 @@ use std::alloc::{AllocError, Global};
 use std::collections::HashSet;
 
 /// A set of jobs, by their numbers.
-#[derive(Debug, Drop)]
+#[derive(Drop)]
 pub(crate) struct JobSet {
     jobs: HashSet<usize>,
 }

@@ -8,7 +8,7 @@ use std::alloc::{AllocError, Global};
 use std::collections::HashSet;
 
 /// A set of labels.
-#[derive(Debug, Drop)]
+#[derive(Drop)]
 pub(crate) struct Labels {
     labels: HashSet<String>,
     alloc: Global,

@@ -8,10 +8,10 @@
 //! finding as a line.
 //!
 //! The text is gone along once, once more where a round turns out to be of another kind than the first of its label, and once
-//! for each look-up of an actor that strays, of which there are no more than labels of the plan. What is kept is what
-//! [`recorded_classes`], [`recorded_notes`] and [`plan_differences`] keep, the kind of each round that is about and of each
-//! that is of another kind than the first of its label, and the labels and jobs that are of no class of the plan. That is seen
-//! in the code and is in no contract.
+//! for each look-up of an actor that strays, of which there is one a label at most; a class `a_2` is of two labels, `a_2` and
+//! `a`. What is kept is what [`recorded_classes`], [`recorded_notes`] and [`plan_differences`] keep, the kind of each round
+//! that is about and of each that is of another kind than the first of its label, and the labels and jobs that are of no class
+//! of the plan. That is seen in the code and is in no contract.
 #![tactic(auto)]
 
 mod comparison;

@@ -15,7 +15,7 @@ use recording_lines::Line;
 use std::alloc::{AllocError, Global};
 
 /// The kind of each round that has begun and not ended, or none where it has none.
-#[derive(Debug, Drop)]
+#[derive(Drop)]
 pub(crate) struct OpenRounds {
     kinds: NumberTable<Option<usize>>,
 }

@@ -14,7 +14,7 @@ use recording_lines::RecordedActor;
 use std::alloc::{AllocError, Global};
 
 /// The kind of each round that turned out to be of another one than the first of its label.
-#[derive(Debug, Drop)]
+#[derive(Drop)]
 pub(crate) struct OtherKinds {
     kinds: NumberTable<usize>,
     /// Whether there is such a round.

@@ -1,11 +1,12 @@
 //! What the lines of a recording say, beside a plan.
 
-ghost use Rattle.std.specs.Prelude.{◌≡◌, ◌++◌, ◌∷◌, [], ℕ, false, List, OnOk, IfOk};
+ghost use Rattle.std.specs.Prelude.{◌≡◌, ◌++◌, ◌∷◌, [], ℕ, false, List, Option, OnOk, IfOk};
 ghost use Rattle.job_bodies.specs.Plan as plans;
 ghost use Rattle.recording_lines.specs.RecordingLine.{RecordedLine, line_seen};
 ghost use Rattle.recorded_paths.specs.StandsFor.{KeepsRules};
 ghost use Rattle.recorded_classes.specs.declared.settled.Settled as settleds;
 ghost use Rattle.recorded_classes.specs.Settled.{AreTold, AreAllTold};
+ghost use Rattle.conformance.specs.Counted.{IsCountedFirst, IsCountedOf};
 ghost use Rattle.conformance.specs.OtherKinds.{AreOtherKinds};
 ghost use Rattle.conformance.specs.Unplanned.{IsNext};
 ghost use Rattle.conformance.specs.Verdicts.{IsVerdictsOf};
@@ -24,7 +25,7 @@ use recording_lines::Line;
 use std::alloc::{AllocError, Global};
 
 /// What is seen line by line.
-#[derive(Debug, Drop)]
+#[derive(Drop)]
 pub(crate) struct Watched {
     pools: PoolWatch,
     pub(crate) deviations: Vec<PoolDeviation>,
@@ -87,7 +88,7 @@ impl Watched {
 }
 
 /// What is seen of each actor that it is told of.
-#[derive(Debug, Drop)]
+#[derive(Drop)]
 pub(crate) struct Judged {
     pub(crate) verdicts: Verdicts,
     pub(crate) others: OtherKinds,
@@ -137,11 +138,27 @@ impl Judged {
 }
 
 /// All that the lines say.
-#[derive(Debug, Drop)]
+#[derive(Drop)]
 pub(crate) struct Survey {
     pub(crate) watched: Watched,
     pub(crate) judged: Judged,
     pub(crate) counted: Counted,
+}
+
+impl Survey {
+    // The lines end, and with them the actors that are not settled.
+    fn finish(&mut self, alloc: Global, plan: &Plan, classes: Classes) -> Result<(), AllocError>
+        ensures { (budget : ℕ) (lines : List RecordedLine)
+            → KeepsRules lines
+            → spec.IsWatchedOf plan.now lines self.old.watched
+            → spec.IsSoFar plan.now budget lines classes self.old.judged
+            → IsCountedFirst plan.now self.old.judged.others lines self.old.counted
+            → OnOk result (spec.IsSurveyOf plan.now budget lines self.new) }
+    {
+        self.watched.finish(plan)?;
+        finish(alloc, plan, classes, &mut self.judged)?;
+        Ok(())
+    }
 }
 
 /// Surveys a recording, or tells its first bad line.
@@ -157,28 +174,105 @@ pub(crate) fn surveyed(
 ) -> Result<Result<Survey, RecordingFault>, AllocError>
     ensures { IfOk result (spec.IsSurveyed plan.now budget recording.now) }
 {
-    let mut watched = Watched::new(alloc);
-    let mut classes = Classes::new(alloc, budget);
-    let mut judged = Judged::new(alloc);
-    let mut counted = Counted::new(alloc, plan)?;
-    let mut told = Vec::new(alloc);
-    let mut lines = RuledLines::new(alloc, recording);
-    while let Some(line) = lines.next()? {
-        let line = match line {
-            Ok(line) => line,
-            Err(fault) => return Ok(Err(fault)),
-        };
-        watched.take(plan, lines.number(), &line)?;
-        take_line(plan, &line, &mut classes, &mut judged, &mut told)?;
-        counted.take(plan, &judged.others, lines.number(), &line)?;
+    let counted = Counted::new(alloc, plan)?;
+    let mut underway = Underway::new(alloc, budget, counted);
+    match underway.take_all(alloc, plan, recording)? {
+        Some(fault) => Ok(Err(fault)),
+        None => Ok(Ok(underway.finish(alloc, plan)?)),
     }
-    watched.finish(plan)?;
-    finish(alloc, plan, classes, &mut judged)?;
-    Ok(Ok(Survey {
-        watched,
-        judged,
-        counted,
-    }))
+}
+
+/// A survey on its way along the lines, with the actors that they do not settle.
+#[derive(Drop)]
+pub(crate) struct Underway {
+    pub(crate) survey: Survey,
+    pub(crate) classes: Classes,
+    pub(crate) told: Vec<Settled>,
+}
+
+impl Underway {
+    // No lines so far.
+    fn new(alloc: Global, budget: u64, counted: Counted) -> Underway
+        ensures { (plan : plans.Plan)
+            → ((kinds : List (Option ℕ)) → IsCountedOf plan kinds [] counted)
+            → spec.IsUnderway plan budget [] result }
+    {
+        let watched = Watched::new(alloc);
+        let judged = Judged::new(alloc);
+        let classes = Classes::new(alloc, budget);
+        let told = Vec::new(alloc);
+        Underway {
+            survey: Survey {
+                watched,
+                judged,
+                counted,
+            },
+            classes,
+            told,
+        }
+    }
+
+    // Takes all lines, and answers the first bad one; None where each is good.
+    fn take_all(
+        &mut self,
+        alloc: Global,
+        plan: &Plan,
+        recording: &[u8],
+    ) -> Result<Option<RecordingFault>, AllocError>
+        ensures { (budget : ℕ)
+            → spec.IsUnderway plan.now budget [] self.old
+            → IfOk result (spec.IsThrough plan.now budget recording.now self.new) }
+    {
+        let mut lines = RuledLines::new(alloc, recording);
+        while let Some(line) = lines.next()? {
+            let line = match line {
+                Ok(line) => line,
+                Err(fault) => return Ok(Some(fault)),
+            };
+            self.take(plan, lines.number(), &line)?;
+        }
+        Ok(None)
+    }
+
+    // Takes the next line of a recording that keeps the rules, which has this number.
+    fn take(&mut self, plan: &Plan, number: usize, line: &Line<'_>) -> Result<(), AllocError>
+        ensures { (budget : ℕ) (before : List RecordedLine)
+            → KeepsRules (before ++ line_seen line.now ∷ [])
+            → IsNext number before
+            → spec.IsUnderway plan.now budget before self.old
+            → OnOk result
+            (spec.IsUnderway plan.now budget (before ++ line_seen line.now ∷ []) self.new) }
+    {
+        self.survey.watched.take(plan, number, line)?;
+        take_line(
+            plan,
+            line,
+            &mut self.classes,
+            &mut self.survey.judged,
+            &mut self.told,
+        )?;
+        let judged = &self.survey.judged;
+        self.survey
+            .counted
+            .take(plan, &judged.others, number, line)?;
+        Ok(())
+    }
+
+    // The lines end.
+    fn finish(self, alloc: Global, plan: &Plan) -> Result<Survey, AllocError>
+        ensures { (budget : ℕ) (lines : List RecordedLine)
+            → KeepsRules lines
+            → spec.IsUnderway plan.now budget lines self
+            → IfOk result (spec.IsSurveyOf plan.now budget lines) }
+    {
+        let Underway {
+            mut survey,
+            classes,
+            ..
+        } = self;
+        survey.finish(alloc, plan, classes)?;
+        Ok(survey)
+    }
 }
 
 // It is told of each actor that is settled by the line. The list is for those, and is empty before and behind it.

@@ -28,7 +28,7 @@ pub enum NotPlanned {
 }
 
 /// The labels that the plan has not, by the lines so far.
-#[derive(Debug, Drop)]
+#[derive(Drop)]
 pub(crate) struct Unplanned {
     pub(crate) found: Vec<NotPlanned>,
     classes: Labels,

@@ -18,7 +18,7 @@ use std::alloc::{AllocError, Global};
 
 /// The actors that are of no body of the plan, and those of which that was not decided: of each label that the plan has the
 /// one with the smallest number.
-#[derive(Debug, Drop)]
+#[derive(Drop)]
 pub(crate) struct Verdicts {
     pub(crate) strays: Firsts,
     pub(crate) undecided: Firsts,

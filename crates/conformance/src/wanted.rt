@@ -9,7 +9,7 @@ use crate::good_lines::GoodLines;
 use recording_lines::{Line, RecordedActor};
 
 /// What is looked for.
-#[derive(Clone, Copy, Debug)]
+#[derive(Clone, Copy)]
 pub(crate) enum Wanted {
     /// The line that submits this job.
     Submit(usize),

@@ -1,0 +1,15 @@
+use Rattle.std.proofs.Common.{[], ℕ}
+use Rattle.recording_lines.specs.RecordingLine.{lines_read}
+use Rattle.recorded_rules.specs.Faults.{lines_before}
+use Rattle.recorded_rules.specs.RuledLines.{IsRuled, lines_left}
+use Rattle.conformance.specs.Survey as spec
+use Rattle.conformance.proofs.survey.Underway.take_all.Given as goal
+
+abbrev pub invariant-loop-lines : goal.invariant-loop-lines
+invariant-loop-lines l = record {
+  ruled : IsRuled (lines_read l.recording) l.lines;
+  underway : (budget : ℕ) → spec.IsUnderway l.plan budget [] l.initial.self → spec.IsUnderway l.plan budget (lines_before (lines_read l.recording) l.lines.number) l.self;
+}
+
+abbrev pub decreases-loop-lines : goal.decreases-loop-lines
+decreases-loop-lines l = lines_left l.lines
