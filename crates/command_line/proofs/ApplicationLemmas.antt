@@ -1,8 +1,11 @@
 -- What `clap` gives of an application that is the written one.
 use Rattle.std.proofs.Common.{◌≡◌, true, false, refl, subst, inl, inr, List, [], ◌∷◌, Option, Result, Ok, Err}
 use Rattle.std.specs.Prelude.{IsErrAnd}
+use Rattle.std.proofs.lemmas.Bool.{and_parts}
 use Rattle.clap.specs.Words.{App, FailsBy, HasKind, IsAmong, Kinds, Row, Text, fault_of, is_simple, is_simple_and_free, kind_of, subcommand_of}
 use Rattle.clap.specs.Kinds.{or_else}
+use Rattle.clap.specs.Faults.{is_free_app}
+use Rattle.clap.specs.Simple.{built}
 use Rattle.clap.specs.declared.error.kind.ErrorKind.TheVariants.{ValueValidation}
 use Rattle.clap.specs.declared.error.Error.{Error}
 use Rattle.clap.specs.declared.error.kind.ErrorKind.{ErrorKind}
@@ -16,8 +19,7 @@ unfolding clap_on_literals
 sizing_is_simple = refl
 
 sizing_is_plain : is_simple sizing ≡ true
-unfolding clap_on_literals
-sizing_is_plain = refl
+sizing_is_plain = (and_parts (is_simple sizing) (is_free_app (built sizing)) sizing_is_simple).0
 
 -- words at which an application of this shape has no fault are no fault of the written one
 pub no_fault : (made : App) (words : List Text) → made ≡ sizing

@@ -92,21 +92,19 @@ conform_shape = (of_both (codes "conform")).top
 abbrev pub learn_shape : Shape
 learn_shape = (of_plan (codes "learn")).top
 
+-- with the commands that read a plan and what stands behind it
+abbrev pub judging : App → App
+judging program = with_subcommand (with_subcommand (with_subcommand program replay_shape) check_shape) explain_shape
+
+-- with the commands that search, and the run
+abbrev pub searching : App → App
+searching program =
+    with_subcommand (with_subcommand (with_subcommand (with_subcommand program certify_shape) fit_shape) run_shape) refute_shape
+
+-- with the one question, and the commands of recordings
+abbrev pub asking : App → App
+asking program = with_subcommand (with_subcommand (with_subcommand program ask_shape) conform_shape) learn_shape
+
 -- the program, with a subcommand for each command
 abbrev pub sizing : App
-sizing =
-    with_subcommand
-    (with_subcommand
-    (with_subcommand
-    (with_subcommand
-    (with_subcommand
-    (with_subcommand
-    (with_subcommand
-    (with_subcommand (with_subcommand (with_subcommand (new_app (codes "sizing")) replay_shape) check_shape) explain_shape)
-    certify_shape)
-    fit_shape)
-    run_shape)
-    refute_shape)
-    ask_shape)
-    conform_shape)
-    learn_shape
+sizing = asking (searching (judging (new_app (codes "sizing"))))

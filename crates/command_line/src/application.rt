@@ -2,7 +2,7 @@
 ghost use Rattle.std.specs.Prelude.{◌≡◌, IfOk, false, codes};
 ghost use Rattle.clap.specs.Words.{app_of, new_app, rule_of, shape_of};
 ghost use Rattle.clap.specs.declared.builder.command.Command.TheViews.{out-Command as fields_of};
-ghost use Rattle.command_line.specs.Application.{ask_shape, bundle_option, certificate_option, certify_shape, check_shape, conform_shape, dot_option, explain_shape, file_argument, fit_shape, json_option, learn_shape, number_option, of_both, refute_shape, replay_shape, rounds_option, run_shape, sizing, states_option, strict_option, workers_option};
+ghost use Rattle.command_line.specs.Application.{ask_shape, asking, bundle_option, certificate_option, certify_shape, check_shape, conform_shape, dot_option, explain_shape, file_argument, fit_shape, json_option, judging, learn_shape, number_option, of_both, refute_shape, replay_shape, rounds_option, run_shape, searching, sizing, states_option, strict_option, workers_option};
 
 use crate::{ask_help, help, recording_help, search_help};
 use clap::builder::ValueParser;
@@ -14,14 +14,37 @@ use std::alloc::{AllocError, Global};
 pub(crate) fn application<'a>(alloc: Global) -> Result<Command<'a>, AllocError>
     ensures { IfOk result (λ made. app_of made ≡ sizing) }
 {
-    program(alloc)
+    let judging = with_judgements(alloc, program(alloc))?;
+    let searching = with_searches(alloc, judging)?;
+    with_questions(alloc, searching)
+}
+
+// With the commands that read a plan and what stands behind it.
+fn with_judgements<'a>(alloc: Global, program: Command<'a>) -> Result<Command<'a>, AllocError>
+    ensures { IfOk result (λ made. app_of made ≡ judging (app_of program.entry)) }
+{
+    program
         .subcommand(replay(alloc)?)?
         .subcommand(check(alloc)?)?
-        .subcommand(explain(alloc)?)?
+        .subcommand(explain(alloc)?)
+}
+
+// With the commands that search, and the run.
+fn with_searches<'a>(alloc: Global, program: Command<'a>) -> Result<Command<'a>, AllocError>
+    ensures { IfOk result (λ made. app_of made ≡ searching (app_of program.entry)) }
+{
+    program
         .subcommand(certify(alloc)?)?
         .subcommand(fit(alloc)?)?
         .subcommand(run(alloc)?)?
-        .subcommand(refute(alloc)?)?
+        .subcommand(refute(alloc)?)
+}
+
+// With the one question, and the commands of recordings.
+fn with_questions<'a>(alloc: Global, program: Command<'a>) -> Result<Command<'a>, AllocError>
+    ensures { IfOk result (λ made. app_of made ≡ asking (app_of program.entry)) }
+{
+    program
         .subcommand(ask(alloc)?)?
         .subcommand(conform(alloc)?)?
         .subcommand(learn(alloc)?)

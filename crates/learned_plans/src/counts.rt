@@ -16,7 +16,7 @@ use recording_lines::{Line, RecordingLines};
 use std::alloc::{AllocError, Global};
 
 /// The rounds of a kind, as they begin and end.
-#[derive(Clone, Copy, Debug)]
+#[derive(Clone, Copy)]
 pub(crate) struct KindCount {
     pub(crate) begun: u64,
     pub(crate) ended: u64,

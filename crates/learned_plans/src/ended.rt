@@ -5,7 +5,7 @@ use std::alloc::{AllocError, Global};
 use std::collections::HashSet;
 
 /// The actors that came to their ends, and of which it was not told.
-#[derive(Debug, Drop)]
+#[derive(Drop)]
 pub(crate) struct Ended {
     jobs: HashSet<usize>,
     rounds: HashSet<usize>,
@@ -20,7 +20,7 @@ impl Ended {
         }
     }
 
-    /// Whoever ends by the line did.
+    /// Notes whoever the line ends.
     ///
     /// # Errors
     ///

@@ -15,7 +15,7 @@ use job_bodies::Action;
 use std::alloc::{AllocError, Global};
 
 /// A class of jobs, or a kind of clients.
-#[derive(Debug, Drop)]
+#[derive(Drop)]
 pub(crate) struct Entry {
     /// What the recording calls it.
     pub(crate) label: String,
@@ -27,7 +27,7 @@ pub(crate) struct Entry {
 }
 
 /// The classes, or the kinds, in the order of the plan.
-#[derive(Debug, Drop)]
+#[derive(Drop)]
 pub(crate) struct Entries {
     pub(crate) entries: Vec<Entry>,
     /// The most that a plan may have, and what it is if there are more.

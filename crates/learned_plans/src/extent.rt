@@ -14,7 +14,7 @@ pub enum Extent {
 pub const START_BYTES: usize = 262_144;
 
 /// A part of a recording, from its first line on. It may end within a line, which is not read then.
-#[derive(Clone, Copy, Debug)]
+#[derive(Clone, Copy)]
 pub(crate) struct Part<'a> {
     pub(crate) text: &'a [u8],
     /// Whether the recording goes on behind it. What is about at its end does more then.

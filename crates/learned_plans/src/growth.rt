@@ -13,14 +13,14 @@ use job_bodies::{Action, MAX_ACTIONS, MAX_PATH_STEPS};
 use std::alloc::{AllocError, Global};
 
 /// What an actor did, with the class that each of its jobs is taken for.
-#[derive(Debug, Drop)]
+#[derive(Drop)]
 pub(crate) struct Did {
     pub(crate) deeds: Vec<Deed>,
     pub(crate) course: Course,
 }
 
 /// The class, or the kind, that an actor is taken for, by its number.
-#[derive(Clone, Copy, Debug)]
+#[derive(Clone, Copy)]
 pub(crate) struct Taken {
     pub(crate) number: usize,
     /// Whether its body has changed by that.

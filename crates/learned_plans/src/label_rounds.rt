@@ -21,7 +21,7 @@ use recording_lines::Line;
 use std::alloc::{AllocError, Global};
 
 /// The rounds of each label, as they begin and end. While each label has one kind, these are the rounds of each kind.
-#[derive(Debug, Drop)]
+#[derive(Drop)]
 pub(crate) struct LabelRounds {
     labels: Vec<String>,
     /// The number of the label of each round that is about, by the round's number.

@@ -5,9 +5,9 @@ use recorded_paths::RecordedDeed;
 use std::alloc::{AllocError, Global};
 use std::collections::{HashMap, HashSet};
 
-/// The class that a job is taken for, by its number, of each job that it was told of and whose submitter it was not; none where
-/// none was found.
-#[derive(Debug, Drop)]
+/// The class that a job is taken for, by its number, for each job that it was told of while it was not yet told of the job's
+/// submitter; none where none was found.
+#[derive(Drop)]
 pub(crate) struct Members {
     jobs: HashMap<usize, Option<usize>>,
     /// Those of which it was not told and that were refused: they are of no path.

@@ -18,7 +18,7 @@ use recording_lines::{Line, RecordedActor, RecordingLines};
 use std::alloc::{AllocError, Global};
 
 /// What a pass has found so far.
-#[derive(Debug, Drop)]
+#[derive(Drop)]
 pub(crate) struct Pass {
     /// The first kind that each round can be of, by its number.
     pub(crate) kinds: Vec<Option<usize>>,
@@ -56,20 +56,39 @@ pub(crate) fn pass_over(
         → IfErr result (IsStop lines) }
 {
     let mut pass = Pass::new(alloc, part.is_cut);
-    let mut classes = Classes::new(alloc, budget);
-    let mut told = Vec::new(alloc);
+    let mut telling = Telling::new(alloc, budget);
     let mut lines = RecordingLines::new(part.text);
     while let Some(line) = lines.next() {
         if let Ok(line) = line {
-            pass.note(&line)?;
-            classes.take(plan, &line, &mut told)?;
-            pass.hear_all(pools, &told, working)?;
-            told.clear();
+            pass.hear_line(pools, plan, &line, &mut telling, working)?;
         }
     }
-    classes.finish(plan, &mut told)?;
+    let told = telling.finish(plan)?;
     pass.hear_last(pools, &told, working)?;
     Ok(pass)
+}
+
+/// What is told of the actors along the lines.
+#[derive(Drop)]
+struct Telling {
+    classes: Classes,
+    told: Vec<Settled>,
+}
+
+impl Telling {
+    fn new(alloc: Global, budget: u64) -> Telling {
+        Telling {
+            classes: Classes::new(alloc, budget),
+            told: Vec::new(alloc),
+        }
+    }
+
+    // The lines end: it is told of these last.
+    fn finish(self, plan: &Plan) -> Result<Vec<Settled>, AllocError> {
+        let Telling { classes, mut told } = self;
+        classes.finish(plan, &mut told)?;
+        Ok(told)
+    }
 }
 
 impl Pass {
@@ -92,6 +111,29 @@ impl Pass {
             _ => {}
         }
         self.ended.note(line)
+    }
+
+    // The line comes next, and each actor is told of that comes to its end by it.
+    fn hear_line(
+        &mut self,
+        pools: &[Pool],
+        plan: &Plan,
+        line: &Line<'_>,
+        telling: &mut Telling,
+        working: &mut Working,
+    ) -> Result<(), Stop>
+        ensures ok { (lines : List RecordedLine)
+            → AreWorkingOf lines working.old
+            → OnOk result (AreWorkingOf lines working.new) }
+        ensures err { (lines : List RecordedLine)
+            → AreWorkingOf lines working.old
+            → IfErr result (IsStop lines) }
+    {
+        self.note(line)?;
+        telling.classes.take(plan, line, &mut telling.told)?;
+        self.hear_all(pools, &telling.told, working)?;
+        telling.told.clear();
+        Ok(())
     }
 
     // It is told of these, which came to their ends.

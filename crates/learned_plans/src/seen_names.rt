@@ -20,7 +20,7 @@ use std::alloc::{AllocError, Global};
 
 /// The pools, the classes of jobs and the kinds of clients that the lines name, and how many rounds and jobs there are and have
 /// come to their ends.
-#[derive(Debug, Drop)]
+#[derive(Drop)]
 pub(crate) struct SeenNames {
     pub(crate) pools: Vec<Pool>,
     pub(crate) working: Working,

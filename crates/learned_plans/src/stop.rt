@@ -6,7 +6,7 @@ use crate::too_much::TooMuch;
 use std::alloc::AllocError;
 
 /// Why learning ends before there is a plan.
-#[derive(Debug, Drop)]
+#[derive(Drop)]
 pub(crate) enum Stop {
     Memory(AllocError),
     TooMuch(TooMuch),

@@ -18,7 +18,7 @@ use recording_lines::Line;
 use std::alloc::{AllocError, Global};
 
 /// The classes and the kinds of clients, with the bodies that they have so far.
-#[derive(Debug, Drop)]
+#[derive(Drop)]
 pub(crate) struct Working {
     pub(crate) classes: Entries,
     pub(crate) kinds: Entries,

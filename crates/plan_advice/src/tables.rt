@@ -11,6 +11,14 @@ use plan_places::Places;
 use std::alloc::{AllocError, Global};
 use toml::{Table, Value};
 
+/// The entries of a document.
+#[derive(Drop)]
+struct Lists<'a> {
+    pools: Vec<PlacedEntry<'a>>,
+    classes: Vec<PlacedEntry<'a>>,
+    clients: Vec<PlacedEntry<'a>>,
+}
+
 /// Tells what is wrong with a document.
 pub(crate) fn document(
     notes: &mut Notes,
@@ -20,24 +28,49 @@ pub(crate) fn document(
     for key in document.keys() {
         unknown_list(notes, key.as_str(), places)?;
     }
+    let lists = lists_of(notes, document, places)?;
+    numbers_and_pools(notes, &lists)?;
+    all_bodies(notes, &lists)
+}
+
+/// The entries, with what is wrong with each by itself.
+fn lists_of<'a>(
+    notes: &mut Notes,
+    document: &'a Table,
+    places: &'a Places<'a>,
+) -> Result<Lists<'a>, AllocError> {
     let pools = entries(notes, document, Part::Pool, places)?;
     let classes = entries(notes, document, Part::Class, places)?;
     let clients = entries(notes, document, Part::Client, places)?;
-    let pool_names = names_of(notes.alloc, &pools)?;
-    let class_names = names_of(notes.alloc, &classes)?;
-    for pool in &pools {
+    Ok(Lists {
+        pools,
+        classes,
+        clients,
+    })
+}
+
+/// Tells what is wrong with sizes, with the pools of classes and with counts.
+fn numbers_and_pools(notes: &mut Notes, lists: &Lists<'_>) -> Result<(), AllocError> {
+    let pool_names = names_of(notes.alloc, &lists.pools)?;
+    for pool in &lists.pools {
         numbers::sizes(notes, pool)?;
     }
-    for class in &classes {
+    for class in &lists.classes {
         pool_of(notes, class, &pool_names)?;
     }
-    for client in &clients {
+    for client in &lists.clients {
         numbers::count(notes, client)?;
     }
-    for class in &classes {
+    Ok(())
+}
+
+/// Tells what is wrong with the bodies.
+fn all_bodies(notes: &mut Notes, lists: &Lists<'_>) -> Result<(), AllocError> {
+    let class_names = names_of(notes.alloc, &lists.classes)?;
+    for class in &lists.classes {
         bodies::body(notes, class, &class_names)?;
     }
-    for client in &clients {
+    for client in &lists.clients {
         bodies::body(notes, client, &class_names)?;
     }
     Ok(())
@@ -69,27 +102,41 @@ fn entries<'a>(
     places: &'a Places<'a>,
 ) -> Result<Vec<PlacedEntry<'a>>, AllocError> {
     let mut found: Vec<PlacedEntry<'a>> = Vec::new(notes.alloc);
-    let list = list_of(part);
-    let Some(value) = document.get(list) else {
+    let Some(value) = document.get(list_of(part)) else {
         return Ok(found);
     };
     let Some(values) = value.as_array() else {
-        let what = format!(in notes.alloc;
-            "{list} is a list of tables: write [[{list}]], with two brackets"
-        )?;
-        let place = places.top(list).unwrap_or(BEGINNING);
-        notes.push(PlanFault::at_text(WRONG_TYPE), place, what)?;
+        no_list(notes, part, places)?;
         return Ok(found);
     };
     for (index, value) in values.iter().enumerate() {
         if let Some(entry) = entry_of(notes, part, index, value, places)? {
-            shapes::unknown_keys(notes, &entry)?;
-            shapes::values(notes, &entry)?;
-            names::name(notes, &entry, &found)?;
+            by_itself(notes, &entry, &found)?;
             found.push(entry)?;
         }
     }
     Ok(found)
+}
+
+/// Tells that the entries are no list.
+fn no_list(notes: &mut Notes, part: Part, places: &Places<'_>) -> Result<(), AllocError> {
+    let list = list_of(part);
+    let what = format!(in notes.alloc;
+        "{list} is a list of tables: write [[{list}]], with two brackets"
+    )?;
+    let place = places.top(list).unwrap_or(BEGINNING);
+    notes.push(PlanFault::at_text(WRONG_TYPE), place, what)
+}
+
+/// Tells what is wrong with an entry's shape, and with its name behind these.
+fn by_itself(
+    notes: &mut Notes,
+    entry: &PlacedEntry<'_>,
+    before: &[PlacedEntry<'_>],
+) -> Result<(), AllocError> {
+    shapes::unknown_keys(notes, entry)?;
+    shapes::values(notes, entry)?;
+    names::name(notes, entry, before)
 }
 
 fn entry_of<'a>(

@@ -8,15 +8,19 @@ use Rattle.plan_text.specs.Entries.{Entries, entries_of}
 use Rattle.plan_text.specs.Checks.{check_pools, check_classes, check_clients}
 use Rattle.plan_text.specs.Bodies.{class_of, client_of}
 
+-- the plan of entries, where its pools and classes have these names
+abbrev pub plan_of_named : List (List ℕ) → List (List ℕ) → Entries → Result Plan PlanFault
+plan_of_named pool_names class_names entries =
+    read_each (class_of pool_names class_names) 0 entries.classes >>= λ classes.
+    read_each (client_of class_names) 0 entries.clients >>= λ clients.
+    Ok (record { pools = entries.pools; classes = classes; clients = clients })
+
 -- the plan of entries
 unfoldable pub plan_of_entries : Entries → Result Plan PlanFault
 plan_of_entries entries =
     check_pools entries.pools >>= λ pool_names.
     check_classes pool_names entries.classes >>= λ class_names.
-    check_clients entries.clients >>= λ _.
-    read_each (class_of pool_names class_names) 0 entries.classes >>= λ classes.
-    read_each (client_of class_names) 0 entries.clients >>= λ clients.
-    Ok (record { pools = entries.pools; classes = classes; clients = clients })
+    check_clients entries.clients >>= λ _. plan_of_named pool_names class_names entries
 
 -- the plan that the bytes are the text of, or the first fault
 unfoldable pub plan_of : List ℕ → Result Plan PlanFault

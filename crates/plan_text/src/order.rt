@@ -6,7 +6,7 @@ ghost use Rattle.plan_text.specs.Orders as spec;
 use job_bodies::{MAX_WORK, is_lawful_name, is_within};
 
 /// An action as its text gives it: classes and slots by name.
-#[derive(Clone, Copy, Debug, PartialEq, Eq)]
+#[derive(Clone, Copy, PartialEq, Eq)]
 pub enum Order<'a> {
     Work(u32),
     Submit(&'a str),

@@ -1,9 +1,10 @@
 //! The plan of a text.
 
-ghost use Rattle.std.specs.Prelude.{◌≡◌, ◌≢◌, IfOk, IfErr, Ok, Err};
+ghost use Rattle.std.specs.Prelude.{◌≡◌, ◌≢◌, List, IfOk, IfErr, Ok, Err};
 ghost use Rattle.readings.specs.Given.{Gives};
 ghost use Rattle.job_bodies.specs.Checks.{at_text};
 ghost use Rattle.job_bodies.specs.Build.{given};
+ghost use Rattle.job_bodies.specs.Plan as plans;
 ghost use Rattle.plan_text.specs.PlanOf as spec;
 
 use crate::bodies::{classes_of, clients_of};
@@ -11,6 +12,7 @@ use crate::checks::{check_classes, check_clients, check_pools};
 use crate::document::document_of;
 use crate::entries::{ClassEntry, ClientEntry, Entries, entries_of};
 use crate::fault::TextError;
+use crate::names::Names;
 use faults::number::MEMORY;
 use job_bodies::{Class, Client, Plan, PlanFault, Pool};
 use readings::ReadError;
@@ -66,7 +68,22 @@ fn bodies_of<'p, 'd: 'p>(
     let pool_names = check_pools(alloc, pools)?;
     let class_names = check_classes(alloc, &pool_names, &classes)?;
     check_clients(alloc, clients)?;
-    let classes = classes_of(alloc, &pool_names, &class_names, classes)?;
-    let clients = clients_of(alloc, &class_names, clients)?;
+    named_bodies(alloc, &pool_names, &class_names, classes, clients)
+}
+
+fn named_bodies<'p, 'd: 'p>(
+    alloc: Global,
+    pool_names: &Names<'p>,
+    class_names: &Names<'p>,
+    classes: Vec<ClassEntry<'d>>,
+    clients: &[ClientEntry<'d>],
+) -> Result<Bodies, TextError>
+    ensures { (pools : List plans.Pool)
+        → Gives (λ bodies. given pools bodies.classes.items bodies.clients.items) result
+        (spec.plan_of_named pool_names.now class_names.now
+        (record { pools = pools; classes = classes.entry.items; clients = clients.now })) }
+{
+    let classes = classes_of(alloc, pool_names, class_names, classes)?;
+    let clients = clients_of(alloc, class_names, clients)?;
     Ok(Bodies { classes, clients })
 }

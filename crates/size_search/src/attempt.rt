@@ -11,7 +11,7 @@ use job_bodies::Plan;
 use std::alloc::Global;
 
 /// A certificate, and what it needs.
-#[derive(Debug, Drop)]
+#[derive(Drop)]
 pub(crate) struct Attempt {
     pub(crate) cert: Cert,
     /// The core and the maximum that each pool needs.

@@ -18,10 +18,29 @@ pub(crate) fn cert_of(
     known: &mut Remembered,
     placing: &Placing,
 ) -> Result<Cert, Halt> {
-    let maxes = maxes_of(alloc, &placing.threads)?;
     let ranks = placing.ranks_or(alloc, 0)?;
     let reach = reach(alloc, known.plan, known.levels, &ranks)?;
-    let mut pools = Vec::with_capacity(alloc, ranks.len())?;
+    let pools = pool_certs(alloc, known, placing, &reach)?;
+    let levels = Vec::from_slice(alloc, &known.levels.of_classes)?;
+    Ok(Cert {
+        pools,
+        ranks: Ranks {
+            pools: ranks,
+            reach,
+            levels,
+        },
+    })
+}
+
+/// The bound and the blocked vector of each pool.
+fn pool_certs(
+    alloc: Global,
+    known: &mut Remembered,
+    placing: &Placing,
+    reach: &[u64],
+) -> Result<Vec<PoolCert>, Halt> {
+    let maxes = maxes_of(alloc, &placing.threads)?;
+    let mut pools = Vec::with_capacity(alloc, known.plan.pools().len())?;
     for (number, pool) in known.plan.pools().iter().enumerate() {
         let (Some(pool_threads), Some(Some((rank, look)))) = (
             placing.threads.get(number),
@@ -29,19 +48,12 @@ pub(crate) fn cert_of(
         ) else {
             return Err(Halt::Obstacle(Obstacle::Unknown));
         };
-        let blocked = blocked_of(alloc, known, *look, &maxes, *rank, &reach)?;
+        let blocked = blocked_of(alloc, known, *look, &maxes, *rank, reach)?;
         let bound = bound_of(alloc, known, number, pool, *pool_threads, &maxes)?;
         let cert = PoolCert { bound, blocked };
         pools.push(cert).map_err(AllocError::from)?;
     }
-    Ok(Cert {
-        pools,
-        ranks: Ranks {
-            pools: ranks,
-            reach,
-            levels: Vec::from_slice(alloc, &known.levels.of_classes)?,
-        },
-    })
+    Ok(pools)
 }
 
 /// The blocked vector that was found for a pool of this rank. How high the classes reach now counts the same gets as in the

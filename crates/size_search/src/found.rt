@@ -28,7 +28,7 @@ pub enum NoSizes {
 }
 
 /// What an attempt did not get past.
-#[derive(Clone, Copy, Debug, PartialEq, Eq)]
+#[derive(Clone, Copy, PartialEq, Eq)]
 pub(crate) enum Obstacle {
     /// A size of the pool of this number.
     Pool(usize),
@@ -50,7 +50,7 @@ impl Obstacle {
 }
 
 /// Why an attempt came to nothing.
-#[derive(Debug, Drop)]
+#[derive(Drop)]
 pub(crate) enum Halt {
     /// Memory ran out.
     Memory(AllocError),

@@ -19,7 +19,7 @@ use std::alloc::{AllocError, Global};
 const MAX_TURNS: usize = 4;
 
 /// What the search finds for sizes that it has found.
-#[derive(Debug, Drop)]
+#[derive(Drop)]
 enum Again {
     /// A certificate that accepts the plan with them.
     Same,

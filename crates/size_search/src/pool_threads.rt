@@ -4,7 +4,7 @@ use job_bodies::{Plan, Pool};
 use std::alloc::{AllocError, Global};
 
 /// How many threads a pool keeps, and how many it may have.
-#[derive(Clone, Copy, Debug, PartialEq, Eq)]
+#[derive(Clone, Copy, PartialEq, Eq)]
 pub(crate) struct PoolThreads {
     pub(crate) core: u64,
     pub(crate) max: u64,

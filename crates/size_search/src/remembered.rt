@@ -10,7 +10,7 @@ use weights::class_got;
 const MAX_VECTORS: usize = 32_768;
 
 /// Which vector of a pool was looked for.
-#[derive(Debug, PartialEq, Drop)]
+#[derive(PartialEq, Drop)]
 enum Asked {
     Standing,
     Lifetime,
@@ -23,7 +23,7 @@ enum Asked {
 }
 
 /// All on which a pool's lightest vector depends.
-#[derive(Debug, Drop)]
+#[derive(Drop)]
 struct Question {
     asked: Asked,
     /// The maximum of each pool.
@@ -33,7 +33,7 @@ struct Question {
 }
 
 /// A vector that was looked for.
-#[derive(Debug, Drop)]
+#[derive(Drop)]
 struct Answered {
     question: Question,
     answer: Option<Weighed>,
@@ -65,7 +65,7 @@ impl Answered {
 }
 
 /// What is remembered of a pool.
-#[derive(Debug, Drop)]
+#[derive(Drop)]
 struct PoolMemory {
     /// For each class, whether a job of the pool gets jobs of it.
     gets: Vec<bool>,
@@ -73,7 +73,7 @@ struct PoolMemory {
 }
 
 /// What an answer says, and where it stands.
-#[derive(Clone, Copy, Debug)]
+#[derive(Clone, Copy)]
 pub(crate) struct Look {
     pub(crate) pool: usize,
     /// The vector's total; the greatest number where there is no vector.
@@ -94,7 +94,7 @@ impl Look {
 }
 
 /// A plan whose sizes are looked for, and the vectors that were looked for so far.
-#[derive(Debug, Drop)]
+#[derive(Drop)]
 pub(crate) struct Remembered<'a> {
     pub(crate) plan: &'a Plan,
     pub(crate) levels: &'a Levels,

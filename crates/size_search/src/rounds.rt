@@ -8,7 +8,7 @@ use least_vectors::{Kind, reach};
 use std::alloc::{AllocError, Global};
 
 /// The pools as far as they have ranks.
-#[derive(Debug, Drop)]
+#[derive(Drop)]
 pub(crate) struct Placing {
     /// The core and the maximum that each pool has by now.
     pub(crate) threads: Vec<PoolThreads>,

@@ -123,27 +123,54 @@ fn cheapest(
     known: &mut Remembered,
 ) -> Result<Result<Attempt, Obstacle>, AllocError> {
     let declared = declared_threads(alloc, known.plan)?;
-    let first = outcome(tried(alloc, known, Vec::from_slice(alloc, &declared)?, 0))?;
-    let choices = match &first {
+    match best_from_declared(alloc, known, &declared)? {
+        Ok(best) => Ok(Ok(lowered(alloc, known, &declared, best)?)),
+        Err(obstacle) => Ok(Err(obstacle)),
+    }
+}
+
+/// The best attempt from the plan's own sizes on.
+fn best_from_declared(
+    alloc: Global,
+    known: &mut Remembered,
+    declared: &[PoolThreads],
+) -> Result<Result<Attempt, Obstacle>, AllocError> {
+    let mut best = attempt(alloc, known, declared, 0)?;
+    let choices = match &best {
         Ok(first) => first.choices,
         Err(_) => MAX_POOLS,
     };
-    let mut best = first;
     for passed_over in 1..choices.min(1 + FURTHER_ATTEMPTS) {
-        let threads = Vec::from_slice(alloc, &declared)?;
-        let next = outcome(tried(alloc, known, threads, passed_over))?;
+        let next = attempt(alloc, known, declared, passed_over)?;
         best = better(best, next);
     }
-    let mut best = match best {
-        Ok(best) => best,
-        Err(obstacle) => return Ok(Err(obstacle)),
-    };
-    for pool in most_raised(alloc, &best, &declared)? {
-        let threads = put_back(alloc, &best, &declared, pool)?;
+    Ok(best)
+}
+
+/// The best attempt, or a cheaper one with one of its pools as the plan has it.
+fn lowered(
+    alloc: Global,
+    known: &mut Remembered,
+    declared: &[PoolThreads],
+    mut best: Attempt,
+) -> Result<Attempt, AllocError> {
+    for pool in most_raised(alloc, &best, declared)? {
+        let threads = put_back(alloc, &best, declared, pool)?;
         let next = outcome(tried(alloc, known, threads, 0))?;
         best = cheaper(best, next);
     }
-    Ok(Ok(best))
+    Ok(best)
+}
+
+/// The attempt from these sizes on.
+fn attempt(
+    alloc: Global,
+    known: &mut Remembered,
+    threads: &[PoolThreads],
+    passed_over: usize,
+) -> Result<Result<Attempt, Obstacle>, AllocError> {
+    let threads = Vec::from_slice(alloc, threads)?;
+    outcome(tried(alloc, known, threads, passed_over))
 }
 
 /// What came of the better of two attempts. Where neither found anything it is the first one.

@@ -1,11 +1,11 @@
 use Rattle.learned_plans.proofs.Entered.{still_stops}
 use Rattle.learned_plans.proofs.pass.pass_over.Goals as goal
 
-pub returns-in_err-hear_all-clause-err : goal.returns-in_err-hear_all-clause-err
-returns-in_err-hear_all-clause-err c = λ lines working. still_stops lines _ _ c.from_residual-in_err-hear_all.ensures.1 (c.in_err-hear_all.ensures.err lines (c.loop-line.invariant lines working))
+pub returns-in_err-hear_line-clause-err : goal.returns-in_err-hear_line-clause-err
+returns-in_err-hear_line-clause-err c = λ lines working. still_stops lines _ _ c.from_residual.ensures.1 (c.in_err-hear_line.ensures.err lines (c.loop-line.invariant lines working))
 
-pub loop-line-preserved-in-Ok : goal.loop-line-preserved-in-Ok
-loop-line-preserved-in-Ok c = λ lines working. c.in_ok-hear_all.ensures.ok lines (c.loop-line.invariant lines working)
+pub loop-line-preserved-in-Continue-1 : goal.loop-line-preserved-in-Continue-1
+loop-line-preserved-in-Continue-1 c = λ lines working. c.in_ok-hear_line.ensures.ok lines (c.loop-line.invariant lines working)
 
 pub returns-in_err-hear_last-clause-err : goal.returns-in_err-hear_last-clause-err
 returns-in_err-hear_last-clause-err c = λ lines working. still_stops lines _ _ c.from_residual-in_err-hear_last.ensures.1 (c.in_err-hear_last.ensures.err lines (c.loop-line.invariant lines working))
