@@ -20,7 +20,7 @@ use std::alloc::{AllocError, Global};
 use std::marker::Model;
 
 /// What is written, and how the program ends then.
-#[derive(Debug, Drop)]
+#[derive(Drop)]
 pub struct Answer {
     pub text: String,
     pub status: Status,

@@ -7,7 +7,7 @@ ghost use Rattle.sizing_cli.specs.Bundle as spec;
 use memchr::memrchr;
 
 /// A plan text, and what stands behind the last line `%%`.
-#[derive(Clone, Copy, Debug)]
+#[derive(Clone, Copy)]
 pub struct Bundle<'a> {
     pub plan: &'a [u8],
     pub second: &'a [u8],

@@ -14,7 +14,7 @@ use readings::ReadError;
 use std::alloc::Global;
 
 /// The plan of an input, and its second part, which nothing has looked at.
-#[derive(Debug, Drop)]
+#[derive(Drop)]
 pub struct Input<'a> {
     pub plan: Plan,
     pub second: &'a [u8],

@@ -1,10 +1,13 @@
 //! The replay of event lines on a plan.
 
-ghost use Rattle.std.specs.Prelude.{◌≡◌, ◌<◌, ◌^◌, length, IfOk};
+ghost use Rattle.std.specs.Prelude.{◌≡◌, ◌<◌, ◌^◌, [], length, IfOk};
+ghost use Rattle.written_machine.specs.Reach.{start};
+ghost use Rattle.live_views.specs.LiveView.{live_view};
 ghost use Rattle.event_lines.specs.EventLine.{all_from, line_seen};
 ghost use Rattle.interleaving.specs.OfPlan.{IsOf};
 ghost use Rattle.sizing_cli.specs.Report.{replay_of_lines};
-ghost use Rattle.sizing_cli.specs.SoFar.{IsEnded, RepliesSo};
+ghost use Rattle.sizing_cli.specs.SoFar.{IsEnded, IsTranscribed, RepliesSo};
+ghost use Rattle.sizing_cli.specs.declared.status.Status.TheVariants as statuses;
 ghost use Rattle.sizing_cli.specs.Transcript as spec;
 
 use crate::answer::{Answer, bad_event};
@@ -17,30 +20,46 @@ use std::alloc::{AllocError, Global};
 /// Replays the lines from the plan's start, up to the first event that is not possible. Those behind it are only read.
 ///
 /// A bad line is told in place of what came of the lines before it, so nothing is answered before all are read.
-pub fn replay_lines(
-    alloc: Global,
-    plan: &Plan,
-    mut lines: EventLines<'_>,
-) -> Result<Answer, AllocError>
+pub fn replay_lines(alloc: Global, plan: &Plan, lines: EventLines<'_>) -> Result<Answer, AllocError>
     requires { length lines < 2 ^ 64 }
     ensures { IfOk result (λ answer. answer ≡ replay_of_lines plan.now (all_from 0 lines.entry)) }
 {
     let mut world = World::start(alloc, plan)?;
     let mut answer = Answer::empty(alloc);
+    match push_replies(alloc, plan, lines, &mut world, &mut answer)? {
+        None => finish(answer, &world),
+        Some(bad) => bad_event(alloc, bad),
+    }
+}
+
+/// Replies to the lines, or answers the number of the first bad one.
+fn push_replies(
+    alloc: Global,
+    plan: &Plan,
+    mut lines: EventLines<'_>,
+    world: &mut World,
+    answer: &mut Answer,
+) -> Result<Option<u64>, AllocError>
+    requires few { length lines < 2 ^ 64 }
+    requires started { world.old.view ≡ live_view plan.now (start plan.now) }
+    requires empty { answer.old ≡ record { text = []; status = statuses.Done } }
+    ensures { IfOk result
+        (IsTranscribed plan.now lines.entry world.new.view answer.new) }
+{
     let mut number = Counter::new(alloc);
     let mut is_over = false;
     while let Some(line) = lines.next() {
         number.count()?;
         let Ok(line) = line else {
-            return bad_event(alloc, number.get());
+            return Ok(Some(number.get()));
         };
         if !is_over {
-            let reply = reply_to(alloc, &mut world, plan, line)?;
+            let reply = reply_to(alloc, world, plan, line)?;
             answer.push_reply(plan, &number, reply)?;
             is_over = is_last(reply);
         }
     }
-    finish(answer, &world)
+    Ok(None)
 }
 
 /// Lets the event of the line happen, or answers its question.

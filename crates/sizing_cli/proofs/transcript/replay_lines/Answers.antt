@@ -1,20 +1,14 @@
-use Rattle.sizing_cli.proofs.Answering.{so_far_start, so_far_replied, so_far_ended, if_ok_map}
+use Rattle.std.proofs.Common.{ℕ, Option, subst, ◌∙◌}
+use Rattle.sizing_cli.specs.SoFar.{IsTranscribed}
+use Rattle.sizing_cli.proofs.Answering.{if_ok_map}
 use Rattle.sizing_cli.proofs.transcript.replay_lines.Goals as goal
 
-pub loop-line-init : goal.loop-line-init
-loop-line-init c =
-    rw (c.empty-answer.ensures, c.new-number.ensures) (so_far_start c.args.plan.now c.args.lines c.in_ok-world.world.view c.in_ok-world.ensures.value)
-
-pub loop-line-preserved-then-not-is_over : goal.loop-line-preserved-then-not-is_over
-loop-line-preserved-then-not-is_over c =
-    let next = rw c.in-Ok.is at c.in-Some.ensures in
-    let pushed = rw c.in_ok-count.ensures.counted at c.in_ok-push_reply.ensures in
-    rw (c.in_ok-count.ensures.counted, c.is_last-is_over.ensures)
-    (so_far_replied c.args.plan.now c.args.lines c.loop-line.lines c.next.new.self c.loop-line.world.view c.reply_to.new.world.view c.loop-line.answer c.push_reply.new.self c.loop-line.number c.loop-line.is_over
-    c.in_ok-reply.reply _ next c.if-not-is_over.true c.loop-line.invariant c.in_ok-reply.ensures pushed)
+pub returns-in-None : goal.returns-in-None
+returns-in-None c =
+    let replied = subst (λ (bad : Option ℕ). IsTranscribed c.args.plan.now c.args.lines c.push_replies.new.world.view c.push_replies.new.answer bad) c.in-None.is c.in_ok-push_replies.ensures in
+    if_ok_map c.finish.result _ _ replied c.finish.ensures
 
 pub returns : goal.returns
 returns c =
-    if_ok_map c.finish.result _ _
-    (λ whole ended. so_far_ended c.args.plan.now c.args.lines c.loop-line.lines c.loop-line.world.view c.loop-line.answer whole c.loop-line.number c.loop-line.is_over c.in_default.ensures.0 c.loop-line.invariant ended)
-    c.finish.ensures
+    let replied = subst (λ (bad : Option ℕ). IsTranscribed c.args.plan.now c.args.lines c.push_replies.new.world.view c.push_replies.new.answer bad) c.in-Some.is c.in_ok-push_replies.ensures in
+    if_ok_map c.bad_event.result _ _ (λ whole is. is ∙ replied) c.bad_event.ensures
