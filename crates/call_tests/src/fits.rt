@@ -125,61 +125,89 @@ fn answers(alloc: Global, plan: Plan, cert: &Cert) -> Result<[Answer; 4], AllocE
     Ok([wide, fit(alloc, plan, cert)?, least, copy])
 }
 
-#[test]
-fn plans_are_fitted_to_certificates(rt: HostRuntime) {
-    let alloc = rt.alloc();
-    let sizes = |core, max, queue| Answer::Sizes([core, max, queue]);
-    let core = Answer::Unfit(Unfit::Core(0));
-    for (declared, wide, fit, least) in [
-        ([1, 1, 1, 2], sizes(1, 1, 1), sizes(1, 1, 2), sizes(1, 1, 2)),
-        ([1, 1, 9, 2], sizes(1, 1, 9), sizes(1, 1, 9), sizes(1, 1, 2)),
-        ([3, 4, 5, 7], sizes(3, 4, 5), sizes(3, 4, 7), sizes(1, 4, 7)),
-    ] {
-        let plan = plan_of(&rt, alloc, one_pool(alloc, declared));
-        let cert = cert_of(&rt, alloc, STANDING, &plan);
-        let all = answers(alloc, plan, &cert).expect(&rt, "there is memory");
-        assert_eq!(rt;
-            all,
-            [
-                wide,
-                fit,
-                least,
-                sizes(declared[0], declared[1], declared[2])
-            ]
-        );
-    }
-    for (declared, wide, fit, least) in [
-        ([1, 1, 5, 1], sizes(1, 2, 5), core, core),
-        ([1, 8, 5, 1], sizes(1, 8, 5), sizes(2, 8, 5), sizes(2, 8, 1)),
-        ([1, 3, 1, 4], sizes(1, 5, 1), core, core),
-        ([1, 1, 1, 1_000_000], core, core, core),
-    ] {
-        let plan = plan_of(&rt, alloc, nested(alloc, declared));
-        let cert = cert_of(&rt, alloc, NESTED, &plan);
-        let all = answers(alloc, plan, &cert).expect(&rt, "there is memory");
-        assert_eq!(rt;
-            all,
-            [
-                wide,
-                fit,
-                least,
-                sizes(declared[0], declared[1], declared[2])
-            ]
-        );
-    }
+const CORE: Answer = Answer::Unfit(Unfit::Core(0));
+
+// What a plan declares, and what it is widened and fitted to, and what of its sizes is enough.
+type Case = (Sizes, Answer, Answer, Answer);
+
+const OF_ONE_POOL: &[Case] = &[
+    (
+        [1, 1, 1, 2],
+        Answer::Sizes([1, 1, 1]),
+        Answer::Sizes([1, 1, 2]),
+        Answer::Sizes([1, 1, 2]),
+    ),
+    (
+        [1, 1, 9, 2],
+        Answer::Sizes([1, 1, 9]),
+        Answer::Sizes([1, 1, 9]),
+        Answer::Sizes([1, 1, 2]),
+    ),
+    (
+        [3, 4, 5, 7],
+        Answer::Sizes([3, 4, 5]),
+        Answer::Sizes([3, 4, 7]),
+        Answer::Sizes([1, 4, 7]),
+    ),
+];
+
+const OF_NESTED: &[Case] = &[
+    ([1, 1, 5, 1], Answer::Sizes([1, 2, 5]), CORE, CORE),
+    (
+        [1, 8, 5, 1],
+        Answer::Sizes([1, 8, 5]),
+        Answer::Sizes([2, 8, 5]),
+        Answer::Sizes([2, 8, 1]),
+    ),
+    ([1, 3, 1, 4], Answer::Sizes([1, 5, 1]), CORE, CORE),
+    ([1, 1, 1, 1_000_000], CORE, CORE, CORE),
+];
+
+// The plan with this text and the certificate are answered so; a copy of the plan has the sizes that it declares.
+fn are_answers(
+    rt: &impl Abort,
+    alloc: Global,
+    text: Result<String, AllocError>,
+    cert: &str,
+    case: Case,
+) {
+    let ([core, max, queue, _], wide, fit, least) = case;
+    let plan = plan_of(rt, alloc, text);
+    let cert = cert_of(rt, alloc, cert, &plan);
+    let all = answers(alloc, plan, &cert).expect(rt, "there is memory");
+    assert_eq!(rt; all, [wide, fit, least, Answer::Sizes([core, max, queue])]);
 }
 
 #[test]
-fn plans_are_not_fitted_to_certificates_that_no_size_helps(rt: HostRuntime) {
+fn plans_are_fitted_to_certificates(rt: HostRuntime) {
+    let alloc = rt.alloc();
+    for case in OF_ONE_POOL.iter().copied() {
+        are_answers(&rt, alloc, one_pool(alloc, case.0), STANDING, case);
+    }
+    for case in OF_NESTED.iter().copied() {
+        are_answers(&rt, alloc, nested(alloc, case.0), NESTED, case);
+    }
+}
+
+const SHAPE: Answer = Answer::Unfit(Unfit::Shape);
+
+#[test]
+fn a_certificate_of_another_plan_fits_no_sizes(rt: HostRuntime) {
     let alloc = rt.alloc();
     let plan = plan_of(&rt, alloc, one_pool(alloc, [1, 1, 1, 2]));
     let other = plan_of(&rt, alloc, nested(alloc, [1, 1, 1, 2]));
-    let weightless = cert_of(&rt, alloc, WEIGHTLESS, &plan);
     let of_other = cert_of(&rt, alloc, NESTED, &other);
-    let shape = Answer::Unfit(Unfit::Shape);
-    let all = answers(alloc, other, &weightless).expect(&rt, "there is memory");
-    assert_eq!(rt; all, [shape, shape, shape, Answer::Sizes([1, 1, 1])]);
-    assert_eq!(rt; widen(alloc, &plan, &of_other).ok(), Some(shape));
+    assert_eq!(rt; widen(alloc, &plan, &of_other).ok(), Some(SHAPE));
+    let of_plan = cert_of(&rt, alloc, WEIGHTLESS, &plan);
+    let all = answers(alloc, other, &of_plan).expect(&rt, "there is memory");
+    assert_eq!(rt; all, [SHAPE, SHAPE, SHAPE, Answer::Sizes([1, 1, 1])]);
+}
+
+#[test]
+fn a_certificate_whose_conditions_fail_fits_no_sizes(rt: HostRuntime) {
+    let alloc = rt.alloc();
+    let plan = plan_of(&rt, alloc, one_pool(alloc, [1, 1, 1, 2]));
+    let weightless = cert_of(&rt, alloc, WEIGHTLESS, &plan);
     assert_eq!(rt; fit(alloc, plan, &weightless).ok(), Some(Answer::Condition));
 }
 

@@ -299,17 +299,25 @@ fn is_counted(plan: &Plan, ranks: &Ranks, class: usize, position: usize) -> Opti
 #[test]
 fn gets_that_are_counted(rt: HostRuntime) -> Result<(), Fail> {
     let (plan, cert) = read(rt.alloc(), THERE_AND_BACK, THERE_AND_BACK_CERT)?;
-    assert_eq!(rt; is_counted(&plan, &cert.ranks, 0, 1), Some(true));
-    assert_eq!(rt; is_counted(&plan, &cert.ranks, 1, 1), Some(true));
-
-    let above = Ranks {
-        pools: vec![in rt.alloc(); 2, 1]?,
-        reach: vec![in rt.alloc(); 2, 1, 2]?,
-        levels: vec![in rt.alloc(); 2, 1, 0]?,
-    };
-    assert_eq!(rt; is_counted(&plan, &above, 0, 1), Some(false));
-    assert_eq!(rt; is_counted(&plan, &above, 1, 1), Some(true));
+    assert_eq!(rt; are_counted(&plan, &cert.ranks), [Some(true), Some(true)]);
+    let above = higher(rt.alloc())?;
+    assert_eq!(rt; are_counted(&plan, &above), [Some(false), Some(true)]);
     Ok(())
+}
+
+fn are_counted(plan: &Plan, ranks: &Ranks) -> [Option<bool>; 2] {
+    [is_counted(plan, ranks, 0, 1), is_counted(plan, ranks, 1, 1)]
+}
+
+fn higher(alloc: Global) -> Result<Ranks, AllocError> {
+    let pools = vec![in alloc; 2, 1]?;
+    let reach = vec![in alloc; 2, 1, 2]?;
+    let levels = vec![in alloc; 2, 1, 0]?;
+    Ok(Ranks {
+        pools,
+        reach,
+        levels,
+    })
 }
 
 /// A plan and a certificate, whether the standing vectors alone are accepted, and whether the whole is.

@@ -1,8 +1,7 @@
 //! Which actor's work a gate is asked for, and how much of it.
 
 use crate::gates::Shares;
-use crate::plans::certified;
-use locked_runner::run;
+use crate::plans::totals;
 use std::test::Fail;
 
 // Two clients that repeat, and a third one. Each job is of the one class, so its work is the same whoever submits it.
@@ -18,13 +17,10 @@ const DIFFERENT_WORK: &str = "
 #[test]
 fn each_actor_does_its_own_work(rt: HostRuntime) -> Result<(), Fail> {
     let alloc = rt.alloc();
-    let certified = certified(&rt, alloc, DIFFERENT_WORK).expect(&rt, "a certificate is found");
     // Two clients of three rounds and one of a single round make 7 jobs.
     let gate = Shares::new(alloc, 3, 7)?;
-    match run(&rt, alloc, &certified, 3, &gate) {
-        Ok(report) => assert_eq!(rt; (report.jobs, report.units), (7, 62)),
-        Err(fault) => assert_eq!(rt; Some(fault), None),
-    }
+    let run = totals(&rt, alloc, DIFFERENT_WORK, 3, &gate);
+    assert_eq!(rt; run, Ok((7, 62)));
     let clients = gate.of_clients(alloc)?;
     assert_eq!(rt; clients.as_slice(), &[(3, 3), (3, 3), (2, 7)][..]);
     for job in gate.of_jobs(alloc)? {

@@ -1,8 +1,7 @@
 //! Runs of plans of many kinds, each of which ends.
 
 use crate::gates::{Counting, Napping};
-use crate::plans::{TWO_CLIENTS, certified};
-use locked_runner::run;
+use crate::plans::{TWO_CLIENTS, totals};
 use std::test::Fail;
 
 const NO_PLAN: &str = "";
@@ -91,14 +90,9 @@ const RUNS: &[(&str, u64, u64, u64, u64)] = &[
 #[test]
 fn every_run_ends(rt: HostRuntime) -> Result<(), Fail> {
     for (plan, rounds, jobs, units, calls) in RUNS {
-        let certified = certified(&rt, rt.alloc(), plan).expect(&rt, "a certificate is found");
         let gate = Counting::new();
-        match run(&rt, rt.alloc(), &certified, *rounds, &gate) {
-            Ok(report) => {
-                assert_eq!(rt; (report.jobs, report.units), (*jobs, *units), "{plan}");
-            }
-            Err(fault) => assert_eq!(rt; Some(fault), None, "{plan}"),
-        }
+        let run = totals(&rt, rt.alloc(), plan, *rounds, &gate);
+        assert_eq!(rt; run, Ok((*jobs, *units)), "{plan}");
         assert_eq!(rt; (gate.calls(), gate.units()), (*calls, *units), "{plan}");
     }
     Ok(())
@@ -107,24 +101,9 @@ fn every_run_ends(rt: HostRuntime) -> Result<(), Fail> {
 #[test]
 fn every_run_ends_whatever_time_its_work_takes(rt: HostRuntime) -> Result<(), Fail> {
     for (plan, rounds, jobs, units, _) in RUNS {
-        let certified = certified(&rt, rt.alloc(), plan).expect(&rt, "a certificate is found");
         for seed in [1, 1_000_000, 2_000_000] {
-            match run(
-                &rt,
-                rt.alloc(),
-                &certified,
-                *rounds,
-                &Napping::new(&rt, seed),
-            ) {
-                Ok(report) => {
-                    assert_eq!(rt;
-                        (report.jobs, report.units),
-                        (*jobs, *units),
-                        "{seed} {plan}"
-                    );
-                }
-                Err(fault) => assert_eq!(rt; Some(fault), None, "{seed} {plan}"),
-            }
+            let run = totals(&rt, rt.alloc(), plan, *rounds, &Napping::new(&rt, seed));
+            assert_eq!(rt; run, Ok((*jobs, *units)), "{seed} {plan}");
         }
     }
     Ok(())

@@ -153,7 +153,7 @@ fn drawn_from(number: u64) -> u64 {
 }
 
 // Whose work is held.
-#[derive(Clone, Copy, Debug, PartialEq, Eq)]
+#[derive(Clone, Copy, PartialEq, Eq)]
 pub(crate) enum Who {
     Clients,
     Jobs,

@@ -2,51 +2,44 @@
 
 use crate::counter::{Change, Tally};
 use held_machines::{Held, Receipt};
+use std::alloc::AllocError;
+use std::process::Abort;
 use std::test::Fail;
+
+// Changes, the number of each one's receipt, and the count behind it: it goes neither below 0 nor above 2.
+const CHANGES: &[(Change, Option<u64>, u64)] = &[
+    (Change::Down, None, 0),
+    (Change::Up, Some(0), 1),
+    (Change::Up, Some(1), 2),
+    (Change::Up, None, 2),
+    (Change::Down, Some(2), 1),
+];
+
+const NONE: &[Change] = &[];
+
+const MADE: &[Change] = &[Change::Up, Change::Up, Change::Down];
+
+// Makes the changes, each of which comes to what stands beside it.
+fn change_it<R: Abort>(rt: &R, held: &mut Held<Tally>) -> Result<(), AllocError> {
+    for (change, number, count) in CHANGES.iter().copied() {
+        let wanted = number.map(|number| Receipt {
+            number,
+            event: change,
+        });
+        assert_eq!(rt; held.act(change)?, wanted, "{change:?} to {count}");
+        assert_eq!(rt; *held.state(), count, "{change:?}");
+    }
+    Ok(())
+}
 
 #[test]
 fn a_held_counter_keeps_the_history_of_its_count(rt: HostRuntime) -> Result<(), Fail> {
     let mut held = Held::new(rt.alloc(), Tally { most: 2 })?;
     assert_eq!(rt; *held.state(), 0);
-    assert_eq!(rt; held.history(), [].as_slice());
-
-    assert_eq!(rt; held.act(Change::Down)?, None, "the count is 0");
-    assert_eq!(rt;
-        held.act(Change::Up)?,
-        Some(Receipt {
-            number: 0,
-            event: Change::Up
-        })
-    );
-    assert_eq!(rt;
-        held.act(Change::Up)?,
-        Some(Receipt {
-            number: 1,
-            event: Change::Up
-        })
-    );
-    assert_eq!(rt;
-        held.act(Change::Up)?,
-        None,
-        "the count is at its greatest value"
-    );
-    assert_eq!(rt;
-        held.act(Change::Down)?,
-        Some(Receipt {
-            number: 2,
-            event: Change::Down
-        })
-    );
-    assert_eq!(rt; *held.state(), 1);
-    assert_eq!(rt;
-        held.history(),
-        [Change::Up, Change::Up, Change::Down].as_slice()
-    );
-
+    assert_eq!(rt; held.history(), NONE);
+    change_it(&rt, &mut held)?;
+    assert_eq!(rt; held.history(), MADE);
     let history = held.into_history();
-    assert_eq!(rt;
-        history.as_slice(),
-        [Change::Up, Change::Up, Change::Down].as_slice()
-    );
+    assert_eq!(rt; history.as_slice(), MADE);
     Ok(())
 }

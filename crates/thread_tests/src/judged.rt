@@ -3,9 +3,12 @@
 use crate::plans::certified;
 use held_machines::Receipt;
 use interleaving::Event;
-use run_histories::{KeptReceipt, Met, RunFault, RunNumbers, ThreadFault, judge};
+use run_histories::{KeptReceipt, Met, RunFault, RunNumbers, RunReport, ThreadFault, judge};
 use std::alloc::{AllocError, Global};
+use std::process::Abort;
+use std::sync::Wait;
 use std::test::Fail;
+use std::thread::Threads;
 
 // A client that submits a piece of work and waits for it.
 const ONE_CLIENT: &str = "
@@ -70,12 +73,21 @@ const CLIENT: Handed = &[(0, Event::Client(0)), (3, Event::Client(0))];
 
 const CARRIER: Handed = &[(1, Event::Job(0)), (2, Event::Job(0))];
 
+// What is answered to what was met on the plan of one client.
+fn judged<R: Abort + Threads + Wait + Sync>(
+    rt: &R,
+    alloc: Global,
+    met: Met,
+) -> Result<RunReport, RunFault> {
+    let certified = certified(rt, alloc, ONE_CLIENT).expect(rt, "a certificate is found");
+    judge(alloc, &certified, 1, NUMBERS, met)
+}
+
 #[test]
 fn a_whole_run_is_reported(rt: HostRuntime) -> Result<(), Fail> {
     let alloc = rt.alloc();
-    let certified = certified(&rt, alloc, ONE_CLIENT).expect(&rt, "a certificate is found");
     let met = met(alloc, WHOLE, CLIENT, CARRIER, None)?;
-    match judge(alloc, &certified, 1, NUMBERS, met) {
+    match judged(&rt, alloc, met) {
         Ok(report) => {
             assert_eq!(rt; (report.jobs, report.units, report.refused), (1, 1, 0));
             assert_eq!(rt; report.history.as_slice(), WHOLE);
@@ -173,10 +185,9 @@ const NO_RUNS: &[Case] = &[
 #[test]
 fn what_is_no_run_has_its_fault(rt: HostRuntime) -> Result<(), Fail> {
     let alloc = rt.alloc();
-    let certified = certified(&rt, alloc, ONE_CLIENT).expect(&rt, "a certificate is found");
     for (name, history, client, carrier, fault, number, events) in NO_RUNS.iter().copied() {
         let met = met(alloc, history, client, carrier, fault)?;
-        let answered = judge(alloc, &certified, 1, NUMBERS, met).err();
+        let answered = judged(&rt, alloc, met).err();
         assert_eq!(rt; answered, Some(RunFault { number, events }), "{name}");
     }
     Ok(())

@@ -2,8 +2,10 @@
 
 use cert_check::{Certified, PoolGate};
 use cert_search::search;
+use locked_runner::{Gate, RunFault, run};
 use plan_text::read_plan;
 use std::alloc::{AllocError, Global};
+use std::process::Abort;
 use std::sync::Wait;
 use std::thread::Threads;
 
@@ -62,4 +64,17 @@ pub(crate) fn certified<R: Threads + Wait + Sync>(
     let plan = read_plan(alloc, plan.as_bytes()).ok()?;
     let cert = search(rt, alloc, &plan, 1, &Open).ok()??;
     Certified::check(plan, cert).ok()
+}
+
+// How many jobs and how many units of work the run of the plan had, with so many rounds and the certificate that is found.
+pub(crate) fn totals<R: Abort + Threads + Wait + Sync, G: Gate>(
+    rt: &R,
+    alloc: Global,
+    plan: &str,
+    rounds: u64,
+    gate: &G,
+) -> Result<(u64, u64), RunFault> {
+    let certified = certified(rt, alloc, plan).expect(rt, "a certificate is found");
+    let report = run(rt, alloc, &certified, rounds, gate)?;
+    Ok((report.jobs, report.units))
 }

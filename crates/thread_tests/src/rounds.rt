@@ -1,9 +1,12 @@
 //! How many rounds a run has, and the limits of a run.
 
 use crate::gates::Counting;
-use crate::plans::{NESTED, certified, crowd};
+use crate::plans::{NESTED, certified, crowd, totals};
 use locked_runner::{RunFault, run};
+use std::alloc::Global;
+use std::sync::Wait;
 use std::test::Fail;
+use std::thread::Threads;
 
 // A limit is passed, and nothing was started.
 const TOO_LARGE: RunFault = RunFault {
@@ -11,83 +14,89 @@ const TOO_LARGE: RunFault = RunFault {
     events: 0,
 };
 
-#[test]
-fn three_rounds_make_six_jobs(rt: HostRuntime) -> Result<(), Fail> {
-    let certified = certified(&rt, rt.alloc(), NESTED).expect(&rt, "a certificate is found");
-    let gate = Counting::new();
-    match run(&rt, rt.alloc(), &certified, 3, &gate) {
-        Ok(report) => {
-            assert_eq!(rt; (report.jobs, report.units, report.refused), (6, 3, 0));
-            // A client has 8 events, and its jobs 19: 6 submits and gets, 3 works, 6 finishes, and 4 takings, since the jobs
-            // of the first round start threads.
-            assert_eq!(rt; report.history.len(), 27);
-            assert_eq!(rt; report.receipts.len(), 3);
-            assert_eq!(rt; report.receipts[0].len(), 8);
-        }
-        Err(fault) => assert_eq!(rt; Some(fault), None),
-    }
-    assert_eq!(rt; gate.calls(), 3);
-    Ok(())
-}
-
 // A client that repeats makes no event, and does not stand at its body's end: the run is not complete.
-#[test]
-fn no_rounds_are_no_run(rt: HostRuntime) -> Result<(), Fail> {
-    let certified = certified(&rt, rt.alloc(), NESTED).expect(&rt, "a certificate is found");
-    let gate = Counting::new();
-    let fault = run(&rt, rt.alloc(), &certified, 0, &gate).err();
-    assert_eq!(rt;
-        fault,
-        Some(RunFault {
-            number: 42,
-            events: 0
-        })
-    );
-    assert_eq!(rt; gate.calls(), 0);
-    Ok(())
-}
+const NO_RUN: RunFault = RunFault {
+    number: 42,
+    events: 0,
+};
+
+// Jobs and units of work, or a fault.
+type Totals = Result<(u64, u64), RunFault>;
+
+// A client that works by itself: each of its rounds is 2 events, the last one 1.
+const ALONE: &str = "
+    client = [{ name = 'c', count = 1, repeat = true, body = ['work 1'] }]
+";
+
+// A plan and rounds, what its run comes to, and how often it calls its gate. A round of the nested plan is 10 events and the
+// last one 9, so that 100,001 would be 1,000,009; 500,000 rounds of the client alone are 999,999, and one more is 1,000,001.
+const ROUNDS: &[(&str, u64, Totals, u64)] = &[
+    (NESTED, 0, Err(NO_RUN), 0),
+    (NESTED, 3, Ok((6, 3)), 3),
+    (NESTED, 1_000, Ok((2_000, 1_000)), 1_000),
+    (NESTED, 100_001, Err(TOO_LARGE), 0),
+    (ALONE, 500_000, Ok((0, 500_000)), 500_000),
+    (ALONE, 500_001, Err(TOO_LARGE), 0),
+];
 
 #[test]
-fn a_run_of_too_many_events_is_not_started(rt: HostRuntime) -> Result<(), Fail> {
-    let certified = certified(&rt, rt.alloc(), NESTED).expect(&rt, "a certificate is found");
-    // 10 events in each round, and one fewer in the last: 1,000,009.
-    let gate = Counting::new();
-    let fault = run(&rt, rt.alloc(), &certified, 100_001, &gate).err();
-    assert_eq!(rt; fault, Some(TOO_LARGE));
-    assert_eq!(rt; gate.calls(), 0);
-    Ok(())
-}
-
-#[test]
-fn as_many_events_as_a_run_may_have(rt: HostRuntime) -> Result<(), Fail> {
-    let certified = certified(&rt, rt.alloc(), NESTED).expect(&rt, "a certificate is found");
-    let gate = Counting::new();
-    match run(&rt, rt.alloc(), &certified, 100_000, &gate) {
-        Ok(report) => assert_eq!(rt; (report.jobs, report.units), (200_000, 100_000)),
-        Err(fault) => assert_eq!(rt; Some(fault), None),
+fn as_many_rounds_as_a_run_may_have(rt: HostRuntime) -> Result<(), Fail> {
+    for (plan, rounds, wanted, calls) in ROUNDS.iter().copied() {
+        let gate = Counting::new();
+        let run = totals(&rt, rt.alloc(), plan, rounds, &gate);
+        assert_eq!(rt; run, wanted, "{rounds} rounds");
+        assert_eq!(rt; gate.calls(), calls, "{rounds} rounds");
     }
-    assert_eq!(rt; gate.calls(), 100_000);
     Ok(())
 }
+
+// Clients and threads, of which a run may have 64 each, what a run of them comes to, and how often it calls its gate.
+const CROWDS: &[(u64, u64, Totals, u64)] = &[
+    (64, 64, Ok((64, 64)), 64),
+    (65, 64, Err(TOO_LARGE), 0),
+    (64, 65, Err(TOO_LARGE), 0),
+];
 
 #[test]
 fn at_most_64_clients_and_64_threads_of_pools(rt: HostRuntime) -> Result<(), Fail> {
-    for (clients, threads) in [(64, 64), (65, 64), (64, 65)] {
+    for (clients, threads, wanted, calls) in CROWDS.iter().copied() {
         let plan = crowd(rt.alloc(), clients, threads)?;
-        let certified = certified(&rt, rt.alloc(), &plan).expect(&rt, "a certificate is found");
         let gate = Counting::new();
-        match run(&rt, rt.alloc(), &certified, 1, &gate) {
-            Ok(report) => {
-                assert_eq!(rt; (clients, threads), (64, 64));
-                assert_eq!(rt; (report.jobs, report.units, gate.calls()), (64, 64, 64));
-                assert_eq!(rt; report.receipts.len(), 128);
-            }
-            Err(fault) => {
-                assert_eq!(rt; fault, TOO_LARGE);
-                assert!(rt; clients + threads == 129);
-                assert_eq!(rt; gate.calls(), 0);
-            }
-        }
+        let run = totals(&rt, rt.alloc(), &plan, 1, &gate);
+        assert_eq!(rt; run, wanted, "{clients} clients, {threads} threads");
+        assert_eq!(rt; gate.calls(), calls, "{clients} clients, {threads} threads");
     }
+    Ok(())
+}
+
+// The lists of receipts that a run hands back, how long the first one is, and how many events the history has.
+fn handed_back<R: Threads + Wait + Sync>(
+    rt: &R,
+    alloc: Global,
+    plan: &str,
+    rounds: u64,
+) -> Option<(usize, usize, usize)> {
+    let certified = certified(rt, alloc, plan)?;
+    let report = run(rt, alloc, &certified, rounds, &Counting::new()).ok()?;
+    let first = report.receipts.first()?;
+    Some((report.receipts.len(), first.len(), report.history.len()))
+}
+
+// A client and two carriers. The client has 8 events in three rounds, and its jobs 19: 6 submits and gets, 3 works, 6 finishes,
+// and 4 takings, since the jobs of the first round start threads.
+#[test]
+fn three_rounds_have_27_events(rt: HostRuntime) -> Result<(), Fail> {
+    let back = handed_back(&rt, rt.alloc(), NESTED, 3);
+    assert_eq!(rt; back, Some((3, 8, 27)));
+    Ok(())
+}
+
+// Each of 64 clients submits and gets.
+#[test]
+fn each_thread_hands_back_its_receipts(rt: HostRuntime) -> Result<(), Fail> {
+    let plan = crowd(rt.alloc(), 64, 64)?;
+    let back = handed_back(&rt, rt.alloc(), &plan, 1);
+    let lists = back.map(|(lists, of_the_first, _)| (lists, of_the_first));
+    assert_eq!(rt; lists, Some((128, 2)));
     Ok(())
 }
