@@ -8,7 +8,7 @@ use crate::deed::Deed;
 use job_bodies::Action;
 
 /// What may come of an action of a body, at a place of a path.
-#[derive(Clone, Copy, Debug, PartialEq, Eq)]
+#[derive(Clone, Copy, PartialEq, Eq)]
 pub(crate) enum Way {
     /// It is passed, and none of the path.
     Passes,

@@ -20,7 +20,7 @@ use std::thread;
 use std::thread::Threads;
 
 /// What is found of one pool.
-#[derive(Clone, Copy, Debug)]
+#[derive(Clone, Copy)]
 pub(crate) struct PoolCheck {
     pub(crate) pool: usize,
     pub(crate) line: PoolLine,

@@ -12,7 +12,7 @@ use std::alloc::{AllocError, Global};
 use std::marker::Model;
 
 /// Where a pool stands on the board.
-#[derive(Clone, Copy, Debug, PartialEq, Eq)]
+#[derive(Clone, Copy, PartialEq, Eq)]
 pub(crate) enum Spot {
     /// Nobody has looked at it.
     Free,
@@ -23,7 +23,7 @@ pub(crate) enum Spot {
 }
 
 /// What a worker does at the board.
-#[derive(Clone, Copy, Debug, PartialEq, Eq)]
+#[derive(Clone, Copy, PartialEq, Eq)]
 pub(crate) enum BoardEvent {
     /// Takes a free pool.
     Claim(usize),
@@ -59,7 +59,7 @@ fn is_done(spot: Spot) -> bool
 }
 
 /// Where each pool stands.
-#[derive(Debug, Drop)]
+#[derive(Drop)]
 pub(crate) struct Spots {
     spots: Vec<Spot>,
 }
@@ -124,7 +124,7 @@ impl Spots {
 }
 
 /// The board of a round, in which each pool that has no rank yet is to be looked at once.
-#[derive(Debug, Drop)]
+#[derive(Drop)]
 pub(crate) struct Board {
     /// Whether each pool has a rank from an earlier round.
     pub(crate) has_rank: Vec<bool>,

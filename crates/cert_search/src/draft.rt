@@ -9,7 +9,7 @@ use std::alloc::{AllocError, Global};
 use weights::{Bound, Vector};
 
 /// What is known of one pool.
-#[derive(Debug, Drop)]
+#[derive(Drop)]
 struct PoolDraft {
     rank: Option<u64>,
     bound: Option<Bound>,
@@ -17,7 +17,7 @@ struct PoolDraft {
 }
 
 /// What is known of each pool, in plan order.
-#[derive(Debug, Drop)]
+#[derive(Drop)]
 pub(crate) struct Draft {
     pools: Vec<PoolDraft>,
 }

@@ -28,7 +28,7 @@ pub(crate) struct Round<'a> {
 }
 
 /// What was found for a pool in a round.
-#[derive(Debug, Drop)]
+#[derive(Drop)]
 pub(crate) struct PoolVectors {
     pub(crate) pool: usize,
     /// The bound of its queue, which only the first round looks for.

@@ -12,7 +12,7 @@ use readings::ReadError;
 use std::alloc::Global;
 
 /// The text is not as it is written of a certificate. Nothing more is said of it.
-#[derive(Clone, Copy, Debug, PartialEq, Eq)]
+#[derive(Clone, Copy, PartialEq, Eq)]
 pub struct NotCanonical;
 
 /// Why a part of a text gave nothing: memory ran out, or the text is not as it is written.

@@ -15,7 +15,7 @@ use faults::number::VERSION;
 use serde_json::Value;
 
 /// A version that is read.
-#[derive(Clone, Copy, Debug, PartialEq, Eq)]
+#[derive(Clone, Copy, PartialEq, Eq)]
 pub enum Version {
     /// Each pool has a standing vector.
     One,

@@ -6,7 +6,7 @@ ghost use Rattle.written_machine.specs.Waiting.{is_member};
 use std::marker::Model;
 
 /// The members of a set, as a list that may have a number twice. Where the numbers rise, one is looked for by halves.
-#[derive(Debug, Drop)]
+#[derive(Drop)]
 pub(crate) struct Members<'a> {
     numbers: &'a [usize],
     // Whether no number is below the one before it.

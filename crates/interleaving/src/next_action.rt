@@ -15,7 +15,7 @@ use live_views::Phase;
 use written_machine::Parent;
 
 /// Where an actor stands, and its action there: None at the end of its body.
-#[derive(Clone, Copy, Debug)]
+#[derive(Clone, Copy)]
 pub(crate) struct NextAction {
     pub(crate) position: usize,
     pub(crate) action: Option<Action>,

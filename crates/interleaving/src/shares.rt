@@ -11,7 +11,7 @@ use job_bodies::{MAX_POOLS, Plan};
 use live_views::Phase;
 
 /// What the members of a set do in one pool.
-#[derive(Clone, Copy, Debug)]
+#[derive(Clone, Copy)]
 pub(crate) struct Share {
     /// Whether one waits in its queue.
     pub(crate) queued: bool,

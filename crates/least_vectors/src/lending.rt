@@ -18,7 +18,7 @@ use weights::Vector;
 const MAX_LOANS: usize = 256;
 
 /// A pool whose workers weigh so much instead of what they weighed, and where what comes of it stands.
-#[derive(Clone, Copy, Debug)]
+#[derive(Clone, Copy)]
 pub(crate) struct Loan {
     pub(crate) pool: usize,
     pub(crate) weight: u64,
@@ -26,7 +26,7 @@ pub(crate) struct Loan {
 }
 
 /// What each pool's workers weigh, and what comes of it.
-#[derive(Debug, Drop)]
+#[derive(Drop)]
 pub(crate) struct Loans {
     pub(crate) workers: Vec<u64>,
     /// The pools that lent, also those whose workers weigh nothing again.

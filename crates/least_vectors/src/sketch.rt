@@ -12,7 +12,7 @@ use weights::class_got;
 pub(crate) const TOO_HEAVY: u64 = u64::MAX;
 
 /// A vector without its rows.
-#[derive(Debug, Drop)]
+#[derive(Drop)]
 pub(crate) struct Sketch {
     /// Of a queued job of each class.
     pub(crate) queued: Vec<u64>,

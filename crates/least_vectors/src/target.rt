@@ -21,7 +21,7 @@ pub(crate) enum Heavy<'a> {
 }
 
 /// Whose workers may weigh something, so that jobs weigh less.
-#[derive(Clone, Copy, Debug, PartialEq, Eq)]
+#[derive(Clone, Copy, PartialEq, Eq)]
 pub(crate) enum Lenders {
     /// Each pool's.
     All,

@@ -9,7 +9,7 @@ use job_bodies::Plan;
 use std::alloc::{AllocError, Global};
 
 /// What each pool's workers weigh, and what comes of it.
-#[derive(Debug, Drop)]
+#[derive(Drop)]
 struct Weighing {
     workers: Vec<u64>,
     sketch: Sketch,

@@ -3,7 +3,7 @@
 ghost use Rattle.std.specs.Prelude.{◌≡◌, ◌≤◌};
 
 /// The least that an actor may weigh at a point of its body.
-#[derive(Clone, Copy, Debug, PartialEq, Eq)]
+#[derive(Clone, Copy, PartialEq, Eq)]
 pub(crate) struct Weight {
     /// The weight, where the end of the body weighs as little as it may.
     pub(crate) number: u64,

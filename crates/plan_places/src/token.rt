@@ -1,7 +1,7 @@
 //! The tokens of a text.
 
 /// What a token is.
-#[derive(Clone, Copy, Debug, PartialEq, Eq)]
+#[derive(Clone, Copy, PartialEq, Eq)]
 pub(crate) enum Kind {
     /// A key without quotes, or a value that is neither a string, a list nor a table.
     Word,
@@ -14,7 +14,7 @@ pub(crate) enum Kind {
 }
 
 /// A token, and where it stands: from `start` up to, and without, `end`.
-#[derive(Clone, Copy, Debug, PartialEq, Eq)]
+#[derive(Clone, Copy, PartialEq, Eq)]
 pub(crate) struct Token {
     pub(crate) kind: Kind,
     pub(crate) start: usize,

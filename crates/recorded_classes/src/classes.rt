@@ -268,7 +268,7 @@ impl Classes {
 }
 
 /// How far an actor that is through has come.
-#[derive(Clone, Copy, Debug)]
+#[derive(Clone, Copy)]
 struct Progress {
     known: usize,
     is_ready: bool,

@@ -11,7 +11,7 @@ use std::alloc::{AllocError, Global};
 use weights::{Row, RowVisitor};
 
 /// Keeps the rows that fail. A visitor cannot answer an error, so this one remembers it.
-#[derive(Debug, Drop)]
+#[derive(Drop)]
 pub struct FailingRows {
     /// The failing rows, in order.
     rows: Vec<Row>,

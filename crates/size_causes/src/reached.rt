@@ -13,7 +13,7 @@ use job_bodies::{Action, Plan};
 use std::alloc::{AllocError, Global};
 
 /// Classes that are submitted.
-#[derive(Debug, Drop)]
+#[derive(Drop)]
 pub(crate) struct Reached {
     /// Whether each class was found.
     is_found: Vec<bool>,

@@ -4,7 +4,7 @@ use interleaving::Event;
 use std::alloc::{AllocError, Global};
 
 /// What one actor does until another one acts, as `client web: works, submits page (queued)`.
-#[derive(Debug, Drop)]
+#[derive(Drop)]
 struct Turn {
     actor: Event,
     text: String,
@@ -12,7 +12,7 @@ struct Turn {
 }
 
 /// Equal turns, one after another.
-#[derive(Debug, Drop)]
+#[derive(Drop)]
 pub(crate) struct Run {
     pub(crate) text: String,
     pub(crate) turns: u64,
@@ -20,7 +20,7 @@ pub(crate) struct Run {
 }
 
 /// The runs so far, and the turn that is not over.
-#[derive(Debug, Drop)]
+#[derive(Drop)]
 pub(crate) struct Turns {
     runs: Vec<Run>,
     current: Option<Turn>,

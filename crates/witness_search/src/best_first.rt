@@ -14,7 +14,7 @@ use std::hash::{BuildHasherDefault, FoldHasher};
 const MAX_VECTORS: usize = 2;
 
 /// A state that was come to.
-#[derive(Clone, Copy, Debug)]
+#[derive(Clone, Copy)]
 struct Node {
     /// The state before it, by number, and the branch from there. The start stands before itself.
     before: usize,

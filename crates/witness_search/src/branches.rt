@@ -14,7 +14,7 @@ use written_machine::Parent;
 const MAX_ACTORS: usize = 8;
 
 /// A choice, and how many of the actors that stand there came behind the one that makes it.
-#[derive(Clone, Copy, Debug, PartialEq, Eq)]
+#[derive(Clone, Copy, PartialEq, Eq)]
 pub(crate) struct Branch {
     pub(crate) place: usize,
     pub(crate) behind: usize,

@@ -9,7 +9,7 @@ use written_machine::Parent;
 const NO_CHOICE: usize = usize::MAX;
 
 /// What happens next.
-#[derive(Clone, Copy, Debug, PartialEq, Eq)]
+#[derive(Clone, Copy, PartialEq, Eq)]
 pub(crate) enum Choice {
     /// A new client of the kind goes to its first submit.
     Begin(usize),

@@ -6,7 +6,7 @@ use std::alloc::{AllocError, Global};
 use written_machine::Parent;
 
 /// How far a job is.
-#[derive(Clone, Copy, Debug, PartialEq, Eq)]
+#[derive(Clone, Copy, PartialEq, Eq)]
 pub(crate) enum Phase {
     Queued,
     At(usize),
@@ -14,7 +14,7 @@ pub(crate) enum Phase {
 }
 
 /// A job that was made.
-#[derive(Clone, Copy, Debug, PartialEq, Eq)]
+#[derive(Clone, Copy, PartialEq, Eq)]
 pub(crate) struct Job {
     pub(crate) class: usize,
     pub(crate) pool: usize,
@@ -29,7 +29,7 @@ pub(crate) struct Job {
 }
 
 /// A client that has moved. Its number here is its place among those.
-#[derive(Clone, Copy, Debug, PartialEq, Eq)]
+#[derive(Clone, Copy, PartialEq, Eq)]
 pub(crate) struct Mover {
     kind: usize,
     position: usize,
@@ -37,7 +37,7 @@ pub(crate) struct Mover {
 }
 
 /// What comes of a step.
-#[derive(Clone, Copy, Debug, PartialEq, Eq)]
+#[derive(Clone, Copy, PartialEq, Eq)]
 pub(crate) enum Came {
     /// It was not possible, and nothing has changed.
     Nothing,

@@ -6,7 +6,7 @@ use std::alloc::{AllocError, Global};
 use weights::Vector;
 
 /// The weights of a vector.
-#[derive(Debug, Drop)]
+#[derive(Drop)]
 pub(crate) struct Scale {
     pub(crate) workers: Vec<u64>,
     pub(crate) classes: Vec<Vec<u64>>,

@@ -10,7 +10,7 @@ pub(crate) const FIXED_ORDERS: usize = 48;
 const FIRST: u64 = 0x9e37_79b9_7f4a_7c15;
 
 /// A fixed generator of numbers.
-#[derive(Clone, Copy, Debug)]
+#[derive(Clone, Copy)]
 pub(crate) struct Chance {
     state: u64,
 }

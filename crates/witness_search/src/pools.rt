@@ -5,7 +5,7 @@ use std::alloc::{AllocError, Global};
 use std::collections::VecDeque;
 
 /// What a pool does with a job that comes.
-#[derive(Clone, Copy, Debug, PartialEq, Eq)]
+#[derive(Clone, Copy, PartialEq, Eq)]
 pub(crate) enum Offered {
     Started,
     Queued,

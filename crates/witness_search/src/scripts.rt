@@ -6,14 +6,14 @@ use std::alloc::{AllocError, Global};
 use written_machine::{Event, Parent};
 
 /// An event, and the job that it made. Its client is a mover of a light machine.
-#[derive(Clone, Copy, Debug, PartialEq, Eq)]
+#[derive(Clone, Copy, PartialEq, Eq)]
 pub(crate) struct Act {
     pub(crate) event: Event,
     pub(crate) made: Option<usize>,
 }
 
 /// Events from a plan's start.
-#[derive(Debug, Drop)]
+#[derive(Drop)]
 pub(crate) struct Script {
     pub(crate) acts: Vec<Act>,
     /// The kind of each client that moves, in the order in which they begin.

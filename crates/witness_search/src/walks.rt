@@ -16,7 +16,7 @@ use written_machine::Parent;
 const FOR_A_LOSS: u64 = 10_000_000_000_000;
 
 /// What is bad at the end of some events.
-#[derive(Clone, Copy, Debug, PartialEq, Eq)]
+#[derive(Clone, Copy, PartialEq, Eq)]
 pub(crate) enum Bad {
     /// The last one is a submit that is refused.
     Refused,
@@ -49,7 +49,7 @@ pub(crate) struct Walked {
 }
 
 /// What comes of a step.
-#[derive(Clone, Copy, Debug, PartialEq, Eq)]
+#[derive(Clone, Copy, PartialEq, Eq)]
 pub(crate) enum Stepped {
     Went,
     Refused,
