@@ -163,8 +163,8 @@ const OF_NESTED: &[Case] = &[
     ([1, 1, 1, 1_000_000], CORE, CORE, CORE),
 ];
 
-// The plan with this text and the certificate are answered so; a copy of the plan has the sizes that it declares.
-fn are_answers(
+// Asserts that the plan with this text and the certificate are answered so, and that a copy of the plan has its sizes.
+fn assert_answers(
     rt: &impl Abort,
     alloc: Global,
     text: Result<String, AllocError>,
@@ -182,10 +182,10 @@ fn are_answers(
 fn plans_are_fitted_to_certificates(rt: HostRuntime) {
     let alloc = rt.alloc();
     for case in OF_ONE_POOL.iter().copied() {
-        are_answers(&rt, alloc, one_pool(alloc, case.0), STANDING, case);
+        assert_answers(&rt, alloc, one_pool(alloc, case.0), STANDING, case);
     }
     for case in OF_NESTED.iter().copied() {
-        are_answers(&rt, alloc, nested(alloc, case.0), NESTED, case);
+        assert_answers(&rt, alloc, nested(alloc, case.0), NESTED, case);
     }
 }
 

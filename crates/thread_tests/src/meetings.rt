@@ -5,7 +5,8 @@ use crate::gates::{Meeting, Who};
 use crate::plans::{TWO_CLIENTS, WORKING_CLIENTS, totals};
 use std::test::Fail;
 
-// A plan, how many threads and clients it gets in place of two, who works at once, and the jobs and the units of work.
+// A plan, how many threads and clients it gets in place of two, whose work is held until so many of them are at it, and the jobs
+// and the units of work.
 type Case = (&'static str, &'static str, Who, u64, (u64, u64));
 
 const CASES: &[Case] = &[

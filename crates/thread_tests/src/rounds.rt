@@ -14,7 +14,7 @@ const TOO_LARGE: RunFault = RunFault {
     events: 0,
 };
 
-// A client that repeats makes no event, and does not stand at its body's end: the run is not complete.
+// In no rounds a client that repeats makes no event, and does not stand at its body's end: the run is not complete.
 const NO_RUN: RunFault = RunFault {
     number: 42,
     events: 0,
