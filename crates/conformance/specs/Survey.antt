@@ -70,7 +70,8 @@ pub record IsUnderway (plan : Plan) (budget : ℕ) (lines : List RecordedLine) (
 -- ---- of a text
 -- all lines were taken, or the first bad one is told
 abbrev pub IsThrough : Plan → ℕ → List ℕ → Underway → Option RecordingFault → Type 0
-IsThrough plan budget text underway None = IsFirstFault (lines_read text) None × KeepsRules (lines_of text) × IsUnderway plan budget (lines_of text) underway
+IsThrough plan budget text underway None =
+    IsFirstFault (lines_read text) None × KeepsRules (lines_of text) × IsUnderway plan budget (lines_of text) underway
 IsThrough plan budget text underway (Some fault) = IsFirstFault (lines_read text) (Some fault)
 
 -- where the lines of the text keep the rules, they are surveyed; else it is told which is the first that does not

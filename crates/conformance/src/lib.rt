@@ -7,11 +7,11 @@
 //! These three hold already where only pools, gets of another one's job and voids are found. [`push_findings`] writes each
 //! finding as a line.
 //!
-//! The text is gone along once, once more where a round turns out to be of another kind than the first of its label, and once
-//! for each look-up of an actor that strays, of which there is one a label at most; a class `a_2` is of two labels, `a_2` and
-//! `a`. What is kept is what [`recorded_classes`], [`recorded_notes`] and [`plan_differences`] keep, the kind of each round
-//! that is about and of each that is of another kind than the first of its label, and the labels and jobs that are of no class
-//! of the plan. That is seen in the code and is in no contract.
+//! The text is gone along once, and once more where a round turns out to be of another kind than the first of its label; then a
+//! few times more for the first actor of a label that strays, to look up what it did, and once for a job that another one gets.
+//! What is kept is what [`recorded_classes`], [`recorded_notes`] and [`plan_differences`] keep, the kind of each round that is
+//! about and of each that is of another kind than the first of its label, and the labels and jobs that are of no class of the
+//! plan. That is seen in the code and is in no contract.
 #![tactic(auto)]
 
 mod comparison;

@@ -113,7 +113,7 @@ impl Pass {
         self.ended.note(line)
     }
 
-    // The line comes next, and each actor is told of that comes to its end by it.
+    // The line comes next, and with it what is told of each actor that it settles.
     fn hear_line(
         &mut self,
         pools: &[Pool],

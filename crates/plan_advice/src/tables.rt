@@ -33,7 +33,7 @@ pub(crate) fn document(
     all_bodies(notes, &lists)
 }
 
-/// The entries, with what is wrong with each by itself.
+/// The entries, with what is wrong with the shapes and the names of each list.
 fn lists_of<'a>(
     notes: &mut Notes,
     document: &'a Table,
@@ -111,7 +111,7 @@ fn entries<'a>(
     };
     for (index, value) in values.iter().enumerate() {
         if let Some(entry) = entry_of(notes, part, index, value, places)? {
-            by_itself(notes, &entry, &found)?;
+            shape_and_name(notes, &entry, &found)?;
             found.push(entry)?;
         }
     }
@@ -128,8 +128,8 @@ fn no_list(notes: &mut Notes, part: Part, places: &Places<'_>) -> Result<(), All
     notes.push(PlanFault::at_text(WRONG_TYPE), place, what)
 }
 
-/// Tells what is wrong with an entry's shape, and with its name behind these.
-fn by_itself(
+/// Tells what is wrong with the shape of an entry, and with its name behind those of the entries before it.
+fn shape_and_name(
     notes: &mut Notes,
     entry: &PlacedEntry<'_>,
     before: &[PlacedEntry<'_>],

@@ -147,7 +147,8 @@ fn best_from_declared(
     Ok(best)
 }
 
-/// The best attempt, or a cheaper one with one of its pools as the plan has it.
+/// The best attempt, or a cheaper one: each of the pools that were raised most is put back to what the plan has, and sizes are
+/// looked for from there on.
 fn lowered(
     alloc: Global,
     known: &mut Remembered,

@@ -1,4 +1,4 @@
--- What a world replies, for each state that it is the view of.
+-- What a world replies, for each state that it is the view of, and what came of lines so far.
 use Rattle.std.specs.Prelude.{◌≡◌, ℕ, List, Option, Some, None}
 use Rattle.job_bodies.specs.Plan.{Plan}
 use Rattle.written_machine.specs.State.{State}
@@ -24,5 +24,6 @@ RepliesSo plan before after line reply = (s : State) → IsReached plan s → li
 
 -- what came of the lines: they are replied to, but for the ending, or one of this number is bad
 abbrev pub IsTranscribed : Plan → List (Option Line) → View → Answer → Option ℕ → Type 0
-IsTranscribed plan lines world answer None = (whole : Answer) → IsEnded world answer whole → whole ≡ replay_of_lines plan (all_from 0 lines)
+IsTranscribed plan lines world answer None =
+    (whole : Answer) → IsEnded world answer whole → whole ≡ replay_of_lines plan (all_from 0 lines)
 IsTranscribed plan lines world answer (Some bad) = bad_event bad ≡ replay_of_lines plan (all_from 0 lines)
