@@ -1,2 +1,3 @@
 mod ApplicationLemmas
 mod Numbers
+mod Subcommands

@@ -92,19 +92,19 @@ conform_shape = (of_both (codes "conform")).top
 abbrev pub learn_shape : Shape
 learn_shape = (of_plan (codes "learn")).top
 
--- with the commands that read a plan and what stands behind it
-abbrev pub judging : App → App
-judging program = with_subcommand (with_subcommand (with_subcommand program replay_shape) check_shape) explain_shape
+-- with a subcommand for each review
+abbrev pub with_reviews : App → App
+with_reviews program = with_subcommand (with_subcommand (with_subcommand program replay_shape) check_shape) explain_shape
 
--- with the commands that search, and the run
-abbrev pub searching : App → App
-searching program =
-    with_subcommand (with_subcommand (with_subcommand (with_subcommand program certify_shape) fit_shape) run_shape) refute_shape
+-- with a subcommand for each task
+abbrev pub with_tasks : App → App
+with_tasks program =
+    with_subcommand (with_subcommand (with_subcommand (with_subcommand (with_subcommand program certify_shape) fit_shape) run_shape) refute_shape) ask_shape
 
--- with the one question, and the commands of recordings
-abbrev pub asking : App → App
-asking program = with_subcommand (with_subcommand (with_subcommand program ask_shape) conform_shape) learn_shape
+-- with a subcommand for each reading of a recording
+abbrev pub with_readings : App → App
+with_readings program = with_subcommand (with_subcommand program conform_shape) learn_shape
 
 -- the program, with a subcommand for each command
 abbrev pub sizing : App
-sizing = asking (searching (judging (new_app (codes "sizing"))))
+sizing = with_readings (with_tasks (with_reviews (new_app (codes "sizing"))))

@@ -1,8 +1,8 @@
 //! The application that `clap` reads the words by: a subcommand for each command.
-ghost use Rattle.std.specs.Prelude.{◌≡◌, IfOk, false, codes};
-ghost use Rattle.clap.specs.Words.{app_of, new_app, rule_of, shape_of};
+ghost use Rattle.std.specs.Prelude.{◌≡◌, IfOk, IsOkAnd, false, codes};
+ghost use Rattle.clap.specs.Words.{app_of, new_app, rule_of, shape_of, with_subcommand};
 ghost use Rattle.clap.specs.declared.builder.command.Command.TheViews.{out-Command as fields_of};
-ghost use Rattle.command_line.specs.Application.{ask_shape, asking, bundle_option, certificate_option, certify_shape, check_shape, conform_shape, dot_option, explain_shape, file_argument, fit_shape, json_option, judging, learn_shape, number_option, of_both, refute_shape, replay_shape, rounds_option, run_shape, searching, sizing, states_option, strict_option, workers_option};
+ghost use Rattle.command_line.specs.Application.{ask_shape, bundle_option, certificate_option, certify_shape, check_shape, conform_shape, dot_option, explain_shape, file_argument, fit_shape, json_option, learn_shape, number_option, of_both, of_plan, refute_shape, replay_shape, rounds_option, run_shape, sizing, states_option, strict_option, with_readings, with_reviews, with_tasks, workers_option};
 
 use crate::{ask_help, help, recording_help, search_help};
 use clap::builder::ValueParser;
@@ -14,40 +14,49 @@ use std::alloc::{AllocError, Global};
 pub(crate) fn application<'a>(alloc: Global) -> Result<Command<'a>, AllocError>
     ensures { IfOk result (λ made. app_of made ≡ sizing) }
 {
-    let judging = with_judgements(alloc, program(alloc))?;
-    let searching = with_searches(alloc, judging)?;
-    with_questions(alloc, searching)
+    let reviewing = with_reviews(alloc, program(alloc))?;
+    let tasking = with_tasks(alloc, reviewing)?;
+    with_readings(alloc, tasking)
 }
 
-// With the commands that read a plan and what stands behind it.
-fn with_judgements<'a>(alloc: Global, program: Command<'a>) -> Result<Command<'a>, AllocError>
-    ensures { IfOk result (λ made. app_of made ≡ judging (app_of program.entry)) }
+// With a subcommand for each review.
+fn with_reviews<'a>(alloc: Global, program: Command<'a>) -> Result<Command<'a>, AllocError>
+    ensures { IfOk result (λ made. app_of made ≡ with_reviews (app_of program.entry)) }
 {
-    program
-        .subcommand(replay(alloc)?)?
-        .subcommand(check(alloc)?)?
-        .subcommand(explain(alloc)?)
+    let replaying = with(program, replay(alloc))?;
+    let checking = with(replaying, check(alloc))?;
+    with(checking, explain(alloc))
 }
 
-// With the commands that search, and the run.
-fn with_searches<'a>(alloc: Global, program: Command<'a>) -> Result<Command<'a>, AllocError>
-    ensures { IfOk result (λ made. app_of made ≡ searching (app_of program.entry)) }
+// With a subcommand for each task.
+fn with_tasks<'a>(alloc: Global, program: Command<'a>) -> Result<Command<'a>, AllocError>
+    ensures { IfOk result (λ made. app_of made ≡ with_tasks (app_of program.entry)) }
 {
-    program
-        .subcommand(certify(alloc)?)?
-        .subcommand(fit(alloc)?)?
-        .subcommand(run(alloc)?)?
-        .subcommand(refute(alloc)?)
+    let certifying = with(program, certify(alloc))?;
+    let fitting = with(certifying, fit(alloc))?;
+    let running = with(fitting, run(alloc))?;
+    let refuting = with(running, refute(alloc))?;
+    with(refuting, ask(alloc))
 }
 
-// With the one question, and the commands of recordings.
-fn with_questions<'a>(alloc: Global, program: Command<'a>) -> Result<Command<'a>, AllocError>
-    ensures { IfOk result (λ made. app_of made ≡ asking (app_of program.entry)) }
+// With a subcommand for each reading of a recording.
+fn with_readings<'a>(alloc: Global, program: Command<'a>) -> Result<Command<'a>, AllocError>
+    ensures { IfOk result (λ made. app_of made ≡ with_readings (app_of program.entry)) }
 {
-    program
-        .subcommand(ask(alloc)?)?
-        .subcommand(conform(alloc)?)?
-        .subcommand(learn(alloc)?)
+    let conforming = with(program, conform(alloc))?;
+    with(conforming, learn(alloc))
+}
+
+// The program with this subcommand too. It owns both alone, so that no other function drops a program where one is not made.
+fn with<'a>(
+    program: Command<'a>,
+    made: Result<Command<'a>, AllocError>,
+) -> Result<Command<'a>, AllocError>
+    requires local { IfOk made (λ it. (fields_of it).has_globals ≡ false) }
+    ensures { IfOk result (λ both.
+        IsOkAnd made.entry (λ it. app_of both ≡ with_subcommand (app_of program.entry) (shape_of it))) }
+{
+    program.subcommand(made?)
 }
 
 // The program, with no subcommand yet.
@@ -64,45 +73,39 @@ fn replay<'a>(alloc: Global) -> Result<Command<'a>, AllocError>
     ensures shape { IfOk result (λ made. shape_of made ≡ replay_shape) }
     ensures local { IfOk result (λ made. (fields_of made).has_globals ≡ false) }
 {
-    subcommand(
+    of_both(
         alloc,
         "replay",
         help::REPLAY_ABOUT,
         help::REPLAY_USAGE,
         help::REPLAY_NOTES,
     )
-    .arg(plan(alloc))?
-    .arg(second(alloc))
 }
 
 fn check<'a>(alloc: Global) -> Result<Command<'a>, AllocError>
     ensures shape { IfOk result (λ made. shape_of made ≡ check_shape) }
     ensures local { IfOk result (λ made. (fields_of made).has_globals ≡ false) }
 {
-    subcommand(
+    of_both(
         alloc,
         "check",
         help::CHECK_ABOUT,
         help::CHECK_USAGE,
         help::CHECK_NOTES,
     )
-    .arg(plan(alloc))?
-    .arg(second(alloc))
 }
 
 fn explain<'a>(alloc: Global) -> Result<Command<'a>, AllocError>
     ensures shape { IfOk result (λ made. shape_of made ≡ explain_shape) }
     ensures local { IfOk result (λ made. (fields_of made).has_globals ≡ false) }
 {
-    subcommand(
+    of_both(
         alloc,
         "explain",
         help::EXPLAIN_ABOUT,
         help::EXPLAIN_USAGE,
         help::EXPLAIN_NOTES,
     )
-    .arg(plan(alloc))?
-    .arg(second(alloc))
 }
 
 // The file of the plan, or of all texts.
@@ -135,14 +138,13 @@ fn certify<'a>(alloc: Global) -> Result<Command<'a>, AllocError>
     ensures shape { IfOk result (λ made. shape_of made ≡ certify_shape) }
     ensures local { IfOk result (λ made. (fields_of made).has_globals ≡ false) }
 {
-    subcommand(
+    of_plan(
         alloc,
         "certify",
         search_help::CERTIFY_ABOUT,
         search_help::CERTIFY_USAGE,
         search_help::CERTIFY_NOTES,
-    )
-    .arg(plan(alloc))?
+    )?
     .arg(workers(alloc))
 }
 
@@ -159,14 +161,13 @@ fn fit<'a>(alloc: Global) -> Result<Command<'a>, AllocError>
     ensures shape { IfOk result (λ made. shape_of made ≡ fit_shape) }
     ensures local { IfOk result (λ made. (fields_of made).has_globals ≡ false) }
 {
-    subcommand(
+    of_plan(
         alloc,
         "fit",
         search_help::FIT_ABOUT,
         search_help::FIT_USAGE,
         search_help::FIT_NOTES,
-    )
-    .arg(plan(alloc))?
+    )?
     .arg(bundle(
         alloc,
         "Write the plan with those sizes, and its certificate behind it",
@@ -188,15 +189,13 @@ fn run<'a>(alloc: Global) -> Result<Command<'a>, AllocError>
     ensures shape { IfOk result (λ made. shape_of made ≡ run_shape) }
     ensures local { IfOk result (λ made. (fields_of made).has_globals ≡ false) }
 {
-    subcommand(
+    of_both(
         alloc,
         "run",
         search_help::RUN_ABOUT,
         search_help::RUN_USAGE,
         search_help::RUN_NOTES,
-    )
-    .arg(plan(alloc))?
-    .arg(second(alloc))?
+    )?
     .arg(rounds(alloc))
 }
 
@@ -213,14 +212,13 @@ fn refute<'a>(alloc: Global) -> Result<Command<'a>, AllocError>
     ensures shape { IfOk result (λ made. shape_of made ≡ refute_shape) }
     ensures local { IfOk result (λ made. (fields_of made).has_globals ≡ false) }
 {
-    subcommand(
+    of_plan(
         alloc,
         "refute",
         search_help::REFUTE_ABOUT,
         search_help::REFUTE_USAGE,
         search_help::REFUTE_NOTES,
-    )
-    .arg(plan(alloc))?
+    )?
     .arg(states(alloc))?
     .arg(bundle(
         alloc,
@@ -241,42 +239,30 @@ fn ask<'a>(alloc: Global) -> Result<Command<'a>, AllocError>
     ensures shape { IfOk result (λ made. shape_of made ≡ ask_shape) }
     ensures local { IfOk result (λ made. (fields_of made).has_globals ≡ false) }
 {
-    question(alloc)?
-        .arg(strict(alloc))?
-        .arg(json(alloc))?
-        .arg(dot(alloc))?
-        .arg(certificate(alloc))
-}
-
-// The question, and the texts that it is about.
-fn question<'a>(alloc: Global) -> Result<Command<'a>, AllocError>
-    ensures shape { IfOk result (λ made. shape_of made ≡ (of_both (codes "ask")).top) }
-    ensures local { IfOk result (λ made. (fields_of made).has_globals ≡ false) }
-{
-    subcommand(
+    of_both(
         alloc,
         "ask",
         ask_help::ASK_ABOUT,
         ask_help::ASK_USAGE,
         ask_help::ASK_NOTES,
-    )
-    .arg(plan(alloc))?
-    .arg(second(alloc))
+    )?
+    .arg(strict(alloc))?
+    .arg(json(alloc))?
+    .arg(dot(alloc))?
+    .arg(certificate(alloc))
 }
 
 fn conform<'a>(alloc: Global) -> Result<Command<'a>, AllocError>
     ensures shape { IfOk result (λ made. shape_of made ≡ conform_shape) }
     ensures local { IfOk result (λ made. (fields_of made).has_globals ≡ false) }
 {
-    subcommand(
+    of_both(
         alloc,
         "conform",
         recording_help::CONFORM_ABOUT,
         recording_help::CONFORM_USAGE,
         recording_help::CONFORM_NOTES,
     )
-    .arg(plan(alloc))?
-    .arg(second(alloc))
 }
 
 fn learn<'a>(alloc: Global) -> Result<Command<'a>, AllocError>
@@ -360,7 +346,35 @@ fn number<'a>(alloc: Global, id: &'a str, low: u64, high: u64) -> Arg<'a>
         .value_parser(ValueParser::unsigned(low, high))
 }
 
-// A subcommand with its help, and with no option yet.
+// A subcommand that reads a plan and what stands behind it, with its help, and with no option yet.
+fn of_both<'a>(
+    alloc: Global,
+    name: &'a str,
+    about: &'a str,
+    usage: &'a str,
+    notes: &'a str,
+) -> Result<Command<'a>, AllocError>
+    ensures shape { IfOk result (λ made. shape_of made ≡ (of_both name.entry.now).top) }
+    ensures local { IfOk result (λ made. (fields_of made).has_globals ≡ false) }
+{
+    of_plan(alloc, name, about, usage, notes)?.arg(second(alloc))
+}
+
+// A subcommand that reads a plan.
+fn of_plan<'a>(
+    alloc: Global,
+    name: &'a str,
+    about: &'a str,
+    usage: &'a str,
+    notes: &'a str,
+) -> Result<Command<'a>, AllocError>
+    ensures shape { IfOk result (λ made. shape_of made ≡ (of_plan name.entry.now).top) }
+    ensures local { IfOk result (λ made. (fields_of made).has_globals ≡ false) }
+{
+    subcommand(alloc, name, about, usage, notes).arg(plan(alloc))
+}
+
+// A subcommand that reads no file yet.
 fn subcommand<'a>(
     alloc: Global,
     name: &'a str,

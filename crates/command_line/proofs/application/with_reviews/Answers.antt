@@ -1,0 +1,15 @@
+use Rattle.std.proofs.Common.{◌≡◌, refl}
+use Rattle.std.proofs.lemmas.Result.{IfOk-weaker}
+use Rattle.clap.specs.Words.{app_of, with_subcommand}
+use Rattle.command_line.specs.Application.{replay_shape, check_shape, explain_shape}
+use Rattle.command_line.proofs.Subcommands.{added}
+use Rattle.command_line.proofs.application.with_reviews.Goals as goal
+
+pub returns : goal.returns
+returns c =
+    let made_0 = app_of c.args.program in
+    let made_1 = with_subcommand made_0 replay_shape in
+    let is_1 : app_of c.in_ok-replaying.replaying ≡ made_1 = added c.replay.result replay_shape made_0 made_0 c.in_ok-replaying.replaying c.replay.ensures.shape c.in_ok-replaying.ensures refl in
+    let made_2 = with_subcommand made_1 check_shape in
+    let is_2 : app_of c.in_ok-checking.checking ≡ made_2 = added c.check.result check_shape (app_of c.in_ok-replaying.replaying) made_1 c.in_ok-checking.checking c.check.ensures.shape c.in_ok-checking.ensures is_1 in
+    IfOk-weaker c.with-3.result _ _ (λ made adds. added c.explain.result explain_shape (app_of c.in_ok-checking.checking) made_2 made c.explain.ensures.shape adds is_2) c.with-3.ensures

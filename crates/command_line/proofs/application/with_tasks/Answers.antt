@@ -1,0 +1,19 @@
+use Rattle.std.proofs.Common.{◌≡◌, refl}
+use Rattle.std.proofs.lemmas.Result.{IfOk-weaker}
+use Rattle.clap.specs.Words.{app_of, with_subcommand}
+use Rattle.command_line.specs.Application.{certify_shape, fit_shape, run_shape, refute_shape, ask_shape}
+use Rattle.command_line.proofs.Subcommands.{added}
+use Rattle.command_line.proofs.application.with_tasks.Goals as goal
+
+pub returns : goal.returns
+returns c =
+    let made_0 = app_of c.args.program in
+    let made_1 = with_subcommand made_0 certify_shape in
+    let is_1 : app_of c.in_ok-certifying.certifying ≡ made_1 = added c.certify.result certify_shape made_0 made_0 c.in_ok-certifying.certifying c.certify.ensures.shape c.in_ok-certifying.ensures refl in
+    let made_2 = with_subcommand made_1 fit_shape in
+    let is_2 : app_of c.in_ok-fitting.fitting ≡ made_2 = added c.fit.result fit_shape (app_of c.in_ok-certifying.certifying) made_1 c.in_ok-fitting.fitting c.fit.ensures.shape c.in_ok-fitting.ensures is_1 in
+    let made_3 = with_subcommand made_2 run_shape in
+    let is_3 : app_of c.in_ok-running.running ≡ made_3 = added c.run.result run_shape (app_of c.in_ok-fitting.fitting) made_2 c.in_ok-running.running c.run.ensures.shape c.in_ok-running.ensures is_2 in
+    let made_4 = with_subcommand made_3 refute_shape in
+    let is_4 : app_of c.in_ok-refuting.refuting ≡ made_4 = added c.refute.result refute_shape (app_of c.in_ok-running.running) made_3 c.in_ok-refuting.refuting c.refute.ensures.shape c.in_ok-refuting.ensures is_3 in
+    IfOk-weaker c.with-5.result _ _ (λ made adds. added c.ask.result ask_shape (app_of c.in_ok-refuting.refuting) made_4 made c.ask.ensures.shape adds is_4) c.with-5.ensures
