@@ -1,7 +1,8 @@
-"""The gate with a clock: `rt ci`, run by rt's own code, and what each check, build and run of it took of processor time.
+"""The gate with a clock: `rt ci`, run by rt's own code, and what each check, build and run of it took: processor time, time,
+and memory at the most.
 
 rt starts a process for each of them, and the system tells what a process took when it ends. So nothing is sampled, and
-each line is written as its process ends."""
+each line is written as its process ends. As many go side by side as in `make gate`."""
 import importlib.machinery
 import importlib.util
 import os
@@ -11,6 +12,8 @@ import subprocess
 import sys
 import threading
 import time
+
+from lanes import CHECK_GIB, side_by_side
 
 here = threading.local()
 started, written = {}, []
@@ -49,9 +52,9 @@ class Popen(subprocess.Popen):
         started[self.pid] = kind_of(words), time.monotonic()
 
 
-def write(crate, kind, name, seconds, wall):
+def write(crate, kind, name, seconds, wall, mebibytes):
     for file in written:
-        file.write(f"{crate}\t{kind}\t{name}\t{seconds:.2f}\t{wall:.2f}\n")
+        file.write(f"{crate}\t{kind}\t{name}\t{seconds:.2f}\t{wall:.2f}\t{mebibytes}\n")
 
 
 def measured_wait(pid, options):
@@ -59,7 +62,7 @@ def measured_wait(pid, options):
     if pid in started:
         (crate, kind, name), since = started.pop(pid)
         if kind:
-            write(crate, kind, name, used.ru_utime + used.ru_stime, time.monotonic() - since)
+            write(crate, kind, name, used.ru_utime + used.ru_stime, time.monotonic() - since, used.ru_maxrss // 1024)
     return pid, status
 
 
@@ -95,13 +98,15 @@ def processor_seconds():
 def main(words, path):
     """Runs rt with these words, and writes a line for each process of rattle's, and one for the whole, with the number of processors."""
     os.makedirs(os.path.dirname(path), exist_ok=True)
+    os.environ.setdefault("RT_JOBS", str(side_by_side(CHECK_GIB)))
     rt = rt_module()
     measure(rt)
     since, used = time.monotonic(), processor_seconds()
     with open(path, "w", buffering=1, encoding="utf-8") as file:
         written.append(file)
         status = rt.main(words)
-        write(os.cpu_count(), "whole", " ".join(words), processor_seconds() - used, time.monotonic() - since)
+        most = resource.getrusage(resource.RUSAGE_CHILDREN).ru_maxrss // 1024
+        write(os.cpu_count(), "whole", " ".join(words), processor_seconds() - used, time.monotonic() - since, most)
         written.clear()
     return status
 

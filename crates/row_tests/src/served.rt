@@ -65,19 +65,26 @@ fn in_pieces(alloc: Global, query: Query, input: &[u8], most: usize) -> Result<E
 fn answered(alloc: Global, query: Query, input: &[u8]) -> Result<String, AllocError> {
     let ended = whole(alloc, query, input)?;
     let mut answer = ended.shown(alloc)?;
-    let in_pieces = if input.len() <= LONG {
-        in_pieces(alloc, query, input, 1)?
-    } else {
-        in_pieces(alloc, query, input, 5_000)?
-    };
-    if in_pieces != ended {
+    let case = Case { input, ended };
+    push_otherwise(alloc, query, &case, &mut answer)?;
+    Ok(answer)
+}
+
+// Says where it is answered otherwise in pieces, or, where it is short, as a call fails.
+fn push_otherwise(
+    alloc: Global,
+    query: Query,
+    case: &Case<'_>,
+    answer: &mut String,
+) -> Result<(), AllocError> {
+    let most = if case.input.len() <= LONG { 1 } else { 5_000 };
+    if in_pieces(alloc, query, case.input, most)? != case.ended {
         answer.push_str(", but not in pieces")?;
     }
-    if input.len() <= SHORT {
-        let case = Case { input, ended };
-        case.push_otherwise(alloc, query, &mut answer)?;
+    if case.input.len() <= SHORT {
+        case.push_otherwise(alloc, query, answer)?;
     }
-    Ok(answer)
+    Ok(())
 }
 
 fn checked_and_explained(alloc: Global, input: &[u8]) -> Result<String, AllocError> {

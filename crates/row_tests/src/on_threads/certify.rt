@@ -1,8 +1,8 @@
 //! Plans for which a certificate is looked for.
 
 use crate::on_threads::ended::Ended;
-use crate::on_threads::failing::{push_failing_reads, push_failing_writes};
-use sizing_cli::{Command, MemorySink, MemorySource, Status, Task};
+use crate::on_threads::failing;
+use sizing_cli::{Command, Status, Task};
 use std::alloc::{AllocError, Global};
 use std::sync::Wait;
 use std::thread::Threads;
@@ -31,26 +31,35 @@ pub fn certified_and_checked<R: Threads + Wait + Sync>(
     plan: &[u8],
 ) -> Result<String, AllocError> {
     let ended = Ended::of_input(rt, alloc, ONE_WORKER, plan)?;
-    let mut answer = if ended.outcome == Ok(Status::Done) {
-        Ended::of_bundle(alloc, &ended.written)?.first_line(alloc)?
-    } else {
-        ended.shown(alloc)?
-    };
-    if ended.outcome == Ok(Status::Done) && !ended.written.starts_with(&front_of(alloc, plan)?) {
-        answer.push_str(", but of another plan")?;
-    }
+    let mut answer = checked(alloc, plan, &ended)?;
     push_otherwise(rt, alloc, plan, &ended, &mut answer)?;
     Ok(answer)
 }
 
-// What a bundle of the plan begins with.
-fn front_of(alloc: Global, plan: &[u8]) -> Result<Vec<u8>, AllocError> {
-    let mut front = plan.to_vec(alloc)?;
-    if !plan.is_empty() && !plan.ends_with(b"\n") {
-        front.push(b'\n')?;
+// What was answered to the plan; where that is a bundle, what `check` says of it.
+fn checked(alloc: Global, plan: &[u8], ended: &Ended) -> Result<String, AllocError> {
+    if ended.outcome != Ok(Status::Done) {
+        return ended.shown(alloc);
     }
-    front.extend_from_slice(b"%%\n")?;
-    Ok(front)
+    let mut answer = Ended::of_bundle(alloc, &ended.written)?.first_line(alloc)?;
+    if !is_bundle_of(plan, &ended.written) {
+        answer.push_str(", but of another plan")?;
+    }
+    Ok(answer)
+}
+
+// The plan stands there, ended by a newline, and then the line that separates it from the certificate.
+fn is_bundle_of(plan: &[u8], bundle: &[u8]) -> bool {
+    let Some(mut rest) = bundle.strip_prefix(plan) else {
+        return false;
+    };
+    if !plan.is_empty() && !plan.ends_with(b"\n") {
+        let Some(behind) = rest.strip_prefix(b"\n") else {
+            return false;
+        };
+        rest = behind;
+    }
+    rest.starts_with(b"%%\n")
 }
 
 // Says where the plan is answered otherwise than with one worker: with 64 workers; and where it is short with two, read and
@@ -62,19 +71,13 @@ fn push_otherwise<R: Threads + Wait + Sync>(
     ended: &Ended,
     answer: &mut String,
 ) -> Result<(), AllocError> {
-    let command = Command::OnThreads(Task::Certify { workers: 64 });
-    if Ended::of_input(rt, alloc, command, plan)? != *ended {
+    let many = Command::OnThreads(Task::Certify { workers: 64 });
+    if Ended::of_input(rt, alloc, many, plan)? != *ended {
         answer.push_str(", but not with 64 workers")?;
     }
     if plan.len() > SHORT {
         return Ok(());
     }
-    let command = Command::OnThreads(Task::Certify { workers: 2 });
-    let mut source = MemorySource::new(plan).at_most(1);
-    let sink = MemorySink::new(alloc).at_most(1);
-    if Ended::of_source(rt, alloc, command, &mut source, sink)? != *ended {
-        answer.push_str(", but not a byte at a time")?;
-    }
-    push_failing_reads(rt, alloc, command, plan, ended, answer)?;
-    push_failing_writes(rt, alloc, command, plan, ended, answer)
+    let two = Command::OnThreads(Task::Certify { workers: 2 });
+    failing::push_otherwise(rt, alloc, two, plan, ended, answer)
 }

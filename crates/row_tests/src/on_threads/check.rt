@@ -23,21 +23,53 @@ pub fn checked<R: Threads + Sync>(
     bundle: &[u8],
 ) -> Result<String, AllocError> {
     let bundle = String::from_utf8_lossy(alloc, bundle)?;
-    let Some((plan, cert)) = bundle.as_str().split_once("%%\n") else {
-        return String::from_str(alloc, "no line `%%`");
-    };
-    let (plan, cert) = (plan.as_bytes(), cert.as_bytes());
-    let read = read_plan(alloc, plan);
-    let alone = told(alloc, &read, check(alloc, plan, cert))?;
-    let mut answer = alone.clone()?;
-    for workers in [1, 3, 64] {
-        let on_threads = check_on(rt, alloc, workers, plan, cert, &Open);
-        let on_threads = told(alloc, &read, on_threads)?;
-        if on_threads != alone {
-            write!(answer, "\nwith {workers} workers {on_threads}")?;
-        }
+    match bundle.as_str().split_once("%%\n") {
+        Some((plan, cert)) => told_of_each(rt, alloc, plan.as_bytes(), cert.as_bytes()),
+        None => String::from_str(alloc, "no line `%%`"),
     }
+}
+
+// What is told of the two texts.
+fn told_of_each<R: Threads + Sync>(
+    rt: &R,
+    alloc: Global,
+    plan: &[u8],
+    cert: &[u8],
+) -> Result<String, AllocError> {
+    let read = read_plan(alloc, plan);
+    let mut answer = told(alloc, &read, check(alloc, plan, cert))?;
+    let texts = Texts { plan, cert, read };
+    let otherwise = texts.told_otherwise(rt, alloc, answer.as_str())?;
+    answer.push_str(otherwise.as_str())?;
     Ok(answer)
+}
+
+// The text of a plan, and what is read of it, and that of a certificate.
+#[derive(Drop)]
+struct Texts<'a> {
+    plan: &'a [u8],
+    cert: &'a [u8],
+    read: Result<Plan, PlanFault>,
+}
+
+impl Texts<'_> {
+    // Where workers of some number answer otherwise than so.
+    fn told_otherwise<R: Threads + Sync>(
+        &self,
+        rt: &R,
+        alloc: Global,
+        alone: &str,
+    ) -> Result<String, AllocError> {
+        let mut otherwise = String::new(alloc);
+        for workers in [1, 3, 64] {
+            let found = check_on(rt, alloc, workers, self.plan, self.cert, &Open);
+            let told = told(alloc, &self.read, found)?;
+            if told.as_str() != alone {
+                write!(otherwise, "\nwith {workers} workers {told}")?;
+            }
+        }
+        Ok(otherwise)
+    }
 }
 
 // The verdict or the fault of a check.

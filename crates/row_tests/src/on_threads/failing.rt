@@ -1,4 +1,4 @@
-//! Sources and sinks that fail at one of their calls.
+//! Sources and sinks that take a byte in each of their calls, or fail at one of them.
 
 ghost use Rattle.command_line.specs.Command.{IsInRange};
 
@@ -15,9 +15,56 @@ const WRITE_FAILED: ServeFault = ServeFault { number: 61 };
 // How many bytes a call reads or writes.
 const PIECE: usize = 250;
 
-/// Says where a source that fails does not give 60 with nothing written. One call more than those that give the bytes is
-/// made, which tells their end; a failure of a later call is never met.
-pub fn push_failing_reads<R: Threads + Wait + Sync>(
+/// What the command answers, and whether it answers otherwise a byte at a time, or to a source or a sink that fails.
+pub fn tried<R: Threads + Wait + Sync>(
+    rt: &R,
+    alloc: Global,
+    command: Command,
+    input: &[u8],
+) -> Result<String, AllocError>
+    requires { IsInRange command }
+{
+    let ended = Ended::of_input(rt, alloc, command, input)?;
+    let mut answer = ended.shown(alloc)?;
+    push_otherwise(rt, alloc, command, input, &ended, &mut answer)?;
+    Ok(answer)
+}
+
+/// Says where the command answers otherwise than so.
+pub fn push_otherwise<R: Threads + Wait + Sync>(
+    rt: &R,
+    alloc: Global,
+    command: Command,
+    input: &[u8],
+    ended: &Ended,
+    answer: &mut String,
+) -> Result<(), AllocError>
+    requires { IsInRange command }
+{
+    if in_bytes(rt, alloc, command, input)? != *ended {
+        answer.push_str(", but not a byte at a time")?;
+    }
+    push_failing_reads(rt, alloc, command, input, ended, answer)?;
+    push_failing_writes(rt, alloc, command, input, ended, answer)
+}
+
+// What is answered where a call reads and writes one byte.
+fn in_bytes<R: Threads + Wait + Sync>(
+    rt: &R,
+    alloc: Global,
+    command: Command,
+    input: &[u8],
+) -> Result<Ended, AllocError>
+    requires { IsInRange command }
+{
+    let mut source = MemorySource::new(input).at_most(1);
+    let sink = MemorySink::new(alloc).at_most(1);
+    Ended::of_source(rt, alloc, command, &mut source, sink)
+}
+
+// Says where a source that fails does not give 60 with nothing written. One call more than those that give the bytes is
+// made, which tells their end; a failure of a later call is never met.
+fn push_failing_reads<R: Threads + Wait + Sync>(
     rt: &R,
     alloc: Global,
     command: Command,
@@ -43,9 +90,9 @@ pub fn push_failing_reads<R: Threads + Wait + Sync>(
     Ok(())
 }
 
-/// Says where a sink that fails does not give 61 with a front of the answer. A failure of a later call than those that take
-/// the answer is never met.
-pub fn push_failing_writes<R: Threads + Wait + Sync>(
+// Says where a sink that fails does not give 61 with a front of the answer. A failure of a later call than those that take
+// the answer is never met.
+fn push_failing_writes<R: Threads + Wait + Sync>(
     rt: &R,
     alloc: Global,
     command: Command,

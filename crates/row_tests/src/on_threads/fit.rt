@@ -3,8 +3,8 @@
 ghost use Rattle.command_line.specs.Command.{IsInRange};
 
 use crate::on_threads::ended::Ended;
-use crate::on_threads::failing::{push_failing_reads, push_failing_writes};
-use sizing_cli::{Command, MemorySink, MemorySource, SizesForm, Status, Task};
+use crate::on_threads::failing::tried;
+use sizing_cli::{Command, SizesForm, Status, Task};
 use std::alloc::{AllocError, Global};
 use std::sync::Wait;
 use std::thread::Threads;
@@ -49,13 +49,21 @@ pub fn fitted_and_checked<R: Threads + Wait + Sync>(
         return ended.shown(alloc);
     }
     let mut answer = Ended::of_bundle(alloc, &ended.written)?.first_line(alloc)?;
-    let bundle = String::from_utf8_lossy(alloc, &ended.written)?;
-    let Some((fit, _)) = bundle.as_str().split_once("%%\n") else {
-        return String::from_str(alloc, "no line `%%`");
-    };
-    let again = Ended::of_input(rt, alloc, SIZES, fit.as_bytes())?;
-    write!(answer, "\n{}", again.shown(alloc)?)?;
+    write!(answer, "\n{}", fitted_again(rt, alloc, &ended.written)?)?;
     Ok(answer)
+}
+
+// What `fit` says of the plan in a bundle.
+fn fitted_again<R: Threads + Wait + Sync>(
+    rt: &R,
+    alloc: Global,
+    bundle: &[u8],
+) -> Result<String, AllocError> {
+    let bundle = String::from_utf8_lossy(alloc, bundle)?;
+    match bundle.as_str().split_once("%%\n") {
+        Some((fit, _)) => Ended::of_input(rt, alloc, SIZES, fit.as_bytes())?.shown(alloc),
+        None => String::from_str(alloc, "no line `%%`"),
+    }
 }
 
 // What the command answers; and where the plan is short, whether it answers otherwise a byte at a time, or to a source or a
@@ -68,17 +76,8 @@ pub(crate) fn served<R: Threads + Wait + Sync>(
 ) -> Result<String, AllocError>
     requires { IsInRange command }
 {
-    let ended = Ended::of_input(rt, alloc, command, plan)?;
-    let mut answer = ended.shown(alloc)?;
-    if plan.len() > SHORT {
-        return Ok(answer);
+    if plan.len() <= SHORT {
+        return tried(rt, alloc, command, plan);
     }
-    let mut source = MemorySource::new(plan).at_most(1);
-    let sink = MemorySink::new(alloc).at_most(1);
-    if Ended::of_source(rt, alloc, command, &mut source, sink)? != ended {
-        answer.push_str(", but not a byte at a time")?;
-    }
-    push_failing_reads(rt, alloc, command, plan, &ended, &mut answer)?;
-    push_failing_writes(rt, alloc, command, plan, &ended, &mut answer)?;
-    Ok(answer)
+    Ended::of_input(rt, alloc, command, plan)?.shown(alloc)
 }

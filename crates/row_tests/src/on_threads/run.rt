@@ -3,8 +3,8 @@
 ghost use Rattle.std.specs.Prelude.{◌≤◌};
 
 use crate::on_threads::ended::Ended;
-use crate::on_threads::failing::{push_failing_reads, push_failing_writes};
-use sizing_cli::{Command, MemorySink, MemorySource, Task};
+use crate::on_threads::failing::tried;
+use sizing_cli::{Command, Task};
 use std::alloc::{AllocError, Global};
 use std::sync::Wait;
 use std::thread::Threads;
@@ -23,19 +23,10 @@ pub fn ran<R: Threads + Wait + Sync>(
     requires most { rounds ≤ 1000000 }
 {
     let command = Command::OnThreads(Task::Run { rounds });
-    let ended = Ended::of_input(rt, alloc, command, bundle)?;
-    let mut answer = ended.shown(alloc)?;
-    if rounds > SHORT {
-        return Ok(answer);
+    if rounds <= SHORT {
+        return tried(rt, alloc, command, bundle);
     }
-    let mut source = MemorySource::new(bundle).at_most(1);
-    let sink = MemorySink::new(alloc).at_most(1);
-    if Ended::of_source(rt, alloc, command, &mut source, sink)? != ended {
-        answer.push_str(", but not a byte at a time")?;
-    }
-    push_failing_reads(rt, alloc, command, bundle, &ended, &mut answer)?;
-    push_failing_writes(rt, alloc, command, bundle, &ended, &mut answer)?;
-    Ok(answer)
+    Ended::of_input(rt, alloc, command, bundle)?.shown(alloc)
 }
 
 /// What `run` answers to a bundle, behind a line with the number of rounds, 1 to 1,000,000.

@@ -15,19 +15,26 @@ pub fn asked(alloc: Global, lines: &[u8]) -> Result<String, AllocError> {
 }
 
 fn told(alloc: Global, asked: &Asked<'_>) -> Result<String, AllocError> {
-    let mut text = match asked.command {
-        Command::Alone(review) => format!(in alloc; "Some({review:?})")?,
-        Command::OnRecording(reading) => format!(in alloc; "Some({reading:?})")?,
-        Command::OnThreads(task) => format!(in alloc; "Some({task:?})")?,
-    };
-    if let Some(first) = asked.first {
-        write!(text, ", first {first}")?;
-    }
-    if let Some(second) = asked.second {
-        write!(text, ", second {second}")?;
-    }
-    if let Some(certificate) = asked.certificate {
-        write!(text, ", certificate {certificate}")?;
-    }
+    let mut text = String::new(alloc);
+    push_asked(&mut text, asked)?;
     Ok(text)
+}
+
+fn push_asked(text: &mut String, asked: &Asked<'_>) -> Result<(), AllocError> {
+    match asked.command {
+        Command::Alone(review) => write!(text, "Some({review:?})")?,
+        Command::OnRecording(reading) => write!(text, "Some({reading:?})")?,
+        Command::OnThreads(task) => write!(text, "Some({task:?})")?,
+    }
+    push_file(text, "first", asked.first)?;
+    push_file(text, "second", asked.second)?;
+    push_file(text, "certificate", asked.certificate)
+}
+
+// Adds the file of this name, where it is named.
+fn push_file(text: &mut String, name: &str, file: Option<&str>) -> Result<(), AllocError> {
+    match file {
+        Some(file) => write!(text, ", {name} {file}"),
+        None => Ok(()),
+    }
 }
