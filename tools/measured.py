@@ -3,29 +3,18 @@ and memory at the most.
 
 rt starts a process for each of them, and the system tells what a process took when it ends. So nothing is sampled, and
 each line is written as its process ends. As many go side by side as in `make gate`."""
-import importlib.machinery
-import importlib.util
 import os
 import resource
-import shutil
 import subprocess
 import sys
 import threading
 import time
 
+from kit import rt_module
 from lanes import CHECK_GIB, side_by_side
 
 here = threading.local()
 started, written = {}, []
-
-
-def rt_module():
-    path = os.path.realpath(shutil.which("rt"))
-    loader = importlib.machinery.SourceFileLoader("rt", path)
-    spec = importlib.util.spec_from_loader("rt", loader)
-    module = importlib.util.module_from_spec(spec)
-    loader.exec_module(module)
-    return module
 
 
 def word_behind(words, word):

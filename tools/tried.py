@@ -3,7 +3,7 @@
 That check takes as much time and memory as the try itself, and the gate makes it of every crate."""
 import sys
 
-from measured import rt_module
+from kit import rt_module
 
 if __name__ == "__main__":
     sys.dont_write_bytecode = True
