@@ -38,7 +38,7 @@ test:
 
 # The whole gate: every proof from nothing, the wrong bodies that must be refused, every test and every stored run.
 gate:
-	RT_JOBS=$$(python3 tools/lanes.py) rt ci
+	RT_JOBS=$${RT_JOBS-$$(python3 tools/lanes.py)} rt ci
 
 # The wrong bodies that the gate leaves out, of every crate or of one: make refused CRATE=NAME.
 refused:

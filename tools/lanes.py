@@ -1,21 +1,26 @@
-"""lanes.py: prints how many checks may go side by side: one a processor, as far as there is memory for each.
+"""lanes.py: prints how many checks are to go side by side where there is memory for one a processor, and else nothing.
 
-`rt ci` takes this number from RT_JOBS. Left alone it counts on four times the memory that a check of these crates takes, and
-lets processors stand idle. What processors and memory there are is asked of rt, which knows of the limits of a container."""
+`rt ci` takes this number from RT_JOBS, and then looks at no memory itself. Where there is none it counts on more memory than a
+check of these crates takes (docs/GATE.md), and lets processors stand idle. What processors and memory there are is asked of rt,
+which knows of the limits of a container."""
 import sys
 
 from kit import rt_module
 
-# The most memory that a check takes, with room to spare: the largest were seen to take some 3 GiB (docs/GATE.md).
+# The most memory that a check takes, with room to spare.
 CHECK_GIB = 5
 
 
-def side_by_side(gib):
+def side_by_side(rt, gib):
     """How many may run at once that take so much memory each."""
-    rt = rt_module()
     return max(1, min(rt.processors(), int(rt.free() / 2**30 / gib)))
 
 
+def of_checks(rt):
+    """What RT_JOBS is to be."""
+    lanes = side_by_side(rt, CHECK_GIB)
+    return str(lanes) if lanes == rt.processors() else ""
+
+
 if __name__ == "__main__":
-    sys.dont_write_bytecode = True
-    print(side_by_side(CHECK_GIB))
+    print(of_checks(rt_module()))

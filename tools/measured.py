@@ -1,8 +1,8 @@
 """The gate with a clock: `rt ci`, run by rt's own code, and what each check, build and run of it took: processor time, time,
-and memory at the most.
+and the memory of its largest process.
 
 rt starts a process for each of them, and the system tells what a process took when it ends. So nothing is sampled, and
-each line is written as its process ends. As many go side by side as in `make gate`."""
+each line is written as its process ends. Of a whole `ci` as many go side by side as in `make gate`."""
 import os
 import resource
 import subprocess
@@ -11,7 +11,7 @@ import threading
 import time
 
 from kit import rt_module
-from lanes import CHECK_GIB, side_by_side
+from lanes import of_checks
 
 here = threading.local()
 started, written = {}, []
@@ -87,15 +87,16 @@ def processor_seconds():
 def main(words, path):
     """Runs rt with these words, and writes a line for each process of rattle's, and one for the whole, with the number of processors."""
     os.makedirs(os.path.dirname(path), exist_ok=True)
-    os.environ.setdefault("RT_JOBS", str(side_by_side(CHECK_GIB)))
     rt = rt_module()
+    if words == ["ci"]:
+        os.environ.setdefault("RT_JOBS", of_checks(rt))
     measure(rt)
     since, used = time.monotonic(), processor_seconds()
     with open(path, "w", buffering=1, encoding="utf-8") as file:
         written.append(file)
         status = rt.main(words)
         most = resource.getrusage(resource.RUSAGE_CHILDREN).ru_maxrss // 1024
-        write(os.cpu_count(), "whole", " ".join(words), processor_seconds() - used, time.monotonic() - since, most)
+        write(rt.processors(), "whole", " ".join(words), processor_seconds() - used, time.monotonic() - since, most)
         written.clear()
     return status
 
