@@ -7,7 +7,7 @@ import sys
 
 from kit import rt_module
 
-# The most memory that a check takes, with room to spare.
+# The largest check takes a little more than this, and nearly all others take 1 to 3 (docs/GATE.md).
 CHECK_GIB = 5
 
 

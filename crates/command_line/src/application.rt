@@ -14,41 +14,42 @@ use std::alloc::{AllocError, Global};
 pub(crate) fn application<'a>(alloc: Global) -> Result<Command<'a>, AllocError>
     ensures { IfOk result (λ made. app_of made ≡ sizing) }
 {
-    let reviewing = with_reviews(alloc, program(alloc))?;
-    let tasking = with_tasks(alloc, reviewing)?;
-    with_readings(alloc, tasking)
+    let reviewed = with_reviews(alloc, program(alloc))?;
+    let tasked = with_tasks(alloc, reviewed)?;
+    with_readings(alloc, tasked)
 }
 
 // With a subcommand for each review.
 fn with_reviews<'a>(alloc: Global, program: Command<'a>) -> Result<Command<'a>, AllocError>
     ensures { IfOk result (λ made. app_of made ≡ with_reviews (app_of program.entry)) }
 {
-    let replaying = with(program, replay(alloc))?;
-    let checking = with(replaying, check(alloc))?;
-    with(checking, explain(alloc))
+    let replayed = with_subcommand(program, replay(alloc))?;
+    let checked = with_subcommand(replayed, check(alloc))?;
+    with_subcommand(checked, explain(alloc))
 }
 
 // With a subcommand for each task.
 fn with_tasks<'a>(alloc: Global, program: Command<'a>) -> Result<Command<'a>, AllocError>
     ensures { IfOk result (λ made. app_of made ≡ with_tasks (app_of program.entry)) }
 {
-    let certifying = with(program, certify(alloc))?;
-    let fitting = with(certifying, fit(alloc))?;
-    let running = with(fitting, run(alloc))?;
-    let refuting = with(running, refute(alloc))?;
-    with(refuting, ask(alloc))
+    let certified = with_subcommand(program, certify(alloc))?;
+    let fitted = with_subcommand(certified, fit(alloc))?;
+    let ran = with_subcommand(fitted, run(alloc))?;
+    let refuted = with_subcommand(ran, refute(alloc))?;
+    with_subcommand(refuted, ask(alloc))
 }
 
 // With a subcommand for each reading of a recording.
 fn with_readings<'a>(alloc: Global, program: Command<'a>) -> Result<Command<'a>, AllocError>
     ensures { IfOk result (λ made. app_of made ≡ with_readings (app_of program.entry)) }
 {
-    let conforming = with(program, conform(alloc))?;
-    with(conforming, learn(alloc))
+    let conformed = with_subcommand(program, conform(alloc))?;
+    with_subcommand(conformed, learn(alloc))
 }
 
-// The program with this subcommand too. It owns both alone, so that no other function drops a program where one is not made.
-fn with<'a>(
+// The program with this subcommand too, if it was made. The `?` stands here, so that no caller owns a program where it may
+// end early.
+fn with_subcommand<'a>(
     program: Command<'a>,
     made: Result<Command<'a>, AllocError>,
 ) -> Result<Command<'a>, AllocError>

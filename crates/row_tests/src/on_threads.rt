@@ -26,8 +26,8 @@ use std::thread::Threads;
 
 /// What the input of a kind is answered.
 ///
-/// - `certify` is a plan's text. Its answer is what the command writes, with the status on a last line. It is asked with
-///   each number of workers, a byte at a time, and where it is short with a source and a sink that fail.
+/// - `certify` is a plan's text. Its answer is what the command writes, with the status on a last line. It is asked with 64
+///   workers too, and where it is short with two, a byte at a time and with a source and a sink that fail.
 /// - `certify and check` is the same, but in place of a bundle stands what `check` answers to it: its first line and its
 ///   status.
 /// - `check` is a bundle. Its answer is the verdict or the fault of the check on threads, with each number of workers.

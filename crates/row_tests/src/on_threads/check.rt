@@ -24,13 +24,13 @@ pub fn checked<R: Threads + Sync>(
 ) -> Result<String, AllocError> {
     let bundle = String::from_utf8_lossy(alloc, bundle)?;
     match bundle.as_str().split_once("%%\n") {
-        Some((plan, cert)) => told_of_each(rt, alloc, plan.as_bytes(), cert.as_bytes()),
+        Some((plan, cert)) => told_of_texts(rt, alloc, plan.as_bytes(), cert.as_bytes()),
         None => String::from_str(alloc, "no line `%%`"),
     }
 }
 
 // What is told of the two texts.
-fn told_of_each<R: Threads + Sync>(
+fn told_of_texts<R: Threads + Sync>(
     rt: &R,
     alloc: Global,
     plan: &[u8],
@@ -53,7 +53,7 @@ struct Texts<'a> {
 }
 
 impl Texts<'_> {
-    // Where workers of some number answer otherwise than so.
+    // Where workers of some number answer otherwise than the check alone.
     fn told_otherwise<R: Threads + Sync>(
         &self,
         rt: &R,

@@ -30,7 +30,7 @@ pub fn tried<R: Threads + Wait + Sync>(
     Ok(answer)
 }
 
-/// Says where the command answers otherwise than so.
+/// Says where the command ends otherwise than so, a byte at a time or where a call fails.
 pub fn push_otherwise<R: Threads + Wait + Sync>(
     rt: &R,
     alloc: Global,

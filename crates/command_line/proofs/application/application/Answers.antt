@@ -5,6 +5,6 @@ use Rattle.command_line.proofs.application.application.Goals as goal
 
 pub returns : goal.returns
 returns c =
-    let reviewed = c.in_ok-reviewing.ensures ∙ ap with_reviews c.program.ensures in
-    let tasked = c.in_ok-tasking.ensures ∙ ap with_tasks reviewed in
+    let reviewed = c.in_ok-reviewed.ensures ∙ ap with_reviews c.program.ensures in
+    let tasked = c.in_ok-tasked.ensures ∙ ap with_tasks reviewed in
     IfOk-weaker c.with_readings.result _ _ (λ made adds. adds ∙ ap with_readings tasked) c.with_readings.ensures

@@ -9,5 +9,5 @@ pub returns : goal.returns
 returns c =
     let made_0 = app_of c.args.program in
     let made_1 = with_subcommand made_0 conform_shape in
-    let is_1 : app_of c.in_ok-conforming.conforming ≡ made_1 = added c.conform.result conform_shape made_0 made_0 c.in_ok-conforming.conforming c.conform.ensures.shape c.in_ok-conforming.ensures refl in
-    IfOk-weaker c.with-2.result _ _ (λ made adds. added c.learn.result learn_shape (app_of c.in_ok-conforming.conforming) made_1 made c.learn.ensures.shape adds is_1) c.with-2.ensures
+    let is_1 : app_of c.in_ok-conformed.conformed ≡ made_1 = added c.conform.result conform_shape made_0 made_0 c.in_ok-conformed.conformed c.conform.ensures.shape c.in_ok-conformed.ensures refl in
+    IfOk-weaker c.with_subcommand-2.result _ _ (λ made adds. added c.learn.result learn_shape (app_of c.in_ok-conformed.conformed) made_1 made c.learn.ensures.shape adds is_1) c.with_subcommand-2.ensures

@@ -9,7 +9,7 @@ pub returns : goal.returns
 returns c =
     let made_0 = app_of c.args.program in
     let made_1 = with_subcommand made_0 replay_shape in
-    let is_1 : app_of c.in_ok-replaying.replaying ≡ made_1 = added c.replay.result replay_shape made_0 made_0 c.in_ok-replaying.replaying c.replay.ensures.shape c.in_ok-replaying.ensures refl in
+    let is_1 : app_of c.in_ok-replayed.replayed ≡ made_1 = added c.replay.result replay_shape made_0 made_0 c.in_ok-replayed.replayed c.replay.ensures.shape c.in_ok-replayed.ensures refl in
     let made_2 = with_subcommand made_1 check_shape in
-    let is_2 : app_of c.in_ok-checking.checking ≡ made_2 = added c.check.result check_shape (app_of c.in_ok-replaying.replaying) made_1 c.in_ok-checking.checking c.check.ensures.shape c.in_ok-checking.ensures is_1 in
-    IfOk-weaker c.with-3.result _ _ (λ made adds. added c.explain.result explain_shape (app_of c.in_ok-checking.checking) made_2 made c.explain.ensures.shape adds is_2) c.with-3.ensures
+    let is_2 : app_of c.in_ok-checked.checked ≡ made_2 = added c.check.result check_shape (app_of c.in_ok-replayed.replayed) made_1 c.in_ok-checked.checked c.check.ensures.shape c.in_ok-checked.ensures is_1 in
+    IfOk-weaker c.with_subcommand-3.result _ _ (λ made adds. added c.explain.result explain_shape (app_of c.in_ok-checked.checked) made_2 made c.explain.ensures.shape adds is_2) c.with_subcommand-3.ensures
