@@ -7,12 +7,12 @@ READER = crates/plan_reader/out/plan_reader
 PROGRAM_SOURCES := $(shell python3 tools/crates.py sizing)
 READER_SOURCES := $(shell python3 tools/crates.py plan_reader)
 
-.PHONY: help demo program install test gate refused examples checks java bench plan_reader clean
+.PHONY: help demo program install test gate gate-all rows mutants names examples checks java bench plan_reader clean
 
 # Lists the commands, each with what it does.
 help:
 	@awk '/^#/ { said = said (said == "" ? "" : "\n                ") substr($$0, 3) } \
-	      /^[a-z_]+:/ && said != "" { sub(/:.*/, ""); printf "make %-10s %s\n", $$0, said } \
+	      /^[a-z_-]+:/ && said != "" { sub(/:.*/, ""); printf "make %-10s %s\n", $$0, said } \
 	      !/^#/ { said = "" }' Makefile
 
 # Runs the program on its first example as it is written, before any proof: about two minutes on a fresh machine.
@@ -23,7 +23,7 @@ demo:
 program: $(PROGRAM)
 
 $(PROGRAM): $(PROGRAM_SOURCES)
-	@tools/build sizing $@
+	@tools/build sizing
 
 # Proves and builds the program, and puts it and its manual page where a shell finds them.
 install: program
@@ -32,17 +32,29 @@ install: program
 	install -D -m 644 $(dir $(PROGRAM))sizing.1 $(DESTDIR)$(PREFIX)/share/man/man1/sizing.1
 	@echo "sizing is in $(DESTDIR)$(PREFIX)/bin"
 
-# Every test, every worked row and each program's stored run as they are written: minutes. It proves nothing.
+# Runs every test, every worked row and each program's stored run before any proof: minutes. It proves nothing.
 test:
 	@tools/test
 
-# The whole gate: every proof from nothing, the wrong bodies that must be refused, every test and every stored run.
+# Proves the product from nothing in a copy, tries the mutants of must-fail/, and builds the program with both compilers.
 gate:
-	RT_JOBS=$${RT_JOBS-$$(python3 tools/lanes.py)} rt ci
+	@tools/gate
 
-# The wrong bodies that the gate leaves out, of every crate or of one: make refused CRATE=NAME.
-refused:
-	@tools/refused $(CRATE)
+# Proves everything in place, the crates of tests too, as a plain `rt ci` does.
+gate-all:
+	rt ci
+
+# Answers the worked rows with the programs that `make gate` built.
+rows:
+	@tools/rows
+
+# Tries the mutants of the crates that changed and writes mutants.lock; of one crate: CRATE=NAME; all from nothing: ALL=1.
+mutants:
+	@tools/mutants $(if $(ALL),--all) $(CRATE)
+
+# Prints the names of all definitions, promises, mutants and rows, by crate.
+names:
+	@tools/names
 
 # Runs the built program on each example, and compares what it answers.
 examples: program
@@ -85,7 +97,7 @@ bench: program plan_reader
 plan_reader: $(READER)
 
 $(READER): $(READER_SOURCES)
-	@tools/build plan_reader $@
+	@tools/build plan_reader
 
 # Removes what was built and kept in the working tree; the proofs that rt keeps on this machine stay.
 clean:

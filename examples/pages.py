@@ -7,13 +7,11 @@ the block, is what it prints, run in this folder: check.py runs each. Here is wh
 - What a page quotes of an answer inside a sentence (QUOTED) must be in a stored answer of a plan that the same part of the page
   names.
 - A path that a page names (NAMED) must be there, and so must the heading that a link leads to.
-- docs/NAMES.md must be what tools/names prints.
 
     python3 examples/pages.py     # prints what is not so; status 1 where something is not
 """
 
 import re
-import subprocess
 import sys
 from pathlib import Path
 
@@ -57,10 +55,6 @@ def faults_of(page, text):
         yield f"there is no {[path[1] for path in lost]}"
     if lost := [target for target in LINK.findall(text) if not leads_somewhere(page, *target)]:
         yield f"these links lead nowhere: {lost}"
-    if page.name == "NAMES.md":
-        printed = subprocess.run([TOP / "tools/names"], stdout=subprocess.PIPE, text=True, check=True).stdout
-        if text != printed:
-            yield "it is not what tools/names prints: run tools/names > docs/NAMES.md"
 
 
 def parts_of(text):

@@ -41,7 +41,7 @@ def files_of(names):
     """The files from which these crates are proved, by their paths from the top of the repository."""
     for name in sorted(names):
         for folder, folders, files in os.walk(f"{ROOT}/crates/{name}"):
-            folders[:] = sorted(set(folders) - {"out", "must-fail", "also-refused"})
+            folders[:] = sorted(set(folders) - {"out", "must-fail", "mutants"})
             yield from (os.path.relpath(f"{folder}/{file}", ROOT) for file in sorted(files))
     yield from ("crates.txt", "HANDLES")
 

@@ -1,26 +1,21 @@
-"""lanes.py: prints how many checks are to go side by side where there is memory for one a processor, and else nothing.
+"""How many checks run side by side, and how many jobs each of them gets.
 
-`rt ci` takes this number from RT_JOBS, and then looks at no memory itself. Where there is none it counts on more memory than a
-check of these crates takes (docs/GATE.md), and lets processors stand idle. What processors and memory there are is asked of rt,
-which knows of the limits of a container."""
-import sys
+`rt ci` starts a check if its estimate of the memory fits, and gives a check the processors that no other check waits for. Its
+estimates are 1.3 to 5.5 times what a check of these crates takes, so that processors stay idle; `realistic_need` replaces them
+where the machine has the memory."""
 
-from kit import rt_module
-
-# The largest check takes a little more than this, and nearly all others take 1 to 3 (docs/GATE.md).
+# The largest check takes a little more than this, and nearly all others 1 to 3 GiB (docs/GATE.md).
 CHECK_GIB = 5
+# What most checks take. A check with more jobs takes about 1 GiB more for each.
+USUAL_GIB = 2.5
 
 
 def side_by_side(rt, gib):
-    """How many may run at once that take so much memory each."""
+    """Returns how many runs fit at once that take this much memory each, at most one for each processor."""
     return max(1, min(rt.processors(), int(rt.free() / 2**30 / gib)))
 
 
-def of_checks(rt):
-    """What RT_JOBS is to be."""
-    lanes = side_by_side(rt, CHECK_GIB)
-    return str(lanes) if lanes == rt.processors() else ""
-
-
-if __name__ == "__main__":
-    print(of_checks(rt_module()))
+def realistic_need(rt):
+    """Has rt count on what a check takes, if there is enough memory for the largest check on each processor."""
+    if side_by_side(rt, CHECK_GIB) == rt.processors():
+        rt.need = lambda crate: int(USUAL_GIB * 2**30)

@@ -1,8 +1,9 @@
-"""The gate with a clock: `rt ci`, run by rt's own code, and what each check, build and run of it took: processor time, time,
-and the memory of its largest process.
+"""measured.py TIMES WORD..: runs `rt WORD..` by rt's own code, and writes what each check, build and edit took to the file TIMES.
 
-rt starts a process for each of them, and the system tells what a process took when it ends. So nothing is sampled, and
-each line is written as its process ends. Of a whole `ci` as many go side by side as in `make gate`."""
+A line has the crate, the kind (proofs, tests, build or edit), the edit's name, seconds of processor time, seconds by the clock,
+MiB of the largest process, and when it began, in seconds from the start. The last line is the whole: the number of processors,
+`whole`, the words, and the same numbers. rt starts a process for each check, and the system reports what a process took when it
+ends."""
 import os
 import resource
 import subprocess
@@ -11,19 +12,21 @@ import threading
 import time
 
 from kit import rt_module
-from lanes import of_checks
+from lanes import realistic_need
 
 here = threading.local()
 started, written = {}, []
+BEGAN = time.monotonic()
 
 
-def word_behind(words, word):
+def word_after(words, word):
+    """Returns the argument after an option, or nothing."""
     return words[words.index(word) + 1] if word in words else ""
 
 
 def kind_of(words):
-    """The crate that a process works on, and what it does for it; nothing of what is not rattle's."""
-    name = word_behind(words, "--crate-name")
+    """Returns the crate that a process works on, what it does for it, and the name of an edit; nothing if it is not rattle's."""
+    name = word_after(words, "--crate-name")
     edit = getattr(here, "edit", "")
     if edit:
         return edit[0], "edit", edit[1]
@@ -41,9 +44,9 @@ class Popen(subprocess.Popen):
         started[self.pid] = kind_of(words), time.monotonic()
 
 
-def write(crate, kind, name, seconds, wall, mebibytes):
+def write(crate, kind, name, seconds, wall, mebibytes, since):
     for file in written:
-        file.write(f"{crate}\t{kind}\t{name}\t{seconds:.2f}\t{wall:.2f}\t{mebibytes}\n")
+        file.write(f"{crate}\t{kind}\t{name}\t{seconds:.2f}\t{wall:.2f}\t{mebibytes}\t{since - BEGAN:.1f}\n")
 
 
 def measured_wait(pid, options):
@@ -51,12 +54,12 @@ def measured_wait(pid, options):
     if pid in started:
         (crate, kind, name), since = started.pop(pid)
         if kind:
-            write(crate, kind, name, used.ru_utime + used.ru_stime, time.monotonic() - since, used.ru_maxrss // 1024)
+            write(crate, kind, name, used.ru_utime + used.ru_stime, time.monotonic() - since, used.ru_maxrss // 1024, since)
     return pid, status
 
 
 def measure(rt):
-    """Has rt's processes tell what they took. An edit is known by the thread that tries it."""
+    """Has rt's processes write what they took. An edit is known by the thread that tries it."""
     subprocess.Popen, os.waitpid = Popen, measured_wait
     must_fail, checked = rt.must_fail, rt.checked
 
@@ -79,24 +82,23 @@ def measure(rt):
 
 
 def processor_seconds():
-    """What this process and those that it waited for took until now, of user and of system time."""
+    """Returns the user and system time that this process and those that it waited for took so far."""
     both = resource.getrusage(resource.RUSAGE_SELF), resource.getrusage(resource.RUSAGE_CHILDREN)
     return sum(it.ru_utime + it.ru_stime for it in both)
 
 
 def main(words, path):
-    """Runs rt with these words, and writes a line for each process of rattle's, and one for the whole, with the number of processors."""
+    """Runs rt with these words and writes the file of times."""
     os.makedirs(os.path.dirname(path), exist_ok=True)
     rt = rt_module()
-    if words == ["ci"]:
-        os.environ.setdefault("RT_JOBS", of_checks(rt))
+    realistic_need(rt)
     measure(rt)
     since, used = time.monotonic(), processor_seconds()
     with open(path, "w", buffering=1, encoding="utf-8") as file:
         written.append(file)
         status = rt.main(words)
         most = resource.getrusage(resource.RUSAGE_CHILDREN).ru_maxrss // 1024
-        write(rt.processors(), "whole", " ".join(words), processor_seconds() - used, time.monotonic() - since, most)
+        write(rt.processors(), "whole", " ".join(words), processor_seconds() - used, time.monotonic() - since, most, since)
         written.clear()
     return status
 

@@ -57,6 +57,92 @@ def declared_before(text, end, is_source):
     return f"const {constant[1]}" if constant else None
 
 
+STRING = re.compile(r'r(#*)".*?"\1|"(?:[^"\\]|\\.)*"', re.S)
+CHARACTER = re.compile(r"'(?:\\(?:u\{[0-9a-fA-F]+\}|x..|.)|[^\\'])'", re.S)
+BODY = re.compile(r"(?m)^( *)((?:pub(?:\([a-z]+\))? )?)(?:const )?fn \w+")
+
+
+def code_of(text, path):
+    """Returns a source or a definition file without comments and layout."""
+    return rust_code(text) if path.endswith(".rt") else definition_code(text)
+
+
+def rust_code(text):
+    """Returns the text without comments, each run of white space as one space."""
+    parts, at = [], 0
+    while at < len(text):
+        if text.startswith("//", at):
+            end = text.find("\n", at)
+            at = len(text) if end < 0 else end
+            continue
+        if text[at] == '"' or (text[at] == "r" and (at == 0 or not (text[at - 1].isalnum() or text[at - 1] == "_"))):
+            found = STRING.match(text, at)
+        else:
+            found = CHARACTER.match(text, at) if text[at] == "'" else None
+        parts.append(found[0] if found else text[at])
+        at += len(parts[-1])
+    return re.sub(r"\s+", " ", "".join(parts)).strip()
+
+
+def definition_code(text):
+    """Returns the text without comments and empty lines."""
+    lines = (re.sub(r"(?:^|(?<=[\s({,]))--(?=\s|$).*", "", line).rstrip() for line in text.splitlines())
+    return "\n".join(line for line in lines if line)
+
+
+def interface_of(text):
+    """Returns what other crates can rest on of a source: its items without comments, private functions and bodies.
+
+    A function with no `pub` counts in a trait or in an impl of one, where its contract is the trait's."""
+    kept, lines, at = [], text.splitlines(), 0
+    in_trait = False
+    while at < len(lines):
+        line = lines[at]
+        if re.match(r"(?:pub )?trait |impl\b.* for ", line):
+            in_trait = True
+        elif line == "}":
+            in_trait = False
+        found = BODY.match(line)
+        if not found:
+            kept.append(line)
+            at += 1
+            continue
+        indent, shown = found[1], found[2] == "pub " or (in_trait and found[1] != "")
+        header, ending = [], ""
+        while not ending:
+            header.append(lines[at])
+            ending = header_end(header, indent)
+            at += 1
+        while ending == "body" and lines[at - 1] != f"{indent}}}":
+            at += 1
+        if shown:
+            kept += header
+    return rust_code("\n".join(kept))
+
+
+def header_end(header, indent):
+    """Returns what the last of these lines of a function's header begins: a body, nothing, or the header's next line."""
+    line = header[-1]
+    if line in (f"{indent}{{}}", f"{indent}}}") or line.endswith(";"):
+        return "nothing"
+    has_clauses = any(it.lstrip().startswith(("ensures", "requires")) for it in header)
+    if line == f"{indent}{{" or (not has_clauses and line.endswith(" {")):
+        return "body"
+    return "nothing" if not has_clauses and line.endswith("{}") else ""
+
+
+def texts_below(crate, folders):
+    """Yields each source and definition file in these folders of a crate: its path in the crate, and its text."""
+    for folder in folders:
+        for inner, inner_folders, files in os.walk(f"{ROOT}/crates/{crate}/{folder}"):
+            inner_folders.sort()
+            for file in sorted(files):
+                path = os.path.relpath(f"{inner}/{file}", f"{ROOT}/crates/{crate}")
+                if file.endswith((".rt", ".antt")):
+                    with open(f"{inner}/{file}", encoding="utf-8") as source:
+                        yield path, source.read()
+
+
 def texts_of(crate, folder, ending):
     """The files of a folder of this crate that end so, and of its folders, with their texts, in the order of their names."""
     for inner, folders, files in os.walk(f"{ROOT}/crates/{crate}/{folder}"):

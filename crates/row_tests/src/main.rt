@@ -52,14 +52,13 @@ const SERVED: [&str; 12] = [
     "recorded_learns",
 ];
 
-const ON_THREADS: [&str; 8] = [
+const ON_THREADS: [&str; 7] = [
     "threads_certify",
     "threads_checks",
     "threads_fits",
     "threads_runs",
     "threads_refutes",
     "threads_asks",
-    "found_certs",
     "found_sizes",
 ];
 

@@ -10,7 +10,7 @@ mod refute;
 mod run;
 mod suite;
 
-use crate::found::{certificate_for, sizes_for};
+use crate::found::sizes_for;
 use crate::on_threads::ask::asked;
 use crate::on_threads::certify::{certified, certified_and_checked};
 use crate::on_threads::check::checked;
@@ -45,7 +45,6 @@ use std::thread::Threads;
 /// - `ask` and `ask strict` are a plan's text, and `ask with` and `ask with strict` a bundle of one with a certificate. Their
 ///   answer is what the command writes, with the status on a last line; `ask head` is the first line. `ask json`, `ask json
 ///   strict`, `ask json with` and `ask dot` are the same in another form.
-/// - `certificate` is a plan's text. Its answer is what the check says of the certificate that workers of each number find.
 /// - `sizes` is a plan's text. Its answer is the lines of the sizes that are found, where no certificate is looked for first.
 pub fn answered<R: Threads + Wait + Sync>(
     rt: &R,
@@ -66,7 +65,6 @@ pub fn answered<R: Threads + Wait + Sync>(
         "refute briefly" => refuted_briefly(rt, alloc, input),
         "refute bundle" => refuted_bundle(rt, alloc, input),
         "refute and replay" => refuted_and_replayed(rt, alloc, input),
-        "certificate" => certificate_for(rt, alloc, input),
         "sizes" => sizes_for(alloc, input),
         _ => asked(rt, alloc, kind, input),
     }

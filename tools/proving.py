@@ -1,0 +1,40 @@
+"""Proofs of a copy: some crates with those below them, in a folder of their own, where `rt ci` proves each from nothing."""
+import contextlib
+import os
+import shutil
+import subprocess
+import sys
+import tempfile
+
+from crates import ROOT, below, copy_crates, lines_of_crates
+
+TOOLS = os.path.dirname(os.path.abspath(__file__))
+# What a program is called, as LLVM builds it and as Rattle's own compiler does.
+BUILDS = ("", ".by-rattle")
+
+
+@contextlib.contextmanager
+def copied(crate, left_out):
+    """Gives a folder with the crate and those below it, without these folders of each crate, and how many crates it has."""
+    names = below(lines_of_crates(), [crate])
+    with tempfile.TemporaryDirectory(prefix="sizing-proof-") as room:
+        copy_crates(lines_of_crates(), names, room, left_out)
+        yield room, len(names)
+
+
+def gate(room, times):
+    """Starts `rt ci` in a folder, which writes its times to a file."""
+    command = [sys.executable, f"{TOOLS}/measured.py", times, "ci"]
+    return subprocess.Popen(command, cwd=room, stdout=subprocess.PIPE, stderr=subprocess.STDOUT, text=True)
+
+
+def take_programs(room, crate):
+    """Copies the built programs of a crate into its folder out/."""
+    to = f"{ROOT}/crates/{crate}/out"
+    os.makedirs(to, exist_ok=True)
+    for ending in BUILDS:
+        made = f"{room}/crates/{crate}/out/{crate}{ending}"
+        with contextlib.suppress(FileNotFoundError):
+            os.remove(f"{to}/{crate}{ending}")
+        if os.path.isfile(made):
+            shutil.copy(made, f"{to}/{crate}{ending}")
