@@ -1,4 +1,4 @@
--- All that is found of a recording beside a plan.
+-- The findings for a recording are complete.
 use Rattle.std.proofs.Common.{◌≡◌, ℕ, Bool, List, [], ◌∷◌, filter, Option, ap, sym, subst, ◌∙◌}
 use Rattle.std.specs.List.Sorted.{IsPermutation}
 use Rattle.job_bodies.specs.Plan.{Plan}
@@ -20,7 +20,7 @@ use Rattle.conformance.specs.Gathered as made
 use Rattle.conformance.specs.JobSet.{has_job}
 use Rattle.conformance.specs.Survey.{IsSurveyOf}
 
--- ---- by another test that says the same of each job
+-- ---- equal tests describe the same step
 same_deed : (lines : List RecordedLine) (one other : ℕ → Bool) → ((job : ℕ) → one job ≡ other job) → (did : Option JobDeed) (found : StrayDeed) → IsStrayDeed lines one did found → IsStrayDeed lines other did found
 same_deed lines one other same _ _ deeds.ends = deeds.ends
 same_deed lines one other same _ _ (deeds.submits_stray job class none label) = deeds.submits_stray job class (sym (same job) ∙ none) label
@@ -45,7 +45,7 @@ same_strays lines one other same [] (first ∷ found) all = absurd all
 same_strays lines one other same (first ∷ told) [] all = absurd all
 same_strays lines one other same (first ∷ told) (stray ∷ found) all = (same_told lines one other same first stray all.0, same_strays lines one other same told found all.1)
 
--- ---- all
+-- ---- all findings
 pub all_found : (plan : Plan) (budget : ℕ) (lines : List RecordedLine) (survey : Survey) (kinds : List (Option ℕ)) (excesses : List RoundExcess) (gathered findings : List Finding)
     → (so : IsSurveyOf plan budget lines survey) → AreFirstKinds plan lines so.judged.told kinds → excesses ≡ excesses_by_lines plan kinds lines → AreGathered lines survey excesses gathered → IsPermutation gathered findings
     → AreFindingsOf plan budget lines findings

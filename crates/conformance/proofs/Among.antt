@@ -1,4 +1,4 @@
--- What is among the elements of a list.
+-- Membership in lists.
 use Rattle.std.proofs.Common.{◌≡◌, ℕ, zero, suc, Bool, true, false, cond, ◌||◌, List, [], ◌∷◌, ◌++◌, map, Contains, slice_get, take, drop, ◌+◌, Some, refl, ap, sym, subst, ◌∙◌, inl, inr, arith}
 use Rattle.std.specs.Prelude.{filter, ◌⊎◌}
 use Rattle.std.specs.List.{list_any}
@@ -33,7 +33,7 @@ pub record Passing {X : Type 0} (test : X → Bool) (xs : List X) : Type 0 where
   pub among : Contains xs one
   pub passes : test one ≡ true
 
--- one passes the test where any does
+-- If the test passes for any element, there is an element that passes.
 pub passing : {X : Type 0} (test : X → Bool) (xs : List X) → list_any test xs ≡ true → Passing test xs
 passing test [] h = absurd (grind (arith, h))
 passing test (x ∷ xs) h =
@@ -42,7 +42,7 @@ passing test (x ∷ xs) h =
       | inr more ↦ let rest = passing test xs more in record { one = rest.one; among = later x rest.one xs rest.among; passes = rest.passes }
     ]
 
--- and any does where this one does
+-- If an element passes, the test passes for some element.
 pub passed : {X : Type 0} (test : X → Bool) (xs : List X) (x : X) → Contains xs x → test x ≡ true → list_any test xs ≡ true
 passed test [] x among h = absurd (is_among_none x among)
 passed test (y ∷ xs) x among h =
@@ -71,7 +71,7 @@ passes_head : {X : Type 0} (b : Bool) (y x : X) (xs : List X) → Contains (cond
 passes_head true y x xs among = elim (head_or_later y x xs among) [ inl first ↦ inl (refl, first) | inr more ↦ inr more ]
 passes_head false y x xs among = inr among
 
--- what a filter keeps was there, and passes
+-- An element that a filter keeps is in the list and passes the test.
 pub kept : {X : Type 0} (test : X → Bool) (xs : List X) (x : X) → Contains (filter test xs) x → Contains xs x × (test x ≡ true)
 kept test [] x among = absurd (is_among_none x among)
 kept test (y ∷ xs) x among =
@@ -80,13 +80,13 @@ kept test (y ∷ xs) x among =
       | inr more ↦ let rest = kept test xs x more in (later y x xs rest.0, rest.1)
     ]
 
--- ---- places
+-- ---- indices
 pub at_place : {X : Type 0} (xs : List X) (k : ℕ) (x : X) → slice_get xs k ≡ Some x → Contains xs x
 at_place [] k x h = absurd (grind (arith, h))
 at_place (y ∷ xs) zero x h = (0, omega arith, grind (arith, h))
 at_place (y ∷ xs) (suc k) x h = later y x xs (at_place xs k x h)
 
--- ---- nothing
+-- ---- empty lists
 pub both_none : {X : Type 0} (xs ys : List X) → xs ++ ys ≡ [] → (xs ≡ []) × (ys ≡ [])
 both_none [] ys h = (refl, h)
 both_none (x ∷ xs) ys h = absurd (grind (arith, h))
@@ -95,7 +95,7 @@ pub map_none : {X Y : Type 0} (f : X → Y) (xs : List X) → map f xs ≡ [] �
 map_none f [] h = refl
 map_none f (x ∷ xs) h = absurd (grind (arith, h))
 
--- ---- one element more
+-- ---- one more element
 any_behind : {X : Type 0} (test : X → Bool) (xs : List X) (x : X) → list_any test xs ≡ false → test x ≡ false → list_any test (xs ++ x ∷ []) ≡ false
 any_behind test [] x none fails = ap (λ (b : Bool). b || false) fails
 any_behind test (y ∷ xs) x none fails =

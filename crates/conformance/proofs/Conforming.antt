@@ -1,4 +1,4 @@
--- Where nothing is found, the recording conforms.
+-- If there are no findings, the recording conforms.
 use Rattle.std.proofs.Common.{◌≡◌, ℕ, Bool, true, false, List, [], ◌∷◌, ◌++◌, length, map, Contains, Option, Some, None, refl, ap, sym, subst, ◌∙◌, arith}
 use Rattle.std.specs.Prelude.{filter}
 use Rattle.std.specs.List.{list_any}
@@ -59,7 +59,7 @@ some_kind : (plan : Plan) (lines : List RecordedLine) (round : ℕ) (members : L
 some_kind plan lines round [] can_be some = absurd (grind (arith, some))
 some_kind plan lines round (n ∷ more) can_be some = record { kinds = n ∷ more; exact = can_be; some = omega arith }
 
--- the round is counted as the first kind that it can be of
+-- The round counts as the first kind that it can belong to.
 counted_so : (plan : Plan) (lines : List RecordedLine) (told : List Settled) (kinds : List (Option ℕ)) (one : Settled) (round : ℕ) (members : List ℕ) → AreFirstKinds plan lines told kinds → Contains told one
     → one.actor ≡ Round round → one.family.members.items ≡ members → CanBe plan lines (Round round) members → is_empty members ≡ false → HasItsKind plan lines kinds round
 counted_so plan lines told kinds one round [] are among actor_is members_are can_be some = absurd (grind (arith, some))
@@ -108,7 +108,7 @@ no_foreign : (lines : List RecordedLine) (get : Option ForeignGet) (found : List
 no_foreign lines _ _ made.none none = refl
 no_foreign lines _ _ (made.one get label is) none = absurd (grind (arith, none))
 
--- ---- none of the actors
+-- ---- no findings about actors
 contra : true ≡ false → ⊥
 contra h = cc
 
@@ -154,7 +154,7 @@ none_told lines is_classless (one ∷ told) [] are none = absurd are
 none_told lines is_classless (one ∷ told) (first ∷ found) are none =
     absurd (contra (sym (of_actors lines is_classless one first are.0) ∙ (none_of_both (is_of_actors first) (list_any is_of_actors found) none).0))
 
--- ---- in another order
+-- ---- permutations
 pub empty_if : {X : Type 0} (xs : List X) → length xs ≡ 0 → xs ≡ []
 empty_if [] h = refl
 empty_if (x ∷ xs) h = absurd (omega (arith, h))
@@ -162,8 +162,8 @@ empty_if (x ∷ xs) h = absurd (omega (arith, h))
 pub none_before : {X : Type 0} (xs ys : List X) → IsPermutation xs ys → ys ≡ [] → xs ≡ []
 none_before xs ys moved none = empty_if xs (sym (length_permutation xs ys moved) ∙ ap length none)
 
--- ---- all
--- where nothing is found of the actors, they do as planned
+-- ---- all findings
+-- If no finding concerns an actor, the actors behave as planned.
 pub actors_do : (plan : Plan) (budget : ℕ) (lines : List RecordedLine) (survey : Survey) (kinds : List (Option ℕ)) (excesses : List RoundExcess) (found : List Finding)
     → RoundsAreWithinPlan → (so : IsSurveyOf plan budget lines survey) → AreFirstKinds plan lines so.judged.told kinds → excesses ≡ excesses_by_lines plan kinds lines → AreGathered lines survey excesses found
     → list_any is_of_actors found ≡ false → DoAsPlanned plan lines

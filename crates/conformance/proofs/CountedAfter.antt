@@ -1,4 +1,4 @@
--- What is counted of the rounds, behind more lines, and where one of them turns out to be of another kind.
+-- The counts of rounds after more lines, and after a round turns out to belong to another kind.
 use Rattle.std.proofs.Common.{◌≡◌, ℕ, false, List, [], ◌∷◌, ◌++◌, Option, Some, None, ap, sym, subst, ◌∙◌}
 use Rattle.number_tables.specs.Numbered.{value_at}
 use Rattle.job_bodies.specs.Plan.{Plan}
@@ -11,7 +11,7 @@ use Rattle.conformance.specs.declared.other_kinds.OtherKinds.{OtherKinds}
 use Rattle.conformance.specs.Counted.{IsCountedOf, IsCountedFirst}
 use Rattle.conformance.specs.OtherKinds.{first_of, kind_or, AreGiven, AreOfFirst}
 
--- ---- the first of the lines
+-- ---- a prefix of the lines
 pub given_before : (plan : Plan) (others : OtherKinds) (before behind lines : List RecordedLine) (kinds : List (Option ℕ)) → lines ≡ before ++ behind → KeepsRules lines → AreGiven plan others lines kinds → AreGiven plan others before kinds
 given_before plan others before behind lines kinds is keeps given = record {
   each = λ round label named.
@@ -21,7 +21,7 @@ given_before plan others before behind lines kinds is keeps given = record {
 first_before : (plan : Plan) (before : List RecordedLine) (line : RecordedLine) (kinds : List (Option ℕ)) → AreOfFirst plan (before ++ line ∷ []) kinds → AreOfFirst plan before kinds
 first_before plan before line kinds are = record { each = λ round label named. are.each round label (kind_more before line round label named) }
 
--- ---- no round is of another kind
+-- ---- no round belongs to another kind
 first_given : (plan : Plan) (others : OtherKinds) (lines : List RecordedLine) (kinds : List (Option ℕ)) → ((round : ℕ) → value_at others.kinds round ≡ None) → AreOfFirst plan lines kinds → AreGiven plan others lines kinds
 first_given plan others lines kinds none are = record {
   each = λ round label named. are.each round label named ∙ sym (ap (λ (there : Option ℕ). kind_or there (first_of plan label)) (none round));

@@ -1,4 +1,4 @@
--- What is told of a deed.
+-- The description of a step.
 use Rattle.std.proofs.Common.{◌≡◌, ◌≤◌, ◌-◌, ℕ, zero, suc, Bool, true, false, List, Option, Some, None, ap, sym, subst, ◌∙◌, string_bytes, arith}
 use Rattle.std.specs.declared.alloc.Global.{Global}
 use Rattle.std.specs.declared.string.String.{String}
@@ -13,7 +13,7 @@ use Rattle.conformance.specs.declared.stray.StrayDeed.TheVariants as stray
 use Rattle.conformance.specs.Described as spec
 use Rattle.conformance.specs.Wanted.{IsLabelOf}
 
--- ---- a deed with its class
+-- ---- a step with its class
 pub named_none : (lines : List RecordedLine) (did : Option JobDeed) → did ≡ None → spec.IsNamed lines did None
 named_none lines did is = subst (λ (d : Option JobDeed). spec.IsNamed lines d None) (sym is) spec.nothing
 
@@ -24,7 +24,7 @@ named_submit lines did one job class is one_is label =
 pub named_get : (lines : List RecordedLine) (did : Option JobDeed) (one : JobDeed) (job : ℕ) (class : String Global) → did ≡ Some one → one ≡ deed.Gets job → IsLabelOf lines (Job job) (string_bytes class) → spec.IsNamed lines did (Some (named.Gets class))
 named_get lines did one job class is one_is label = subst (λ (d : Option JobDeed). spec.IsNamed lines d (Some (named.Gets class))) (sym (is ∙ ap Some one_is)) (spec.something (deed.Gets job) (named.Gets class) (spec.got job class label))
 
--- ---- a deed that is of no body
+-- ---- a step that no body explains
 pub stray_end : (lines : List RecordedLine) (is_classless : ℕ → Bool) (did : Option JobDeed) → did ≡ None → spec.IsStrayDeed lines is_classless did stray.Ends
 stray_end lines is_classless did is = subst (λ (d : Option JobDeed). spec.IsStrayDeed lines is_classless d stray.Ends) (sym is) spec.ends
 
@@ -43,7 +43,7 @@ pub stray_get : (lines : List RecordedLine) (is_classless : ℕ → Bool) (did :
 stray_get lines is_classless did one job class is one_is label =
     subst (λ (d : Option JobDeed). spec.IsStrayDeed lines is_classless d (stray.Deed (named.Gets class))) (sym (is ∙ ap Some one_is)) (spec.gets job (named.Gets class) (spec.got job class label))
 
--- ---- what it did before
+-- ---- the step before
 pub behind_begin : (lines : List RecordedLine) (path : List RecordedDeed) (place : ℕ) (behind : Option NamedDeed) → (1 ≤ place → ⊥) → behind ≡ None → spec.IsNamed lines (spec.deed_before path place) behind
 behind_begin lines path zero behind begin is = subst (λ (b : Option NamedDeed). spec.IsNamed lines None b) (sym is) spec.nothing
 behind_begin lines path (suc place) behind begin is = absurd (begin (omega arith))

@@ -1,4 +1,4 @@
--- Of each label the actor with the smallest number, behind one more.
+-- The actor with the smallest number of each label, after one more actor.
 use Rattle.std.proofs.Common.{◌≡◌, ◌≤◌, ◌<◌, ℕ, zero, suc, Bool, true, false, ◌&&◌, List, [], ◌∷◌, ◌++◌, length, get_or, set, All, Contains, Some, refl, ap, sym, subst, ◌∙◌, string_bytes, slice_get, arith}
 use Rattle.std.specs.Prelude.{Any}
 use Rattle.std.specs.List.{list_any}
@@ -40,7 +40,7 @@ sort_itself : (actor : RecordedActor) → is_same_sort actor actor ≡ true
 sort_itself (Job job) = refl
 sort_itself (Round round) = refl
 
--- the first and the third have the sort that both have with the second
+-- If both are of the same sort as the first, they are of the same sort.
 sort_both : (first second third : RecordedActor) → is_same_sort first second ≡ true → is_same_sort first third ≡ true → is_same_sort second third ≡ true
 sort_both (Job a) (Job b) (Job c) h k = refl
 sort_both (Job a) (Job b) (Round c) h k = k
@@ -52,7 +52,7 @@ sort_both (Round a) (Job b) third h k = absurd (grind (arith, h))
 same_itself : (one : Settled) → is_same_label one one ≡ true
 same_itself one = whole one one (record { sort = sort_itself one.actor; label = refl; pool = refl })
 
--- the second and the third have the label that both have with the first
+-- If both have the same label as the first, they have the same label.
 same_both : (first second third : Settled) → is_same_label first second ≡ true → is_same_label first third ≡ true → is_same_label second third ≡ true
 same_both first second third h k =
     let a = parts first second h in
@@ -67,7 +67,7 @@ same_answer true b there back = sym (there refl)
 same_answer false true there back = back refl
 same_answer false false there back = refl
 
--- two of the same label are alike to each third one
+-- Two actors of the same label compare equally with any third one.
 alike : (third one first : Settled) → is_same_label first one ≡ true → is_same_label third one ≡ is_same_label third first
 alike third one first same =
     same_answer (is_same_label third one) (is_same_label third first)
@@ -77,14 +77,14 @@ alike third one first same =
 itself : (one : Settled) → StandsFor one one
 itself one = record { label = same_itself one; before = omega arith }
 
--- one that is of the same label as the first, and before it, stands for what that stood for
+-- An actor with the same label as `first` and no larger number can replace it.
 instead : (one first other : Settled) → is_same_label first one ≡ true → number_of one.actor ≤ number_of first.actor → StandsFor other first → StandsFor other one
 instead one first other same earlier stands = record {
   label = same_both first one other same stands.label;
   before = omega (arith, earlier, stands.before);
 }
 
--- ---- places
+-- ---- indices
 any_append : {X : Type 0} (P : X → Type 0) (xs : List X) (y : X) → Any P xs → Any P (xs ++ y ∷ [])
 any_append P [] y (k, x, below, is, holds) = absurd (omega arith)
 any_append P (z ∷ xs) y (zero, x, below, is, holds) = (zero, x, omega arith, is, holds)
@@ -92,7 +92,7 @@ any_append P (z ∷ xs) y (suc k, x, below, is, holds) =
     let rest = any_append P xs y (k, x, omega arith, is, holds) in
     (suc rest.0, rest.1, omega (arith, rest.2), rest.3, rest.4)
 
--- behind a write the element there has to hold, and each other one stays
+-- If `P` is preserved for the overwritten element, `Any P` is preserved by the write.
 any_write : {X : Type 0} (P : X → Type 0) (xs : List X) (place : ℕ) (first y : X) → slice_get xs place ≡ Some first → (P first → P y) → Any P xs → Any P (set xs place y)
 any_write P [] place first y there more (k, x, below, is, holds) = absurd (omega arith)
 any_write P (z ∷ xs) zero first y there more (zero, x, below, is, holds) =
@@ -111,11 +111,11 @@ any_there P (z ∷ xs) (suc place) first there holds =
     let rest = any_there P xs place first there holds in
     (suc rest.0, rest.1, omega (arith, rest.2), rest.3, rest.4)
 
--- ---- one more
+-- ---- one more actor
 among_more : (told : List Settled) (one : Settled) (firsts : List Settled) → All (Contains told) firsts → All (Contains (told ++ one ∷ [])) firsts
 among_more told one firsts among = All-weaker (Contains told) (Contains (told ++ one ∷ [])) (λ x has. Contains-append_left told (one ∷ []) x has) firsts among
 
--- where there is none of this label, there is none of a label that it has
+-- If the list has no actor of this label, it has none with the label of an equally labelled actor.
 none_alike : (firsts : List Settled) (one third : Settled) → list_any (λ (first : Settled). is_same_label first one) firsts ≡ false → is_same_label third one ≡ true → list_any (is_same_label third) firsts ≡ false
 none_alike firsts one third none same = not_any (list_any (is_same_label third) firsts) (λ any.
     let there = passing (is_same_label third) firsts any in

@@ -1,4 +1,4 @@
--- Lines that have a form, among others.
+-- Well-formed lines among others.
 use Rattle.std.proofs.Common.{◌≤◌, List, [], ◌∷◌, length, Option, Some, None, arith}
 use Rattle.recording_lines.specs.RecordingLine.{RecordedLine}
 use Rattle.conformance.specs.Lines.{with_form}

@@ -1,4 +1,4 @@
--- Lists that are gathered element by element.
+-- Lists that are built element by element.
 use Rattle.std.proofs.Common.{List, [], ◌∷◌, ◌++◌}
 use Rattle.std.specs.List.{AllZip}
 

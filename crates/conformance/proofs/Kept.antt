@@ -1,4 +1,4 @@
--- Recordings that keep the rules.
+-- Valid recordings.
 use Rattle.std.proofs.Common.{◌≡◌, ℕ, suc, List, [], ◌∷◌, ◌++◌, length, take, drop, map, slice_get, Option, Some, None, refl, ap, sym, ◌∙◌, append_assoc, arith}
 use Rattle.std.specs.Option.{option_map, option_and_then}
 use Rattle.recording_lines.specs.RecordingLine.{RecordedLine, lines_read}
@@ -9,14 +9,14 @@ use Rattle.recorded_paths.specs.StandsFor.{KeepsRules}
 use Rattle.conformance.specs.Lines.{with_form, lines_of}
 use Rattle.conformance.proofs.Steps.{both_next}
 
--- ---- the first of the lines
+-- ---- a prefix of the lines
 pub keeps_front : (front behind lines : List RecordedLine) → lines ≡ front ++ behind → KeepsRules lines → KeepsRules front
 keeps_front front behind lines is keeps = record {
   unbroken = λ before line more h. keeps.unbroken before line (more ++ behind) (is ∙ (ap (λ (xs : List RecordedLine). xs ++ behind) h ∙ append_assoc before (line ∷ more) behind));
 }
 
--- ---- a text without a bad line
--- one line of a list is the first of the others behind some
+-- ---- a text without an invalid line
+-- If every line is well-formed, filtering the well-formed lines loses nothing.
 with_none : (lines : List (Option RecordedLine)) → ((i : ℕ) → slice_get lines i ≡ Some None → ⊥) → lines ≡ map Some (with_form lines)
 with_none [] good = refl
 with_none (None ∷ lines) good = absurd (good 0 refl)

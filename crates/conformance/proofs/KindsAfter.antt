@@ -1,4 +1,4 @@
--- The kind that each round is counted as, where it is told of none, behind one more line.
+-- The kind that each round counts as after one more line, if no actor is classified.
 use Rattle.std.proofs.Common.{◌≡◌, ◌<◌, ◌+◌, ℕ, zero, suc, Bool, true, false, cond, ◌&&◌, not, ◌==◌, List, [], ◌∷◌, ◌++◌, length, set, Option, Some, None, refl, ap, sym, subst, ◌∙◌, inl, inr, slice_get, length-append, arith}
 use Rattle.std.specs.Prelude.{◌⊎◌}
 use Rattle.std.specs.List.{filter_map, cons_option}
@@ -34,7 +34,7 @@ elsewhere (y ∷ xs) (suc i) zero x other = refl
 elsewhere (y ∷ xs) (suc i) (suc k) x other = elsewhere xs i k x (λ same. other (ap suc same))
 
 -- ---- a line
--- a rule that the first tests pass leaves the others
+-- A line that breaks no rule satisfies the first rule, and breaks none of the others.
 passes : (holds : Bool) (one : LineRule) (rest : Option LineRule) → (cond (not holds) (Some one) rest) ≡ None → (holds ≡ true) × (rest ≡ None)
 passes true one rest h = (refl, h)
 passes false one rest h = absurd (grind (arith, h))
@@ -58,7 +58,7 @@ begins_push : (before : List RecordedLine) (line : RecordedLine) → begins (bef
 unfolding begins
 begins_push before line = count_push is_begin before line
 
--- the label of a round with one more line
+-- The label of a round, with one more line.
 kinds_push : (before : List RecordedLine) (line : RecordedLine) (round : ℕ) → filter_map (kind_in round) (before ++ line ∷ []) ≡ filter_map (kind_in round) before ++ cons_option (kind_in round line) []
 kinds_push before line round = filter_map-append (kind_in round) before (line ∷ [])
 
@@ -75,7 +75,7 @@ same_round : (b : Bool) (one round : ℕ) (k label : List ℕ) → (one == round
 same_round true one round k label same is = (eqb-true one round same, (let x : k ≡ label = cc in x))
 same_round false one round k label same is = absurd (grind (arith, is))
 
--- ---- behind a begin
+-- ---- after a begin
 pub behind_begin : (plan : Plan) (before : List RecordedLine) (told : List Settled) (kinds : List (Option ℕ)) (round : ℕ) (label : List ℕ) → KeepsRules (before ++ RoundBegins round label ∷ []) → AreFirstKinds plan before told kinds
     → AreFirstKinds plan (before ++ RoundBegins round label ∷ []) told (kinds ++ slice_get (client_family plan label) 0 ∷ [])
 behind_begin plan before told kinds round label keeps are =
@@ -94,7 +94,7 @@ behind_begin plan before told kinds round label keeps are =
       ];
     }
 
--- ---- behind another line
+-- ---- after another line
 no_kind : (line : RecordedLine) (round : ℕ) (label : List ℕ) → is_begin line ≡ false → kind_in round line ≡ Some label → ⊥
 no_kind (RoundBegins one k) round label none is = grind (arith, none)
 no_kind _ round label none is = grind (arith, is)
@@ -115,7 +115,7 @@ none_yet plan = record {
 }
 
 -- ---- all lines
--- where it is told of none, each round is of the first of its label
+-- If no actor is classified, each round counts as the first kind of its label.
 pub record HasFirstKinds (plan : Plan) (lines : List RecordedLine) (told : List Settled) : Type 0 where
   pub kinds : List (Option ℕ)
   pub so : AreFirstKinds plan lines told kinds

@@ -1,4 +1,4 @@
--- Where none of the lines that void a yes is found, there is none.
+-- If no invalidating event is found, the recording has none.
 use Rattle.std.proofs.Common.{◌≡◌, ◌+◌, ℕ, Bool, true, false, ◌&&◌, not, List, [], ◌∷◌, Contains, Option, Some, None, codes, refl, ap, sym, subst, ◌∙◌, inl, inr, arith}
 use Rattle.std.specs.Prelude.{◌⊎◌, filter}
 use Rattle.std.specs.List.{cons_option}
@@ -49,7 +49,7 @@ void_there number (first ∷ behind) line among h =
       | inr more ↦ more_behind (void_of number first behind) (voids_from (number + 1) behind) (void_there (number + 1) behind line more h)
     ]
 
--- ---- one of each word
+-- ---- each event type
 lasts_by : List ℕ → Bool
 lasts_by word = not (bytes_eq word (codes "timeout")) && not (bytes_eq word (codes "interrupted"))
 

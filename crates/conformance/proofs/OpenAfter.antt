@@ -1,4 +1,4 @@
--- The kinds of the rounds that are about, behind one more line.
+-- The kinds of the open rounds after one more line.
 use Rattle.std.proofs.Common.{◌≡◌, ℕ, ◌==◌, ◌&&◌, ◌||◌, not, Bool, true, false, if◌then◌else◌, List, [], ◌∷◌, ◌++◌, Option, Some, None, refl, ap, ap₂, sym, ◌∙◌, arith}
 use Rattle.std.specs.Option.{option_and_then}
 use Rattle.std.proofs.lemmas.Bool.{eqb-true, eq-eqb}
@@ -21,7 +21,7 @@ use Rattle.conformance.specs.declared.other_kinds.OtherKinds.{OtherKinds}
 use Rattle.conformance.specs.OtherKinds.{kind_by, AreGiven}
 use Rattle.conformance.specs.OpenRounds.{AreOpen, kept_behind, kind_in, kind_by_line}
 
--- ---- who is about
+-- ---- open rounds
 about_more : (before : List RecordedLine) (line : RecordedLine) (r : ℕ) → is_about (before ++ line ∷ []) (Round r) ≡ ((is_begun before r || begins_round r line) && not (is_ended before r || ends_round r line))
 about_more before line r = ap₂ (λ (a b : Bool). a && not b) (is_begun_more before line r) (is_ended_more before line r)
 
@@ -41,7 +41,7 @@ first_number : (before : List RecordedLine) (round r : ℕ) (label : List ℕ) �
 first_number before round r label keeps same =
     ended_fresh before (keeps_before before (RoundBegins round label) keeps) r (next_round before round r label (keeps_last before (RoundBegins round label) keeps) same)
 
--- ---- what is kept
+-- ---- entries of the table
 abbrev shown : Bool → Option ℕ → Option (Option ℕ)
 shown about kind = if about then Some kind else None
 
@@ -59,7 +59,7 @@ ended kinds before round r true same =
     sym (ap (λ (b : Bool). shown b (kind_of kinds r)) (about_more before (RoundEnds round) r ∙ gone (is_begun before r) (is_ended before r) false (round == r) same))
 ended kinds before round r false same = ap (λ (b : Bool). shown b (kind_of kinds r)) (sym (still_about before (RoundEnds round) r refl same))
 
--- the label of a round that begins
+-- The label of a round that begins.
 label_here : (before : List RecordedLine) (round : ℕ) (label : List ℕ) → KeepsRules (before ++ RoundBegins round label ∷ []) → labels.kind_of (before ++ RoundBegins round label ∷ []) round ≡ Some label
 label_here before round label keeps =
     let line = RoundBegins round label in

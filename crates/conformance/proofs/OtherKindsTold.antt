@@ -1,4 +1,4 @@
--- The rounds that are told to be of another kind than the first of their label.
+-- The rounds that are classified with another kind than the first of their label.
 use Rattle.std.proofs.Common.{◌≡◌, ℕ, ◌==◌, Bool, true, false, cond, if◌then◌else◌, List, [], ◌∷◌, ◌++◌, All, Contains, is_some, string_bytes, slice_get, Option, Some, None, refl, ap, sym, subst, ◌∙◌, inl, inr, arith}
 use Rattle.std.specs.Prelude.{◌⊎◌}
 use Rattle.std.specs.Option.{option_and_then}
@@ -24,12 +24,12 @@ by_test : (same : Bool) (round kind : ℕ) (other : ℕ × ℕ) → (cond {A = O
 by_test true round kind other is = absurd (grind (arith, is))
 by_test false round kind other is = is
 
--- one that is of another kind can be of that
+-- A round of another kind can belong to that kind.
 other_given : (first : Option ℕ) (given : Option (ℕ × ℕ)) (round kind : ℕ) → unless_first first given ≡ Some (round, kind) → given ≡ Some (round, kind)
 other_given first None round kind is = absurd (grind (arith, is))
 other_given first (Some (r, k)) round kind is = by_test (rounds.is_kind k first) r k (round, kind) is
 
--- and one that can be of a kind and is of no other one is of the first
+-- A round that can belong to some kind, and to no other kind than the first, belongs to the first.
 first_test : (same : Bool) (first round kind : ℕ) → (first == kind) ≡ same → (cond {A = Option (ℕ × ℕ)} same None (Some (round, kind))) ≡ None → Some first ≡ Some kind
 first_test true first round kind same is = ap Some (eqb-true first kind same)
 first_test false first round kind same is = absurd (grind (arith, is))
@@ -38,7 +38,7 @@ no_other : (first : Option ℕ) (round kind : ℕ) → unless_first first (Some 
 no_other None round kind is = absurd (grind (arith, is))
 no_other (Some first) round kind is = first_test (first == kind) first round kind refl is
 
--- ---- whether a round is told to be of a kind
+-- ---- whether a round is classified with a kind
 record IsToldOf (told : List Settled) (round : ℕ) : Type 0 where
   one : Settled
   kind : ℕ
@@ -85,7 +85,7 @@ told_or_not : (told : List Settled) (round : ℕ) → IsToldOf told round ⊎ Is
 told_or_not [] round = inr (λ one kind among is. is_among_none one among)
 told_or_not (first ∷ told) round = told_first first told round (kind_told round (round_told first)) refl (told_or_not told round)
 
--- ---- one more of which it is told
+-- ---- one more classified actor
 pub none_other : (plan : Plan) (others : OtherKinds) → ((round : ℕ) → value_at others.kinds round ≡ None) → AreOtherKinds plan [] others
 none_other plan others none = record {
   sound = λ round kind is. absurd (let no_kind : None ≡ Some kind = sym (none round) ∙ is in cc);
@@ -128,7 +128,7 @@ one_other plan told one old new r k told_is values any so = record {
   none = λ h. absurd (let no : true ≡ false = sym any ∙ h in cc);
 }
 
--- ---- so each round is of the kind that is given
+-- ---- each round has the given kind
 is_first : (plan : Plan) (lines : List RecordedLine) (one : Settled) (round : ℕ) (label : List ℕ) → HasLabel lines one.actor (string_bytes one.label) (string_bytes one.pool) → one.actor ≡ Round round → kind_of lines round ≡ Some label
     → string_bytes one.label ≡ label
 is_first plan lines one round label named actor_is label_is =
@@ -139,7 +139,7 @@ is_first plan lines one round label named actor_is label_is =
 counted_as : (kinds : List (Option ℕ)) (round : ℕ) (kind : Option ℕ) → slice_get kinds round ≡ Some kind → rounds.kind_of kinds round ≡ kind
 counted_as kinds round kind is = ap (option_and_then (λ (k : Option ℕ). k)) is
 
--- no other kind is kept of the round, so it is told of none
+-- If the table has no other kind for the round, no actor is classified with one.
 not_other : (plan : Plan) (told : List Settled) (others : OtherKinds) (one : Settled) (round kind : ℕ) (given : Option (ℕ × ℕ)) → AreOtherKinds plan told others → Contains told one → round_told one ≡ Some (round, kind)
     → value_at others.kinds round ≡ None → other_told plan one ≡ given → unless_first (first_of plan (string_bytes one.label)) (Some (round, kind)) ≡ None
 not_other plan told others one round kind None so among is none given = ap (unless_first (first_of plan (string_bytes one.label))) (sym is) ∙ given

@@ -1,4 +1,4 @@
--- Places in a list.
+-- Indices in a list.
 use Rattle.std.proofs.Common.{◌≡◌, ◌≤◌, ◌<◌, ℕ, zero, suc, List, [], ◌∷◌, ◌++◌, length, Some, refl, slice_get, inl, inr, arith}
 use Rattle.std.specs.Prelude.{◌⊎◌}
 
@@ -16,7 +16,7 @@ within [] place first there = absurd (grind (arith, there))
 within (z ∷ xs) zero first there = omega arith
 within (z ∷ xs) (suc place) first there = omega (arith, within xs place first there)
 
--- it was there before, or it stands behind
+-- An element of a concatenation is in the first list, or its index is not below the length of that list.
 pub before_or_behind : {X : Type 0} (xs ys : List X) (i : ℕ) (x : X) → slice_get (xs ++ ys) i ≡ Some x → (slice_get xs i ≡ Some x) ⊎ (length xs ≤ i)
 before_or_behind [] ys i x h = inr (omega arith)
 before_or_behind (y ∷ xs) ys zero x h = inl h

@@ -1,4 +1,4 @@
--- A list, gone along one element after another.
+-- A loop over a list.
 use Rattle.std.proofs.Common.{◌≡◌, ℕ, zero, suc, ◌+◌, ◌≤◌, List, [], ◌∷◌, ◌++◌, length, take, drop, slice_get, Some, refl, ap, sym, ◌∙◌, add-one, length-take, arith}
 
 there : {X : Type 0} (xs rest : List X) (n : ℕ) (x : X) → drop n xs ≡ x ∷ rest → slice_get xs n ≡ Some x
@@ -37,7 +37,7 @@ both_there [] (suc n) = refl
 both_there (one ∷ xs) zero = refl
 both_there (one ∷ xs) (suc n) = ap (λ more. one ∷ more) (both_there xs n)
 
--- ---- what a loop needs of its next element
+-- ---- the next element
 pub next_is : {X : Type 0} (xs rest : List X) (n : ℕ) (x : X) → drop n xs ≡ x ∷ rest → slice_get xs n ≡ Some x
 next_is xs rest n x h = there xs rest n x h
 
@@ -50,12 +50,12 @@ within_next xs rest n x h = omega (arith, within_there xs rest n x h)
 pub front_next : {X : Type 0} (xs rest : List X) (n : ℕ) (x : X) → drop n xs ≡ x ∷ rest → take (n + 1) xs ≡ take n xs ++ x ∷ []
 front_next xs rest n x h = rw add-one (front_there xs rest n x h)
 
--- with what stands behind it
+-- The list is the elements read, the next one and the rest.
 pub both_next : {X : Type 0} (xs rest : List X) (n : ℕ) (x : X) → drop n xs ≡ x ∷ rest → xs ≡ (take n xs ++ x ∷ []) ++ rest
 both_next xs rest n x h =
     both_there xs (n + 1) ∙ (ap (λ more. take (n + 1) xs ++ more) (sym (rest_next xs rest n x h)) ∙ ap (λ more. more ++ rest) (front_next xs rest n x h))
 
--- ---- at the end
+-- ---- the end
 pub all_taken : {X : Type 0} (xs : List X) (n : ℕ) → drop n xs ≡ [] → take n xs ≡ xs
 all_taken xs n h = all_there xs n h
 

@@ -1,4 +1,4 @@
--- How often a test passes in a list.
+-- The number of elements that pass a test.
 use Rattle.std.proofs.Common.{◌≡◌, ◌≤◌, ◌+◌, ℕ, zero, suc, Bool, true, false, cond, ◌||◌, List, [], ◌∷◌, ◌++◌, length, set, slice_get, count_by, Some, None, refl, ap, sym, ◌∙◌, arith}
 use Rattle.std.specs.Prelude.{position, nat_lt}
 use Rattle.std.specs.List.{list_any, position_or_len}
@@ -27,17 +27,17 @@ none_counted test (x ∷ xs) none =
     let first : tally (test x) ≡ 0 = ap tally both.0 in
     omega (arith, count_head test x xs, first, none_counted test xs both.1)
 
--- ---- at most once
+-- ---- at most one
 once_if : (passes : Bool) (before after : ℕ) → before ≤ 1 → (passes ≡ true → before ≡ 0) → after ≡ before + cond passes 1 0 → after ≤ 1
 once_if true before after few none is = omega (arith, none refl, is)
 once_if false before after few none is = omega (arith, few, is)
 
--- one more, where none before it passes if it does
+-- One more element, if no earlier one passes whenever it does.
 pub once_more : {X : Type 0} (test : X → Bool) (xs : List X) (x : X) → count_by test xs ≤ 1 → (test x ≡ true → list_any test xs ≡ false) → count_by test (xs ++ x ∷ []) ≤ 1
 once_more test xs x once fresh = once_if (test x) (count_by test xs) _ once (λ passes. none_counted test xs (fresh passes)) (count_push test xs x)
 
 -- ---- a write
--- of one for which the test says the same
+-- Writing an element for which the test gives the same result.
 pub count_write : {X : Type 0} (test : X → Bool) (xs : List X) (place : ℕ) (first y : X) → slice_get xs place ≡ Some first → test y ≡ test first → count_by test (set xs place y) ≡ count_by test xs
 count_write test [] place first y there same = absurd (grind (arith, there))
 count_write test (x ∷ xs) zero first y there same =

@@ -1,4 +1,4 @@
--- The kind that each round is counted as, behind those of which it is told.
+-- The kind that each round counts as, after the classified rounds.
 use Rattle.std.proofs.Common.{◌≡◌, ◌≤◌, ◌<◌, ◌+◌, ℕ, Bool, true, cond, List, [], ◌∷◌, ◌++◌, length, set, All, Contains, Option, Some, None, refl, ap, sym, subst, ◌∙◌, inl, inr, string_bytes, slice_get, slice_set, count_by, append_assoc, arith}
 use Rattle.std.proofs.Math.ListN.{length-set}
 use Rattle.std.proofs.lemmas.Bool.{cases_eq, eq-eqb}
@@ -21,7 +21,7 @@ use Rattle.conformance.proofs.Kept.{keeps_front}
 use Rattle.conformance.proofs.KindsAfter.{HasFirstKinds, first_kinds, round_is, written, elsewhere}
 use Rattle.conformance.proofs.Yes.{begun_so}
 
--- ---- what is written
+-- ---- a write
 abbrev with_kind : ℕ → ℕ → List (Option ℕ) → List (Option ℕ)
 with_kind round kind kinds = slice_set kinds round (Some kind)
 
@@ -32,13 +32,13 @@ with_round (Some (round, kind)) kinds = with_kind round kind kinds
 abbrev with_told : Settled → List (Option ℕ) → List (Option ℕ)
 with_told told kinds = with_round (round_told told) kinds
 
--- one after another
+-- The writes of all classified actors, in order.
 abbrev with_all : List Settled → List (Option ℕ) → List (Option ℕ)
 with_all [] kinds = kinds
 with_all (one ∷ told) kinds = with_all told (with_told one kinds)
 
 -- ---- rounds that have begun
--- the lines before one, and those behind it
+-- The lines before one line, and those after it.
 record Split (lines : List RecordedLine) (line : RecordedLine) : Type 0 where
   before : List RecordedLine
   behind : List RecordedLine
@@ -76,7 +76,7 @@ begun_within lines round label keeps among =
     let number : round ≡ count_by is_begin parts.before = is in
     omega (arith, all, some, number)
 
--- ---- one of which it is told
+-- ---- one classified round
 by_members : (members : List ℕ) (actor : RecordedActor) (round kind : ℕ) → has_kind members actor ≡ Some (round, kind) → actor ≡ Round round
 by_members [] actor round kind is = absurd (grind (arith, is))
 by_members (k ∷ more) (Job job) round kind is = absurd (grind (arith, is))
@@ -89,7 +89,7 @@ by_members (k ∷ more) (Round r) round kind is =
 pub round_of : (one : Settled) (round kind : ℕ) → round_told one ≡ Some (round, kind) → one.actor ≡ Round round
 round_of one round kind is = by_members one.family.members.items one.actor round kind is
 
--- the round of which it is told has begun
+-- The classified round has begun.
 record HasBegun (lines : List RecordedLine) (one : Settled) : Type 0 where
   begun : (round kind : ℕ) → round_told one ≡ Some (round, kind) → round < begins lines
 
@@ -100,7 +100,7 @@ has_begun plan budget lines one keeps told = record {
       begun_within lines round (string_bytes one.label) keeps (begun_so lines round (string_bytes one.label) named.0);
 }
 
--- it was told of no other one with the same round
+-- No other classified actor is the same round.
 abbrev pub IsNew : List Settled → Settled → Type 0
 IsNew told one = (other : Settled) (round kind more : ℕ) → Contains told other → round_told other ≡ Some (round, kind) → round_told one ≡ Some (round, more) → ⊥
 
@@ -150,7 +150,7 @@ told_by : (plan : Plan) (lines : List RecordedLine) (told : List Settled) (kinds
 told_by plan lines told kinds one None are new begun is = told_none plan lines told kinds one are is
 told_by plan lines told kinds one (Some (round, kind)) are new begun is = told_some plan lines told kinds one round kind are new (begun.begun round kind is) is
 
--- ---- all of them
+-- ---- all classified rounds
 told_itself : (actor : RecordedActor) (one : Settled) → one.actor ≡ actor → is_told actor one ≡ true
 told_itself (Job job) one is = ap (λ (a : RecordedActor). is_same_actor a (Job job)) is ∙ eq-eqb job job refl
 told_itself (Round round) one is = ap (λ (a : RecordedActor). is_same_actor a (Round round)) is ∙ eq-eqb round round refl
@@ -180,7 +180,7 @@ told_all plan lines told (one ∷ more) kinds are begun once =
     let all = told_all plan lines (told ++ one ∷ []) more (with_told one kinds) next (All-tail (HasBegun lines) one more begun) (subst IsOnceEach (sym same) once) in
     subst (λ (xs : List Settled). AreFirstKinds plan lines xs (with_all more (with_told one kinds))) same all
 
--- of each round the kind that it is counted as, by all of which it is told
+-- The kind that each round counts as, once all actors are classified.
 pub all_first_kinds : (plan : Plan) (budget : ℕ) (lines : List RecordedLine) (told : List Settled) → KeepsRules lines → AreAllTold plan budget lines told → HasFirstKinds plan lines told
 all_first_kinds plan budget lines told keeps all =
     let first = first_kinds plan lines keeps in

@@ -1,4 +1,4 @@
--- The labels that the plan has not, behind one more line.
+-- The labels that are not in the plan, after one more line.
 use Rattle.std.proofs.Common.{◌≡◌, ◌≤◌, ◌+◌, ℕ, Bool, true, false, ◌||◌, List, [], ◌∷◌, ◌++◌, length, All, Contains, refl, ap, sym, subst, ◌∙◌, inl, inr, string_bytes, count_by, is_some, not, slice_get, arith}
 use Rattle.std.specs.Prelude.{◌⊎◌}
 use Rattle.std.specs.List.{list_any}
@@ -33,24 +33,24 @@ line_stays before more number line (i, is, there) = (i, is, there_before before 
 last_line : (before : List RecordedLine) (number : ℕ) (line : RecordedLine) → IsNext number before → IsLine (before ++ line ∷ []) number line
 last_line before number line next = (length before, next, there_last before line)
 
--- a line is one of those before, or its number is above theirs
+-- A line is one of the earlier lines, or its number is above theirs.
 line_cases : (before more : List RecordedLine) (number : ℕ) (line : RecordedLine) → IsLine (before ++ more) number line → IsLine before number line ⊎ (length before + 1 ≤ number)
 line_cases before more number line (i, is, there) =
     elim (before_or_behind before more i line there) [ inl earlier ↦ inl (i, is, earlier) | inr behind ↦ inr (omega (arith, is, behind)) ]
 
--- and theirs are no greater than how many there are
+-- The number of an earlier line is at most the number of earlier lines.
 within_lines : (before : List RecordedLine) (number : ℕ) (line : RecordedLine) → IsLine before number line → number ≤ length before
 within_lines before number line (i, is, there) = omega (arith, is, within before i line there)
 
 line_among : (before : List RecordedLine) (number : ℕ) (line : RecordedLine) → IsLine before number line → Contains before line
 line_among before number line (i, is, there) = at_place before i line there
 
--- the first of its sort stays the first
+-- The first line of a label remains the first.
 first_stays : (before more : List RecordedLine) (number : ℕ) (line other : RecordedLine) (earlier : ℕ) → IsLine before number line → (IsLine before earlier other → number ≤ earlier) → IsLine (before ++ more) earlier other → number ≤ earlier
 first_stays before more number line other earlier here first at =
     elim (line_cases before more earlier other at) [ inl before_it ↦ first before_it | inr behind ↦ omega (arith, within_lines before number line here, behind) ]
 
--- and the next line is the first where no earlier one is of its sort
+-- The next line is the first of its label if no earlier line has that label.
 first_next : (before : List RecordedLine) (number : ℕ) (line other : RecordedLine) (earlier : ℕ) → IsNext number before → (Contains before other → ⊥) → IsLine (before ++ line ∷ []) earlier other → number ≤ earlier
 first_next before number line other earlier next none at =
     elim (line_cases before (line ∷ []) earlier other at) [ inl before_it ↦ absurd (none (line_among before earlier other before_it)) | inr behind ↦ omega (arith, next, behind) ]
@@ -70,7 +70,7 @@ label_stays plan before more (code.Kind line kind) so = record {
   first = λ earlier one at. first_stays before more line _ (RoundBegins one (string_bytes kind)) earlier so.line (so.first earlier one) at;
 }
 
--- ---- what is told
+-- ---- reported labels
 any_push : {X : Type 0} (test : X → Bool) (xs : List X) (x : X) → list_any test (xs ++ x ∷ []) ≡ (list_any test xs || test x)
 any_push test [] x = or_false (test x)
   where
@@ -97,8 +97,8 @@ or_none false b h = h
 same_bytes : (bytes : List ℕ) → bytes_eq bytes bytes ≡ true
 same_bytes bytes = (bytes_eq-Decides bytes bytes).1 refl
 
--- ---- lines that name no label, or one that is known
--- what is kept is the same, and nothing new has to be told
+-- ---- lines without a new label
+-- The state is unchanged, and the line adds nothing.
 pub record NothingNew (plan : Plan) (line : RecordedLine) (old : Unplanned) : Type 0 where
   pub classes : (actor : RecordedActor) (job : ℕ) (class pool : List ℕ) → line ≡ Submits actor job class pool → class_family plan class pool ≡ [] → list_any (tells_class class pool) old.found.items ≡ true
   pub kinds : (round : ℕ) (kind : List ℕ) → line ≡ RoundBegins round kind → client_family plan kind ≡ [] → list_any (tells_kind kind) old.found.items ≡ true
@@ -280,7 +280,7 @@ pub is_filled : (numbers : List ℕ) → is_some (slice_get numbers 0) ≡ not (
 is_filled [] = refl
 is_filled (n ∷ more) = refl
 
--- ---- lines as the program keeps them
+-- ---- lines as the program represents them
 pub submit_seen : (plan : Plan) (before : List RecordedLine) (number : ℕ) (line : Line) (actor : RecordedActor) (job : ℕ) (class pool : Bor (List ℕ)) (old new : Unplanned) → line ≡ read.Submits actor job class pool
     → IsNext number before → IsUnplannedOf plan before old → TakesClass plan number class.now pool.now old new → IsUnplannedOf plan (before ++ line_seen line ∷ []) new
 submit_seen plan before number line actor job class pool old new is next so takes =

@@ -1,4 +1,4 @@
--- What is kept of the actors of which is told, behind one more.
+-- The retained verdicts after one more actor.
 use Rattle.std.proofs.Common.{◌≡◌, ℕ, Bool, true, false, cond, ◌&&◌, ◌||◌, not, List, [], ◌∷◌, ◌++◌, refl, ap, sym, subst, ◌∙◌}
 use Rattle.std.specs.Prelude.{filter, Result, Ok, Err, OnOk}
 use Rattle.std.specs.List.{list_any}
@@ -41,11 +41,11 @@ and_false : (a : Bool) → (a && false) ≡ false
 and_false true = refl
 and_false false = refl
 
--- ---- one more
+-- ---- one more actor
 pub same_firsts : (all : List Settled) (first other : Firsts) → other ≡ first → AreFirsts all first.actors.items → AreFirsts all other.actors.items
 same_firsts all first other is are = subst (λ (f : Firsts). AreFirsts all f.actors.items) (sym is) are
 
--- one that is not decided
+-- An actor that is undecided.
 pub behind_undecided : (plan : Plan) (told : List Settled) (one : Settled) (old new : Verdicts) → IsVerdictsOf plan told old → one.family.is_decided ≡ false
     → ((all : List Settled) → AreFirsts all old.undecided.actors.items → AreFirsts (with_planned plan one all) new.undecided.actors.items)
     → new.strays ≡ old.strays → new.classless ≡ old.classless → IsVerdictsOf plan (told ++ one ∷ []) new
@@ -60,7 +60,7 @@ behind_undecided plan told one old new so not_decided firsts strays_are classles
       classless = λ job. ap (λ (set : JobSet). has_job set job) classless_are ∙ (so.classless job ∙ sym (any_push (is_classless_job job) told one ∙ (ap (λ (b : Bool). list_any (is_classless_job job) told || b) (no_job job) ∙ or_false _)));
     }
 
--- one that is of no body
+-- An actor whose path matches no body.
 pub behind_stray : (plan : Plan) (told : List Settled) (one : Settled) (old new : Verdicts) → IsVerdictsOf plan told old → one.family.is_decided ≡ true → is_empty one.family.members.items ≡ true
     → ((all : List Settled) → AreFirsts all old.strays.actors.items → AreFirsts (with_planned plan one all) new.strays.actors.items)
     → new.undecided ≡ old.undecided → ((job : ℕ) → has_job new.classless job ≡ with_job one.actor (has_job old.classless job) job) → IsVerdictsOf plan (told ++ one ∷ []) new
@@ -75,7 +75,7 @@ behind_stray plan told one old new so decided empty firsts undecided_are classle
       classless = λ job. classless_are job ∙ (ap (λ (b : Bool). b || is_job job one.actor) (so.classless job) ∙ sym (any_push (is_classless_job job) told one ∙ ap (λ (b : Bool). list_any (is_classless_job job) told || b) (job_is job)));
     }
 
--- one that is of a body
+-- An actor whose path matches a body.
 pub behind_good : (plan : Plan) (told : List Settled) (one : Settled) (old : Verdicts) → IsVerdictsOf plan told old → one.family.is_decided ≡ true → is_empty one.family.members.items ≡ false → IsVerdictsOf plan (told ++ one ∷ []) old
 behind_good plan told one old so decided some =
     let no_class : is_classless one ≡ false = ap (λ (b : Bool). b && is_empty one.family.members.items) decided ∙ some in

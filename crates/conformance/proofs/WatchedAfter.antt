@@ -1,4 +1,4 @@
--- What is seen line by line, behind one more.
+-- The part of a survey that each line updates, after one more line.
 use Rattle.std.proofs.Common.{◌≡◌, ◌+◌, ℕ, List, [], ◌∷◌, ◌++◌, length, map, refl, ap, sym, ◌∙◌}
 use Rattle.std.proofs.lemmas.List.{map-append}
 use Rattle.job_bodies.specs.Plan.{Plan}

@@ -1,4 +1,4 @@
--- What it is told of actors where nothing is found of them.
+-- The classified actors if no finding concerns them.
 use Rattle.std.proofs.Common.{◌≡◌, ◌<◌, ℕ, Bool, true, false, cond, ◌&&◌, not, ◌==◌, List, [], ◌∷◌, length, All, Contains, Option, Some, None, refl, ap, subst, ◌∙◌, inl, inr, string_bytes, slice_get, arith}
 use Rattle.std.specs.Prelude.{◌⊎◌, Any}
 use Rattle.std.specs.List.{list_any, filter_map, cons_option}
@@ -19,7 +19,7 @@ use Rattle.conformance.specs.Verdicts.{IsVerdictsOf, is_empty, family_of, is_pla
 use Rattle.conformance.proofs.Among.{here, later, stays}
 
 -- ---- the lines that name an actor's label
--- of what a list gives, the first is of one of its elements
+-- The first result of mapping `h` over a list is that of one of its elements.
 pub record First {X Y : Type 0} (h : X → Option Y) (xs : List X) (y : Y) : Type 0 where
   pub one : X
   pub among : Contains xs one
@@ -72,7 +72,7 @@ begun_so lines round kind is =
     let first = first_of (kind_in round) lines kind is in
     subst (Contains lines) (begin_line round first.one kind first.gives) first.among
 
--- ---- nothing is found
+-- ---- no findings
 pub none_first : (all firsts : List Settled) (one : Settled) → AreFirsts all firsts → firsts ≡ [] → Contains all one → ⊥
 none_first all firsts one are none among =
     let first = All-contains (λ (x : Settled). Any (StandsFor x) firsts) all one are.each among in
@@ -88,7 +88,7 @@ nothing_told : (told : Bool) → told ≡ true → told ≡ false → ⊥
 nothing_told true h k = absurd (cc)
 nothing_told false h k = absurd (cc)
 
--- the plan has the label of an actor, where no label is found that it has not
+-- The plan has the label of an actor if no label is reported as missing from the plan.
 planned_if : (plan : Plan) (lines : List RecordedLine) (unplanned : Unplanned) (actor : RecordedActor) (label pool : List ℕ) → IsUnplannedOf plan lines unplanned → unplanned.found.items ≡ []
     → HasLabel lines actor label pool → family_of plan actor label pool ≡ [] → ⊥
 planned_if plan lines unplanned (Job job) label pool so none named empty =
@@ -105,7 +105,7 @@ pub planned : (plan : Plan) (budget : ℕ) (lines : List RecordedLine) (unplanne
 planned plan budget lines unplanned one so none told =
     not_empty _ (λ empty. planned_if plan lines unplanned one.actor (string_bytes one.label) (string_bytes one.pool) so none told.label (empty_is _ empty))
 
--- ---- what it is told of each
+-- ---- each classified actor
 and_true : (a b : Bool) → a ≡ true → b ≡ true → (a && b) ≡ true
 and_true true b h k = k
 and_true false b h k = h

@@ -1,4 +1,4 @@
--- When a service still is its plan, by the lines of a recording that keeps the rules.
+-- When a service conforms to its plan, by the lines of a valid recording.
 use Rattle.std.specs.Prelude.{◌≡◌, ◌<◌, ◌++◌, ◌∷◌, ℕ, Bool, true, false, not, List, length, Contains, Option, Some, None}
 use Rattle.recording_lines.specs.declared.pool_sizes.PoolSizes.{PoolSizes}
 use Rattle.recording_lines.specs.RecordingLine.{RecordedLine, Pool, Refused, Cancels, InvokesAny, Removed, JobThrew, Unseen}
@@ -11,20 +11,20 @@ use Rattle.plan_differences.specs.Rounds.{IsWithinPlan}
 use Rattle.plan_differences.specs.RoundExcesses as rounds
 use Rattle.plan_differences.specs.WatchLaws.{IsPlannedPool}
 
--- ---- what a yes says
--- there are classes of the plan that the job can be of
+-- ---- conforming
+-- There are classes of the plan that the job can belong to.
 pub record IsOfAClass (plan : Plan) (lines : List RecordedLine) (job : ℕ) : Type 0 where
   pub classes : List ℕ
   pub exact : AreClassesOf plan lines job classes
   pub some : 0 < length classes
 
--- there are kinds of clients that the round can be of
+-- There are client kinds that the round can belong to.
 pub record IsOfAKind (plan : Plan) (lines : List RecordedLine) (round : ℕ) : Type 0 where
   pub kinds : List ℕ
   pub exact : AreKindsOf plan lines round kinds
   pub some : 0 < length kinds
 
--- the round has a kind here, and is one that it can be of
+-- `kinds` gives the round a kind that it can belong to.
 pub record HasItsKind (plan : Plan) (lines : List RecordedLine) (kinds : List (Option ℕ)) (round : ℕ) : Type 0 where
   pub kind : ℕ
   pub can_be : List ℕ
@@ -32,27 +32,27 @@ pub record HasItsKind (plan : Plan) (lines : List RecordedLine) (kinds : List (O
   pub among : Contains can_be kind
   pub is : rounds.kind_of kinds round ≡ Some kind
 
--- Where each round is taken for a kind that it can be of, some choice of these is such that after each line there are no more
--- rounds of a kind than the plan says.
+-- Each round can be assigned a kind that it can belong to, such that after each line no kind has more rounds than the plan
+-- allows.
 pub record AreEnoughClients (plan : Plan) (lines : List RecordedLine) : Type 0 where
   pub kinds : List (Option ℕ)
   pub each : (round : ℕ) → is_begun lines round ≡ true → HasItsKind plan lines kinds round
   pub within : (before behind : List RecordedLine) → lines ≡ before ++ behind → (kind : ℕ) → kind < length plan.clients → IsWithinPlan (rounds.rounds_of plan kinds before kind)
 
--- what the jobs and the rounds did is of their bodies, and there are enough clients
+-- The paths of all jobs and rounds match their bodies, and there are enough clients.
 pub record DoAsPlanned (plan : Plan) (lines : List RecordedLine) : Type 0 where
   pub jobs : (job : ℕ) → is_submitted lines job ≡ true → IsOfAClass plan lines job
   pub rounds : (round : ℕ) → is_begun lines round ≡ true → IsOfAKind plan lines round
   pub clients : AreEnoughClients plan lines
 
--- Each pool has the plan's sizes in each of its lines, and in its first one as many threads as the plan starts.
+-- Each `pool` line has the plan's sizes, and the first one of a pool also has the number of threads that the plan prestarts.
 pub record Conforms (plan : Plan) (lines : List RecordedLine) : Type 0 where
   pub pools : (before behind : List RecordedLine) (name : List ℕ) (sizes : PoolSizes) → before ++ Pool name sizes ∷ behind ≡ lines → IsPlannedPool plan (not (has_pool before name)) name sizes
   pub recorded : is_closed lines ≡ true → (pool : ℕ) → pool < length plan.pools → has_pool lines (pool_at plan pool).name ≡ true
   pub actors : DoAsPlanned plan lines
   pub gets : first_foreign_get lines ≡ None
 
--- ---- what voids a yes, whatever the paths are
+-- ---- events that invalidate a conforming result, whatever the paths are
 abbrev pub is_void : RecordedLine → Bool
 is_void (Refused actor job) = true
 is_void (Cancels actor job) = true

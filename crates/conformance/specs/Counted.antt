@@ -1,4 +1,4 @@
--- What is counted of the rounds, and how it stands for the lines.
+-- The counts of rounds, as a function of the lines read.
 use Rattle.std.specs.Prelude.{◌≡◌, ℕ, false, List, Option}
 use Rattle.job_bodies.specs.Plan.{Plan}
 use Rattle.recording_lines.specs.RecordingLine.{RecordedLine}
@@ -9,12 +9,12 @@ use Rattle.conformance.specs.declared.other_kinds.OtherKinds.{OtherKinds}
 use Rattle.conformance.specs.OtherKinds.{AreOfFirst}
 use Rattle.conformance.specs.OpenRounds.{AreOpen}
 
--- the rounds of the lines are counted, each as of its kind here
+-- The state counts the rounds of `lines`, each as its kind in `kinds`.
 pub record IsCountedOf (plan : Plan) (kinds : List (Option ℕ)) (lines : List RecordedLine) (counted : Counted) : Type 0 where
   pub rounds : AreOpen kinds lines counted.rounds
   pub watch : IsRoundWatchOf plan kinds counted.watch lines
   pub found : counted.found.items ≡ excesses_by_lines plan kinds lines
 
--- unless some round turned out to be of another kind, they are counted as of the first of their label
+-- As long as no round is known to belong to another kind, each counts as the first kind of its label.
 pub record IsCountedFirst (plan : Plan) (others : OtherKinds) (lines : List RecordedLine) (counted : Counted) : Type 0 where
   pub so : others.has_any ≡ false → (kinds : List (Option ℕ)) → AreOfFirst plan lines kinds → IsCountedOf plan kinds lines counted

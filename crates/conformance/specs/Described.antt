@@ -1,4 +1,4 @@
--- What an actor did that is of no body.
+-- The step of an actor that no body explains.
 use Rattle.std.specs.Prelude.{◌≡◌, ℕ, zero, suc, Bool, true, false, List, slice_get, string_bytes, option_map, Option, Some, None}
 use Rattle.std.specs.Option.{option_and_then}
 use Rattle.std.specs.declared.alloc.Global.{Global}
@@ -20,12 +20,12 @@ use Rattle.conformance.specs.declared.wanted.Wanted.{Wanted}
 use Rattle.conformance.specs.declared.wanted.Wanted.TheVariants as wanted
 use Rattle.conformance.specs.Wanted.{IsFirstLine, IsLabelOf}
 
--- ---- one deed of a path
+-- ---- one step of a path
 abbrev pub got_by : RecordedDeed → Option JobDeed
 got_by (recorded.Submits job) = Some (deed.Gets job)
 got_by (recorded.Gets place) = None
 
--- a get of the job that the submit at this place made
+-- The get of the job that the submit at this index made.
 abbrev pub got_at : List RecordedDeed → ℕ → Option JobDeed
 got_at path submit = option_and_then got_by (slice_get path submit)
 
@@ -33,23 +33,23 @@ abbrev pub done_by : List RecordedDeed → RecordedDeed → Option JobDeed
 done_by path (recorded.Submits job) = Some (deed.Submits job)
 done_by path (recorded.Gets submit) = got_at path submit
 
--- the deed at this place; None behind the end
+-- The step at an index, or `None` past the end.
 abbrev pub deed_at : List RecordedDeed → ℕ → Option JobDeed
 deed_at path place = option_and_then (done_by path) (slice_get path place)
 
--- the line of the deed, or that of the actor's end
+-- The line of the step or, without a step, that of the actor's end.
 abbrev pub wanted_of : RecordedActor → Option JobDeed → Wanted
 wanted_of actor None = wanted.Last actor
 wanted_of actor (Some (deed.Submits job)) = wanted.Submit job
 wanted_of actor (Some (deed.Gets job)) = wanted.Got actor job
 
--- the last deed before this place; None at the begin
+-- The step before an index, or `None` at the start.
 abbrev pub deed_before : List RecordedDeed → ℕ → Option JobDeed
 deed_before path zero = None
 deed_before path (suc place) = deed_at path place
 
--- ---- what is told
--- the deed, with the class of its job by its submit
+-- ---- what is reported
+-- The step, with the class that the submit of its job names.
 pub data IsNamedDeed (lines : List RecordedLine) : JobDeed → NamedDeed → Type 0 where
   submitted : (job : ℕ) (class : String Global) → IsLabelOf lines (Job job) (string_bytes class) → IsNamedDeed lines (deed.Submits job) (named.Submits class)
   got : (job : ℕ) (class : String Global) → IsLabelOf lines (Job job) (string_bytes class) → IsNamedDeed lines (deed.Gets job) (named.Gets class)
@@ -58,7 +58,7 @@ pub data IsNamed (lines : List RecordedLine) : Option JobDeed → Option NamedDe
   nothing : IsNamed lines None None
   something : (did : JobDeed) (name : NamedDeed) → IsNamedDeed lines did name → IsNamed lines (Some did) (Some name)
 
--- What no body says: the actor came to its end, submitted a job that is of no class of the plan itself, or did anything else.
+-- The step that no body explains: the actor's end, the submit of a job whose own path matches no class, or any other step.
 pub data IsStrayDeed (lines : List RecordedLine) (is_classless : ℕ → Bool) : Option JobDeed → StrayDeed → Type 0 where
   ends : IsStrayDeed lines is_classless None stray.Ends
   submits_stray : (job : ℕ) (class : String Global) → is_classless job ≡ true → IsLabelOf lines (Job job) (string_bytes class)
@@ -71,8 +71,8 @@ pub data IsStrayDeed (lines : List RecordedLine) (is_classless : ℕ → Bool) :
 abbrev pub number_seen : Option (ℕ × RecordedLine) → Option ℕ
 number_seen found = option_map (λ (number, line). number) found
 
--- It is told of this actor, with its label: what it did behind the most of its path that a body explains, the line with which
--- it did so, and what it did before that.
+-- The description of an actor: its label, its first step that no body explains, the line of that step, and the step before
+-- it.
 pub record IsDescribed (lines : List RecordedLine) (is_classless : ℕ → Bool) (told : Settled) (number : Option ℕ) (found : Stray) : Type 0 where
   pub actor_is : found.actor ≡ told.actor
   pub label_is : string_bytes found.label ≡ string_bytes told.label

@@ -16,7 +16,7 @@ abbrev pub label_line : NotPlanned → Option ℕ
 label_line (label.Class line class name) = Some line
 label_line (label.Kind line kind) = Some line
 
--- the number of its line
+-- The line number of a finding, if it has one.
 abbrev pub line_of : Finding → Option ℕ
 line_of (finding.Pool deviation) = pool_line deviation
 line_of (finding.NotPlanned name) = label_line name
@@ -26,7 +26,7 @@ line_of (finding.TooMany excess) = Some excess.line
 line_of (finding.ForeignGet get name) = Some get.line
 line_of (finding.Void void) = Some void.line
 
--- above each number of a line
+-- A number above every line number.
 abbrev pub last_place : ℕ
 last_place = 18446744073709551615
 
@@ -34,6 +34,6 @@ abbrev pub place : Option ℕ → ℕ
 place None = last_place
 place (Some line) = line
 
--- where it stands among others: those without a line come last
+-- The sort key of a finding. Those without a line come last.
 abbrev pub place_of : Finding → ℕ
 place_of found = place (line_of found)

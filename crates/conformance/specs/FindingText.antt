@@ -1,4 +1,4 @@
--- The lines that tell what was found.
+-- The findings as text.
 use Rattle.std.specs.Prelude.{ℕ, ◌++◌, List, [], ◌∷◌, codes, decimal, string_bytes, flat_map, Option, Some, None}
 use Rattle.job_bodies.specs.Plan.{Plan, pool_at, client_at}
 use Rattle.plan_differences.specs.declared.difference.Difference.{Difference}
@@ -17,12 +17,12 @@ use Rattle.conformance.specs.declared.unplanned.NotPlanned.TheVariants as label
 use Rattle.conformance.specs.Finding.{line_of}
 use Rattle.conformance.specs.Stray.{actor_text, stray_text}
 
--- the number of the line, if there is one
+-- The line number, if there is one.
 abbrev pub line_text : Option ℕ → List ℕ
 line_text None = []
 line_text (Some line) = codes "line " ++ decimal line ++ codes ": "
 
--- ---- each kind of finding, without the number of its line
+-- ---- each kind of finding, without its line number
 abbrev pub pool_difference_text : List ℕ → Difference → List ℕ
 pool_difference_text name difference = codes "pool " ++ name ++ codes ": " ++ difference_text difference
 
@@ -66,7 +66,7 @@ found_text plan (finding.ForeignGet get name) = foreign_get_text get (string_byt
 found_text plan (finding.Void void) = void_line_text void
 
 -- ---- lines
--- without its newline
+-- The text of a finding, without a newline.
 abbrev pub finding_text : Plan → Finding → List ℕ
 finding_text plan found = line_text (line_of found) ++ found_text plan found
 

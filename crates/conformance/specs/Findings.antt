@@ -1,4 +1,4 @@
--- All that is found of a recording beside a plan.
+-- The findings for a recording, compared with a plan.
 use Rattle.std.specs.Prelude.{◌≡◌, ◌++◌, ℕ, Bool, true, false, List, map, filter, Option}
 use Rattle.std.specs.List.{list_any}
 use Rattle.std.specs.List.Sorted.{IsPermutation}
@@ -20,7 +20,7 @@ use Rattle.conformance.specs.Gathered.{AreStrays, AreForeign, is_lasting, one_be
 use Rattle.conformance.specs.Unplanned.{AreNotPlanned}
 use Rattle.conformance.specs.Verdicts.{is_stray, is_undecided, is_classless_job}
 
--- it is about what a job or a round did by itself, or about how many rounds there are
+-- The finding concerns a label, a path or a number of rounds.
 abbrev pub is_of_actors : Finding → Bool
 is_of_actors (finding.NotPlanned label) = true
 is_of_actors (finding.Strays line stray) = true
@@ -30,14 +30,15 @@ is_of_actors (finding.Pool deviation) = false
 is_of_actors (finding.ForeignGet get label) = false
 is_of_actors (finding.Void void) = false
 
--- a job that is told to be of no class
+-- The job is one of the classified jobs whose path matches no class.
 abbrev pub is_classless_in : List Settled → ℕ → Bool
 is_classless_in told job = list_any (is_classless_job job) told
 
--- Each thing in which the recording is not of the plan, or after which a yes is void, once, and nothing else: of each pool all
--- in which it is not as the plan says, by the first line that says so, and each pool that is missing, each label that the plan has not, of each
--- label that it has the first actor that is of no body and the first that is not decided, where there are first too many rounds
--- of a kind, the first get of another one's job, and the first line of each word that voids a yes.
+-- Every difference from the plan and every invalidating event, each once, and nothing else: each way in which a pool
+-- differs, with the first line that shows it; each pool that the recording lacks; each label that is not in the plan; for
+-- each label of the plan, the first actor whose path matches no body and the first one for which this is undecided; the
+-- first line at which each kind has too many rounds; the first get of another actor's job; and the first line of each event
+-- type that invalidates a conforming result.
 pub record AreFindingsOf (plan : Plan) (budget : ℕ) (lines : List RecordedLine) (findings : List Finding) : Type 0 where
   pub told : List Settled
   pub all_told : AreAllTold plan budget lines told

@@ -1,4 +1,4 @@
--- The kind that each round is counted as.
+-- The kind that each round counts as.
 use Rattle.std.specs.Prelude.{◌≡◌, ℕ, List, [], ◌∷◌, length, slice_get, Contains, Option, Some, None}
 use Rattle.recording_lines.specs.declared.recording_line.RecordedActor.{RecordedActor}
 use Rattle.recording_lines.specs.declared.recording_line.RecordedActor.TheVariants.{Job, Round}
@@ -9,18 +9,18 @@ use Rattle.plan_families.specs.Family.{client_family}
 use Rattle.recorded_classes.specs.declared.settled.Settled.{Settled}
 use Rattle.recorded_classes.specs.Label.{kind_of}
 
--- the round with which it is told of one that can be of a kind
+-- A round, with the first of the kinds that it can belong to.
 abbrev pub has_kind : List ℕ → RecordedActor → Option (ℕ × ℕ)
 has_kind [] actor = None
 has_kind (kind ∷ more) (Job job) = None
 has_kind (kind ∷ more) (Round round) = Some (round, kind)
 
--- the round that is told of, with the first kind that it can be of
+-- The round of a classified actor, with the first kind that it can belong to.
 abbrev pub round_told : Settled → Option (ℕ × ℕ)
 round_told told = has_kind told.family.members.items told.actor
 
--- Each round has a kind or none. One of which it is told, and that can be of a kind, has the first of these. Any other one has
--- the first of its label, if there is any.
+-- A kind or none for each round. A classified round that can belong to some kind has the first of these. Any other round has
+-- the first kind of its label, if there is one.
 pub record AreFirstKinds (plan : Plan) (lines : List RecordedLine) (told : List Settled) (kinds : List (Option ℕ)) : Type 0 where
   pub many : length kinds ≡ begins lines
   pub told_of : (one : Settled) (round kind : ℕ) → Contains told one → round_told one ≡ Some (round, kind) → slice_get kinds round ≡ Some (Some kind)

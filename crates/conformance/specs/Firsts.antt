@@ -1,4 +1,4 @@
--- Of each label the actor with the smallest number.
+-- The actor with the smallest number of each label.
 use Rattle.std.specs.Prelude.{◌≡◌, ◌≤◌, ℕ, Bool, true, false, ◌&&◌, List, string_bytes, All, Any, Contains, count_by}
 use Rattle.std.specs.Str.{bytes_eq}
 use Rattle.recording_lines.specs.declared.recording_line.RecordedActor.{RecordedActor}
@@ -14,17 +14,17 @@ abbrev pub number_of : RecordedActor → ℕ
 number_of (Job job) = job
 number_of (Round round) = round
 
--- both are jobs of the same class and pool, or rounds of the same kind
+-- Both are jobs of the same class and pool, or rounds of the same kind.
 abbrev pub is_same_label : Settled → Settled → Bool
 is_same_label one other =
     is_same_sort one.actor other.actor && bytes_eq (string_bytes one.label) (string_bytes other.label) && bytes_eq (string_bytes one.pool) (string_bytes other.pool)
 
--- the first stands for the other one
+-- `first` has the same label as `other`, and no larger number.
 pub record StandsFor (other first : Settled) : Type 0 where
   pub label : is_same_label first other ≡ true
   pub before : number_of first.actor ≤ number_of other.actor
 
--- of all these actors those with the smallest numbers, one of each label
+-- The actors with the smallest numbers among `all`, one for each label.
 pub record AreFirsts (all firsts : List Settled) : Type 0 where
   pub among : All (Contains all) firsts
   pub each : All (λ one. Any (StandsFor one) firsts) all

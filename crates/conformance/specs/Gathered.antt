@@ -1,4 +1,4 @@
--- All findings, one kind behind another.
+-- All findings, collected from the parts of a survey.
 use Rattle.std.specs.Prelude.{◌≡◌, ◌++◌, ℕ, Bool, true, false, List, [], ◌∷◌, map, filter, string_bytes, Option, Some, None}
 use Rattle.std.specs.List.{AllZip}
 use Rattle.std.specs.declared.alloc.Global.{Global}
@@ -23,7 +23,7 @@ use Rattle.conformance.specs.Described.{IsDescribed}
 use Rattle.conformance.specs.JobSet.{has_job}
 use Rattle.conformance.specs.Wanted.{IsLabelOf}
 
--- behind what was found before stand more, of which this is so
+-- The list is extended by elements that satisfy `IsSo`.
 pub record Adds (old : List Finding) (IsSo : List Finding → Type 0) (new : List Finding) : Type 0 where
   pub more : List Finding
   pub behind : new ≡ old ++ more
@@ -44,7 +44,7 @@ pub data AreForeign (lines : List RecordedLine) : Option ForeignGet → List Fin
   none : AreForeign lines None []
   one : (get : ForeignGet) (label : String Global) → IsLabelOf lines get.actor (string_bytes label) → AreForeign lines (Some get) (finding.ForeignGet get label ∷ [])
 
--- it voids a yes where the actor's path is of a body
+-- The event invalidates the result even if the actor's path matches a body.
 abbrev pub lasts : Voiding → Bool
 lasts (what.TimedOut actor job) = false
 lasts (what.Interrupted actor job) = false
@@ -54,24 +54,24 @@ abbrev pub is_lasting : Void → Bool
 is_lasting void = lasts void.what
 
 -- ---- all
--- behind what was found before stand the actors that are of no body, and those of which that is not decided
+-- The list is extended by the actors whose path matches no body, and by those for which this is undecided.
 pub record AddsJudged (lines : List RecordedLine) (verdicts : Verdicts) (old new : List Finding) : Type 0 where
   pub strays : List Finding
   pub strays_so : AreStrays lines (has_job verdicts.classless) verdicts.strays.actors.items strays
   pub behind : new ≡ old ++ strays ++ map not_decided verdicts.undecided.actors.items
 
--- behind what was found before stand the first get of another one's job, and the first line of each word that voids a yes
+-- The list is extended by the first get of another actor's job, and by the first line of each invalidating event type.
 pub record AddsNoted (lines : List RecordedLine) (old new : List Finding) : Type 0 where
   pub foreign : List Finding
   pub foreign_so : AreForeign lines (first_foreign_get lines) foreign
   pub behind : new ≡ old ++ foreign ++ map finding.Void (filter is_lasting (voids_of lines))
 
--- what was found, each kind behind another
+-- All findings, in the order of their types.
 abbrev pub one_behind_another : List PoolDeviation → List NotPlanned → List Finding → List Settled → List RoundExcess → List Finding → List Void → List Finding
 one_behind_another deviations labels astray undecided excesses gets voids =
     map finding.Pool deviations ++ map finding.NotPlanned labels ++ astray ++ map not_decided undecided ++ map finding.TooMany excesses ++ gets ++ map finding.Void voids
 
--- the notes are those of these lines
+-- The findings of a survey whose notes are those of `lines`.
 pub record AreGathered (lines : List RecordedLine) (survey : Survey) (excesses : List RoundExcess) (found : List Finding) : Type 0 where
   pub strays : List Finding
   pub foreign : List Finding

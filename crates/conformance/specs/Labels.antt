@@ -6,6 +6,6 @@ use Rattle.conformance.specs.declared.labels.Labels.{Labels}
 abbrev pub has_label : Labels → List ℕ → Bool
 has_label labels label = contains_text labels.labels label
 
--- a class and a pool, as the line of a submit has them
+-- A class and its pool, as a submit line has them.
 abbrev pub pair_text : List ℕ → List ℕ → List ℕ
 pair_text class pool = class ++ codes " " ++ pool

@@ -1,4 +1,4 @@
--- The kinds of the rounds that are between their begin and their end.
+-- The kinds of the open rounds.
 use Rattle.std.specs.Prelude.{◌≡◌, ℕ, ◌==◌, if◌then◌else◌, List, Option, Some, None}
 use Rattle.std.specs.Option.{option_and_then}
 use Rattle.number_tables.specs.Numbered.{value_at}
@@ -11,7 +11,7 @@ use Rattle.conformance.specs.declared.open_rounds.OpenRounds.{OpenRounds}
 use Rattle.conformance.specs.declared.other_kinds.OtherKinds.{OtherKinds}
 use Rattle.conformance.specs.OtherKinds.{kind_by}
 
--- of each round that is about its kind is kept, and of no other one
+-- The table has the kind of each open round, and no other entry.
 pub record AreOpen (kinds : List (Option ℕ)) (lines : List RecordedLine) (open_now : OpenRounds) : Type 0 where
   pub kept : (round : ℕ) → value_at open_now.kinds round ≡ (if is_about lines (Round round) then Some (kind_of kinds round) else None)
 
@@ -19,17 +19,17 @@ pub record AreOpen (kinds : List (Option ℕ)) (lines : List RecordedLine) (open
 abbrev pub kept_without : ℕ → ℕ → Option (Option ℕ) → Option (Option ℕ)
 kept_without round one there = if round == one then None else there
 
--- what is kept of one round, behind the line
+-- The entry of a round after the line.
 abbrev pub kept_behind : Plan → OtherKinds → RecordedLine → ℕ → Option (Option ℕ) → Option (Option ℕ)
 kept_behind plan others (RoundBegins round label) one there = if round == one then Some (kind_by plan others round label) else there
 kept_behind plan others (RoundEnds round) one there = kept_without round one there
 kept_behind plan others line one there = there
 
--- the kind that is kept of a round
+-- The recorded kind of a round.
 abbrev pub kind_in : OpenRounds → ℕ → Option ℕ
 kind_in open_now round = option_and_then (λ (kind : Option ℕ). kind) (value_at open_now.kinds round)
 
--- the kind of the round that the line begins or ends, by what is kept before it
+-- The kind of the round that the line begins or ends, by the table before the line.
 abbrev pub kind_by_line : Plan → OtherKinds → OpenRounds → RecordedLine → Option ℕ
 kind_by_line plan others open_now (RoundBegins round label) = kind_by plan others round label
 kind_by_line plan others open_now (RoundEnds round) = kind_in open_now round

@@ -1,4 +1,4 @@
--- The rounds that turn out to be of another kind than the first of their label.
+-- The rounds that belong to another kind than the first of their label.
 use Rattle.std.specs.Prelude.{◌≡◌, ℕ, true, false, if◌then◌else◌, List, slice_get, string_bytes, Contains, is_some, Option, Some, None}
 use Rattle.number_tables.specs.Numbered.{value_at}
 use Rattle.recording_lines.specs.RecordingLine.{RecordedLine}
@@ -10,8 +10,8 @@ use Rattle.recorded_classes.specs.Label as labels
 use Rattle.conformance.specs.declared.other_kinds.OtherKinds.{OtherKinds}
 use Rattle.conformance.specs.FirstKinds.{round_told}
 
--- ---- of which it is told
--- the first of the kinds that a label may be
+-- ---- classified rounds
+-- The first kind of a label.
 abbrev pub first_of : Plan → List ℕ → Option ℕ
 first_of plan label = slice_get (client_family plan label) 0
 
@@ -19,35 +19,35 @@ abbrev pub unless_first : Option ℕ → Option (ℕ × ℕ) → Option (ℕ × 
 unless_first first None = None
 unless_first first (Some (round, kind)) = if rounds.is_kind kind first then None else Some (round, kind)
 
--- the round that is told of, with the first kind that it can be of, where that is not the first of its label
+-- The round of a classified actor and the first kind that it can belong to, if that is not the first kind of its label.
 abbrev pub other_told : Plan → Settled → Option (ℕ × ℕ)
 other_told plan told = unless_first (first_of plan (string_bytes told.label)) (round_told told)
 
--- one of these is told to be a round of this other kind
+-- One of the classified actors is this round, and belongs to this other kind.
 pub record IsToldOther (plan : Plan) (told : List Settled) (round kind : ℕ) : Type 0 where
   pub one : Settled
   pub among : Contains told one
   pub is : other_told plan one ≡ Some (round, kind)
 
--- the rounds that are told to be of another kind are kept, and no other ones
+-- The table has the rounds that belong to another kind than the first of their label, and no others.
 pub record AreOtherKinds (plan : Plan) (told : List Settled) (others : OtherKinds) : Type 0 where
   pub sound : (round kind : ℕ) → value_at others.kinds round ≡ Some kind → IsToldOther plan told round kind
   pub complete : (round kind : ℕ) → IsToldOther plan told round kind → is_some (value_at others.kinds round) ≡ true
   pub none : others.has_any ≡ false → (round : ℕ) → value_at others.kinds round ≡ None
 
--- ---- as what rounds are counted
+-- ---- the kinds by which rounds are counted
 abbrev pub kind_or : Option ℕ → Option ℕ → Option ℕ
 kind_or (Some kind) first = Some kind
 kind_or None first = first
 
--- the kind that is kept of the round, or else the first of its label
+-- The recorded kind of a round or, if there is none, the first kind of its label.
 abbrev pub kind_by : Plan → OtherKinds → ℕ → List ℕ → Option ℕ
 kind_by plan others round label = kind_or (value_at others.kinds round) (first_of plan label)
 
--- so it is of each round that has begun
+-- Each round that has begun has this kind.
 pub record AreGiven (plan : Plan) (others : OtherKinds) (lines : List RecordedLine) (kinds : List (Option ℕ)) : Type 0 where
   pub each : (round : ℕ) (label : List ℕ) → labels.kind_of lines round ≡ Some label → rounds.kind_of kinds round ≡ kind_by plan others round label
 
--- each round that has begun is of the first kind of its label
+-- Each round that has begun has the first kind of its label.
 pub record AreOfFirst (plan : Plan) (lines : List RecordedLine) (kinds : List (Option ℕ)) : Type 0 where
   pub each : (round : ℕ) (label : List ℕ) → labels.kind_of lines round ≡ Some label → rounds.kind_of kinds round ≡ first_of plan label

@@ -1,4 +1,4 @@
--- What a comparison comes to.
+-- The result of a comparison.
 use Rattle.std.specs.Prelude.{List, ⊤, Option, Some, None}
 use Rattle.std.specs.List.Sorted.{IsNonDecreasingBy}
 use Rattle.recorded_rules.specs.declared.fault.RecordingFault.{RecordingFault}
@@ -7,16 +7,16 @@ use Rattle.conformance.specs.declared.comparison.Conformance.TheVariants.{Bad, C
 use Rattle.conformance.specs.declared.finding.Finding.{Finding}
 use Rattle.conformance.specs.Finding.{place_of}
 
--- the bad line, if there is one
+-- The fault of the first invalid line, if there is one.
 abbrev pub fault_of : Conformance → Option RecordingFault
 fault_of (Bad fault) = Some fault
 fault_of (Compared findings) = None
 
--- a fact of the findings, where there is no bad line
+-- `P` holds of the findings, unless a line is invalid.
 abbrev pub IfCompared : Conformance → (List Finding → Type 0) → Type 0
 IfCompared (Bad fault) P = ⊤
 IfCompared (Compared findings) P = P findings.items
 
--- in the order of their lines, those without a line last
+-- The findings are in the order of their lines, those without a line last.
 abbrev pub AreInOrder : List Finding → Type 0
 AreInOrder findings = IsNonDecreasingBy place_of findings

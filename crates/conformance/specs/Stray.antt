@@ -1,4 +1,4 @@
--- The words for an actor whose path is of no body of the plan.
+-- The description of an actor whose path matches no body of the plan.
 use Rattle.std.specs.Prelude.{ℕ, ◌++◌, List, codes, decimal, string_bytes, Option, Some, None}
 use Rattle.recording_lines.specs.declared.recording_line.RecordedActor.{RecordedActor}
 use Rattle.recording_lines.specs.declared.recording_line.RecordedActor.TheVariants.{Job, Round}
@@ -8,7 +8,7 @@ use Rattle.conformance.specs.declared.stray.StrayDeed.TheVariants.{Deed, Submits
 use Rattle.conformance.specs.declared.stray.NamedDeed.{NamedDeed}
 use Rattle.conformance.specs.declared.stray.NamedDeed.TheVariants.{Submits, Gets}
 
--- a job by its class, a round by its kind
+-- A job with its class, or a round with its kind.
 abbrev pub actor_text : RecordedActor → List ℕ → List ℕ
 actor_text (Job job) label = codes "job " ++ decimal job ++ codes " of class " ++ label
 actor_text (Round round) label = codes "round " ++ decimal round ++ codes " of kind " ++ label
@@ -28,7 +28,7 @@ behind_text None = codes " at its begin"
 behind_text (Some (Submits class)) = codes " behind submit " ++ string_bytes class
 behind_text (Some (Gets class)) = codes " behind get " ++ string_bytes class
 
--- what it did that no body says
+-- The step that no body explains.
 abbrev pub stray_deed_text : StrayDeed → Option NamedDeed → List ℕ
 stray_deed_text Ends behind = end_text
 stray_deed_text (SubmitsStray job class) behind = cause_text job (string_bytes class)

@@ -1,4 +1,4 @@
--- What is kept of the lines of a recording, and how it stands for them.
+-- The state of a survey, as a function of the lines read.
 use Rattle.std.specs.Prelude.{◌≡◌, ℕ, List, ◌++◌, map, Option, Some, None, [], Result, Ok, Err}
 use Rattle.job_bodies.specs.Plan.{Plan}
 use Rattle.recording_lines.specs.RecordingLine.{RecordedLine, lines_read}
@@ -22,33 +22,33 @@ use Rattle.conformance.specs.Verdicts.{IsVerdictsOf}
 use Rattle.conformance.specs.OtherKinds.{AreOtherKinds}
 use Rattle.conformance.specs.Counted.{IsCountedFirst}
 
--- ---- line by line
+-- ---- the part that each line updates
 pub record IsWatchedOf (plan : Plan) (lines : List RecordedLine) (watched : Watched) : Type 0 where
   pub pools : IsPoolWatchOf plan watched.pools lines
   pub deviations : map deviation_seen watched.deviations.items ≡ deviations_by_lines plan lines
   pub notes : IsNotesOf watched.notes lines
   pub unplanned : IsUnplannedOf plan lines watched.unplanned
 
--- the same, where the lines end
+-- The same, at the end of the recording.
 pub record IsWatched (plan : Plan) (lines : List RecordedLine) (watched : Watched) : Type 0 where
   pub deviations : map deviation_seen watched.deviations.items ≡ deviations_by_lines plan lines ++ deviations_at_end plan lines
   pub notes : IsNotesOf watched.notes lines
   pub unplanned : IsUnplannedOf plan lines watched.unplanned
 
--- ---- actor by actor
--- it was told of these actors
+-- ---- the part that each classified actor updates
+-- These actors have been classified and recorded.
 pub record IsJudgedOf (plan : Plan) (budget : ℕ) (lines : List RecordedLine) (told : List Settled) (judged : Judged) : Type 0 where
   pub told_so : AreTold plan budget lines told
   pub verdicts : IsVerdictsOf plan told judged.verdicts
   pub others : AreOtherKinds plan told judged.others
 
--- it was told of each that is settled
+-- All actors that the lines classify have been recorded.
 pub record IsSoFar (plan : Plan) (budget : ℕ) (lines : List RecordedLine) (classes : Classes) (judged : Judged) : Type 0 where
   pub told : List Settled
   pub classes_stand : IsClassesOf plan budget classes lines
   pub judged_so : IsJudgedOf plan budget lines told judged
 
--- it was told of each
+-- All actors have been recorded.
 pub record IsJudged (plan : Plan) (budget : ℕ) (lines : List RecordedLine) (judged : Judged) : Type 0 where
   pub told : List Settled
   pub all : AreAllTold plan budget lines told
@@ -60,21 +60,21 @@ pub record IsSurveyOf (plan : Plan) (budget : ℕ) (lines : List RecordedLine) (
   pub judged : IsJudged plan budget lines survey.judged
   pub counted : IsCountedFirst plan survey.judged.others lines survey.counted
 
--- the same, before the lines end
+-- A survey under construction, before the end of the recording.
 pub record IsUnderway (plan : Plan) (budget : ℕ) (lines : List RecordedLine) (underway : Underway) : Type 0 where
   pub watched : IsWatchedOf plan lines underway.survey.watched
   pub judged : IsSoFar plan budget lines underway.classes underway.survey.judged
   pub counted : IsCountedFirst plan underway.survey.judged.others lines underway.survey.counted
   pub nothing : underway.told.items ≡ []
 
--- ---- of a text
--- all lines were taken, or the first bad one is told
+-- ---- a text
+-- All lines were read, or the first invalid one is returned.
 abbrev pub IsThrough : Plan → ℕ → List ℕ → Underway → Option RecordingFault → Type 0
 IsThrough plan budget text underway None =
     IsFirstFault (lines_read text) None × KeepsRules (lines_of text) × IsUnderway plan budget (lines_of text) underway
 IsThrough plan budget text underway (Some fault) = IsFirstFault (lines_read text) (Some fault)
 
--- where the lines of the text keep the rules, they are surveyed; else it is told which is the first that does not
+-- A survey of the lines of a text if all are valid; otherwise the fault of the first invalid one.
 abbrev pub IsSurveyed : Plan → ℕ → List ℕ → Result Survey RecordingFault → Type 0
 IsSurveyed plan budget text (Ok survey) = IsFirstFault (lines_read text) None × IsSurveyOf plan budget (lines_of text) survey
 IsSurveyed plan budget text (Err fault) = IsFirstFault (lines_read text) (Some fault)

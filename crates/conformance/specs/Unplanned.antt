@@ -1,4 +1,4 @@
--- The labels of a recording that the plan has not.
+-- The labels of a recording that are not in the plan.
 use Rattle.std.specs.Prelude.{◌≡◌, ◌≤◌, ◌+◌, ◌||◌, ◌⊎◌, ℕ, Bool, true, false, List, [], ◌∷◌, ◌++◌, length, All, Contains, count_by, string_bytes}
 use Rattle.std.specs.List.{list_any}
 use Rattle.std.specs.Str.{bytes_eq}
@@ -14,12 +14,12 @@ use Rattle.conformance.specs.declared.unplanned.Unplanned.{Unplanned}
 use Rattle.conformance.specs.Labels.{has_label, pair_text}
 use Rattle.conformance.specs.Wanted.{IsLine}
 
--- the next line has this number, from 1
+-- The next line has this number, from 1.
 abbrev pub IsNext : ℕ → List RecordedLine → Type 0
 IsNext number before = number ≡ length before + 1
 
 -- ---- one label
--- this line is the first that submits a job of this class to this pool, and the plan has no such class there
+-- This is the first line that submits a job of this class to this pool, and the plan has no such class in that pool.
 pub record IsClassNotPlanned (plan : Plan) (lines : List RecordedLine) (number : ℕ) (class pool : List ℕ) : Type 0 where
   pub actor : RecordedActor
   pub job : ℕ
@@ -27,7 +27,7 @@ pub record IsClassNotPlanned (plan : Plan) (lines : List RecordedLine) (number :
   pub none : class_family plan class pool ≡ []
   pub first : (earlier : ℕ) (by : RecordedActor) (one : ℕ) → IsLine lines earlier (Submits by one class pool) → number ≤ earlier
 
--- this line is the first that begins a round of this kind, and the plan has no such kind
+-- This is the first line that begins a round of this kind, and the plan has no such kind.
 pub record IsKindNotPlanned (plan : Plan) (lines : List RecordedLine) (number : ℕ) (kind : List ℕ) : Type 0 where
   pub round : ℕ
   pub line : IsLine lines number (RoundBegins round kind)
@@ -38,8 +38,8 @@ abbrev pub IsNotPlanned : Plan → List RecordedLine → NotPlanned → Type 0
 IsNotPlanned plan lines (code.Class line class pool) = IsClassNotPlanned plan lines line (string_bytes class) (string_bytes pool)
 IsNotPlanned plan lines (code.Kind line kind) = IsKindNotPlanned plan lines line (string_bytes kind)
 
--- ---- all of them
--- it tells of this class in this pool
+-- ---- all labels
+-- The element is this class in this pool.
 abbrev pub tells_class : List ℕ → List ℕ → NotPlanned → Bool
 tells_class class pool (code.Class line c p) = bytes_eq (pair_text (string_bytes c) (string_bytes p)) (pair_text class pool)
 tells_class class pool (code.Kind line kind) = false
@@ -48,7 +48,7 @@ abbrev pub tells_kind : List ℕ → NotPlanned → Bool
 tells_kind kind (code.Class line c p) = false
 tells_kind kind (code.Kind line k) = bytes_eq (string_bytes k) kind
 
--- Each label is told of that the plan has not, once, with the first line that has it, and no other label is.
+-- Each label that is not in the plan, once, with the first line that has it, and no other label.
 pub record AreNotPlanned (plan : Plan) (lines : List RecordedLine) (found : List NotPlanned) : Type 0 where
   pub sound : All (IsNotPlanned plan lines) found
   pub classes : (actor : RecordedActor) (job : ℕ) (class pool : List ℕ) → Contains lines (Submits actor job class pool) → class_family plan class pool ≡ []
@@ -58,14 +58,14 @@ pub record AreNotPlanned (plan : Plan) (lines : List RecordedLine) (found : List
   pub class_once : (class pool : List ℕ) → count_by (tells_class class pool) found ≤ 1
   pub kind_once : (kind : List ℕ) → count_by (tells_kind kind) found ≤ 1
 
--- so it is of what is found, and the labels that are kept are those of what is found
+-- `found` is complete for the lines, and the sets have exactly the labels of `found`.
 pub record IsUnplannedOf (plan : Plan) (lines : List RecordedLine) (unplanned : Unplanned) : Type 0 where
   pub found : AreNotPlanned plan lines unplanned.found.items
   pub kept_classes : (class pool : List ℕ) → has_label unplanned.classes (pair_text class pool) ≡ list_any (tells_class class pool) unplanned.found.items
   pub kept_kinds : (kind : List ℕ) → has_label unplanned.kinds kind ≡ list_any (tells_kind kind) unplanned.found.items
 
 -- ---- one more line
--- The label of a submit is told of where the plan has no such class there, unless it was told of before.
+-- The label of a submit is added if the plan has no such class in the pool and the label has not been added before.
 pub data TakesClass (plan : Plan) (number : ℕ) (class pool : List ℕ) (old new : Unplanned) : Type 0 where
   class_stays : (has_label old.classes (pair_text class pool) ≡ true) ⊎ (¬ (class_family plan class pool ≡ [])) → new ≡ old → TakesClass plan number class pool old new
   class_tells : has_label old.classes (pair_text class pool) ≡ false → (c p : String Global) → string_bytes c ≡ class → string_bytes p ≡ pool → class_family plan class pool ≡ []
@@ -74,7 +74,7 @@ pub data TakesClass (plan : Plan) (number : ℕ) (class pool : List ℕ) (old ne
       → new.kinds ≡ old.kinds
       → TakesClass plan number class pool old new
 
--- the same of the label of a begin
+-- The same for the label of a begin.
 pub data TakesKind (plan : Plan) (number : ℕ) (kind : List ℕ) (old new : Unplanned) : Type 0 where
   kind_stays : (has_label old.kinds kind ≡ true) ⊎ (¬ (client_family plan kind ≡ [])) → new ≡ old → TakesKind plan number kind old new
   kind_tells : has_label old.kinds kind ≡ false → (k : String Global) → string_bytes k ≡ kind → client_family plan kind ≡ []

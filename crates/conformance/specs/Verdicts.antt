@@ -1,4 +1,4 @@
--- What is kept of the actors of which is told.
+-- Retained verdicts on classified actors.
 use Rattle.std.specs.Prelude.{◌≡◌, ℕ, Bool, true, false, ◌==◌, ◌&&◌, ◌||◌, not, if◌then◌else◌, List, [], ◌∷◌, ◌++◌, filter, string_bytes}
 use Rattle.std.specs.List.{list_any}
 use Rattle.conformance.specs.JobSet.{has_job}
@@ -10,28 +10,28 @@ use Rattle.recorded_classes.specs.declared.settled.Settled.{Settled}
 use Rattle.conformance.specs.declared.verdicts.Verdicts.{Verdicts}
 use Rattle.conformance.specs.Firsts.{AreFirsts}
 
--- ---- of one
+-- ---- one actor
 abbrev pub is_empty : List ℕ → Bool
 is_empty [] = true
 is_empty (n ∷ more) = false
 
--- the classes that a label may be, or the kinds
+-- The classes or kinds that a label may refer to.
 abbrev pub family_of : Plan → RecordedActor → List ℕ → List ℕ → List ℕ
 family_of plan (Job job) label pool = class_family plan label pool
 family_of plan (Round round) label pool = client_family plan label
 
--- the plan has its label
+-- The plan has the label of the actor.
 abbrev pub is_planned : Plan → Settled → Bool
 is_planned plan told = not (is_empty (family_of plan told.actor (string_bytes told.label) (string_bytes told.pool)))
 
--- it is of no body
+-- The path of the actor matches no body.
 abbrev pub is_classless : Settled → Bool
 is_classless told = told.family.is_decided && is_empty told.family.members.items
 
 abbrev pub is_stray : Plan → Settled → Bool
 is_stray plan told = is_classless told && is_planned plan told
 
--- that is not decided
+-- It is undecided whether the path of the actor matches a body.
 abbrev pub is_undecided : Plan → Settled → Bool
 is_undecided plan told = not told.family.is_decided && is_planned plan told
 
@@ -42,13 +42,13 @@ is_job job (Round round) = false
 abbrev pub is_classless_job : ℕ → Settled → Bool
 is_classless_job job told = is_job job told.actor && is_classless told
 
--- ---- of all
+-- ---- all actors
 pub record IsVerdictsOf (plan : Plan) (told : List Settled) (verdicts : Verdicts) : Type 0 where
   pub strays : AreFirsts (filter (is_stray plan) told) verdicts.strays.actors.items
   pub undecided : AreFirsts (filter (is_undecided plan) told) verdicts.undecided.actors.items
   pub classless : (job : ℕ) → has_job verdicts.classless job ≡ list_any (is_classless_job job) told
 
--- behind the others, where the plan has its label
+-- The list, extended by the actor if the plan has its label.
 abbrev pub with_planned : Plan → Settled → List Settled → List Settled
 with_planned plan one told = if is_planned plan one then told ++ one ∷ [] else told
 

@@ -1,4 +1,4 @@
--- Lines of a recording that are looked for, and the first of them.
+-- A search for the first line of a recording that meets a condition.
 use Rattle.std.specs.Prelude.{◌≡◌, ◌+◌, ℕ, Bool, false, true, List, [], slice_get, take, Option, Some, None}
 use Rattle.std.specs.List.{list_any}
 use Rattle.recording_lines.specs.declared.recording_line.RecordedActor.{RecordedActor}
@@ -14,7 +14,7 @@ use Rattle.conformance.specs.declared.wanted.Wanted.TheVariants as wanted
 abbrev pub is_same_actor : RecordedActor → RecordedActor → Bool
 is_same_actor one other = parts.is_same_actor one other
 
--- the last line of the actor
+-- The last line of the actor.
 abbrev pub is_last : RecordedActor → RecordedLine → Bool
 is_last (Job job) line = finishes_job job line
 is_last (Round round) line = ends_round round line
@@ -25,27 +25,27 @@ is_wanted (wanted.Begin round) line = begins_round round line
 is_wanted (wanted.Got actor job) line = gets_by actor job line
 is_wanted (wanted.Last actor) line = is_last actor line
 
--- the line that gives the actor its label
+-- The condition for the line that gives the actor its label.
 abbrev pub label_line : RecordedActor → Wanted
 label_line (Job job) = wanted.Submit job
 label_line (Round round) = wanted.Begin round
 
--- a class of a job, or a kind of a round
+-- The class of a job, or the kind of a round.
 abbrev pub label_in : RecordedLine → List ℕ
 label_in (Submits actor job class pool) = class
 label_in (RoundBegins round kind) = kind
 label_in line = []
 
--- a line with its number
+-- A line with its number.
 abbrev pub found_seen : Option (ℕ × Line) → Option (ℕ × RecordedLine)
 found_seen None = None
 found_seen (Some (number, line)) = Some (number, line_seen line)
 
--- the line of this number, from 1
+-- The line with this number, from 1.
 abbrev pub IsLine : List RecordedLine → ℕ → RecordedLine → Type 0
 IsLine lines number line = (i : ℕ) × (number ≡ i + 1) × (slice_get lines i ≡ Some line)
 
--- the line of this number is wanted, and none before it
+-- The line with this number meets the condition, and no earlier one does.
 pub record IsFirstAt (lines : List RecordedLine) (what : Wanted) (number : ℕ) (line : RecordedLine) : Type 0 where
   pub before : ℕ
   pub number_is : number ≡ before + 1
@@ -53,17 +53,17 @@ pub record IsFirstAt (lines : List RecordedLine) (what : Wanted) (number : ℕ) 
   pub is : is_wanted what line ≡ true
   pub none_before : list_any (is_wanted what) (take before lines) ≡ false
 
--- the first line that is wanted; None where there is none
+-- The first line that meets the condition, or `None` if there is none.
 abbrev pub IsFirstLine : List RecordedLine → Wanted → Option (ℕ × RecordedLine) → Type 0
 IsFirstLine lines what None = list_any (is_wanted what) lines ≡ false
 IsFirstLine lines what (Some (number, line)) = IsFirstAt lines what number line
 
--- the label that a line gives an actor, if there is one
+-- The label that a line gives an actor, if there is a line.
 abbrev pub label_seen : Option (ℕ × RecordedLine) → List ℕ
 label_seen None = []
 label_seen (Some (number, line)) = label_in line
 
--- the actor has this label, by its submit or its begin; where there is no such line, it is empty
+-- The label of the actor, by its submit or its begin. It is empty if there is no such line.
 pub record IsLabelOf (lines : List RecordedLine) (actor : RecordedActor) (label : List ℕ) : Type 0 where
   pub found : Option (ℕ × RecordedLine)
   pub first : IsFirstLine lines (label_line actor) found

@@ -1,4 +1,4 @@
-//! Whether a service still is its plan.
+//! Comparison of a recording with a plan.
 
 ghost use Rattle.std.specs.Prelude.{◌≡◌, [], ℕ, false, List, Option, IfOk};
 ghost use Rattle.std.specs.List.{list_any};
@@ -22,35 +22,44 @@ use plan_differences::{RoundExcess, pools_are_as_planned, rounds_are_within_plan
 use recorded_rules::RecordingFault;
 use std::alloc::{AllocError, Global};
 
-/// What a recording says of a plan.
+/// The result of comparing a recording with a plan.
 #[derive(Debug, Drop)]
 pub enum Conformance {
-    /// A line of the recording is bad: nothing is said of it.
+    /// The first invalid line of the recording. No comparison was made.
     Bad(RecordingFault),
-    /// All that is not of the plan, and what voids a yes, each once and nothing else, in the order of the lines, those without a
-    /// line last. Where it is none, the recording conforms.
+    /// Every difference from the plan and every event that invalidates a conforming result, each
+    /// listed once. Findings are ordered by line; those without a line come last. The recording
+    /// conforms if the list is empty.
     Compared(Vec<Finding>),
 }
 
-/// Whether the service of a recording still is its plan. Each body of the plan has a budget of steps for each path that it is
-/// asked of.
+/// Compares the recording of a service with a plan.
 ///
-/// What is found is told once, and nothing else is: of each pool all in which it is not as the plan says, each with the first
-/// line that says so, and each pool that is missing; each label that the plan has not, with the first line that has it; of
-/// each label that it has the actor with the smallest number that is of no body, with what it did behind the most of its path
-/// that one explains, and the first line of that; likewise the one with the smallest number of which that is not decided, and
-/// where the budget is enough for the plan there is none; where there are first too many rounds of a kind, each round counted
-/// as the first kind that it can be of; the first get of another one's job; and the first line of each word that voids a yes.
+/// `budget` limits the steps of each check of one path against one body of the plan.
 ///
-/// Where no finding is of a label, a job or a round by itself, or of how many rounds there are, these do as planned, whatever
-/// the pools are.
+/// The findings are exactly these, each listed once:
 ///
-/// A get that timed out or was interrupted is no finding: where the actor's path is of a body without it, it voids nothing, and
-/// where it is not, the actor strays.
+/// - every way in which a pool differs from the plan, with the first line that shows it, and every
+///   pool of the plan that the recording lacks;
+/// - every label that is not in the plan, with the first line that has it;
+/// - for each label of the plan, the actor with the smallest number whose path matches no body,
+///   with its first step that no body explains and the line of that step;
+/// - for each label of the plan, the actor with the smallest number for which the budget was too
+///   small to decide this. If the budget is large enough for the plan, there is none;
+/// - for each client kind, the first line at which it has more rounds than the plan allows. Each
+///   round counts as the first kind that it can belong to;
+/// - the first get of a job by an actor that did not submit it;
+/// - for each event type that invalidates a conforming result, its first line.
+///
+/// If no finding concerns a label, a path or a number of rounds, all jobs and rounds behave as
+/// planned, whatever the pools are.
+///
+/// A get that timed out or was interrupted is not a finding. If the actor's path without that get
+/// matches a body, the get invalidates nothing. Otherwise the path is reported as a mismatch.
 ///
 /// # Errors
 ///
-/// [`AllocError`] where memory runs out.
+/// Returns [`AllocError`] if memory runs out.
 pub fn conform(
     alloc: Global,
     plan: &Plan,
@@ -76,7 +85,7 @@ pub fn conform(
     }
 }
 
-// What of a recording without a bad line, of which this is the survey, is not of the plan.
+// Returns the findings for a recording without a invalid line, from its survey.
 fn compared(
     alloc: Global,
     plan: &Plan,
@@ -110,8 +119,9 @@ fn compared(
     Ok(findings)
 }
 
-// Where there are first more rounds of a kind than the plan says. Only where a round turned out to be of another kind than the
-// first of its label, as which it was counted, the rounds are counted once more.
+// Returns, for each kind, the first line at which it has more rounds than the plan allows. The
+// rounds are counted again only if one of them belongs to another kind than the first of its label,
+// as which the survey counted it.
 fn counted(
     alloc: Global,
     plan: &Plan,

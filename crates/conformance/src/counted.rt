@@ -1,4 +1,4 @@
-//! How many rounds there are of each kind.
+//! The number of rounds of each client kind.
 
 ghost use Rattle.std.specs.Prelude.{◌≡◌, ◌++◌, ◌∷◌, [], ℕ, List, Option, OnOk, IfOk};
 ghost use Rattle.recording_lines.specs.RecordingLine.{RecordedLine, line_seen};
@@ -17,7 +17,8 @@ use plan_differences::{RoundExcess, RoundWatch, rounds_are_within_plan};
 use recording_lines::Line;
 use std::alloc::{AllocError, Global};
 
-/// Where there are first more rounds of a kind than the plan says, by the lines so far.
+/// The first line at which each kind has more rounds than the plan allows, for the lines read so
+/// far.
 #[derive(Drop)]
 pub(crate) struct Counted {
     rounds: OpenRounds,
@@ -26,11 +27,11 @@ pub(crate) struct Counted {
 }
 
 impl Counted {
-    /// No lines so far.
+    /// Creates the counters, before the first line.
     ///
     /// # Errors
     ///
-    /// `AllocError` where there is no memory for each kind of clients.
+    /// Returns `AllocError` if memory runs out.
     pub(crate) fn new(alloc: Global, plan: &Plan) -> Result<Counted, AllocError>
         ensures { (kinds : List (Option ℕ)) → IfOk result (IsCountedOf plan.now kinds []) }
     {
@@ -42,12 +43,12 @@ impl Counted {
         })
     }
 
-    /// Takes the next line of a recording that keeps the rules, which has this number. Each round is counted as of the other
-    /// kind that is given, or else as of the first of its label.
+    /// Counts line `number` of a valid recording. A round counts as its kind in `others` or, if it
+    /// has none there, as the first kind of its label.
     ///
     /// # Errors
     ///
-    /// `AllocError` where there is no memory for a round, or for what is found.
+    /// Returns `AllocError` if memory runs out.
     pub(crate) fn take(
         &mut self,
         plan: &Plan,
@@ -69,12 +70,13 @@ impl Counted {
     }
 }
 
-/// Where there are first more rounds of a kind than the plan says, in a recording that keeps the rules, where each round is of
-/// the other kind that is given, or else of the first of its label.
+/// Returns, for each kind, the first line at which it has more rounds than the plan allows. The
+/// recording must be valid. A round counts as its kind in `others` or, if it has none there, as the
+/// first kind of its label.
 ///
 /// # Errors
 ///
-/// `AllocError` where there is no memory for a round, or for what is found.
+/// Returns `AllocError` if memory runs out.
 pub(crate) fn excesses(
     alloc: Global,
     plan: &Plan,

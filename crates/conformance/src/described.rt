@@ -1,4 +1,4 @@
-//! What an actor did that is of no body, looked up in the text of the recording.
+//! The step of an actor that no body explains, looked up in the text of the recording.
 
 ghost use Rattle.std.specs.Prelude.{◌≡◌, IfOk, string_bytes};
 ghost use Rattle.recording_lines.specs.declared.recording_line.RecordedActor.TheVariants.{Job};
@@ -15,12 +15,12 @@ use recorded_paths::RecordedDeed;
 use recording_lines::{Line, RecordedActor};
 use std::alloc::{AllocError, Global};
 
-/// What the actor did behind the most of its path that a body explains, and the line with which it did so. Each of these jobs
-/// is of no class of the plan.
+/// Returns the actor's first step that no body explains, with the number of its line. `classless`
+/// has the jobs whose path matches no class of the plan.
 ///
 /// # Errors
 ///
-/// `AllocError` where there is no memory for it.
+/// Returns `AllocError` if memory runs out.
 pub(crate) fn described(
     alloc: Global,
     recording: &[u8],
@@ -47,7 +47,7 @@ pub(crate) fn described(
     Ok((line, stray))
 }
 
-/// The number of the line that was found.
+/// Returns the number of the line that was found.
 fn number_of(found: Option<(usize, Line<'_>)>) -> Option<usize>
     ensures { result ≡ spec.number_seen (found_seen found.entry) }
 {
@@ -55,14 +55,14 @@ fn number_of(found: Option<(usize, Line<'_>)>) -> Option<usize>
     Some(number)
 }
 
-/// What an actor did with a job.
+/// A step of an actor: what it did with a job.
 #[derive(Clone, Copy)]
 enum JobDeed {
     Submits(usize),
     Gets(usize),
 }
 
-/// The deed at this place of a path; None behind its end.
+/// Returns the step at an index of a path, or `None` past the end.
 fn deed_at(path: &[RecordedDeed], place: usize) -> Option<JobDeed>
     ensures { result ≡ spec.deed_at path.now place }
 {
@@ -81,7 +81,7 @@ fn got_at(path: &[RecordedDeed], submit: usize) -> Option<JobDeed>
     }
 }
 
-/// The line of the deed, or that of the actor's end.
+/// Returns the line to search for: that of the step or, without a step, that of the actor's end.
 fn wanted_of(actor: RecordedActor, deed: Option<JobDeed>) -> Wanted
     ensures { result ≡ spec.wanted_of actor deed }
 {
@@ -137,7 +137,7 @@ fn named(
     }
 }
 
-/// The class that the job's submit names.
+/// Returns the class that the job's submit names.
 fn class_of(alloc: Global, recording: &[u8], job: usize) -> Result<String, AllocError>
     ensures { IfOk result
         (λ class. IsLabelOf (lines_of recording.now) (Job job) (string_bytes class)) }
@@ -145,11 +145,12 @@ fn class_of(alloc: Global, recording: &[u8], job: usize) -> Result<String, Alloc
     label_of(alloc, recording, RecordedActor::Job(job))
 }
 
-/// The label of an actor: the class that its submit names, or the kind that its begin names; empty where it has none.
+/// Returns the label of an actor: the class that a job's submit names, or the kind that a round's
+/// begin names. The label is empty if there is no such line.
 ///
 /// # Errors
 ///
-/// `AllocError` where there is no memory for it.
+/// Returns `AllocError` if memory runs out.
 pub(crate) fn label_of(
     alloc: Global,
     recording: &[u8],

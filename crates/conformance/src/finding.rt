@@ -1,4 +1,4 @@
-//! What of a recording is not as the plan says.
+//! Differences between a recording and a plan.
 
 ghost use Rattle.std.specs.Prelude.{◌≡◌};
 ghost use Rattle.conformance.specs.Finding as spec;
@@ -9,29 +9,31 @@ use plan_differences::{PoolDeviation, RoundExcess};
 use recorded_notes::{ForeignGet, Void};
 use recording_lines::RecordedActor;
 
-/// One thing in which a recording is not of the plan, or after which a yes is void. Lines are numbered from 1.
+/// A difference between a recording and a plan, or an event that invalidates a conforming result.
+/// Lines are numbered from 1.
 #[derive(Debug, Drop)]
 pub enum Finding {
-    /// A pool is not as the plan says.
+    /// A pool that differs from the plan.
     Pool(PoolDeviation),
-    /// A label that the plan has not.
+    /// A label that is not in the plan.
     NotPlanned(NotPlanned),
-    /// Of a label that the plan has, the actor with the smallest number that is of no body, and the line with which it
-    /// deviates.
+    /// The actor with the smallest number of a label of the plan whose path matches no body, with
+    /// the line of its first unexplained step.
     Strays { line: Option<usize>, stray: Stray },
-    /// Of a label that the plan has, the actor with the smallest number of which it was not decided within the budget of which
-    /// bodies it is. That is neither a yes nor a no.
+    /// The actor with the smallest number of a label of the plan for which the budget was too small
+    /// to decide which bodies its path matches. The result is then neither yes nor no.
     NotDecided { actor: RecordedActor, label: String },
-    /// There are more rounds of a kind than the plan says, where each round is of the first kind that it can be of.
+    /// More rounds of a kind than the plan allows, where each round counts as the first kind that
+    /// it can belong to.
     TooMany(RoundExcess),
     /// The first get of a job by an actor that did not submit it.
     ForeignGet { get: ForeignGet, label: String },
-    /// The first line of its word that voids a yes.
+    /// The first line of an event type that invalidates a conforming result.
     Void(Void),
 }
 
 impl Finding {
-    /// The number of its line.
+    /// Returns the number of its line, if it has one.
     pub fn line(&self) -> Option<usize>
         ensures { result ≡ spec.line_of self.now }
     {
@@ -46,7 +48,7 @@ impl Finding {
         }
     }
 
-    /// Where it stands among others: those without a line come last.
+    /// Returns its sort key: the line number, or the largest `usize` without a line.
     pub(crate) fn place(&self) -> usize
         ensures { result ≡ spec.place_of self.now }
     {

@@ -1,4 +1,4 @@
-//! The lines that tell what was found.
+//! The findings as text.
 
 ghost use Rattle.std.specs.Prelude.{◌≡◌, ◌++◌};
 ghost use Rattle.decimals.specs.Pushed.{Pushes};
@@ -12,11 +12,12 @@ use plan_differences::{Difference, PoolDeviation, RoundExcess};
 use recorded_notes::{ForeignGet, Void};
 use std::alloc::AllocError;
 
-/// Tells each finding on a line of its own, as `line 3: pool db: max 20, plan 10`. Of none there is no line.
+/// Appends each finding as a line, such as `line 3: pool db: max 20, plan 10`. Appends nothing if
+/// there are no findings.
 ///
 /// # Errors
 ///
-/// [`AllocError`] where memory runs out.
+/// Returns [`AllocError`] if memory runs out.
 pub fn push_findings(text: &mut String, plan: &Plan, findings: &[Finding]) -> Result<(), AllocError>
     ensures { Pushes result text.old text.new (spec.findings_text plan.now findings.now) }
 {
@@ -27,11 +28,11 @@ pub fn push_findings(text: &mut String, plan: &Plan, findings: &[Finding]) -> Re
     Ok(())
 }
 
-/// Tells one finding, without a newline.
+/// Appends one finding, without a newline.
 ///
 /// # Errors
 ///
-/// [`AllocError`] where memory runs out.
+/// Returns [`AllocError`] if memory runs out.
 pub fn push_finding(text: &mut String, plan: &Plan, finding: &Finding) -> Result<(), AllocError>
     ensures { Pushes result text.old text.new (spec.finding_text plan.now finding.now) }
 {

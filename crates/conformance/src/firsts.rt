@@ -1,4 +1,4 @@
-//! Of each label the actor with the smallest number.
+//! The actor with the smallest number of each label.
 
 ghost use Rattle.std.specs.Prelude.{◌≡◌, ◌++◌, ◌∷◌, [], List, OnOk, position};
 ghost use Rattle.recorded_classes.specs.declared.settled.Settled as settleds;
@@ -8,14 +8,14 @@ use recorded_classes::Settled;
 use recording_lines::RecordedActor;
 use std::alloc::{AllocError, Global};
 
-/// Actors, of each label the one with the smallest number.
+/// A set of actors that keeps, for each label, the one with the smallest number.
 #[derive(Drop)]
 pub(crate) struct Firsts {
     pub(crate) actors: Vec<Settled>,
 }
 
 impl Firsts {
-    /// None so far.
+    /// Creates an empty set.
     pub(crate) fn new(alloc: Global) -> Firsts
         ensures { spec.AreFirsts [] result.actors.items }
     {
@@ -24,11 +24,11 @@ impl Firsts {
         }
     }
 
-    /// One more comes.
+    /// Adds an actor, unless the set has one of the same label with a number that is not larger.
     ///
     /// # Errors
     ///
-    /// `AllocError` where there is no memory for it.
+    /// Returns `AllocError` if memory runs out.
     pub(crate) fn note(&mut self, settled: Settled) -> Result<(), AllocError>
         ensures { (told : List settleds.Settled)
             → spec.AreFirsts told self.old.actors.items
@@ -48,7 +48,7 @@ impl Firsts {
         }
     }
 
-    // Where the one of this label is.
+    // Returns the index of the actor with the same label.
     fn place_of(&self, settled: &Settled) -> Option<usize>
         ensures { result
             ≡ position (λ (one : settleds.Settled). spec.is_same_label one settled.now)
@@ -60,7 +60,7 @@ impl Firsts {
     }
 }
 
-/// Whether both are jobs of the same class and pool, or rounds of the same kind.
+/// Returns true if both are jobs of the same class and pool, or rounds of the same kind.
 fn is_same_label(one: &Settled, other: &Settled) -> bool
     ensures { result ≡ spec.is_same_label one.now other.now }
 {

@@ -1,4 +1,4 @@
-//! All findings, one kind behind another.
+//! All findings, collected from the parts of a survey.
 
 ghost use Rattle.std.specs.Prelude.{◌≡◌, ◌++◌, ◌∷◌, [], ℕ, List, All, map, filter, OnOk, IfOk};
 ghost use Rattle.recording_lines.specs.RecordingLine.{RecordedLine};
@@ -21,11 +21,11 @@ use recorded_classes::Settled;
 use recorded_notes::{RecordedNotes, Void, Voiding};
 use std::alloc::{AllocError, Global};
 
-/// All that was found, in no order.
+/// Returns all findings, unsorted.
 ///
 /// # Errors
 ///
-/// `AllocError` where memory runs out.
+/// Returns `AllocError` if memory runs out.
 pub(crate) fn gathered(
     alloc: Global,
     recording: &[u8],
@@ -55,7 +55,7 @@ pub(crate) fn gathered(
     Ok(findings)
 }
 
-// The pools that are not as the plan says, and the labels that it has not.
+// Appends the pools that differ from the plan, and the labels that are not in it.
 fn push_unlike(
     findings: &mut Vec<Finding>,
     deviations: Vec<PoolDeviation>,
@@ -70,7 +70,7 @@ fn push_unlike(
     push_labels(findings, found)
 }
 
-// The actors that are of no body, and those of which that is not decided.
+// Appends the actors whose path matches no body, and those for which this is undecided.
 fn push_judged(
     findings: &mut Vec<Finding>,
     alloc: Global,
@@ -92,7 +92,7 @@ fn push_judged(
     push_undecided(findings, undecided.actors)
 }
 
-// The get of another one's job, and the words that void a yes.
+// Appends the first get of another actor's job, and the events that invalidate a conforming result.
 fn push_noted(
     findings: &mut Vec<Finding>,
     alloc: Global,
@@ -214,7 +214,7 @@ fn push_lasting(findings: &mut Vec<Finding>, voids: &[Void]) -> Result<(), Alloc
     Ok(())
 }
 
-/// Whether it voids a yes where the actor's path is of a body.
+/// Returns true if the event invalidates the result even when the actor's path matches a body.
 fn is_lasting(void: Void) -> bool
     ensures { result ≡ spec.is_lasting void }
 {

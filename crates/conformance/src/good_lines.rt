@@ -1,4 +1,4 @@
-//! The lines of a text that have one of the forms, one after another.
+//! An iterator over the well-formed lines of a text.
 
 ghost use Rattle.std.specs.Prelude.{◌≡◌, ◌≤◌, ◌∷◌, [], length, MatchOption};
 ghost use Rattle.recording_lines.specs.RecordingLine.{line_seen};
@@ -7,7 +7,7 @@ ghost use Rattle.conformance.specs.Lines.{lines_of};
 use recording_lines::{Line, RecordingLines};
 use std::marker::Model;
 
-/// The lines of a recording, without those that have none of the forms.
+/// An iterator over the lines of a recording that skips malformed lines.
 #[derive(Drop)]
 pub(crate) struct GoodLines<'a> {
     lines: RecordingLines<'a>,
@@ -33,7 +33,7 @@ impl<'a> GoodLines<'a> {
         }
     }
 
-    /// The next one; None behind the last.
+    /// Returns the next well-formed line, or `None` after the last one.
     pub(crate) fn next(&mut self) -> Option<Line<'a>>
         ensures { MatchOption result ((self.old ≡ []) × (self.new ≡ []))
             (λ line. self.old ≡ line_seen line ∷ self.new) }

@@ -6,14 +6,14 @@ ghost use Rattle.conformance.specs.JobSet.{has_job};
 use std::alloc::{AllocError, Global};
 use std::collections::HashSet;
 
-/// A set of jobs, by their numbers.
+/// A set of job numbers.
 #[derive(Drop)]
 pub(crate) struct JobSet {
     jobs: HashSet<usize>,
 }
 
 impl JobSet {
-    /// None so far.
+    /// Creates an empty set.
     pub(crate) fn new(alloc: Global) -> JobSet
         ensures { (job : ℕ) → has_job result job ≡ false }
     {
@@ -28,11 +28,11 @@ impl JobSet {
         self.jobs.contains(&job)
     }
 
-    /// The job is one of them from here on.
+    /// Adds a job.
     ///
     /// # Errors
     ///
-    /// `AllocError` where there is no memory for it.
+    /// Returns `AllocError` if memory runs out.
     pub(crate) fn insert(&mut self, job: usize) -> Result<(), AllocError>
         ensures { OnOk result
             ((one : ℕ) → has_job self.new one ≡ (has_job self.old one || job == one)) }

@@ -1,4 +1,4 @@
-//! Labels of a recording, each once.
+//! A set of labels of a recording.
 
 ghost use Rattle.std.specs.Prelude.{◌≡◌, ◌||◌, ◌++◌, ℕ, List, OnOk, IfOk, false, codes, string_bytes};
 ghost use Rattle.std.specs.Str.{bytes_eq};
@@ -15,7 +15,7 @@ pub(crate) struct Labels {
 }
 
 impl Labels {
-    /// None so far.
+    /// Creates an empty set.
     pub(crate) fn new(alloc: Global) -> Labels
         ensures { (q : List ℕ) → has_label result q ≡ false }
     {
@@ -31,11 +31,11 @@ impl Labels {
         self.labels.contains(label)
     }
 
-    /// The label is one of them from here on.
+    /// Adds a label.
     ///
     /// # Errors
     ///
-    /// `AllocError` where there is no memory for it.
+    /// Returns `AllocError` if memory runs out.
     pub(crate) fn insert(&mut self, label: &str) -> Result<(), AllocError>
         ensures { OnOk result
             ((q : List ℕ) → has_label self.new q ≡ (has_label self.old q || bytes_eq label.now q)) }
@@ -48,7 +48,7 @@ impl Labels {
     }
 }
 
-/// The words of a submit that name its class and its pool.
+/// Returns a class and its pool as one label, separated by a space, as a submit line has them.
 pub(crate) fn pair(alloc: Global, class: &str, pool: &str) -> Result<String, AllocError>
     ensures { IfOk result (λ text. string_bytes text ≡ pair_text class.now pool.now) }
 {

@@ -1,17 +1,21 @@
-//! Whether a service still is its plan (`docs/RECORDING.md`), from the plan and the bytes of a recording.
+//! Comparison of a recorded test run with a plan (`docs/RECORDING.md`).
 //!
-//! [`conform`] answers the first bad line of a recording, or all that is not of the plan: pools that are not as the plan says,
-//! labels that it has not, jobs and rounds that are of no body, rounds that are too many, a job that is got by another one
-//! than its submitter, and what voids a yes. Each of these is told once, and nothing else is told. Where nothing is found the
-//! recording conforms: each job can be of a class of the plan, each round of a kind, and there are enough clients of each kind.
-//! These three hold already where only pools, gets of another one's job and voids are found. [`push_findings`] writes each
-//! finding as a line.
+//! [`conform`] takes a plan and the bytes of a recording. It returns the first invalid line of the
+//! recording, or the complete list of findings: pools that differ from the plan, labels that are
+//! not in it, jobs and rounds whose path matches no body, too many rounds of a kind, a get of
+//! another actor's job, and events that invalidate a conforming result. It lists each finding once,
+//! and nothing else. [`push_findings`] writes each finding as a line.
 //!
-//! The text is gone along once, and once more where a round turns out to be of another kind than the first of its label; then a
-//! few times more for the first actor of a label that strays, to look up what it did, and once for a job that another one gets.
-//! What is kept is what [`recorded_classes`], [`recorded_notes`] and [`plan_differences`] keep, the kind of each round that is
-//! about and of each that is of another kind than the first of its label, and the labels and jobs that are of no class of the
-//! plan. That is seen in the code and is in no contract.
+//! If there are no findings, the recording conforms: each job can belong to a class of the plan,
+//! each round to a client kind, and no kind has more rounds than the plan allows. These three facts
+//! also hold if all findings concern pools, gets of another actor's job or invalidating events.
+//!
+//! [`conform`] reads the text once. It reads it again if a round belongs to another kind than the
+//! first of its label, to look up the first mismatch of each label, and to look up a get of another
+//! actor's job. Memory holds the state of [`recorded_classes`], [`recorded_notes`] and
+//! [`plan_differences`], the kind of each open round and of each round of another kind than the
+//! first of its label, the labels that are not in the plan, and the jobs whose path matches no
+//! class. No contract states these costs.
 #![tactic(auto)]
 
 mod comparison;

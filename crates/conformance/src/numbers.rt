@@ -1,9 +1,9 @@
-//! Lists of numbers.
+//! Slices of numbers.
 
 ghost use Rattle.std.specs.Prelude.{◌≡◌};
 ghost use Rattle.conformance.specs.Verdicts.{is_empty};
 
-/// Whether there are none.
+/// Returns true if the slice is empty.
 pub(crate) fn is_none(numbers: &[usize]) -> bool
     ensures { result ≡ is_empty numbers.now }
 {

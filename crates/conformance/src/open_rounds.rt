@@ -1,4 +1,4 @@
-//! The rounds that are between their begin and their end.
+//! The rounds that have begun and not ended.
 
 ghost use Rattle.std.specs.Prelude.{◌≡◌, ◌++◌, ◌∷◌, [], ℕ, List, Option, OnOk, IfOk};
 ghost use Rattle.number_tables.specs.Numbered.{value_at};
@@ -14,14 +14,14 @@ use number_tables::NumberTable;
 use recording_lines::Line;
 use std::alloc::{AllocError, Global};
 
-/// The kind of each round that has begun and not ended, or none where it has none.
+/// The kind of each open round, or `None` for an open round of no kind.
 #[derive(Drop)]
 pub(crate) struct OpenRounds {
     kinds: NumberTable<Option<usize>>,
 }
 
 impl OpenRounds {
-    /// No lines so far.
+    /// Creates an empty table.
     pub(crate) fn new(alloc: Global) -> OpenRounds
         ensures { (kinds : List (Option ℕ)) → spec.AreOpen kinds [] result }
     {
@@ -30,11 +30,12 @@ impl OpenRounds {
         }
     }
 
-    /// Takes the next line of a recording that keeps the rules. Answers the kind of the round that it begins or ends.
+    /// Reads the next line of a valid recording. Returns the kind of the round that the line begins
+    /// or ends.
     ///
     /// # Errors
     ///
-    /// `AllocError` where there is no memory for a round.
+    /// Returns `AllocError` if memory runs out.
     pub(crate) fn take(
         &mut self,
         plan: &Plan,
@@ -80,7 +81,7 @@ impl OpenRounds {
         }
     }
 
-    // The round ends. Answers its kind.
+    // Removes the round and returns its kind.
     fn end(&mut self, round: usize) -> Option<usize>
         ensures kind { result ≡ spec.kind_in self.old round }
         ensures kept { (one : ℕ)

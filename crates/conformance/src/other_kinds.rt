@@ -1,4 +1,4 @@
-//! The rounds that turn out to be of another kind than the first of their label.
+//! The rounds that belong to another kind than the first of their label.
 
 ghost use Rattle.std.specs.Prelude.{◌≡◌, ◌++◌, ◌∷◌, [], List, OnOk, false};
 ghost use Rattle.job_bodies.specs.Plan as plans;
@@ -13,16 +13,16 @@ use recorded_classes::Settled;
 use recording_lines::RecordedActor;
 use std::alloc::{AllocError, Global};
 
-/// The kind of each round that turned out to be of another one than the first of its label.
+/// The kinds of the rounds that belong to another kind than the first of their label.
 #[derive(Drop)]
 pub(crate) struct OtherKinds {
     kinds: NumberTable<usize>,
-    /// Whether there is such a round.
+    /// True if there is such a round.
     pub(crate) has_any: bool,
 }
 
 impl OtherKinds {
-    /// It was told of no actor so far.
+    /// Creates an empty table.
     pub(crate) fn new(alloc: Global) -> OtherKinds
         ensures { (plan : plans.Plan) → spec.AreOtherKinds plan [] result }
     {
@@ -32,11 +32,11 @@ impl OtherKinds {
         }
     }
 
-    /// It is told of one more actor.
+    /// Records an actor if it is a round of another kind than the first of its label.
     ///
     /// # Errors
     ///
-    /// `AllocError` where there is no memory for its kind.
+    /// Returns `AllocError` if memory runs out.
     pub(crate) fn note(&mut self, plan: &Plan, settled: &Settled) -> Result<(), AllocError>
         ensures noted { (told : List settleds.Settled)
             → spec.AreOtherKinds plan.now told self.old
@@ -50,7 +50,8 @@ impl OtherKinds {
         Ok(())
     }
 
-    /// The kind of the round of this number and label: the one that it turned out to be of, or else the first of the label.
+    /// Returns the kind of a round: the recorded one or, if there is none, the first kind of
+    /// `label`.
     pub(crate) fn kind_of(&self, plan: &Plan, round: usize, label: &str) -> Option<usize>
         ensures { result ≡ spec.kind_by plan.now self.now round label.now }
     {
@@ -61,7 +62,8 @@ impl OtherKinds {
     }
 }
 
-// The round with the first kind that it can be of, where that is another one than the first of its label.
+// Returns the round and the first kind that it can belong to, if that is not the first kind of its
+// label.
 fn other_kind(plan: &Plan, settled: &Settled) -> Option<(usize, usize)>
     ensures { result ≡ spec.other_told plan.now settled.now }
 {
@@ -72,7 +74,7 @@ fn other_kind(plan: &Plan, settled: &Settled) -> Option<(usize, usize)>
     Some((round, kind))
 }
 
-// The round with the first kind that it can be of.
+// Returns the round and the first kind that it can belong to.
 fn first_kind(settled: &Settled) -> Option<(usize, usize)>
     ensures { result ≡ first.round_told settled.now }
 {

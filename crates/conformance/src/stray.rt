@@ -1,4 +1,4 @@
-//! An actor whose path is of no body of the plan, and its words.
+//! An actor whose path matches no body of the plan, and its description as text.
 
 ghost use Rattle.decimals.specs.Pushed.{Pushes};
 ghost use Rattle.conformance.specs.Stray as spec;
@@ -7,39 +7,40 @@ use decimals::push_number;
 use recording_lines::RecordedActor;
 use std::alloc::AllocError;
 
-/// An actor whose label the plan has, and whose path is of no body of those that the label may be.
+/// An actor whose label is in the plan and whose path matches none of the bodies of that label.
 #[derive(Debug, Drop)]
 pub struct Stray {
     pub actor: RecordedActor,
     /// The class of a job, or the kind of a round.
     pub label: String,
-    /// What it did that no body says, behind the most of its path that one explains.
+    /// The first step that no body explains.
     pub deed: StrayDeed,
-    /// The last deed that is explained; None where none is.
+    /// The last step that a body explains, or `None` if no step is explained.
     pub behind: Option<NamedDeed>,
 }
 
-/// What an actor did that no body says.
+/// A step that no body explains.
 #[derive(Debug, Drop)]
 pub enum StrayDeed {
-    /// It submitted or got a job.
+    /// The actor submitted or got a job.
     Deed(NamedDeed),
-    /// It submitted this job, which is of no class of the plan itself.
+    /// The actor submitted this job, whose own path matches no class of the plan.
     SubmitsStray { job: usize, class: String },
-    /// It came to its end, and a get is missing.
+    /// The actor ended before a get of its body.
     Ends,
 }
 
-/// A deed, by the class of its job.
+/// A step of an actor, with the class of the job.
 #[derive(Debug, Drop)]
 pub enum NamedDeed {
-    /// It submitted a job of this class.
+    /// A submit of a job of this class.
     Submits(String),
-    /// It got a job of this class.
+    /// A get of a job of this class.
     Gets(String),
 }
 
-/// Tells what the actor did, as `job 44 of class order submitted price; its body has no such submit behind get stock`.
+/// Appends a description of the mismatch, such as `job 44 of class order submitted price; its body
+/// has no such submit at its begin`.
 pub(crate) fn push_stray(text: &mut String, stray: &Stray) -> Result<(), AllocError>
     ensures { Pushes result text.old text.new (spec.stray_text stray.now) }
 {
@@ -54,7 +55,7 @@ pub(crate) fn push_stray(text: &mut String, stray: &Stray) -> Result<(), AllocEr
     }
 }
 
-/// Tells who it is, as `job 44 of class order`.
+/// Appends the name of an actor, such as `job 44 of class order`.
 pub(crate) fn push_actor(
     text: &mut String,
     actor: RecordedActor,

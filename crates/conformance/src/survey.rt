@@ -1,4 +1,4 @@
-//! What the lines of a recording say, beside a plan.
+//! A survey of all lines of a recording, beside a plan.
 
 ghost use Rattle.std.specs.Prelude.{◌≡◌, ◌++◌, ◌∷◌, [], ℕ, false, List, Option, OnOk, IfOk};
 ghost use Rattle.job_bodies.specs.Plan as plans;
@@ -24,7 +24,7 @@ use recorded_rules::{RecordingFault, RuledLines};
 use recording_lines::Line;
 use std::alloc::{AllocError, Global};
 
-/// What is seen line by line.
+/// The part of a survey that each line updates on its own.
 #[derive(Drop)]
 pub(crate) struct Watched {
     pools: PoolWatch,
@@ -34,7 +34,7 @@ pub(crate) struct Watched {
 }
 
 impl Watched {
-    /// No lines so far.
+    /// Creates the state before the first line.
     pub(crate) fn new(alloc: Global) -> Watched
         ensures { (plan : plans.Plan) → spec.IsWatchedOf plan [] result }
     {
@@ -50,11 +50,11 @@ impl Watched {
         }
     }
 
-    /// Takes the next line of a recording that keeps the rules, which has this number.
+    /// Reads line `number` of a valid recording.
     ///
     /// # Errors
     ///
-    /// `AllocError` where there is no memory for what it says.
+    /// Returns `AllocError` if memory runs out.
     pub(crate) fn take(
         &mut self,
         plan: &Plan,
@@ -73,11 +73,11 @@ impl Watched {
         self.unplanned.take(plan, number, line)
     }
 
-    /// The lines end.
+    /// Adds the differences that only the end of the recording shows.
     ///
     /// # Errors
     ///
-    /// `AllocError` where there is no memory for what is found.
+    /// Returns `AllocError` if memory runs out.
     pub(crate) fn finish(&mut self, plan: &Plan) -> Result<(), AllocError>
         ensures { (lines : List RecordedLine)
             → spec.IsWatchedOf plan.now lines self.old
@@ -87,7 +87,7 @@ impl Watched {
     }
 }
 
-/// What is seen of each actor that it is told of.
+/// The part of a survey that each classified actor updates.
 #[derive(Drop)]
 pub(crate) struct Judged {
     pub(crate) verdicts: Verdicts,
@@ -95,7 +95,7 @@ pub(crate) struct Judged {
 }
 
 impl Judged {
-    /// No lines so far.
+    /// Creates the state before the first line.
     pub(crate) fn new(alloc: Global) -> Judged
         ensures { (plan : plans.Plan) (budget : ℕ)
             → AreTold plan budget [] []
@@ -106,11 +106,11 @@ impl Judged {
         Judged { verdicts, others }
     }
 
-    /// It is told of these actors, which go.
+    /// Records the classified actors and empties the list.
     ///
     /// # Errors
     ///
-    /// `AllocError` where there is no memory for them.
+    /// Returns `AllocError` if memory runs out.
     pub(crate) fn note_all(
         &mut self,
         plan: &Plan,
@@ -137,7 +137,7 @@ impl Judged {
     }
 }
 
-/// All that the lines say.
+/// A survey of all lines of a recording.
 #[derive(Drop)]
 pub(crate) struct Survey {
     pub(crate) watched: Watched,
@@ -146,7 +146,8 @@ pub(crate) struct Survey {
 }
 
 impl Survey {
-    // The lines end, and with them the actors that are not settled.
+    // Completes the survey at the end of the recording, with the actors that are still
+    // unclassified.
     fn finish(&mut self, alloc: Global, plan: &Plan, classes: Classes) -> Result<(), AllocError>
         ensures { (budget : ℕ) (lines : List RecordedLine)
             → KeepsRules lines
@@ -161,11 +162,11 @@ impl Survey {
     }
 }
 
-/// Surveys a recording, or tells its first bad line.
+/// Surveys a recording, or returns its first invalid line.
 ///
 /// # Errors
 ///
-/// `AllocError` where there is no memory for what its lines say.
+/// Returns `AllocError` if memory runs out.
 pub(crate) fn surveyed(
     alloc: Global,
     plan: &Plan,
@@ -182,7 +183,7 @@ pub(crate) fn surveyed(
     }
 }
 
-/// A survey on its way along the lines, with the actors that they do not settle.
+/// A survey under construction, with the state of the unclassified actors.
 #[derive(Drop)]
 pub(crate) struct Underway {
     pub(crate) survey: Survey,
@@ -191,7 +192,7 @@ pub(crate) struct Underway {
 }
 
 impl Underway {
-    // No lines so far.
+    // Creates the state before the first line.
     fn new(alloc: Global, budget: u64, counted: Counted) -> Underway
         ensures { (plan : plans.Plan)
             → ((kinds : List (Option ℕ)) → IsCountedOf plan kinds [] counted)
@@ -212,7 +213,7 @@ impl Underway {
         }
     }
 
-    // Takes all lines, and answers the first bad one; None where each is good.
+    // Reads all lines. Returns the first invalid one, or `None` if all are valid.
     fn take_all(
         &mut self,
         alloc: Global,
@@ -234,7 +235,7 @@ impl Underway {
         Ok(None)
     }
 
-    // Takes the next line of a recording that keeps the rules, which has this number.
+    // Reads line `number` of a valid recording.
     fn take(&mut self, plan: &Plan, number: usize, line: &Line<'_>) -> Result<(), AllocError>
         ensures { (budget : ℕ) (before : List RecordedLine)
             → KeepsRules (before ++ line_seen line.now ∷ [])
@@ -258,7 +259,7 @@ impl Underway {
         Ok(())
     }
 
-    // The lines end.
+    // Completes the survey at the end of the recording.
     fn finish(self, alloc: Global, plan: &Plan) -> Result<Survey, AllocError>
         ensures { (budget : ℕ) (lines : List RecordedLine)
             → KeepsRules lines
@@ -275,7 +276,8 @@ impl Underway {
     }
 }
 
-// It is told of each actor that is settled by the line. The list is for those, and is empty before and behind it.
+// Reads a line and records the actors that it classifies. `told` is a scratch list, empty before
+// and after the call.
 fn take_line(
     plan: &Plan,
     line: &Line<'_>,
@@ -297,7 +299,7 @@ fn take_line(
     judged.note_all(plan, told)
 }
 
-// It is told of each actor that is not settled where the lines end.
+// Records the actors that are still unclassified at the end of the recording.
 fn finish(
     alloc: Global,
     plan: &Plan,

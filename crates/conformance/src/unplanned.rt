@@ -1,4 +1,4 @@
-//! The labels of a recording that the plan has not.
+//! The labels of a recording that are not in the plan.
 
 ghost use Rattle.std.specs.Prelude.{◌≡◌, ◌++◌, ◌∷◌, [], List, OnOk};
 ghost use Rattle.job_bodies.specs.Plan as plans;
@@ -11,23 +11,23 @@ use plan_families::{first_class, first_client};
 use recording_lines::Line;
 use std::alloc::{AllocError, Global};
 
-/// A label that the plan has not, with the number of the first line that has it.
+/// A label that is not in the plan, with the number of the first line that has it.
 #[derive(Debug, Drop)]
 pub enum NotPlanned {
-    /// A job was submitted to this pool, and the plan has no such class there.
+    /// A job was submitted to this pool, and the plan has no such class in it.
     Class {
         line: usize,
         class: String,
         pool: String,
     },
-    /// A round began, and the plan has no such kind.
+    /// A round began, and the plan has no such client kind.
     Kind {
         line: usize,
         kind: String,
     },
 }
 
-/// The labels that the plan has not, by the lines so far.
+/// The labels that are not in the plan, for the lines read so far.
 #[derive(Drop)]
 pub(crate) struct Unplanned {
     pub(crate) found: Vec<NotPlanned>,
@@ -37,7 +37,7 @@ pub(crate) struct Unplanned {
 }
 
 impl Unplanned {
-    /// No lines so far.
+    /// Creates an empty set.
     pub(crate) fn new(alloc: Global) -> Unplanned
         ensures { (plan : plans.Plan) → spec.IsUnplannedOf plan [] result }
     {
@@ -49,11 +49,11 @@ impl Unplanned {
         }
     }
 
-    /// Takes the next line, which has this number.
+    /// Reads line `number`, and records its label if the plan lacks it.
     ///
     /// # Errors
     ///
-    /// `AllocError` where there is no memory for a label.
+    /// Returns `AllocError` if memory runs out.
     pub(crate) fn take(
         &mut self,
         plan: &Plan,

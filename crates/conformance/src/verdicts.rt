@@ -1,4 +1,4 @@
-//! What is kept of the actors of which is told.
+//! Retained verdicts on classified actors.
 
 ghost use Rattle.std.specs.Prelude.{◌≡◌, ◌++◌, ◌∷◌, [], ℕ, List, OnOk};
 ghost use Rattle.job_bodies.specs.Plan as plans;
@@ -16,18 +16,18 @@ use recorded_classes::Settled;
 use recording_lines::RecordedActor;
 use std::alloc::{AllocError, Global};
 
-/// The actors that are of no body of the plan, and those of which that was not decided: of each label that the plan has the
-/// one with the smallest number.
+/// For each label of the plan, the actor with the smallest number whose path matches no body, and
+/// the one for which this is undecided.
 #[derive(Drop)]
 pub(crate) struct Verdicts {
     pub(crate) strays: Firsts,
     pub(crate) undecided: Firsts,
-    /// The jobs that are of no class of the plan.
+    /// The jobs whose path matches no class of the plan.
     pub(crate) classless: JobSet,
 }
 
 impl Verdicts {
-    /// None so far.
+    /// Creates an empty record.
     pub(crate) fn new(alloc: Global) -> Verdicts
         ensures { (plan : plans.Plan) → spec.IsVerdictsOf plan [] result }
     {
@@ -38,11 +38,11 @@ impl Verdicts {
         }
     }
 
-    /// It is told of one more actor.
+    /// Records the verdict on a classified actor.
     ///
     /// # Errors
     ///
-    /// `AllocError` where there is no memory for it.
+    /// Returns `AllocError` if memory runs out.
     pub(crate) fn note(&mut self, plan: &Plan, settled: Settled) -> Result<(), AllocError>
         ensures { (told : List settleds.Settled)
             → spec.IsVerdictsOf plan.now told self.old
@@ -104,7 +104,7 @@ impl Verdicts {
     }
 }
 
-/// Whether the plan has the actor's label.
+/// Returns true if the actor's label is in the plan.
 #[tactic(auto, using(crate::proofs::UnplannedAfter::is_filled))]
 fn is_planned(plan: &Plan, settled: &Settled) -> bool
     ensures { result ≡ spec.is_planned plan.now settled.now }

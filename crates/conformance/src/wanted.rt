@@ -1,4 +1,4 @@
-//! Lines of a recording that are looked for, and the first of them.
+//! A search for the first line of a recording that meets a condition.
 
 ghost use Rattle.std.specs.Prelude.{◌≡◌};
 ghost use Rattle.recording_lines.specs.RecordingLine.{line_seen};
@@ -8,7 +8,7 @@ ghost use Rattle.conformance.specs.Wanted as spec;
 use crate::good_lines::GoodLines;
 use recording_lines::{Line, RecordedActor};
 
-/// What is looked for.
+/// The condition of a search.
 #[derive(Clone, Copy)]
 pub(crate) enum Wanted {
     /// The line that submits this job.
@@ -22,7 +22,7 @@ pub(crate) enum Wanted {
 }
 
 impl Wanted {
-    /// The line that gives the actor its label.
+    /// Returns the condition for the line that gives the actor its label.
     pub(crate) fn label_of(actor: RecordedActor) -> Wanted
         ensures { result ≡ spec.label_line actor }
     {
@@ -66,7 +66,7 @@ fn is_same_actor(one: RecordedActor, other: RecordedActor) -> bool
     }
 }
 
-/// The first line of the text that is wanted, with its number, from 1.
+/// Returns the first line of the text that meets the condition, with its number, from 1.
 pub(crate) fn first_line(text: &[u8], wanted: Wanted) -> Option<(usize, Line<'_>)>
     ensures { spec.IsFirstLine (lines_of text.now) wanted (spec.found_seen result) }
 {
@@ -81,7 +81,8 @@ pub(crate) fn first_line(text: &[u8], wanted: Wanted) -> Option<(usize, Line<'_>
     None
 }
 
-/// The label that a line gives, which submits a job or begins a round; else none.
+/// Returns the class of a submit line or the kind of a begin line, and an empty label for any other
+/// line.
 pub(crate) fn label_in<'a>(line: &Line<'a>) -> &'a str
     ensures { result.now ≡ spec.label_in (line_seen line.now) }
 {
