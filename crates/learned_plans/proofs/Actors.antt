@@ -1,4 +1,4 @@
--- The rounds and the jobs of some lines.
+-- The rounds and jobs of a list of lines.
 use Rattle.std.proofs.Common.{◌≡◌, ◌||◌, ℕ, Bool, true, false, List, [], ◌∷◌, ◌++◌, None, refl, inl, arith}
 use Rattle.std.specs.List.{Contains, list_any}
 use Rattle.std.proofs.lemmas.Bool.{and_parts}
@@ -29,7 +29,7 @@ begun_before : (before : List RecordedLine) (round : ℕ) → list_any (begins_r
 begun_before [] round any = absurd (grind (arith, any))
 begun_before (line ∷ before) round any = begun_at (begins_round round line) line before round refl any (begun_before before round)
 
--- by the rules it has begun
+-- A valid line ends only a round that has begun.
 pub end_begun : (before behind : List RecordedLine) (round : ℕ) → broken_of before (RoundEnds round) ≡ None → (label : List ℕ) × HasBegun (before ++ RoundEnds round ∷ behind) label
 unfolding is_begun
 end_begun before behind round kept =

@@ -1,4 +1,4 @@
--- The labels of the lines, and the classes and kinds that are made of them.
+-- The labels of the lines, and the classes and kinds made from them.
 use Rattle.std.proofs.Common.{◌≡◌, ◌<◌, ◌==◌, ◌&&◌, ℕ, List, [], ◌∷◌, length, true, false, string_bytes, arith, Some, get_or, slice_get, Result, Ok, Err, IfErr, OnOk, sym, subst, inl, inr}
 use Rattle.std.specs.Result.{IsErrAnd}
 use Rattle.std.specs.List.{All, Contains, position}
@@ -32,7 +32,7 @@ pub no_name : (lines : List RecordedLine) (beyond : TooMuch) (label : List ℕ) 
 no_name lines beyond label pool (stop.Memory error) given none = none
 no_name lines beyond label pool (stop.TooMuch why) given none = subst (IsReason lines) (sym none.0) (label, given_label lines beyond label pool given, none.1)
 
--- where something was entered, the lines name it
+-- If there is an entry, the lines name it.
 pub entered_actors : (lines : List RecordedLine) (beyond : TooMuch) (entries : List Entry) → All (IsEntryOf lines beyond) entries → 0 < length entries → HasActors lines
 entered_actors lines beyond [] each some = absurd (omega (arith, some))
 entered_actors lines beyond (entry ∷ entries) each some = (string_bytes entry.label, given_label lines beyond (string_bytes entry.label) entry.pool (each 0 entry (omega arith)).given)
@@ -45,7 +45,7 @@ some_actors lines (class ∷ rest) others classes kinds some = entered_actors li
 pub working_actors : (lines : List RecordedLine) (working : Working) → AreWorkingOf lines working → (length working.classes.entries.items == 0 && length working.kinds.entries.items == 0) ≡ false → HasActors lines
 working_actors lines working of some = some_actors lines working.classes.entries.items working.kinds.entries.items of.classes.each of.kinds.each some
 
--- ---- what ends a call ends its caller
+-- ---- an error of a call is an error of its caller
 pub still_stops : {A : Type 0} (lines : List RecordedLine) (one : Stop) (result : Result A Stop) → IsErrAnd result (λ other. other ≡ one) → IsStop lines one → IfErr result (IsStop lines)
 still_stops lines one (Ok value) is stops = absurd is
 still_stops lines one (Err other) is stops = subst (IsStop lines) (sym is) stops

@@ -1,4 +1,4 @@
--- The first pool of each name, where one more pool comes.
+-- The first pool of each name, after one more pool.
 use Rattle.std.proofs.Common.{◌≡◌, ◌≤◌, ℕ, zero, suc, Bool, true, false, if◌then◌else◌, List, [], ◌∷◌, ◌++◌, length, length-append, slice_get, Option, Some, None, refl, ap, sym, ◌∙◌, arith}
 use Rattle.std.specs.List.{filter, filter_map, cons_option}
 use Rattle.std.specs.Option.{option_to_list}
@@ -11,7 +11,7 @@ use Rattle.recording_lines.specs.RecordingLine.{RecordedLine}
 use Rattle.learned_plans.specs.Kept.{AreFirstPools}
 use Rattle.learned_plans.specs.Pools.{pool_of_line, has_other_name, firsts, pools_seen, has_name, with_first, with_first_of}
 
--- of two names, the second of which is a third one, the first is the third one or not as it is the second one
+-- Equal names compare equally with any third name.
 same_other : (x f p : List ℕ) → bytes_eq f p ≡ true → bytes_eq x f ≡ bytes_eq x p
 same_other x f p same = ap (bytes_eq x) ((bytes_eq-Decides f p).0 same)
 
@@ -53,7 +53,7 @@ pub pools_more : (before : List RecordedLine) (line : RecordedLine) → pools_se
 unfolding pools_seen
 pools_more before line = ap firsts (filter_map-append pool_of_line before (line ∷ []) ∙ ap (λ more. filter_map pool_of_line before ++ more) (as_list (pool_of_line line))) ∙ behind_all (pool_of_line line) (filter_map pool_of_line before)
 
--- ---- the pools of the first lines
+-- ---- the pools of a prefix of the lines
 first_begins : (has : Bool) (pools : List Pool) (p : Pool) → has_name p.name pools ≡ has → (more : List Pool) × (with_first pools p ≡ pools ++ more)
 first_begins true pools p has = ([], grind (arith, has, append-nil pools))
 first_begins false pools p has = (p ∷ [], grind (arith, has))
@@ -62,7 +62,7 @@ one_begins : (one : Option Pool) (pools : List Pool) → (more : List Pool) × (
 one_begins None pools = ([], sym (append-nil pools))
 one_begins (Some pool) pools = first_begins (has_name pool.name pools) pools pool refl
 
--- the pools of some lines are the first ones of those of more lines
+-- The pools of a prefix of the lines are a prefix of the pools of all lines.
 pools_begin : (before behind : List RecordedLine) → (more : List Pool) × (pools_seen (before ++ behind) ≡ pools_seen before ++ more)
 pools_begin before [] = ([], ap pools_seen (append-nil before) ∙ sym (append-nil (pools_seen before)))
 pools_begin before (line ∷ behind) =

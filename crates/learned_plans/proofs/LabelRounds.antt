@@ -1,4 +1,4 @@
--- The rounds of each label, where one more line stands behind the others.
+-- The rounds of each label after one more line.
 use Rattle.std.proofs.Common.{◌≡◌, ◌<◌, ℕ, zero, suc, ◌+◌, ◌==◌, Bool, true, false, if◌then◌else◌, List, [], ◌∷◌, ◌++◌, length, length-append, get_or, slice_get, Option, Some, None, refl, ap, sym, subst, ◌∙◌, inl, append_assoc, map, string_bytes, arith}
 use Rattle.std.specs.List.{position}
 use Rattle.std.specs.Option.{option_map}
@@ -16,7 +16,7 @@ use Rattle.learned_plans.specs.Kept.{AreCountsOf, ChangesOne, with_begin, with_e
 use Rattle.learned_plans.specs.LabelRounds.{AreLabelRoundsOf, labels_of}
 use Rattle.learned_plans.proofs.Tallies.{all_counted}
 
--- ---- what stands at a place
+-- ---- elements at an index
 pub at_seam : (kinds more : List ℕ) (kind round : ℕ) → round ≡ length kinds → slice_get ((kinds ++ kind ∷ []) ++ more) round ≡ Some kind
 at_seam [] more kind zero is = refl
 at_seam [] more kind (suc round) is = absurd (omega (arith, is))
@@ -34,7 +34,7 @@ at_end [] item (suc n) is = absurd (omega (arith, is))
 at_end (first ∷ items) item zero is = absurd (omega (arith, is))
 at_end (first ∷ items) item (suc n) is = at_end items item n (omega (arith, is))
 
--- where a list of what is called so has this name first
+-- If a search by name finds an index, the element there has the name.
 pub place_is : {X : Type 0} (name : X → List ℕ) (label : List ℕ) (items : List X) (n : ℕ) → position (λ one. bytes_eq (name one) label) items ≡ Some n → slice_get (map name items) n ≡ Some label
 place_is name label [] n found = absurd (grind (arith, found))
 place_is name label (first ∷ items) n found =
@@ -42,7 +42,7 @@ place_is name label (first ∷ items) n found =
     slice_get-map name (first ∷ items) n ∙ ap (option_map name) (slice_get-get_or (first ∷ items) n first is.0)
     ∙ ap (λ (one : List ℕ). Some one) ((bytes_eq-Decides (name (get_or (first ∷ items) n first)) label).0 is.1)
 
--- what is called so stands at the place
+-- The name of the element at an index.
 pub named_at : {X : Type 0} (name : X → List ℕ) (items : List X) (n : ℕ) (item : X) (label : List ℕ) → n < length items → item ≡ get_or items n item → name item ≡ label → slice_get (map name items) n ≡ Some label
 named_at name items n item label within is same =
     slice_get-map name items n ∙ ap (option_map name) (slice_get-get_or items n item within ∙ ap (λ one. Some one) (sym is)) ∙ ap (λ (one : List ℕ). Some one) same
@@ -50,7 +50,7 @@ named_at name items n item label within is same =
 one_of_one : {X : Type 0} (x y : X) → Some x ≡ Some y → x ≡ y
 one_of_one x y same = grind (arith, same)
 
--- two lists of one length that have the same at each place
+-- Two lists of the same length with equal elements at each index are equal.
 pub same_lists : (xs ys : List (List ℕ)) → length xs ≡ length ys → ((n : ℕ) → n < length ys → slice_get xs n ≡ slice_get ys n) → xs ≡ ys
 same_lists [] [] long each = refl
 same_lists [] (y ∷ ys) long each = absurd (omega (arith, long))
@@ -77,7 +77,7 @@ begin_kinds kinds more kind round label before old new extra names is grown at o
     All-push (BeginsOfKind now (new ++ names)) before (RoundBegins round label) all
     (record { kind = kind; is_kind = at_seam kinds more kind round is; name = label; is_name = still_there new names kind label at; named = inl refl })
 
--- one that is about is of the kind that stands at its number, the new one too
+-- Each open round has the kind at the index of its number, and so does the new one.
 about_begun : (kinds : List ℕ) (kind round one : ℕ) (old : Option ℕ) (is_new : Bool) → (length kinds == round) ≡ is_new → (if is_new then Some kind else old) ≡ Some one → (old ≡ Some one → slice_get kinds round ≡ Some one)
     → slice_get (kinds ++ kind ∷ []) round ≡ Some one
 about_begun kinds kind round one old true is there so = at_end kinds kind round (grind (arith, is)) ∙ there
@@ -95,14 +95,14 @@ begun_after old new kind round label extra before is begun about labels at one r
   of_kinds = λ more names. begin_kinds rounds.kinds more kind round label before (labels_of old) (labels_of new) extra names (is ∙ sym rounds.begun) labels at rounds.of_kinds;
 }
 
--- ---- a line that ends one
+-- ---- a line that ends a round
 end_counts : (kinds more : List ℕ) (kind round : ℕ) (before : List RecordedLine) (old new : List KindCount) → slice_get kinds round ≡ Some kind → ChangesOne (Some kind) with_end old new
     → ((behind : List ℕ) → AreCountsOf (slice_get (kinds ++ behind)) before old) → AreCountsOf (slice_get (kinds ++ more)) (before ++ RoundEnds round ∷ []) new
 end_counts kinds more kind round before old new at one counts =
     let now : Kinds = slice_get (kinds ++ more) in
     all_counted now None (Some kind) before (RoundEnds round) old old new (λ k. refl) (λ k. ap (is_kind k) (sym (still_there kinds more round kind at))) (λ k. refl) one (counts more)
 
--- one that is about behind the line was about before it
+-- A round that is open after the line was open before it.
 still_about : (has_ended : Bool) (kind : ℕ) (old : Option ℕ) → (if has_ended then None else old) ≡ Some kind → old ≡ Some kind
 still_about true kind old there = absurd (grind (arith, there))
 still_about false kind old there = there

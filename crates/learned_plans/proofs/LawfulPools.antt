@@ -1,4 +1,4 @@
--- The pools of a recording are those of a plan, where they are no more than a plan may have.
+-- The pools of a recording are valid pools of a plan, unless there are too many.
 use Rattle.std.proofs.Common.{◌≡◌, ◌≤◌, ℕ, Bool, true, false, ◌&&◌, List, [], ◌∷◌, length, map, Option, Some, None, refl, sym, subst, inl, inr, arith}
 use Rattle.std.specs.List.{All, cons_option, filter, filter_map, list_all, list_any}
 use Rattle.std.specs.Str.{bytes_eq}
@@ -100,7 +100,7 @@ pools_make_a_plan text pools same few =
       clients = refl;
     }
 
--- what makes no plan has a class or a kind, which the lines name
+-- If the parts do not form a plan, there is a class or a kind, and the lines name it.
 pub unplanned_actors : (text : List ℕ) (pools : List Pool) (classes : List Class) (clients : List Client) → pools ≡ pools_seen (lines_of text) → length pools ≤ MAX_POOLS → All (IsNamedClass (lines_of text)) classes
     → All (IsNamedClient (lines_of text)) clients → (IsWellFormed (given pools classes clients) → ⊥) → HasActors (lines_of text)
 unplanned_actors text pools [] [] same few class_names client_names none = absurd (none (pools_make_a_plan text pools same few))

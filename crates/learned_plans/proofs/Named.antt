@@ -1,4 +1,4 @@
--- What the lines name, where one more line stands behind the others.
+-- The names in the lines, after one more line.
 use Rattle.std.proofs.Common.{◌≡◌, ◌≤◌, ◌+◌, length, if◌then◌else◌, List, [], ◌∷◌, ◌++◌, ◌∙◌, ap, sym, subst, arith}
 use Rattle.std.proofs.lemmas.List.Sums.{sum_by_push}
 use Rattle.job_bodies.specs.declared.limits.TheConstants.{MAX_POOLS}
@@ -53,7 +53,7 @@ named_after old new before line names pools few rounds jobs ended_rounds started
   ended_jobs = grind (arith, ended_jobs, names.ended_jobs, job_ends_more before line);
 }
 
--- the working copy may have changed
+-- Changes of the bodies do not affect the names.
 pub same_names : (old new : SeenNames) (lines : List RecordedLine) → new ≡ record old { working = new.working } → AreNamesOf old lines → AreNamesOf new lines
 same_names old new lines same named =
     subst (λ (names : SeenNames). AreNamesOf names lines) (sym same)

@@ -1,15 +1,15 @@
--- What holds of the lines so far, while one line after another is taken.
+-- A property of the lines read so far, in a loop over all lines.
 use Rattle.std.proofs.Common.{◌≡◌, List, [], ◌∷◌, ◌++◌, Option, Some, None, refl, ap, sym, subst, ◌∙◌, arith}
 use Rattle.std.specs.List.{Contains, filter_map}
 use Rattle.std.proofs.lemmas.List.{append-nil, append_assoc}
 use Rattle.std.proofs.lemmas.List.Elements.{Contains-append_right}
 use Rattle.recording_lines.specs.RecordingLine.{RecordedLine}
 
--- the good ones of some lines
+-- The well-formed lines.
 abbrev pub good : List (Option RecordedLine) → List RecordedLine
 good lines = filter_map (λ line. line) lines
 
--- it holds of those before the rest
+-- `P` holds of the lines before the rest.
 pub record Rest (P : List RecordedLine → Type 0) (all : List RecordedLine) (rest : List (Option RecordedLine)) : Type 0 where
   pub before : List RecordedLine
   pub lines : all ≡ before ++ good rest
@@ -25,7 +25,7 @@ next_good P Q all old new line there r q = record {
   holds = q;
 }
 
--- the next one is one of them
+-- The next line is one of all lines.
 pub is_there : (P : List RecordedLine → Type 0) (all : List RecordedLine) (old new : List (Option RecordedLine)) (line : RecordedLine) → old ≡ Some line ∷ new → Rest P all old → Contains all line
 is_there P all old new line there r =
     subst (λ lines. Contains lines line) (sym (r.lines ∙ ap (λ rest. r.before ++ good rest) there)) (Contains-append_right r.before (line ∷ good new) line (0, omega arith, refl))

@@ -1,4 +1,4 @@
--- The rounds of a kind, where one more line stands behind the others.
+-- The rounds of a kind after one more line.
 use Rattle.std.proofs.Common.{◌≡◌, ◌≤◌, ◌<◌, ℕ, ◌+◌, ◌-◌, max, Bool, true, false, if◌then◌else◌, List, [], ◌∷◌, ◌++◌, length, take, slice_get, Option, Some, None, refl, ap, sym, subst, ◌∙◌, inl, inr, arith}
 use Rattle.std.specs.Option.{option_map}
 use Rattle.std.proofs.lemmas.List.{take_all, take-append-le}
@@ -17,7 +17,7 @@ ended_more : (kinds : Kinds) (kind : ℕ) (before : List RecordedLine) (line : R
 unfolding ended_of
 ended_more kinds kind before line = sum_by_push (λ x. if ends_one kinds kind x then 1 else 0) before line
 
--- ---- the first so many of the lines
+-- ---- prefixes of the lines
 take_none : (n : ℕ) → take {A = RecordedLine} n [] ≡ []
 take_none n = take_all n [] (omega arith)
 
@@ -25,7 +25,7 @@ length_more : (before : List RecordedLine) (line : RecordedLine) → length (bef
 length_more [] line = refl
 length_more (first ∷ before) line = omega (arith, length_more before line)
 
--- ---- the most at once
+-- ---- the maximum number of open rounds
 open_before : (kinds : Kinds) (kind n : ℕ) (before : List RecordedLine) (line : RecordedLine) → n ≤ length before → open_of kinds kind (take n (before ++ line ∷ [])) ≡ open_of kinds kind (take n before)
 open_before kinds kind n before line within = ap (open_of kinds kind) (take-append-le n before (line ∷ []) within)
 
@@ -35,7 +35,7 @@ open_past kinds kind n before line past = ap (open_of kinds kind) (take_all n (b
 open_now : (kinds : Kinds) (kind most : ℕ) (before : List RecordedLine) → IsMostAtOnce kinds kind before most → open_of kinds kind before ≤ most
 open_now kinds kind most before m = subst (λ lines. open_of kinds kind lines ≤ most) (take_all (length before) before (omega arith)) (m.never_more (length before))
 
--- every first part of the lines with one more is one of the lines before, or all
+-- Each prefix of the extended list is a prefix of the earlier lines, or the whole list.
 up_to : (kinds : Kinds) (kind most new : ℕ) (before : List RecordedLine) (line : RecordedLine) → IsMostAtOnce kinds kind before most → most ≤ new → open_of kinds kind (before ++ line ∷ []) ≤ new
     → (n : ℕ) → open_of kinds kind (take n (before ++ line ∷ [])) ≤ new
 up_to kinds kind most new before line m less now n = elim (cases_lt (length before) n) [
@@ -72,7 +72,7 @@ greater kinds kind most now before line same m = elim (cases_lt now most) [
   | inr more ↦ subst (IsMostAtOnce kinds kind (before ++ line ∷ [])) (grind (arith, more, same)) (rises kinds kind most before line (omega (arith, same, more)) m)
 ]
 
--- ---- one count
+-- ---- one counter
 pub none_counted : (kinds : Kinds) (kind : ℕ) → IsCountOf kinds [] kind (record { begun = 0; ended = 0; most = 0 })
 unfolding begun_of ended_of
 none_counted kinds kind = record { begun = refl; ended = refl; most = record { never_more = λ n. grind (arith, take_none n); once = (0, refl) } }
@@ -113,8 +113,8 @@ other_counted kinds kind before line count begins ends c =
       most = stays kinds kind count.most before line (omega (arith, same, open_now kinds kind count.most before c.most)) c.most;
     }
 
--- ---- all counts
--- no line begins one and ends one
+-- ---- all counters
+-- No line both begins and ends a round.
 not_both : (kinds : Kinds) (kind : ℕ) (line : RecordedLine) → begins_one kinds kind line ≡ true → ends_one kinds kind line ≡ false
 not_both kinds kind Head begins = refl
 not_both kinds kind (Pool name sizes) begins = refl

@@ -1,4 +1,4 @@
--- How many clients there are of a kind, by the rounds that are of it.
+-- The number of clients of a kind, by its rounds.
 use Rattle.std.specs.Prelude.{◌≡◌, ◌≤◌, ◌<◌, ℕ, ◌-◌, ◌==◌, Bool, false, max, nat_lt, List, map, take, slice_get, Option, Some, None, count_by, ⊤}
 use Rattle.std.specs.List.{All}
 use Rattle.job_bodies.specs.declared.limits.TheConstants.{MAX_SIZE}
@@ -6,7 +6,7 @@ use Rattle.job_bodies.specs.Plan.{Client}
 use Rattle.plan_families.specs.Family.{IsOfFamily}
 use Rattle.recording_lines.specs.RecordingLine.{RecordedLine, RoundBegins, RoundEnds}
 
--- the kind of each round, by its number
+-- The kind of each round, by round number.
 abbrev pub Kinds : Type 0
 Kinds = ℕ → Option ℕ
 
@@ -14,7 +14,7 @@ abbrev pub is_kind : ℕ → Option ℕ → Bool
 is_kind kind None = false
 is_kind kind (Some one) = one == kind
 
--- ---- what a line says of a kind
+-- ---- one line
 abbrev pub begins_one : Kinds → ℕ → RecordedLine → Bool
 begins_one kinds kind (RoundBegins round label) = is_kind kind (kinds round)
 begins_one kinds kind line = false
@@ -23,25 +23,25 @@ abbrev pub ends_one : Kinds → ℕ → RecordedLine → Bool
 ends_one kinds kind (RoundEnds round) = is_kind kind (kinds round)
 ends_one kinds kind line = false
 
--- ---- what the lines say of it
--- how many rounds of the kind began
+-- ---- all lines
+-- The number of rounds of the kind that began.
 unfoldable pub begun_of : Kinds → ℕ → List RecordedLine → ℕ
 begun_of kinds kind lines = count_by (begins_one kinds kind) lines
 
 unfoldable pub ended_of : Kinds → ℕ → List RecordedLine → ℕ
 ended_of kinds kind lines = count_by (ends_one kinds kind) lines
 
--- how many are between their begin and their end, behind these lines
+-- The number of open rounds of the kind after these lines.
 abbrev pub open_of : Kinds → ℕ → List RecordedLine → ℕ
 open_of kinds kind lines = begun_of kinds kind lines - ended_of kinds kind lines
 
--- the most that were so at once: never were there more, and once there were so many
+-- The maximum number of rounds that were open at once: a bound that is reached.
 pub record IsMostAtOnce (kinds : Kinds) (kind : ℕ) (lines : List RecordedLine) (most : ℕ) : Type 0 where
   pub never_more : (n : ℕ) → open_of kinds kind (take n lines) ≤ most
   pub once : (n : ℕ) × (open_of kinds kind (take n lines) ≡ most)
 
 -- ---- the names of the kinds
--- the round is of a kind, whose name, of these, is of the label's family
+-- The round has a kind whose name is of the family of `label`.
 pub record IsOfKind (kinds : Kinds) (names : List (List ℕ)) (round : ℕ) (label : List ℕ) : Type 0 where
   pub kind : ℕ
   pub is_kind : kinds round ≡ Some kind
@@ -49,16 +49,16 @@ pub record IsOfKind (kinds : Kinds) (names : List (List ℕ)) (round : ℕ) (lab
   pub is_name : slice_get names kind ≡ Some name
   pub named : IsOfFamily label name
 
--- where the line begins a round, it is so of the round
+-- The same for the round that the line begins, if it begins one.
 abbrev pub BeginsOfKind : Kinds → List (List ℕ) → RecordedLine → Type 0
 BeginsOfKind kinds names (RoundBegins round label) = IsOfKind kinds names round label
 BeginsOfKind kinds names line = ⊤
 
--- each round that began is of one of the kinds of these names, as its label says
+-- Each round that began has a kind whose name is of the family of its label.
 abbrev pub AreOfKinds : Kinds → List (List ℕ) → List RecordedLine → Type 0
 AreOfKinds kinds names lines = All (BeginsOfKind kinds names) lines
 
--- by such kinds, more of one kind were at once than a plan may have clients
+-- For some assignment of kinds, more rounds of one kind were open at once than a plan may have clients.
 pub record IsCrowded (lines : List RecordedLine) : Type 0 where
   pub kinds : Kinds
   pub names : List (List ℕ)
@@ -69,7 +69,7 @@ pub record IsCrowded (lines : List RecordedLine) : Type 0 where
   pub beyond : MAX_SIZE < most
 
 -- ---- the clients of a kind
--- as many as were ever at once, and one at least; they repeat where more began in all
+-- `count` is the maximum number of rounds open at once, and at least one. The kind repeats if more rounds began in all.
 pub record IsCounted (kinds : Kinds) (lines : List RecordedLine) (kind : ℕ) (client : Client) : Type 0 where
   pub most : ℕ
   pub at_once : IsMostAtOnce kinds kind lines most
@@ -79,7 +79,7 @@ pub record IsCounted (kinds : Kinds) (lines : List RecordedLine) (kind : ℕ) (c
 abbrev pub client_names : List Client → List (List ℕ)
 client_names clients = map (λ client. client.name) clients
 
--- each round is of a kind, as its label and the kind's name say, and each kind is counted by the rounds that are of it
+-- Each round has a kind whose name is of the family of its label, and each client kind is counted by its rounds.
 pub record AreCounted (lines : List RecordedLine) (clients : List Client) : Type 0 where
   pub kinds : Kinds
   pub of_kinds : AreOfKinds kinds (client_names clients) lines

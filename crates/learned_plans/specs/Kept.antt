@@ -1,4 +1,4 @@
--- What is kept of the lines so far, and how it stands for them.
+-- The state of learning, as a function of the lines read.
 use Rattle.std.specs.Prelude.{◌≡◌, ◌≤◌, ℕ, ◌+◌, ◌-◌, max, if◌then◌else◌, List, length, map, slice_get, string_bytes, Option, Some, ⊤}
 use Rattle.std.specs.List.{All}
 use Rattle.std.specs.Option.{option_map, option_and_then}
@@ -22,7 +22,7 @@ use Rattle.learned_plans.specs.Pools.{pools_seen}
 use Rattle.learned_plans.specs.TooMuch.{IsReason}
 use Rattle.learned_plans.specs.Unfinished.{round_ends, job_starts, job_ends}
 
--- ---- what the lines name
+-- ---- the names in the lines
 pub record AreNamesOf (names : SeenNames) (lines : List RecordedLine) : Type 0 where
   pub pools : names.pools.items ≡ pools_seen lines
   pub few_pools : length names.pools.items ≤ MAX_POOLS
@@ -33,7 +33,7 @@ pub record AreNamesOf (names : SeenNames) (lines : List RecordedLine) : Type 0 w
   pub ended_jobs : names.ended_jobs ≡ job_ends lines
 
 -- ---- the rounds of each kind
--- the kind that stands at the number of a round
+-- The element at the index of the round.
 abbrev pub kinds_in : List (Option ℕ) → Kinds
 kinds_in kinds round = option_and_then (λ kind. kind) (slice_get kinds round)
 
@@ -45,29 +45,29 @@ pub record IsCountOf (kinds : Kinds) (lines : List RecordedLine) (kind : ℕ) (c
 abbrev pub AreCountsOf : Kinds → List RecordedLine → List KindCount → Type 0
 AreCountsOf kinds lines counts = (kind : ℕ) (count : KindCount) → slice_get counts kind ≡ Some count → IsCountOf kinds lines kind count
 
--- a round of the kind begins, or ends
+-- A round of the kind begins, or ends.
 abbrev pub with_begin : KindCount → KindCount
 with_begin count = record count { begun = count.begun + 1; most = max count.most (count.begun + 1 - count.ended) }
 
 abbrev pub with_end : KindCount → KindCount
 with_end count = record count { ended = count.ended + 1 }
 
--- the count of this kind, where there is one, is changed, and no other one
+-- Only the counters of this kind change, if it has any.
 abbrev pub ChangesOne : Option ℕ → (KindCount → KindCount) → List KindCount → List KindCount → Type 0
 ChangesOne kind change old new = (one : ℕ) → slice_get new one ≡ (if is_kind one kind then option_map change (slice_get old one) else slice_get old one)
 
 -- ---- classes and kinds, while their bodies are learned
--- these are the first ones of the pools of the lines
+-- These are the first pools of the lines.
 abbrev pub AreFirstPools : List RecordedLine → List Pool → Type 0
 AreFirstPools lines pools = (n : ℕ) (pool : Pool) → slice_get pools n ≡ Some pool → slice_get (pools_seen lines) n ≡ Some pool
 
--- the lines give the label to a job that is submitted to the pool of this number
+-- The lines have a job with this label, submitted to the pool of this number.
 pub record IsJobLabel (lines : List RecordedLine) (label : List ℕ) (number : ℕ) : Type 0 where
   pub pool : Pool
   pub is_pool : slice_get (pools_seen lines) number ≡ Some pool
   pub submitted : WasSubmitted lines label pool.name
 
--- the lines give the label to what is one too many where that is the reason
+-- The lines have a job or a round with this label, according to the reason.
 abbrev pub IsGiven : List RecordedLine → TooMuch → List ℕ → ℕ → Type 0
 IsGiven lines reason.Classes label pool = IsJobLabel lines label pool
 IsGiven lines reason.Kinds label pool = HasBegun lines label
@@ -89,12 +89,12 @@ pub record AreWorkingOf (lines : List RecordedLine) (working : Working) : Type 0
 abbrev pub names_of : List Entry → List (List ℕ)
 names_of entries = map (λ entry. string_bytes entry.name) entries
 
--- ---- why learning ends early
+-- ---- reasons to stop early
 abbrev pub IsStop : List RecordedLine → Stop → Type 0
 IsStop lines (stop.Memory error) = ⊤
 IsStop lines (stop.TooMuch why) = IsReason lines why
 
--- no name was found for the label
+-- No name was found for the label.
 abbrev pub IsNoName : List ℕ → Stop → Type 0
 IsNoName label (stop.Memory error) = ⊤
 IsNoName label (stop.TooMuch why) = (why ≡ reason.Names) × IsLong label

@@ -1,4 +1,4 @@
--- The rounds of each label, as they begin and end.
+-- Counters for the rounds of each label.
 use Rattle.std.specs.Prelude.{◌≡◌, ℕ, List, ◌++◌, length, map, slice_get, string_bytes, Some}
 use Rattle.number_tables.specs.Numbered.{value_at}
 use Rattle.recording_lines.specs.RecordingLine.{RecordedLine}
@@ -9,8 +9,8 @@ use Rattle.learned_plans.specs.Kept.{AreCountsOf}
 abbrev pub labels_of : LabelRounds → List (List ℕ)
 labels_of rounds = map string_bytes rounds.labels.items
 
--- Each round is of the kind that has the number and the name of its label, and each kind is counted by them. This is so
--- whatever rounds and labels come behind, as the lines so far name none of these. Of a round that is about the kind is kept.
+-- Each round has the kind that its label's number stands for, and the counters of each kind count its rounds. This holds
+-- whatever rounds and labels follow, because the lines so far name none of them. The kind of each open round is stored.
 pub record AreLabelRoundsOf (rounds : LabelRounds) (lines : List RecordedLine) : Type 0 where
   pub kinds : List ℕ
   pub begun : length kinds ≡ rounds.begun

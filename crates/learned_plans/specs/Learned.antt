@@ -1,4 +1,4 @@
--- What is learned of a recording.
+-- The result of learning a plan.
 use Rattle.std.specs.Prelude.{ℕ, List, Option, Some, None, ⊤}
 use Rattle.std.specs.List.{filter_map}
 use Rattle.recording_lines.specs.RecordingLine.{RecordedLine, lines_read}
@@ -8,23 +8,23 @@ use Rattle.learned_plans.specs.declared.learned.Learned.TheVariants.{Bad, Seen, 
 use Rattle.learned_plans.specs.declared.learned.SeenPlan.{SeenPlan}
 use Rattle.learned_plans.specs.declared.too_much.TooMuch.{TooMuch as TooMuchReason}
 
--- the lines of a recording, those that have none of the forms left out
+-- The well-formed lines of a recording.
 abbrev pub lines_of : List ℕ → List RecordedLine
 lines_of text = filter_map (λ line. line) (lines_read text)
 
--- the bad line that is told of
+-- The fault of the first invalid line, if there is one.
 abbrev pub fault_of : Learned → Option RecordingFault
 fault_of (Bad fault) = Some fault
 fault_of (Seen seen) = None
 fault_of (TooMuch reason) = None
 
--- where a plan is told, this holds of it
+-- `P` holds of the plan, if there is one.
 abbrev pub IfSeen : (SeenPlan → Type 0) → Learned → Type 0
 IfSeen P (Seen seen) = P seen
 IfSeen P (Bad fault) = ⊤
 IfSeen P (TooMuch reason) = ⊤
 
--- where it is too much, this holds of the reason
+-- `P` holds of the reason, if there is no plan.
 abbrev pub IfTooMuch : (TooMuchReason → Type 0) → Learned → Type 0
 IfTooMuch P (TooMuch reason) = P reason
 IfTooMuch P (Seen seen) = ⊤

@@ -1,4 +1,4 @@
--- What is taken of the lines first: what they name, or the first bad one.
+-- The first pass: the names in the lines, or the first invalid line.
 use Rattle.std.specs.Prelude.{◌≡◌, ◌+◌, ℕ, List, if◌then◌else◌, Option, Some, None, Result, Ok, Err}
 use Rattle.std.specs.List.{All, filter_map}
 use Rattle.recording_lines.specs.RecordingLine.{RecordedLine, lines_read}
@@ -20,11 +20,11 @@ use Rattle.learned_plans.specs.Names.{IsNamedClass, IsNamedClient}
 use Rattle.learned_plans.specs.Pools.{pools_seen}
 use Rattle.learned_plans.specs.Unfinished.{is_round_end, is_job_start, is_job_end, unfinished_rounds, unfinished_jobs}
 
--- those that have one of the forms of a line
+-- The well-formed lines.
 abbrev pub good : List (Option RecordedLine) → List RecordedLine
 good lines = filter_map (λ line. line) lines
 
--- they stand for all lines, none of which is bad
+-- No line is invalid, and the state is that of all lines.
 pub record AreNamesOfAll (all : List (Option RecordedLine)) (names : SeenNames) : Type 0 where
   pub no_fault : IsFirstFault all None
   pub named : AreNamesOf names (good all)
@@ -35,12 +35,12 @@ abbrev pub IsNamed : List (Option RecordedLine) → Result SeenNames RecordingFa
 IsNamed all (Ok names) = AreNamesOfAll all names
 IsNamed all (Err fault) = IsFirstFault all (Some fault)
 
--- where it ends for too much, no line is bad
+-- If learning stops because a limit is exceeded, no line is invalid.
 abbrev pub IsStopAt : List (Option RecordedLine) → Stop → Type 0
 IsStopAt all (Memory error) = IsStop (good all) (Memory error)
 IsStopAt all (TooMuch reason) = IsFirstFault all None × IsStop (good all) (TooMuch reason)
 
--- one more, where the line is one of those that are counted
+-- Each counter is incremented if it counts the line.
 pub record Counts (old : SeenNames) (line : RecordedLine) (new : SeenNames) : Type 0 where
   pub pools : new.pools ≡ old.pools
   pub working : new.working ≡ old.working
@@ -51,8 +51,8 @@ pub record Counts (old : SeenNames) (line : RecordedLine) (new : SeenNames) : Ty
   pub started_jobs : new.started_jobs ≡ old.started_jobs + (if is_job_start line then 1 else 0)
   pub ended_jobs : new.ended_jobs ≡ old.ended_jobs + (if is_job_end line then 1 else 0)
 
--- ---- what is told in the end
--- this is so of a plan that is told
+-- ---- the result
+-- The facts that hold of the returned plan.
 pub record IsSeenOf (lines : List RecordedLine) (seen : SeenPlan) : Type 0 where
   pub pools : seen.plan.pools ≡ pools_seen lines
   pub counts : AreCounted lines seen.plan.clients

@@ -1,4 +1,4 @@
--- What the classes and the kinds of clients of a learned plan are called, by the labels that the lines give.
+-- The names of the classes and client kinds of a learned plan, by the labels in the lines.
 use Rattle.std.specs.Prelude.{◌≡◌, ◌≤◌, ◌<◌, ℕ, List, ◌++◌, length, slice_get, codes, decimal, Some}
 use Rattle.std.specs.List.{Contains}
 use Rattle.job_bodies.specs.declared.limits.TheConstants.{MAX_CLASSES, MAX_NAME_BYTES}
@@ -9,20 +9,20 @@ use Rattle.recording_lines.specs.RecordingLine.{RecordedLine, RoundBegins, Submi
 use Rattle.learned_plans.specs.Pools.{pools_seen}
 
 -- ---- labels
--- a round of this label began
+-- A round of this label began.
 abbrev pub HasBegun : List RecordedLine → List ℕ → Type 0
 HasBegun lines label = (round : ℕ) × Contains lines (RoundBegins round label)
 
--- a job of this label was submitted to the pool of this name
+-- A job of this label was submitted to the pool of this name.
 abbrev pub WasSubmitted : List RecordedLine → List ℕ → List ℕ → Type 0
 WasSubmitted lines label pool = (actor : RecordedActor) × (job : ℕ) × Contains lines (Submits actor job label pool)
 
--- of the names LABEL_2, LABEL_3, and so on, as many as a plan may need, one is too long
+-- One of LABEL_2, LABEL_3 and so on is too long, within the number of names that a plan may need.
 abbrev pub IsLong : List ℕ → Type 0
 IsLong label = (n : ℕ) × (n ≤ MAX_CLASSES) × (MAX_NAME_BYTES < length (label ++ codes "_" ++ decimal n))
 
 -- ---- names
--- the class has a name of the family of a label, of which a job was submitted to its pool
+-- The name of the class is of the family of a label whose jobs were submitted to the pool of the class.
 pub record IsNamedClass (lines : List RecordedLine) (class : Class) : Type 0 where
   pub pool : Pool
   pub is_pool : slice_get (pools_seen lines) class.pool ≡ Some pool
@@ -30,7 +30,7 @@ pub record IsNamedClass (lines : List RecordedLine) (class : Class) : Type 0 whe
   pub submitted : WasSubmitted lines label pool.name
   pub named : IsOfFamily label class.name
 
--- the kind of clients has a name of the family of a label, of which a round began
+-- The name of the client kind is of the family of a label whose rounds began.
 pub record IsNamedClient (lines : List RecordedLine) (client : Client) : Type 0 where
   pub label : List ℕ
   pub begun : HasBegun lines label

@@ -1,4 +1,4 @@
--- The pools of a recording, as a plan has them.
+-- The pools of a recording, as pools of a plan.
 use Rattle.std.specs.Prelude.{ℕ, Bool, not, ◌&&◌, ◌==◌, List, [], ◌∷◌, filter, Option, Some, None, if◌then◌else◌, ◌++◌, min, max}
 use Rattle.std.specs.List.{filter_map, list_any}
 use Rattle.std.specs.Str.{bytes_eq}
@@ -9,21 +9,21 @@ use Rattle.recording_lines.specs.RecordingLine as line
 use Rattle.recording_lines.specs.RecordingLine.{RecordedLine}
 
 -- ---- one pool
--- the number, or the end of the range from low to 1,000,000 that it is beyond
+-- The number, clamped to the range from `low` to 1,000,000.
 abbrev pub into_range : ℕ → ℕ → ℕ
 into_range low number = max (min number MAX_SIZE) low
 
--- it had all its core threads, and some, when its recording began
+-- The pool had core threads when its recording began, and all of them.
 abbrev pub has_core_threads : PoolSizes → Bool
 has_core_threads sizes = not (sizes.prestarted == 0) && (sizes.prestarted == sizes.core)
 
--- the pool of this name that a line tells of, with sizes that a plan can have
+-- The pool of a `pool` line, with sizes that a plan can have.
 abbrev pub pool_seen : List ℕ → PoolSizes → Pool
 pool_seen name sizes = let core = into_range 1 sizes.core in
     record { name = name; core = core; max = into_range core sizes.max; queue = into_range 1 sizes.capacity; prestart = has_core_threads sizes }
 
 -- ---- all pools
--- the pool that a line tells of, if it tells of one
+-- The pool of a `pool` line, or `None` for any other line.
 abbrev pub pool_of_line : RecordedLine → Option Pool
 pool_of_line (line.Pool name sizes) = Some (pool_seen name sizes)
 pool_of_line other = None
@@ -31,12 +31,12 @@ pool_of_line other = None
 abbrev pub has_other_name : Pool → Pool → Bool
 has_other_name pool other = not (bytes_eq pool.name other.name)
 
--- without those of which an earlier one has the name
+-- The pools without those whose name an earlier one has.
 abbrev pub firsts : List Pool → List Pool
 firsts [] = []
 firsts (pool ∷ pools) = pool ∷ filter (has_other_name pool) (firsts pools)
 
--- the pool of the first line of each name, in the order of these lines
+-- The pool of the first `pool` line of each name, in the order of the lines.
 unfoldable pub pools_seen : List RecordedLine → List Pool
 pools_seen lines = firsts (filter_map pool_of_line lines)
 
@@ -44,7 +44,7 @@ pools_seen lines = firsts (filter_map pool_of_line lines)
 abbrev pub has_name : List ℕ → List Pool → Bool
 has_name name pools = list_any (λ pool. bytes_eq pool.name name) pools
 
--- behind the others, where none has its name
+-- The pool is appended, unless there is one of its name.
 abbrev pub with_first : List Pool → Pool → List Pool
 with_first pools pool = if has_name pool.name pools then pools else pools ++ pool ∷ []
 

@@ -1,4 +1,4 @@
--- Why no plan was learned of a good recording: when, and in which words.
+-- The reasons why a valid recording gives no plan, and their texts.
 use Rattle.std.specs.Prelude.{◌<◌, ◌⊎◌, ℕ, List, length, codes}
 use Rattle.job_bodies.specs.declared.limits.TheConstants.{MAX_POOLS}
 use Rattle.recording_lines.specs.RecordingLine.{RecordedLine}
@@ -8,18 +8,18 @@ use Rattle.learned_plans.specs.Counts.{IsCrowded}
 use Rattle.learned_plans.specs.Names.{HasBegun, WasSubmitted, IsLong}
 use Rattle.learned_plans.specs.Pools.{pools_seen}
 
--- ---- when
--- the lines give the label to a round or to a job
+-- ---- conditions
+-- A round or a job of the lines has the label.
 abbrev pub IsLabel : List RecordedLine → List ℕ → Type 0
 IsLabel lines label = HasBegun lines label ⊎ ((pool : List ℕ) × WasSubmitted lines label pool)
 
--- a round began, or a job was submitted
+-- A round began, or a job was submitted.
 abbrev pub HasActors : List RecordedLine → Type 0
 HasActors lines = (label : List ℕ) × IsLabel lines label
 
--- what the lines have where this is the reason. There may be too many classes, or kinds, or a path without a body, once there
--- are jobs, or rounds: how many bodies they need is not said, nor which of their paths have none. No text is written here, and
--- so none is too long.
+-- The property of the lines that each reason implies. `Classes`, `Kinds` and `Paths` imply only that there are jobs or
+-- rounds: how many bodies these need, and which paths have none, is not specified. `Text` never occurs, because this crate
+-- writes no text.
 abbrev pub IsReason : List RecordedLine → TooMuch → Type 0
 IsReason lines Pools = MAX_POOLS < length (pools_seen lines)
 IsReason lines Classes = (label : List ℕ) × (pool : List ℕ) × WasSubmitted lines label pool
@@ -29,7 +29,7 @@ IsReason lines Rounds = IsCrowded lines
 IsReason lines Paths = HasActors lines
 IsReason lines Text = ⊥
 
--- ---- in which words
+-- ---- texts
 
 abbrev pub too_much_text : TooMuch → List ℕ
 too_much_text Pools = codes "more pools than a plan may have"

@@ -1,9 +1,9 @@
--- How many rounds and jobs are not at their ends where the lines end.
+-- The number of rounds and jobs that have not ended at the end of the lines.
 use Rattle.std.specs.Prelude.{ℕ, ◌-◌, Bool, true, false, List, count_by}
 use Rattle.recording_lines.specs.RecordingLine.{RecordedLine, RoundEnds, JobStarts, JobEnds, JobThrew}
 use Rattle.recorded_rules.specs.Before.{begins}
 
--- ---- what kind of line it is
+-- ---- the type of a line
 abbrev pub is_round_end : RecordedLine → Bool
 is_round_end (RoundEnds round) = true
 is_round_end line = false
@@ -27,10 +27,10 @@ job_starts lines = count_by is_job_start lines
 unfoldable pub job_ends : List RecordedLine → ℕ
 job_ends lines = count_by is_job_end lines
 
--- the rounds that began and have not ended
+-- The number of rounds that began and have not ended.
 abbrev pub unfinished_rounds : List RecordedLine → ℕ
 unfinished_rounds lines = begins lines - round_ends lines
 
--- the jobs that started and have not ended
+-- The number of jobs that started and have not ended.
 abbrev pub unfinished_jobs : List RecordedLine → ℕ
 unfinished_jobs lines = job_starts lines - job_ends lines

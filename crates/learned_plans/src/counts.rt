@@ -1,4 +1,4 @@
-//! How many clients there are of each kind.
+//! The number of clients of each kind.
 
 ghost use Rattle.std.specs.Prelude.{◌≡◌, ◌++◌, ◌∷◌, [], ℕ, List, Some, true, false, length, slice_get, OnOk, IfOk, IfErr, IsTrue};
 ghost use Rattle.plan_families.specs.Family.{IsOfFamily};
@@ -15,17 +15,17 @@ use plan_families::is_of_family;
 use recording_lines::{Line, RecordingLines};
 use std::alloc::{AllocError, Global};
 
-/// The rounds of a kind, as they begin and end.
+/// Counters for the rounds of one client kind.
 #[derive(Clone, Copy)]
 pub(crate) struct KindCount {
     pub(crate) begun: u64,
     pub(crate) ended: u64,
-    /// The most that were between their begin and their end at once.
+    /// The maximum number of rounds that were open at once.
     pub(crate) most: u64,
 }
 
 impl KindCount {
-    /// None so far.
+    /// Creates the counters, all zero.
     fn new() -> KindCount
         ensures { (kinds : Kinds) (kind : ℕ) → IsCountOf kinds [] kind result }
     {
@@ -52,12 +52,12 @@ impl KindCount {
     }
 }
 
-/// The rounds of each of these kinds, where each round is of the kind that stands at its number.
+/// Counts the rounds of each client kind. `kinds` has the kind of each round, by round number.
 ///
 /// # Errors
 ///
-/// [`Stop::TooMuch`] where a round is of no kind, or of one whose name is not of its label's family; [`Stop::Memory`] where
-/// there is no memory for them.
+/// - [`Stop::TooMuch`] if a round has no kind, or one whose name is not of its label's family.
+/// - [`Stop::Memory`] if memory runs out.
 pub(crate) fn kind_counts(
     alloc: Global,
     recording: &[u8],
@@ -83,7 +83,8 @@ pub(crate) fn kind_counts(
     Ok(counts)
 }
 
-// Where the line begins a round, whether that is of a kind whose name is of the label's family.
+// Returns false if the line begins a round that has no kind, or one whose name is not of the family
+// of its label.
 fn begins_of_kind(kinds: &[Option<usize>], entries: &[Entry], line: &Line<'_>) -> bool
     ensures of_kind { IsTrue result
         → BeginsOfKind (kinds_in kinds.now) (names_of entries.now) (line_seen line.now) }
@@ -104,7 +105,7 @@ fn is_of_kind(kinds: &[Option<usize>], entries: &[Entry], round: usize, label: &
     }
 }
 
-// Whether the name of the one of this number is of the label's family.
+// Returns true if there is an entry with this number and its name is of the label's family.
 fn has_name_of(entries: &[Entry], number: usize, label: &str) -> bool
     ensures { IsTrue result
         → (name : List ℕ)
@@ -117,11 +118,11 @@ fn has_name_of(entries: &[Entry], number: usize, label: &str) -> bool
     }
 }
 
-/// So many kinds, of which there are no rounds.
+/// Returns `count` counters, all zero.
 ///
 /// # Errors
 ///
-/// `AllocError` where there is no memory for them.
+/// Returns `AllocError` if memory runs out.
 pub(crate) fn no_counts(alloc: Global, count: usize) -> Result<Vec<KindCount>, AllocError>
     ensures { (kinds : Kinds) → IfOk result (λ counts. AreCountsOf kinds [] counts.items) }
 {
@@ -132,7 +133,7 @@ pub(crate) fn no_counts(alloc: Global, count: usize) -> Result<Vec<KindCount>, A
     Ok(counts)
 }
 
-// What the line changes.
+// Updates the counters for one line.
 fn note(
     counts: &mut [KindCount],
     kinds: &[Option<usize>],
@@ -175,11 +176,11 @@ fn kind_of(kinds: &[Option<usize>], round: usize) -> Option<usize>
     *kinds.get(round)?
 }
 
-/// A round of the kind begins, where there is one and it is among these.
+/// Counts the begin of a round, unless `kind` is `None` or out of range.
 ///
 /// # Errors
 ///
-/// `AllocError` where there are too many to be counted.
+/// Returns `AllocError` if the counter would overflow.
 pub(crate) fn begin_one(counts: &mut [KindCount], kind: Option<usize>) -> Result<(), AllocError>
     ensures count { length counts.new ≡ length counts.old }
     ensures one { OnOk result (ChangesOne kind with_begin counts.old counts.new) }
@@ -190,11 +191,11 @@ pub(crate) fn begin_one(counts: &mut [KindCount], kind: Option<usize>) -> Result
     }
 }
 
-/// A round of the kind ends, where there is one and it is among these.
+/// Counts the end of a round, unless `kind` is `None` or out of range.
 ///
 /// # Errors
 ///
-/// `AllocError` where there are too many to be counted.
+/// Returns `AllocError` if the counter would overflow.
 pub(crate) fn end_one(counts: &mut [KindCount], kind: Option<usize>) -> Result<(), AllocError>
     ensures count { length counts.new ≡ length counts.old }
     ensures one { OnOk result (ChangesOne kind with_end counts.old counts.new) }

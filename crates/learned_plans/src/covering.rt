@@ -1,4 +1,4 @@
-//! Passes over a recording, until each of its actors is of a class or a kind of the plan.
+//! Repeated passes over a recording, until every actor matches a class or kind of the plan.
 
 ghost use Rattle.std.specs.Prelude.{◌≡◌, List, OnOk, IfErr};
 ghost use Rattle.recording_lines.specs.RecordingLine.{RecordedLine};
@@ -13,15 +13,17 @@ use crate::working::Working;
 use job_bodies::Pool;
 use std::alloc::Global;
 
-/// How many passes there are at most. Mostly there are two: along the first one all bodies grow, and along the second one each
-/// actor is of one.
+/// The maximum number of passes. Two are typical: all bodies grow in the first pass, and every
+/// actor matches a body in the second one.
 const MAX_PASSES: usize = 600;
 
-/// Makes bodies grow until each actor is of one. The answer is the kind of each round, by its number.
+/// Extends the bodies until every actor matches one. Returns the kind of each round, by number.
 ///
 /// # Errors
 ///
-/// [`Stop::TooMuch`] where that does not come, as where the part is cut and an actor that is about is of none; [`Stop::Memory`] where there is no memory.
+/// - [`Stop::TooMuch`] if the bodies stop changing before that, or after [`MAX_PASSES`] passes.
+///   This happens for example if the part is cut and an open actor matches no body.
+/// - [`Stop::Memory`] if memory runs out.
 pub(crate) fn cover_all(
     alloc: Global,
     part: Part<'_>,

@@ -1,10 +1,10 @@
-//! The actors that came to their ends.
+//! The actors that have ended.
 
 use recording_lines::{Line, RecordedActor};
 use std::alloc::{AllocError, Global};
 use std::collections::HashSet;
 
-/// The actors that came to their ends, and of which it was not told.
+/// The actors that have ended and are not yet classified.
 #[derive(Drop)]
 pub(crate) struct Ended {
     jobs: HashSet<usize>,
@@ -12,7 +12,7 @@ pub(crate) struct Ended {
 }
 
 impl Ended {
-    /// None so far.
+    /// Creates an empty set.
     pub(crate) fn new(alloc: Global) -> Ended {
         Ended {
             jobs: HashSet::new(alloc),
@@ -20,11 +20,11 @@ impl Ended {
         }
     }
 
-    /// Notes whoever the line ends.
+    /// Adds the actor that the line ends, if there is one.
     ///
     /// # Errors
     ///
-    /// `AllocError` where there is no memory for it.
+    /// Returns `AllocError` if memory runs out.
     pub(crate) fn note(&mut self, line: &Line<'_>) -> Result<(), AllocError> {
         match *line {
             Line::RoundEnds { round } => {
@@ -46,7 +46,7 @@ impl Ended {
         }
     }
 
-    /// It was told of the actor.
+    /// Removes the actor once it is classified.
     pub(crate) fn remove(&mut self, actor: RecordedActor) {
         match actor {
             RecordedActor::Job(job) => self.jobs.remove(&job),

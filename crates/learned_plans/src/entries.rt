@@ -1,4 +1,4 @@
-//! The classes of a plan, or its kinds of clients, while their bodies are learned.
+//! The classes or client kinds of a plan, while their bodies are learned.
 
 ghost use Rattle.std.specs.Prelude.{◌≡◌, ◌≤◌, ◌&&◌, ◌==◌, ◌++◌, ◌∷◌, IsTrue, List, [], OnOk, IfErr, string_bytes};
 ghost use Rattle.std.specs.List.{list_any};
@@ -17,27 +17,27 @@ use std::alloc::{AllocError, Global};
 /// A class of jobs, or a kind of clients.
 #[derive(Drop)]
 pub(crate) struct Entry {
-    /// What the recording calls it.
+    /// The name in the recording.
     pub(crate) label: String,
-    /// The number of its pool; of a kind of clients it is 0.
+    /// The number of its pool, or 0 for a client kind.
     pub(crate) pool: usize,
-    /// What the plan calls it: the label, or the label and a number.
+    /// The name in the plan: the label, or the label and a number.
     pub(crate) name: String,
     pub(crate) body: Vec<Action>,
 }
 
-/// The classes, or the kinds, in the order of the plan.
+/// The classes or the client kinds, in the order of the plan.
 #[derive(Drop)]
 pub(crate) struct Entries {
     pub(crate) entries: Vec<Entry>,
-    /// The most that a plan may have, and what it is if there are more.
+    /// The maximum number of entries in a plan. `beyond` is the reason to report if there are more.
     limit: usize,
     beyond: TooMuch,
     pub(crate) alloc: Global,
 }
 
 impl Entries {
-    /// None so far.
+    /// Creates an empty list.
     pub(crate) fn new(alloc: Global, limit: usize, beyond: TooMuch) -> Entries
         ensures { (lines : List RecordedLine)
             → limit ≤ MAX_CLASSES
@@ -51,11 +51,11 @@ impl Entries {
         }
     }
 
-    /// One of this label, in this pool, is there from here on, with an empty body where there was none.
+    /// Adds an entry with an empty body, unless there is one of this label in this pool.
     ///
     /// # Errors
     ///
-    /// As [`add`](Entries::add).
+    /// As for [`add`](Entries::add).
     pub(crate) fn note(&mut self, label: &str, pool: usize) -> Result<(), Stop>
         ensures ok { (lines : List RecordedLine) (beyond : Reason)
             → IsGiven lines beyond label.now pool
@@ -72,7 +72,7 @@ impl Entries {
         self.add(label, pool, Vec::new(self.alloc))
     }
 
-    /// Whether there is one of this label, in this pool.
+    /// Returns true if there is an entry of this label in this pool.
     pub(crate) fn has(&self, label: &str, pool: usize) -> bool
         ensures { (lines : List RecordedLine) (beyond : Reason)
             → AreEntriesOf lines beyond self.now
@@ -82,12 +82,12 @@ impl Entries {
         self.entries.iter().any(|entry| entry.is_of(label, pool))
     }
 
-    /// One more, with this body and the next free name of the label.
+    /// Adds an entry with this body and the next free name of the label.
     ///
     /// # Errors
     ///
-    /// [`Stop::TooMuch`] where a plan may not have one more, or not one of such a name; [`Stop::Memory`] where there is
-    /// no memory for it.
+    /// - [`Stop::TooMuch`] if a plan cannot have one more entry, or if the name would be too long.
+    /// - [`Stop::Memory`] if memory runs out.
     pub(crate) fn add(&mut self, label: &str, pool: usize, body: Vec<Action>) -> Result<(), Stop>
         ensures ok { (lines : List RecordedLine) (beyond : Reason)
             → IsGiven lines beyond label.now pool
@@ -122,7 +122,7 @@ impl Entries {
         Ok(())
     }
 
-    /// The body of the one of this number; empty where there is none.
+    /// Returns the body of an entry, or an empty one if there is no such entry.
     pub(crate) fn body(&self, number: usize) -> &[Action] {
         match self.entries.get(number) {
             Some(entry) => entry.body.as_slice(),
@@ -130,7 +130,7 @@ impl Entries {
         }
     }
 
-    /// The one of this number, where there is one, has this body from here on.
+    /// Replaces the body of an entry, if there is one with this number.
     pub(crate) fn put(&mut self, number: usize, body: Vec<Action>)
         ensures { (lines : List RecordedLine) (beyond : Reason)
             → AreEntriesOf lines beyond self.old
@@ -143,7 +143,7 @@ impl Entries {
 }
 
 impl Entry {
-    /// Whether the recording calls it so, in this pool.
+    /// Returns true if the entry has this label in the recording, in this pool.
     pub(crate) fn is_of(&self, label: &str, pool: usize) -> bool
         ensures { result
             ≡ (bytes_eq (string_bytes self.now.label) label.now && self.now.pool == pool) }

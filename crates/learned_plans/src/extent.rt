@@ -1,28 +1,32 @@
-//! How much of a recording bodies are learned from.
+//! The part of a recording from which bodies are learned.
 
-/// How much of a recording bodies are learned from. All else of a plan is always of the whole recording.
+/// The part of a recording from which bodies are learned. Everything else in the plan is always
+/// learned from the whole recording.
 #[derive(Clone, Copy, Debug, PartialEq, Eq)]
 pub enum Extent {
-    /// The whole lines within its first [`START_BYTES`]. There is no plan where they do not show all that they begin.
+    /// The whole lines within the first [`START_BYTES`]. No plan is learned if they do not explain
+    /// every actor that they begin.
     Start,
-    /// All its lines.
+    /// All lines.
     Whole,
 }
 
-/// How many bytes the start of a recording has at most. In so many a service has mostly done all that it does, several times;
-/// and to go over them a few times costs little beside going over a long recording once.
+/// The maximum size of the start of a recording, in bytes. Within that size a service has usually
+/// done everything that it does, several times. A few passes over it cost little compared with one
+/// pass over a long recording.
 pub const START_BYTES: usize = 262_144;
 
-/// A part of a recording, from its first line on. It may end within a line, which is not read then.
+/// A prefix of a recording. It may end within a line, which is then not read.
 #[derive(Clone, Copy)]
 pub(crate) struct Part<'a> {
     pub(crate) text: &'a [u8],
-    /// Whether the recording goes on behind it. What is about at its end does more then.
+    /// True if the recording continues after the part. Actors open at the end of the part may then
+    /// continue.
     pub(crate) is_cut: bool,
 }
 
 impl Extent {
-    /// The part of the recording that bodies are learned from.
+    /// Returns the part of the recording from which bodies are learned.
     pub(crate) fn of(self, recording: &[u8]) -> Part<'_> {
         match self {
             Extent::Start if recording.len() > START_BYTES => Part {

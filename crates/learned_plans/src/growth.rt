@@ -1,4 +1,4 @@
-//! Bodies that grow by what was done.
+//! The extension of bodies so that they cover the observed paths.
 
 ghost use Rattle.std.specs.Prelude.{◌≡◌, List, OnOk, IfErr};
 ghost use Rattle.recording_lines.specs.RecordingLine.{RecordedLine};
@@ -12,23 +12,23 @@ use covering_bodies::{body_of_path, covering_body};
 use job_bodies::{Action, MAX_ACTIONS, MAX_PATH_STEPS};
 use std::alloc::{AllocError, Global};
 
-/// What an actor did, with the class that each of its jobs is taken for.
+/// An observed path, with the class assigned to each of its jobs.
 #[derive(Drop)]
 pub(crate) struct Did {
     pub(crate) deeds: Vec<Deed>,
     pub(crate) course: Course,
 }
 
-/// The class, or the kind, that an actor is taken for, by its number.
+/// The class or kind assigned to an actor, by number.
 #[derive(Clone, Copy)]
 pub(crate) struct Taken {
     pub(crate) number: usize,
-    /// Whether its body has changed by that.
+    /// True if its body changed.
     pub(crate) is_changed: bool,
 }
 
 impl Entries {
-    /// The first one of this label, in this pool, that does that.
+    /// Returns the first entry of this label and pool whose body the path matches.
     pub(crate) fn explaining(&self, label: &str, pool: usize, did: &Did) -> Option<Taken> {
         let number = self.entries.iter().position(|entry| entry.is_of(label, pool)
             && is_path_of(&entry.body, did))?;
@@ -38,13 +38,13 @@ impl Entries {
         })
     }
 
-    /// One of this label, in this pool, does that from here on: the first one whose body can be made one that covers it,
-    /// or else a new one. One that is reached by what was done stays as it is, as it would submit jobs of its own class,
-    /// without an end. None where no body does that.
+    /// Extends the first entry of this label and pool whose body can be made to cover the path, or
+    /// adds a new entry for it. Skips each entry that is marked in `reached`: jobs of that class
+    /// would submit jobs of their own class without end. Returns `None` if no body covers the path.
     ///
     /// # Errors
     ///
-    /// As [`add`](Entries::add).
+    /// As for [`add`](Entries::add).
     pub(crate) fn grow(
         &mut self,
         label: &str,
@@ -77,7 +77,7 @@ impl Entries {
         }
     }
 
-    // One more of a label that there is.
+    // Adds an entry for a label that already has one.
     fn add_grown(
         &mut self,
         label: &str,
@@ -101,7 +101,7 @@ impl Entries {
         }))
     }
 
-    // Whether the one of this number is of this label, in this pool, and may grow.
+    // Returns true if the entry has this label and pool and may be extended.
     fn is_free(&self, number: usize, label: &str, pool: usize, reached: &[bool]) -> bool {
         match self.entries.get(number) {
             Some(entry) => entry.is_of(label, pool) && !is_marked(reached, number),
@@ -115,11 +115,12 @@ fn is_path_of(body: &[Action], did: &Did) -> bool {
         && path_fits(body, &did.deeds, did.course, MAX_PATH_STEPS) == PathFit::Fits
 }
 
-/// By the number of each class, whether jobs of it are submitted by these deeds, or by jobs that they submit, and so on.
+/// Returns, for each class, whether jobs of it are submitted by these steps, directly or through
+/// jobs that they submit.
 ///
 /// # Errors
 ///
-/// `AllocError` where there is no memory for them.
+/// Returns `AllocError` if memory runs out.
 pub(crate) fn reached_from(
     alloc: Global,
     classes: &Entries,
@@ -145,7 +146,7 @@ fn mark_deed(reached: &mut [bool], deed: &Deed) {
     }
 }
 
-/// Marks what is submitted by those that are marked. The answer is whether there is one more.
+/// Marks the classes that marked classes submit. Returns true if a class was newly marked.
 fn spread(classes: &Entries, reached: &mut [bool]) -> bool {
     let mut is_more = false;
     for number in 0..classes.entries.len() {
@@ -172,7 +173,7 @@ fn is_marked(reached: &[bool], number: usize) -> bool {
     reached.get(number).copied().unwrap_or(false)
 }
 
-/// Marks the class. The answer is whether it was not marked before.
+/// Marks the class. Returns true if it was not marked before.
 fn mark(reached: &mut [bool], class: usize) -> bool {
     match reached.get_mut(class) {
         Some(slot) => {

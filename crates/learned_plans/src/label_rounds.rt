@@ -1,4 +1,4 @@
-//! How many rounds there are of each label.
+//! The number of rounds of each label.
 
 ghost use Rattle.std.specs.Prelude.{◌≡◌, ◌+◌, ◌++◌, ◌∷◌, ◌==◌, [], ℕ, List, None, Some, if◌then◌else◌, slice_get, map, string_bytes, OnOk, IfOk, IfErr, IsTrue};
 ghost use Rattle.std.specs.List.{position};
@@ -20,25 +20,26 @@ use plan_families::is_of_family;
 use recording_lines::Line;
 use std::alloc::{AllocError, Global};
 
-/// The rounds of each label, as they begin and end. While each label has one kind, these are the rounds of each kind.
+/// Counters for the rounds of each label. As long as each label has one kind, these are also the
+/// rounds of each kind.
 #[derive(Drop)]
 pub(crate) struct LabelRounds {
     labels: Vec<String>,
-    /// The number of the label of each round that is about, by the round's number.
+    /// The label number of each open round, by round number.
     about: NumberTable<usize>,
-    /// How many rounds began.
+    /// The number of rounds that have begun.
     begun: usize,
-    /// By the number of each label that a plan has room for.
+    /// The counters of each label that a plan has room for, by label number.
     pub(crate) counts: Vec<KindCount>,
     alloc: Global,
 }
 
 impl LabelRounds {
-    /// None so far.
+    /// Creates the counters, before the first line.
     ///
     /// # Errors
     ///
-    /// `AllocError` where there is no memory for the counts.
+    /// Returns `AllocError` if memory runs out.
     pub(crate) fn new(alloc: Global) -> Result<LabelRounds, AllocError>
         ensures { IfOk result (λ rounds. AreLabelRoundsOf rounds []) }
     {
@@ -52,12 +53,13 @@ impl LabelRounds {
         })
     }
 
-    /// Takes the next line.
+    /// Reads the next line.
     ///
     /// # Errors
     ///
-    /// [`Stop::TooMuch`] where a round does not have the number that it has by the rules; [`Stop::Memory`] where there is no
-    /// memory for it.
+    /// - [`Stop::TooMuch`] if a round does not have the number that the rules of recordings
+    ///   require.
+    /// - [`Stop::Memory`] if memory runs out.
     pub(crate) fn take(&mut self, line: &Line<'_>) -> Result<(), Stop>
         ensures ok { (before : List RecordedLine)
             → AreLabelRoundsOf self.old before
@@ -73,7 +75,7 @@ impl LabelRounds {
         }
     }
 
-    // By the rules each round has the next number.
+    // The rules of recordings number the rounds consecutively.
     fn begin(&mut self, round: usize, label: &str) -> Result<(), Stop>
         ensures ok { (before : List RecordedLine)
             → AreLabelRoundsOf self.old before
@@ -91,7 +93,7 @@ impl LabelRounds {
         Ok(())
     }
 
-    // By the rules it is about.
+    // The rules of recordings let only an open round end.
     fn end(&mut self, round: usize) -> Result<(), Stop>
         ensures ok { (before : List RecordedLine)
             → AreLabelRoundsOf self.old before
@@ -107,7 +109,7 @@ impl LabelRounds {
         Ok(())
     }
 
-    // The number of the label, which is there from here on.
+    // Returns the number of the label, and adds the label if it is new.
     fn number_of(&mut self, label: &str) -> Result<usize, AllocError>
         ensures number { IfOk result
             (λ kind. slice_get (labels_of self.new) kind ≡ Some label.now) }
@@ -137,7 +139,7 @@ impl LabelRounds {
         Ok(())
     }
 
-    // The next round is of this kind, and is about.
+    // Records the next round as open, with this kind.
     fn push(&mut self, kind: usize) -> Result<(), AllocError>
         ensures about { OnOk result
             ((round : ℕ)
@@ -152,7 +154,8 @@ impl LabelRounds {
         Ok(())
     }
 
-    /// Whether each label has one kind, and these are the kinds, in the order of the labels.
+    /// Returns true if each label has one kind, and the entries are these kinds in the order of the
+    /// labels.
     pub(crate) fn are_of(&self, entries: &[Entry]) -> bool
         ensures { IsTrue result → names_of entries.now ≡ labels_of self.now }
     {
@@ -164,14 +167,14 @@ impl LabelRounds {
     }
 }
 
-// The place of the label among these.
+// Returns the index of the label.
 fn place_of(labels: &[String], label: &str) -> Option<usize>
     ensures { result ≡ position (λ one. bytes_eq (string_bytes one) label.now) labels.now }
 {
     labels.iter().position(|one| one.as_str() == label)
 }
 
-// Whether these have these names, and no others.
+// Returns true if the entries have exactly these names, in this order.
 fn are_named(entries: &[Entry], names: &[String]) -> bool
     ensures { IsTrue result → names_of entries.now ≡ map string_bytes names.now }
 {
@@ -195,7 +198,7 @@ fn is_named(entries: &[Entry], number: usize, name: &str) -> bool
     }
 }
 
-// How many of these have a name of the label's family.
+// Returns the number of entries with a name of the label's family.
 fn kinds_of(label: &str, entries: &[Entry]) -> usize {
     entries
         .iter()

@@ -1,30 +1,31 @@
-//! What is learned of a recording.
+//! The result of learning a plan.
 
 use crate::too_much::TooMuch;
 use job_bodies::Plan;
 use recorded_rules::RecordingFault;
 
-/// What is learned of a recording.
+/// The result of learning a plan from a recording.
 #[derive(Debug, Drop)]
 pub enum Learned {
-    /// A line of the recording is bad.
+    /// The first invalid line of the recording.
     Bad(RecordingFault),
-    /// The plan that was seen.
+    /// The plan that the recording shows.
     Seen(SeenPlan),
-    /// The recording shows more than a plan can say, or its paths were not covered.
+    /// The reason why there is no plan: the recording exceeds the limits of a plan, or no bodies
+    /// were found for its paths.
     TooMuch(TooMuch),
 }
 
-/// The plan that a recording shows, and of how much it was learned.
+/// The plan that a recording shows, with the size of the recording.
 #[derive(Debug, Drop)]
 pub struct SeenPlan {
     pub plan: Plan,
-    /// How many rounds began.
+    /// The number of rounds that began.
     pub rounds: usize,
-    /// How many jobs were submitted, refused ones too.
+    /// The number of jobs that were submitted, including refused ones.
     pub jobs: usize,
-    /// How many rounds began and have not ended.
+    /// The number of rounds that began and did not end.
     pub unfinished_rounds: usize,
-    /// How many jobs started and have not ended.
+    /// The number of jobs that started and did not end.
     pub unfinished_jobs: usize,
 }

@@ -1,4 +1,4 @@
-//! The plan that a recording shows.
+//! Derivation of a plan from a recording.
 
 ghost use Rattle.std.specs.Prelude.{◌≡◌, ◌<◌, ◌++◌, ◌∷◌, [], ℕ, List, Ok, length, slice_get, string_bytes, OnOk, IfOk, IfErr};
 ghost use Rattle.std.specs.List.{All};
@@ -27,12 +27,14 @@ use crate::working::client_of;
 use job_bodies::{Client, MAX_SIZE, Plan};
 use std::alloc::{AllocError, Global};
 
-/// The plan that the recording shows, with bodies that are learned from so much of it. Each body has so many steps for each path
-/// that it is asked of.
+/// Derives the plan that a recording shows.
+///
+/// `extent` selects the part of the recording from which bodies are learned. `budget` limits the
+/// steps of each check of one path against one body.
 ///
 /// # Errors
 ///
-/// `AllocError` where there is no memory for what the lines say.
+/// Returns `AllocError` if memory runs out.
 pub fn learn(
     alloc: Global,
     recording: &[u8],
@@ -100,8 +102,9 @@ fn seen_plan(
     }
 }
 
-// Makes bodies grow. The answer is the kind of each round of the part, by its number. Where a label has several kinds, the kind
-// of a round behind the part is not known: then there is no plan.
+// Extends the bodies, and returns the kind of each round of the part, by number. If the part is cut
+// and a label has several kinds, there is no plan: the kinds of the rounds after the part are
+// unknown.
 fn learned_kinds(
     alloc: Global,
     part: Part<'_>,

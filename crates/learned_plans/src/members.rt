@@ -1,21 +1,21 @@
-//! The class that each job is taken for.
+//! The class assigned to each job.
 
 use body_paths::Deed;
 use recorded_paths::RecordedDeed;
 use std::alloc::{AllocError, Global};
 use std::collections::{HashMap, HashSet};
 
-/// The class that a job is taken for, by its number, for each job that it was told of while it was not yet told of the job's
-/// submitter; none where none was found.
+/// The class assigned to each classified job whose submitter is not yet classified, by number. The
+/// class is `None` if none was found.
 #[derive(Drop)]
 pub(crate) struct Members {
     jobs: HashMap<usize, Option<usize>>,
-    /// Those of which it was not told and that were refused: they are of no path.
+    /// The refused jobs that are not yet classified. They belong to no path.
     refused: HashSet<usize>,
 }
 
 impl Members {
-    /// None so far.
+    /// Creates an empty map.
     pub(crate) fn new(alloc: Global) -> Members {
         Members {
             jobs: HashMap::new(alloc),
@@ -23,21 +23,21 @@ impl Members {
         }
     }
 
-    /// The job was refused.
+    /// Records that the job was refused.
     ///
     /// # Errors
     ///
-    /// `AllocError` where there is no memory for it.
+    /// Returns `AllocError` if memory runs out.
     pub(crate) fn refuse(&mut self, job: usize) -> Result<(), AllocError> {
         self.refused.insert(job)?;
         Ok(())
     }
 
-    /// It was told of the job, which is taken for this class.
+    /// Assigns the class to the job once it is classified.
     ///
     /// # Errors
     ///
-    /// `AllocError` where there is no memory for it.
+    /// Returns `AllocError` if memory runs out.
     pub(crate) fn insert(&mut self, job: usize, class: Option<usize>) -> Result<(), AllocError> {
         if !self.refused.remove(&job) {
             self.jobs.insert(job, class)?;
@@ -45,7 +45,7 @@ impl Members {
         Ok(())
     }
 
-    /// It was told of the submitter of these jobs.
+    /// Removes the jobs of a path once their submitter is classified.
     pub(crate) fn forget(&mut self, path: &[RecordedDeed]) {
         for deed in path {
             if let RecordedDeed::Submits(job) = *deed {
@@ -54,11 +54,12 @@ impl Members {
         }
     }
 
-    /// The path, with the class that each job of it is taken for. None where one can be of no class.
+    /// Returns the path with the class assigned to each of its jobs, or `None` if a job has no
+    /// class.
     ///
     /// # Errors
     ///
-    /// `AllocError` where there is no memory for it.
+    /// Returns `AllocError` if memory runs out.
     pub(crate) fn deeds(
         &self,
         alloc: Global,

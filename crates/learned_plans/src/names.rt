@@ -1,4 +1,4 @@
-//! The names of classes and of kinds of clients.
+//! The names of classes and client kinds.
 
 ghost use Rattle.std.specs.Prelude.{◌<◌, length, string_bytes, IfOk, IfErr};
 ghost use Rattle.job_bodies.specs.declared.limits.TheConstants.{MAX_CLASSES};
@@ -11,11 +11,12 @@ use crate::too_much::TooMuch;
 use job_bodies::MAX_NAME_BYTES;
 use std::alloc::{AllocError, Global};
 
-/// The first of the label, label_2, label_3, and so on, that none of these has.
+/// Returns the first unused name of LABEL, LABEL_2, LABEL_3 and so on.
 ///
 /// # Errors
 ///
-/// [`Stop::TooMuch`] where that is too long for a plan; [`Stop::Memory`] where there is no memory for it.
+/// - [`Stop::TooMuch`] if that name is too long for a plan.
+/// - [`Stop::Memory`] if memory runs out.
 pub(crate) fn free_name(alloc: Global, entries: &[Entry], label: &str) -> Result<String, Stop>
     ensures ok { length entries.now < MAX_CLASSES
         → IfOk result (λ name. IsOfFamily label.now (string_bytes name)) }
@@ -24,7 +25,8 @@ pub(crate) fn free_name(alloc: Global, entries: &[Entry], label: &str) -> Result
     if !has_name(entries, label) {
         return Ok(String::from_str(alloc, label)?);
     }
-    // of one name more than there are entries, one is free, so that the loop finds it
+    // The loop always finds a free name: with the label it tries one name more than there are
+    // entries.
     for step in 0..entries.len() {
         let number = step.saturating_add(2);
         let name = format!(in alloc; "{label}_{number}")?;

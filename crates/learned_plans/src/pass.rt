@@ -1,4 +1,4 @@
-//! A pass over a recording, along which bodies grow.
+//! A pass over a recording that extends the bodies.
 
 ghost use Rattle.std.specs.Prelude.{◌≡◌, List, OnOk, IfErr};
 ghost use Rattle.recording_lines.specs.RecordingLine.{RecordedLine};
@@ -17,29 +17,32 @@ use recorded_classes::{Classes, Settled};
 use recording_lines::{Line, RecordedActor, RecordingLines};
 use std::alloc::{AllocError, Global};
 
-/// What a pass has found so far.
+/// The state of a pass.
 #[derive(Drop)]
 pub(crate) struct Pass {
-    /// The first kind that each round can be of, by its number.
+    /// The first kind that each round can belong to, by round number.
     pub(crate) kinds: Vec<Option<usize>>,
-    /// Whether a body has changed.
+    /// True if a body changed.
     pub(crate) is_changed: bool,
-    /// Whether each actor was of a class or a kind of the plan.
+    /// True if each actor matched a class or kind of the plan.
     pub(crate) is_explained: bool,
-    /// Whether the recording goes on behind the part.
+    /// True if the recording continues after the part.
     is_cut: bool,
     members: Members,
     ended: Ended,
     alloc: Global,
 }
 
-/// A pass over the recording. Each actor that is of no class or kind of the plan, while all jobs that it submitted are,
-/// makes a body of the working copy grow. Where an actor has not come to its end, more of it may come: so it makes one grow
-/// only where no other one did, and none where the recording goes on behind the part.
+/// Runs one pass over the part of the recording.
+///
+/// If an actor matches no class or kind of the plan, and all jobs that it submitted do, a body is
+/// extended to cover its path. An actor without an end may continue. Its path therefore extends a
+/// body only if no other body changed and the part is not cut.
 ///
 /// # Errors
 ///
-/// [`Stop::TooMuch`] where a plan may not have what the actors need; [`Stop::Memory`] where there is no memory.
+/// - [`Stop::TooMuch`] if the actors need more than a plan may have.
+/// - [`Stop::Memory`] if memory runs out.
 pub(crate) fn pass_over(
     alloc: Global,
     part: Part<'_>,
@@ -68,7 +71,7 @@ pub(crate) fn pass_over(
     Ok(pass)
 }
 
-/// What is told of the actors along the lines.
+/// The classification of the actors along the lines.
 #[derive(Drop)]
 struct Telling {
     classes: Classes,
@@ -83,7 +86,7 @@ impl Telling {
         }
     }
 
-    // The lines end: it is told of these last.
+    // Returns the actors that are still unclassified at the end of the lines.
     fn finish(self, plan: &Plan) -> Result<Vec<Settled>, AllocError> {
         let Telling { classes, mut told } = self;
         classes.finish(plan, &mut told)?;
@@ -113,7 +116,7 @@ impl Pass {
         self.ended.note(line)
     }
 
-    // The line comes next, and with it what is told of each actor that it settles.
+    // Reads the next line, and processes each actor that it classifies.
     fn hear_line(
         &mut self,
         pools: &[Pool],
@@ -136,7 +139,7 @@ impl Pass {
         Ok(())
     }
 
-    // It is told of these, which came to their ends.
+    // Processes the classified actors, all of which have ended.
     fn hear_all(
         &mut self,
         pools: &[Pool],
@@ -159,7 +162,7 @@ impl Pass {
         Ok(())
     }
 
-    // It is told of these where the lines end.
+    // Processes the actors that are classified at the end of the lines.
     fn hear_last(
         &mut self,
         pools: &[Pool],
@@ -192,12 +195,12 @@ impl Pass {
         Ok(())
     }
 
-    // Whether the actors that have not come to their ends make no body grow.
+    // Returns true if actors without an end may not extend a body.
     fn is_through(&self) -> bool {
         self.is_changed || self.is_cut
     }
 
-    // Where it is a job, it is taken for this class from here on.
+    // Records the kind of a round, or assigns the class to a job.
     fn remember(&mut self, one: &Settled, class: Option<usize>) -> Result<(), AllocError> {
         let member = one.family.members.first().copied();
         if member.is_none() {
@@ -214,7 +217,8 @@ impl Pass {
         }
     }
 
-    // What the actor is taken for. A body grows where it is of none, and all jobs that it submitted are taken for a class.
+    // Returns the class or kind assigned to the actor. Extends a body if the actor matches none and
+    // all jobs that it submitted have a class.
     fn learn(
         &mut self,
         pools: &[Pool],

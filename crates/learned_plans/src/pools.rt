@@ -1,4 +1,4 @@
-//! The pools of a recording, as a plan has them.
+//! The pools of a recording, as pools of a plan.
 
 ghost use Rattle.std.specs.Prelude.{◌≡◌, ◌≤◌, ◌<◌, ◌++◌, ◌∷◌, List, Some, length, slice_get, IfOk, IfErr, IfSome, OnOk};
 ghost use Rattle.recording_lines.specs.RecordingLine.{RecordedLine, line_seen};
@@ -13,11 +13,11 @@ use job_bodies::{MAX_POOLS, MAX_SIZE, Pool};
 use recording_lines::{Line, PoolSizes};
 use std::alloc::{AllocError, Global};
 
-/// The pool of this name that the line tells of, each size brought into the range that it has in a plan.
+/// Returns the pool of a `pool` line, with each size clamped to its range in a plan.
 ///
 /// # Errors
 ///
-/// `AllocError` where there is no memory for the name.
+/// Returns `AllocError` if memory runs out.
 pub(crate) fn pool_seen(alloc: Global, name: &str, sizes: PoolSizes) -> Result<Pool, AllocError>
     ensures { IfOk result (λ pool. pool ≡ spec.pool_seen name.now sizes) }
 {
@@ -31,7 +31,7 @@ pub(crate) fn pool_seen(alloc: Global, name: &str, sizes: PoolSizes) -> Result<P
     })
 }
 
-// The number, or the end of the range that it is beyond.
+// Clamps the number to the range from `low` to the maximum size of a plan.
 fn into_range(low: u64, number: u64) -> u64
     ensures { result ≡ spec.into_range low number }
 {
@@ -44,11 +44,12 @@ fn has_core_threads(sizes: PoolSizes) -> bool
     sizes.prestarted != 0 && sizes.prestarted == sizes.core
 }
 
-/// The pool that the line tells of is there from here on: as the line tells, where there was none of its name.
+/// Adds the pool of a `pool` line, unless there is one of that name.
 ///
 /// # Errors
 ///
-/// [`Stop::TooMuch`] where a plan may not have one more; [`Stop::Memory`] where there is no memory for it.
+/// - [`Stop::TooMuch`] if a plan cannot have one more pool.
+/// - [`Stop::Memory`] if memory runs out.
 pub(crate) fn note_pool(alloc: Global, pools: &mut Vec<Pool>, line: &Line<'_>) -> Result<(), Stop>
     ensures ok { OnOk result
         (pools.new.items
@@ -92,7 +93,7 @@ fn has_name(pools: &[Pool], name: &str) -> bool
     pools.iter().any(|pool| pool.name.as_str() == name)
 }
 
-/// The number of the pool of this name.
+/// Returns the number of the pool with this name.
 pub(crate) fn pool_number(pools: &[Pool], name: &str) -> Option<usize>
     ensures { result ≡ position (λ pool. bytes_eq pool.name name.now) pools.now }
 {

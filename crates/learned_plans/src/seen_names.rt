@@ -1,4 +1,4 @@
-//! What the lines of a recording name.
+//! The names in the lines of a recording.
 
 ghost use Rattle.std.specs.Prelude.{◌≡◌, ◌+◌, ◌++◌, ◌∷◌, [], List, None, OnOk, IfOk, IfErr, if◌then◌else◌};
 ghost use Rattle.recorded_rules.specs.LineParts as parts;
@@ -18,8 +18,7 @@ use recorded_rules::{RecordingFault, RuledLines, first_fault};
 use recording_lines::Line;
 use std::alloc::{AllocError, Global};
 
-/// The pools, the classes of jobs and the kinds of clients that the lines name, and how many rounds and jobs there are and have
-/// come to their ends.
+/// The pools, classes and client kinds that the lines name, and counts of rounds and jobs.
 #[derive(Drop)]
 pub(crate) struct SeenNames {
     pub(crate) pools: Vec<Pool>,
@@ -33,12 +32,13 @@ pub(crate) struct SeenNames {
     alloc: Global,
 }
 
-/// What the lines name, each class and kind with an empty body; or the first bad line.
+/// Collects the names in all lines, with an empty body for each class and kind, or returns the
+/// first invalid line.
 ///
 /// # Errors
 ///
-/// [`Stop::TooMuch`] where no line is bad, and they name more than a plan may have; [`Stop::Memory`] where there is no memory
-/// for it.
+/// - [`Stop::TooMuch`] if all lines are valid and they name more than a plan may have.
+/// - [`Stop::Memory`] if memory runs out.
 pub(crate) fn seen_names(
     alloc: Global,
     recording: &[u8],
@@ -60,7 +60,7 @@ pub(crate) fn seen_names(
     Ok(Ok(names))
 }
 
-// Where there is too much, a line behind it may still be bad.
+// Returns the first invalid line, if a later line is invalid. Otherwise returns the reason to stop.
 fn stopped(
     alloc: Global,
     recording: &[u8],
@@ -77,7 +77,7 @@ fn stopped(
 }
 
 impl SeenNames {
-    // None so far.
+    // Creates the state before the first line.
     fn new(alloc: Global) -> Result<SeenNames, AllocError>
         ensures names { IfOk result (λ names. AreNamesOf names []) }
         ensures rounds { IfOk result (λ names. AreLabelRoundsOf names.label_rounds []) }
@@ -134,7 +134,7 @@ impl SeenNames {
     }
 }
 
-// One more, where it is counted.
+// Returns the count, incremented if `is_one` is true.
 fn counted(count: usize, is_one: bool) -> Result<usize, AllocError>
     ensures { IfOk result (λ new. new ≡ count + (if is_one then 1 else 0)) }
 {

@@ -1,11 +1,11 @@
-//! Why learning ends early.
+//! Reasons to stop learning early.
 
 ghost use Rattle.std.specs.Prelude.{◌≡◌};
 
 use crate::too_much::TooMuch;
 use std::alloc::AllocError;
 
-/// Why learning ends before there is a plan.
+/// A reason to stop before there is a plan.
 #[derive(Drop)]
 pub(crate) enum Stop {
     Memory(AllocError),

@@ -1,30 +1,30 @@
-//! Why no plan was learned of a good recording.
+//! Reasons why a valid recording gives no plan.
 
 ghost use Rattle.std.specs.Prelude.{Some};
 ghost use Rattle.learned_plans.specs.TooMuch.{too_much_text};
 
 use std::fmt;
 
-/// What of a recording is more than a plan can say, or more than was learned of it.
+/// The reason why a valid recording gives no plan: it exceeds a limit of plans, or of learning.
 #[derive(Clone, Copy, Debug, PartialEq, Eq)]
 pub enum TooMuch {
-    /// There are more pools than a plan may have.
+    /// More pools than a plan may have.
     Pools,
-    /// There would be more classes of jobs than a plan may have.
+    /// More classes of jobs than a plan may have.
     Classes,
-    /// There would be more kinds of clients than a plan may have.
+    /// More client kinds than a plan may have.
     Kinds,
-    /// A class or a kind would need a longer name than a plan may have.
+    /// A class or a kind whose name would be too long.
     Names,
-    /// There are more rounds of one kind at once than a plan may have clients of it.
+    /// More rounds of a kind at once than a plan may have clients.
     Rounds,
-    /// Some jobs or rounds did what no body was found for.
+    /// Paths of jobs or rounds for which no body was found.
     Paths,
-    /// The text of the plan would be longer than a plan's text may be.
+    /// A text of the plan that would be too long.
     Text,
 }
 
-/// Writes it as a few words, as `more pools than a plan may have`.
+/// Formats the reason as a short phrase, such as `more pools than a plan may have`.
 impl fmt::Display for TooMuch {
     ghost output = { λ reason. Some (too_much_text reason) };
 

@@ -17,7 +17,7 @@ use job_bodies::{Class, Client, MAX_CLASSES, MAX_CLIENT_KINDS, Plan, Pool};
 use recording_lines::Line;
 use std::alloc::{AllocError, Global};
 
-/// The classes and the kinds of clients, with the bodies that they have so far.
+/// The classes and client kinds, with their current bodies.
 #[derive(Drop)]
 pub(crate) struct Working {
     pub(crate) classes: Entries,
@@ -26,7 +26,7 @@ pub(crate) struct Working {
 }
 
 impl Working {
-    /// None so far.
+    /// Creates an empty plan.
     pub(crate) fn new(alloc: Global) -> Working
         ensures { (lines : List RecordedLine) → AreWorkingOf lines result }
     {
@@ -37,11 +37,12 @@ impl Working {
         }
     }
 
-    /// The class or the kind that the line names is there from here on.
+    /// Adds the class or kind that the line names, unless it is there.
     ///
     /// # Errors
     ///
-    /// [`Stop::TooMuch`] where a plan may not have one more; [`Stop::Memory`] where there is no memory for it.
+    /// - [`Stop::TooMuch`] if a plan cannot have one more.
+    /// - [`Stop::Memory`] if memory runs out.
     pub(crate) fn note(&mut self, pools: &[Pool], line: &Line<'_>) -> Result<(), Stop>
         ensures ok { (lines : List RecordedLine)
             → Contains lines (line_seen line.now)
@@ -64,7 +65,7 @@ impl Working {
         }
     }
 
-    /// Whether there are no classes and no kinds.
+    /// Returns true if there are no classes and no client kinds.
     pub(crate) fn is_empty(&self) -> bool
         ensures { result
             ≡ (length self.now.classes.entries.items == 0
@@ -73,11 +74,12 @@ impl Working {
         self.classes.entries.is_empty() && self.kinds.entries.is_empty()
     }
 
-    /// The plan so far: each kind has one client, which does not repeat.
+    /// Returns the current plan. Each kind has one client, which does not repeat.
     ///
     /// # Errors
     ///
-    /// [`Stop::TooMuch`] where that is no plan; [`Stop::Memory`] where there is no memory for it.
+    /// - [`Stop::TooMuch`] if the parts do not form a plan.
+    /// - [`Stop::Memory`] if memory runs out.
     pub(crate) fn plan(&self, pools: &[Pool]) -> Result<Plan, Stop>
         ensures { (lines : List RecordedLine) → HasActors lines → IfErr result (IsStop lines) }
     {
@@ -110,11 +112,13 @@ impl Working {
         Ok(clients)
     }
 
-    /// The class that a job of this label, in this pool, is taken for that did this; None where none was found.
+    /// Returns the class assigned to a job of this label and pool with this path, or `None` if no
+    /// body covers the path.
     ///
     /// # Errors
     ///
-    /// [`Stop::TooMuch`] where a plan may not have one more class; [`Stop::Memory`] where there is no memory for it.
+    /// - [`Stop::TooMuch`] if a plan cannot have one more class.
+    /// - [`Stop::Memory`] if memory runs out.
     pub(crate) fn learn_job(
         &mut self,
         label: &str,
@@ -135,11 +139,13 @@ impl Working {
         self.classes.grow(label, pool, did, &reached)
     }
 
-    /// The kind that a round of this label is taken for that did this; None where none was found.
+    /// Returns the kind assigned to a round of this label with this path, or `None` if no body
+    /// covers the path.
     ///
     /// # Errors
     ///
-    /// [`Stop::TooMuch`] where a plan may not have one more kind; [`Stop::Memory`] where there is no memory for it.
+    /// - [`Stop::TooMuch`] if a plan cannot have one more kind.
+    /// - [`Stop::Memory`] if memory runs out.
     pub(crate) fn learn_round(&mut self, label: &str, did: &Did) -> Result<Option<Taken>, Stop>
         ensures ok { (lines : List RecordedLine)
             → AreWorkingOf lines self.old
@@ -175,11 +181,11 @@ fn class_of(alloc: Global, entry: &Entry) -> Result<Class, AllocError>
     })
 }
 
-/// The kind of clients, with this count.
+/// Returns the client kind of an entry, with this count.
 ///
 /// # Errors
 ///
-/// `AllocError` where there is no memory for it.
+/// Returns `AllocError` if memory runs out.
 pub(crate) fn client_of(
     alloc: Global,
     entry: &Entry,

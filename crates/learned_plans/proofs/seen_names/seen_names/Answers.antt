@@ -11,7 +11,7 @@ use Rattle.learned_plans.specs.LabelRounds.{AreLabelRoundsOf}
 use Rattle.learned_plans.specs.Named.{good}
 use Rattle.learned_plans.proofs.seen_names.seen_names.Goals as goal
 
--- the good ones of all lines, where this one was taken behind others
+-- The well-formed lines of all lines, once this one is read.
 with_next : (all : List (Option RecordedLine)) (number : ℕ) (before : List RecordedLine) (line : RecordedLine) → lines_before all number ≡ before ++ line ∷ [] → good all ≡ before ++ line ∷ good (drop number all)
 with_next all number before line taken =
     ap good (sym (take-append-drop number all)) ∙ filter_map-append (λ one. one) (take number all) (drop number all)
