@@ -1,4 +1,4 @@
--- What is kept of the actors, once it is noted how far one has come.
+-- The tables, after the progress of one actor is updated.
 use Rattle.std.proofs.Common.{◌≡◌, ◌≤◌, ◌⊎◌, ℕ, Bool, true, false, if◌then◌else◌, List, length, is_some, Option, Some, None, refl, ap, sym, subst, ◌∙◌, inl, inr}
 use Rattle.std.specs.Prelude.{string_bytes}
 use Rattle.std.specs.List.{list_any}
@@ -26,7 +26,7 @@ use Rattle.recorded_classes.proofs.Words.{by_bool, one_of, is_none_of, if_true, 
 use Rattle.recorded_classes.proofs.Progress.{waits_as}
 use Rattle.recorded_classes.proofs.TellsTaken.{tells_same}
 
--- the actor was kept, and is what it was, or it is the one of whom it is noted
+-- The entry is unchanged, or it is that of the updated actor.
 record Earlier (reached : ℕ) (old : ActorTable) (actor one : RecordedActor) (kept : KeptActor) : Type 0 where
   pub earlier : KeptActor
   pub there : in_table old one ≡ Some earlier
@@ -51,7 +51,7 @@ some_mapped false reached there = refl
 some_same : (reached : ℕ) (old new : ActorTable) (actor : RecordedActor) → IsChanged old actor (with_known reached) new → (one : RecordedActor) → is_some (in_table new one) ≡ is_some (in_table old one)
 some_same reached old new actor changed one = ap is_some (changed one) ∙ some_mapped (is_same_actor actor one) reached (in_table old one)
 
--- ---- the parts of an actor
+-- ---- the fields of an entry
 label_same : (reached : ℕ) (kept earlier : KeptActor) {P : Type 0} → (kept ≡ earlier) ⊎ (P × (kept ≡ with_known reached earlier)) → kept.label ≡ earlier.label
 label_same reached kept earlier (inl is) = ap (λ (k : KeptActor). k.label) is
 label_same reached kept earlier (inr is) = ap (λ (k : KeptActor). k.label) is.1
@@ -79,7 +79,7 @@ going_same : (reached : ℕ) (kept earlier : KeptActor) {P : Type 0} → (kept �
 going_same reached kept earlier (inl is) h = ap (λ (k : KeptActor). k.waiting) (sym is) ∙ h
 going_same reached kept earlier (inr is) h = none_mapped reached earlier.waiting (ap (λ (k : KeptActor). k.waiting) (sym is.1) ∙ h)
 
--- who waited, and how far it had come
+-- The earlier state of a waiting actor.
 record Waited (reached : ℕ) (actor one : RecordedActor) (earlier : KeptActor) (waiting : Waiting) : Type 0 where
   pub then_waiting : Waiting
   pub waits : earlier.waiting ≡ Some then_waiting

@@ -1,4 +1,4 @@
--- All that was told, of some lines and of one more, and where the lines end.
+-- The results for all actors: for a list of lines, after one more line, and at the end of the lines.
 use Rattle.std.proofs.Common.{◌≡◌, ◌⊎◌, ℕ, true, false, List, [], ◌∷◌, ◌++◌, slice_index_or, is_some, None, All, refl, ap, sym, subst, ◌∙◌, inl, inr, append_assoc}
 use Rattle.std.specs.List.{list_any}
 use Rattle.std.proofs.lemmas.List.Elements.{All-append, All-weaker, All-nil, All-head, All-tail}
@@ -29,7 +29,7 @@ use Rattle.recorded_classes.proofs.KeptNone.{none_through, settled_gone}
 use Rattle.recorded_classes.proofs.TellsTaken.{any_append_left, any_append_right, once_left, once_right, none_most, none_of_kept}
 use Rattle.recorded_classes.proofs.Coming.{named_come, come_about, through_come}
 
--- ---- of one actor
+-- ---- one actor
 label_stays_its : (before more : List RecordedLine) (actor : RecordedActor) (label pool : List ℕ) → KeepsRules (before ++ more) → HasLabel before actor label pool → HasLabel (before ++ more) actor label pool
 label_stays_its before more (Job job) label pool keeps h = label_stays before more job (label, pool) keeps h
 label_stays_its before more (Round round) label pool keeps h = (kind_stays before more round label keeps h.0, h.1)
@@ -68,13 +68,13 @@ told_none plan budget = record {
 }
 
 -- ---- one more line
--- an actor of whom it was told is none of these, where they were not settled
+-- A settled actor is not among actors that were all unsettled.
 none_unsettled : (lines : List RecordedLine) (actor : RecordedActor) (more : List Settled) → IsSettled lines actor → All (λ (t : Settled). IsSettled lines t.actor → ⊥) more → list_any (is_told actor) more ≡ false
 none_unsettled lines actor more is unsettled = list_any_none (is_told actor) more
     (All-weaker (λ (t : Settled). IsSettled lines t.actor → ⊥) (λ (t : Settled). is_told actor t ≡ false)
     (λ t h. by_bool (is_told actor t) (λ same. absurd (h (subst (λ (a : RecordedActor). IsSettled lines a) (sym (same_actor t.actor actor same)) is))) (λ other. other)) more unsettled)
 
--- what is so of all of whom it is told is so of each of them
+-- A property of all classified actors holds of each of them.
 of_told : (P : RecordedActor → Type 0) (actor : RecordedActor) (more : List Settled) → All (λ (t : Settled). P t.actor) more → list_any (is_told actor) more ≡ true → P actor
 of_told P actor [] are h = absurd (cc)
 of_told P actor (t ∷ more) are h = or_either (is_told actor t) (list_any (is_told actor) more) h
@@ -115,7 +115,7 @@ told_more plan budget before line keeps earlier old new are t =
     subst (λ (all : List Settled). AreTold plan budget (before ++ line ∷ []) all) (append_assoc earlier old t.more ∙ ap (λ (l : List Settled). earlier ++ l) (sym t.behind))
     (told_then plan budget before line keeps (earlier ++ old) t.more are t.told t.settled t.unsettled t.once t.each)
 
--- ---- where the lines end
+-- ---- the end of the lines
 none_kept : (actors : ActorTable) (actor : RecordedActor) (more : List Settled) → in_table actors actor ≡ None → (is_some (in_table actors actor) ≡ true) ⊎ (list_any (is_told actor) more ≡ true) → list_any (is_told actor) more ≡ true
 none_kept actors actor more gone (inl h) = none_some (in_table actors actor) gone h
 none_kept actors actor more gone (inr h) = h

@@ -1,4 +1,4 @@
--- Which actors have come.
+-- The actors that have begun.
 use Rattle.std.proofs.Common.{◌≡◌, ◌==◌, Bool, true, false, if◌then◌else◌, ℕ, List, [], ◌∷◌, ◌++◌, is_some, slice_get, Option, Some, None, refl, ap, sym, ◌∙◌, arith}
 use Rattle.std.specs.List.{list_any, filter_map, cons_option}
 use Rattle.recording_lines.specs.declared.recording_line.RecordedActor.{RecordedActor}
@@ -20,7 +20,7 @@ use Rattle.recorded_classes.proofs.Words.{by_bool, apart, or_left, or_right, or_
 use Rattle.recorded_classes.proofs.LineActors.{through_after, ended_about}
 use Rattle.recorded_classes.proofs.KeptNone.{none_through}
 
--- ---- one that has a label
+-- ---- an actor that has a label
 none_first : {Y : Type 0} (o : Option Y) (ys : List Y) → is_some o ≡ false → cons_option o ys ≡ ys
 none_first None ys h = refl
 none_first (Some y) ys h = apart true refl h
@@ -55,7 +55,7 @@ pub named_come : (lines : List RecordedLine) (actor : RecordedActor) (label pool
 named_come lines (Job job) label pool named = label_come lines job (label, pool) named
 named_come lines (Round round) label pool named = kind_come lines round label named.0
 
--- ---- one that is about, or through
+-- ---- an actor that is open, or has ended
 pub about_come : (lines : List RecordedLine) (actor : RecordedActor) → is_about lines actor ≡ true → has_come lines actor ≡ true
 about_come lines (Job job) h = and_first _ _ h
 about_come lines (Round round) h = and_first _ _ h

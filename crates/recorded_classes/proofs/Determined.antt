@@ -1,4 +1,4 @@
--- The classes that a job can be of are determined.
+-- The lines determine the classes that a job can belong to.
 use Rattle.std.proofs.Common.{◌≡◌, ◌==◌, ℕ, true, List, [], ◌∷◌, ◌++◌, slice_index_or, Some, refl, ap, sym, subst, ◌∙◌, arith}
 use Rattle.std.specs.Prelude.{Contains, slice_get}
 use Rattle.std.specs.List.{list_any, AllZip}
@@ -25,8 +25,8 @@ use Rattle.recorded_classes.specs.Label.{label_of, kind_of}
 use Rattle.recorded_classes.specs.Classes.{AreClassesOf, by_path, StandFor, none, submit, get, AreKindsOf}
 use Rattle.recorded_classes.proofs.Words.{one_of}
 
--- ---- deeds
--- each class of the first one is one of the second
+-- ---- steps
+-- Each class of the first step is one of the second.
 abbrev IsWithin : Deed → Deed → Type 0
 IsWithin (deed.Submits one) (deed.Submits other) = (class : ℕ) → Contains one.items class → Contains other.items class
 IsWithin (deed.Gets one) (deed.Gets other) = one ≡ other
@@ -80,7 +80,7 @@ path_within Begun body one other w h =
     let choice = h.1.0 in
     (h.0, (choice, zip_within (kept_actions body choice) (one ++ h.0) (other ++ h.0) (kept_actions body choice) (with_behind one other h.0 w) h.1.1))
 
--- ---- what stands for a path
+-- ---- a path with classes
 abbrev StandsAs : Plan → List RecordedLine → List RecordedDeed → List Deed → Type 0
 StandsAs plan lines [] deeds = deeds ≡ []
 StandsAs plan lines (recorded.Submits job ∷ path) deeds = (classes : Vec ℕ Global) × (rest : List Deed) × (deeds ≡ deed.Submits classes ∷ rest) × AreClassesOf plan lines job classes.items × StandFor plan lines path rest

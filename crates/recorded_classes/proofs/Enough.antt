@@ -1,4 +1,4 @@
--- What is enough for a plan is enough for each body of a family.
+-- A budget that is large enough for a plan is large enough for each body of a family.
 use Rattle.std.proofs.Common.{◌≡◌, ◌<◌, ◌+◌, ℕ, List, length, sym, subst, ◌∙◌, arith}
 use Rattle.std.specs.Prelude.{All}
 use Rattle.std.specs.List.{range_with_len}
@@ -32,7 +32,7 @@ enough_for_clients budget plan label enough =
     (All-filter (is_client_in_family plan label) (λ k. IsEnoughFor budget (client_body plan k)) (range_with_len 0 (length plan.clients))
     (all_of_range (λ k. IsEnoughFor budget (client_body plan k)) (length plan.clients) (λ k low. enough.clients k _ low)))
 
--- what four clauses say together
+-- The conjunction of four clauses.
 pub all_four : {X E : Type 0} (r : Result X E) (A B C D P : X → Type 0) → ((x : X) → A x → B x → C x → D x → P x) → IfOk r A → IfOk r B → IfOk r C → IfOk r D → IfOk r P
 all_four (Ok x) A B C D P all a b c d = all x a b c d
 all_four (Err e) A B C D P all a b c d = tt

@@ -1,4 +1,4 @@
--- What a line does to the actors that are kept.
+-- The effect of a line on the tables.
 use Rattle.std.proofs.Common.{◌≡◌, ℕ, ◌==◌, Bool, true, false, if◌then◌else◌, List, [], Option, Some, None, is_some, refl, ap, sym, subst, ◌∙◌}
 use Rattle.std.specs.Option.{option_map}
 use Rattle.std.specs.Prelude.{string_bytes}
@@ -19,7 +19,7 @@ use Rattle.recorded_classes.specs.Changes.{begun_by, refused_by, IsChanged, Chan
 use Rattle.recorded_classes.proofs.Words.{by_bool, apart, some_of, if_true, if_false}
 use Rattle.recorded_paths.proofs.Places.{same_self}
 
--- the actor was kept, and what of it stays
+-- The earlier entry of an actor, and the parts that do not change.
 pub record WasKept (line : RecordedLine) (waiting : Waiting) (old : ActorTable) (one : RecordedActor) (kept : KeptActor) : Type 0 where
   pub earlier : KeptActor
   pub there : in_table old one ≡ Some earlier
@@ -33,7 +33,7 @@ abbrev pub IsNamedIn : RecordedLine → RecordedActor → KeptActor → Type 0
 IsNamedIn line (Job job) kept = label_in job line ≡ Some (string_bytes kept.label, string_bytes kept.pool)
 IsNamedIn line (Round round) kept = (kind_in round line ≡ Some (string_bytes kept.label)) × (string_bytes kept.pool ≡ [])
 
--- the actor comes
+-- The actor begins with the line.
 pub record Came (line : RecordedLine) (one : RecordedActor) (kept : KeptActor) : Type 0 where
   pub named : IsNamedIn line one kept
   pub going : kept.waiting ≡ None
@@ -45,7 +45,7 @@ pub record Follows (line : RecordedLine) (waiting : Waiting) (old new : ActorTab
   pub forth : (one : RecordedActor) → is_some (in_table old one) ≡ true → is_some (in_table new one) ≡ true
   pub there : (one : RecordedActor) → is_actor one (begun_by line) ≡ true → is_some (in_table new one) ≡ true
 
--- ---- nothing
+-- ---- no change
 follows_same : (line : RecordedLine) (waiting : Waiting) (old new : ActorTable) → begun_by line ≡ None → ended_by line ≡ None → ((one : RecordedActor) → in_table new one ≡ in_table old one) → Follows line waiting old new
 follows_same line waiting old new unbegun unended same = record {
   back = λ one kept h fails. record {
@@ -72,7 +72,7 @@ came_as line actor one kept came same kept_is label pool submitter label_is pool
     let is : came ≡ kept = cc in
     subst (λ (k : KeptActor). Came line one k) is (subst (λ (a : RecordedActor). Came line a came) same here)
 
--- ---- an actor comes
+-- ---- a new actor
 follows_begin : (line : RecordedLine) (waiting : Waiting) (old new : ActorTable) (actor : RecordedActor) (label pool : List ℕ) (submitter : Option RecordedActor) → begun_by line ≡ Some actor → ended_by line ≡ None → Comes old actor label pool submitter new
     → ((kept : KeptActor) → string_bytes kept.label ≡ label → string_bytes kept.pool ≡ pool → IsNamedIn line actor kept)
     → ((one : RecordedActor) (job : ℕ) → submits_by one job line ≡ true → submitter ≡ Some one)
@@ -136,7 +136,7 @@ still_some true change (Some kept) h = refl
 still_some true change None h = h
 still_some false change old h = h
 
--- ---- something is done to one
+-- ---- a changed actor
 follows_change : (line : RecordedLine) (waiting : Waiting) (old new : ActorTable) (actor : RecordedActor) (change : KeptActor → KeptActor) → begun_by line ≡ None → IsChanged old actor change new
     → ((kept : KeptActor) → (change kept).label ≡ kept.label) → ((kept : KeptActor) → (change kept).pool ≡ kept.pool)
     → ((kept : KeptActor) → is_actor actor (refused_by line) ≡ false → (change kept).submitter ≡ kept.submitter)
@@ -162,7 +162,7 @@ follows_change line waiting old new actor change unbegun changed label pool subm
   there = λ one holds. apart (is_actor one (begun_by line)) holds (ap (is_actor one) unbegun);
 }
 
--- ---- each line
+-- ---- each form of line
 named_job : (actor : RecordedActor) (job : ℕ) (class pool : List ℕ) (kept : KeptActor) → string_bytes kept.label ≡ class → string_bytes kept.pool ≡ pool → IsNamedIn (Submits actor job class pool) (Job job) kept
 named_job actor job class pool kept h g =
     if_true (job == job) (Some (class, pool)) None (same_self job) ∙ (ap (λ (name : List ℕ). Some (name, pool)) (sym h) ∙ ap (λ (name : List ℕ). Some (string_bytes kept.label, name)) (sym g))

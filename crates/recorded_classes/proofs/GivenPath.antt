@@ -1,4 +1,4 @@
--- The path that an actor gives away with its last line.
+-- The path that is returned with an actor's last line.
 use Rattle.std.proofs.Common.{◌≡◌, true, List, Option, Some, None, unwrap_or, ap, ◌∙◌}
 use Rattle.std.specs.Option.{option_map, option_and_then}
 use Rattle.std.specs.declared.alloc.Global.{Global}

@@ -1,4 +1,4 @@
--- What is kept of the actors stands for the lines with one more behind them.
+-- The tables are correct after one more line.
 use Rattle.std.proofs.Common.{◌≡◌, ◌⊎◌, ℕ, ◌||◌, true, false, List, [], ◌∷◌, ◌++◌, is_some, Some, None, refl, ap, sym, subst, ◌∙◌, inl, inr, arith}
 use Rattle.std.specs.Prelude.{string_bytes}
 use Rattle.recording_lines.specs.declared.recording_line.RecordedActor.{RecordedActor}
@@ -43,7 +43,7 @@ named_still before line (Job job) kept earlier label pool named =
     ∙ (ap (λ name. Some (string_bytes name, string_bytes earlier.pool)) (sym label) ∙ ap (λ name. Some (string_bytes kept.label, string_bytes name)) (sym pool))
 named_still before line (Round round) kept earlier label pool named = (kind_more before line round (string_bytes earlier.label) named.0 ∙ ap (λ name. Some (string_bytes name)) (sym label), ap (λ name. string_bytes name) pool ∙ named.1)
 
--- ---- all that is known of a step
+-- ---- the facts about one step
 record Step (plan : Plan) (before : List RecordedLine) (line : RecordedLine) (waits : Waiting) (old new : ActorTable) (known : ClassTable) : Type 0 where
   pub keeps : KeepsRules (before ++ line ∷ [])
   pub kept : IsKept plan before old known None
@@ -64,7 +64,7 @@ going_after plan before line waits old new known s one kept h none =
     (λ was. by_bool (is_actor one (ended_by line)) (λ ends. two_of kept.waiting waits (was.ended ends) none)
     (λ goes. not_through before line one (s.kept.going one was.earlier was.there (sym (was.going goes) ∙ none)) goes))
 
--- ---- who waits
+-- ---- waiting actors
 nothing_before : (known : ClassTable) (path : List RecordedDeed) (place : ℕ) → place ≡ 0 → AreSettledBefore known path place
 nothing_before known path place is = λ job h. absurd (grind (arith, is, h))
 
@@ -100,7 +100,7 @@ blocked_after plan before line waits old new known s one kept waiting h is =
     (λ was. by_bool (is_actor one (ended_by line)) (λ ends. inr (ended_is one line ends))
     (λ goes. blocked_still plan before line waits old new known s waiting one (s.kept.blocked one was.earlier waiting was.there (sym (was.going goes) ∙ is))))
 
--- ---- who is settled
+-- ---- settled actors
 settled_after : (plan : Plan) (before : List RecordedLine) (line : RecordedLine) (waits : Waiting) (old new : ActorTable) (known : ClassTable) → Step plan before line waits old new known → (one : RecordedActor) → is_through (before ++ line ∷ []) one ≡ true → in_table new one ≡ None → IsSettled (before ++ line ∷ []) one
 settled_after plan before line waits old new known s one h gone =
     or_either (is_through before one) (is_actor one (ended_by line)) (sym (through_after before line one) ∙ h)
@@ -114,7 +114,7 @@ known_after plan before line known keeps k = record {
   classes = λ job one h decided. classes_stay plan before (line ∷ []) keeps job one.classes.items (k.classes job one h decided) (k.settled job one h);
 }
 
--- ---- the jobs of those who are kept
+-- ---- the jobs of the actors in the table
 by_begins : (actor : RecordedActor) (j : ℕ) (line : RecordedLine) → submits_by actor j line ≡ true → is_actor (Job j) (begun_by line) ≡ true
 by_begins actor j (Submits submitter job class pool) h = grind (arith, h)
 by_begins actor j line h = apart false h refl
@@ -156,7 +156,7 @@ submitter_after plan before line waits old new known s one job kept h submitted 
     (or_either (has_submitted before one job) (submits_by one job line) split (λ earlier. earlier) (λ now. apart (is_actor (Job job) (begun_by line)) (by_begins one job line now) other))
     (or_first (is_refused before job) (refuses_job job line) spared))
 
--- ---- all of it
+-- ---- the whole table
 pub kept_after : (plan : Plan) (before : List RecordedLine) (line : RecordedLine) (waits : Waiting) (old new : ActorTable) (known : ClassTable) → KeepsRules (before ++ line ∷ []) → IsKept plan before old known None → Follows line waits old new
     → ((one : RecordedActor) → is_actor one (ended_by line) ≡ true → waits.path.items ≡ path_of before one) → waits.known ≡ 0
     → IsKept plan (before ++ line ∷ []) new known (ended_by line)

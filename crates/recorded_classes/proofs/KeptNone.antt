@@ -1,4 +1,4 @@
--- Nothing is kept of no lines; and who is kept is not settled.
+-- The tables are empty before the first line, and no actor in the table is settled.
 use Rattle.std.proofs.Common.{◌≡◌, ◌⊎◌, ℕ, true, false, List, [], Some, None, refl, subst, inl, inr}
 use Rattle.std.specs.List.{list_any}
 use Rattle.recording_lines.specs.declared.recording_line.RecordedActor.{RecordedActor}
@@ -47,7 +47,7 @@ kept_none plan actors known empty unknown = record {
   submitter = λ one job kept h. two_of (in_table actors (Job job)) kept h (empty (Job job));
 }
 
--- ---- who is kept
+-- ---- actors in the table
 waiting_blocked : (actors : ActorTable) (waiting : Waiting) (one : RecordedActor) → IsBlocked actors waiting ⊎ (None ≡ Some one) → IsBlocked actors waiting
 waiting_blocked actors waiting one (inl b) = b
 waiting_blocked actors waiting one (inr is) = absurd (cc)

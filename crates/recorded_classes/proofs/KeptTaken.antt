@@ -1,4 +1,4 @@
--- What is kept of the actors, once one that is settled is taken out.
+-- The tables, after a settled actor is removed.
 use Rattle.std.proofs.Common.{◌≡◌, ◌⊎◌, ℕ, zero, suc, Bool, true, false, if◌then◌else◌, List, [], ◌∷◌, take, Some, None, refl, ap, sym, subst, ◌∙◌, inl, inr, arith}
 use Rattle.std.specs.List.{list_any}
 use Rattle.recording_lines.specs.declared.recording_line.RecordedActor.{RecordedActor}
@@ -26,7 +26,7 @@ use Rattle.recorded_classes.proofs.Follows.{same_as_self}
 use Rattle.recorded_classes.proofs.KeptNone.{blocked_below}
 use Rattle.recorded_classes.proofs.TakenOut.{Out, path_submitted, still, stays_there, known_still, its_submitter, below_then, classes_then}
 
--- all that is known of the step
+-- The facts about the step.
 pub record Taken (plan : Plan) (lines : List RecordedLine) (old new : ActorTable) (known then_known : ClassTable) (actor : RecordedActor) (members : List ℕ) (is_decided : Bool) : Type 0 where
   pub keeps : KeepsRules lines
   pub kept : IsKept plan lines old known (Some actor)
@@ -48,7 +48,7 @@ module _ (plan : Plan) (lines : List RecordedLine) (old new : ActorTable) (known
   its_waiting : IsWaiting lines known actor s.ready.waiting
   its_waiting = s.kept.waiting actor s.ready.kept s.ready.waiting s.ready.there s.ready.waits
 
-  -- ---- it is settled
+  -- ---- the actor is settled
   its_jobs : (job : ℕ) → list_any (submits job) (path_of lines actor) ≡ true → IsSettled lines (Job job)
   its_jobs job h =
       some_at (classes_in known job) (s.ready.settled job (subst (λ (path : List RecordedDeed). list_any (submits job) path ≡ true) (sym its_waiting.path) h))
@@ -57,7 +57,7 @@ module _ (plan : Plan) (lines : List RecordedLine) (old new : ActorTable) (known
   pub it_is_settled : IsSettled lines actor
   it_is_settled = settled actor its_waiting.through its_jobs
 
-  -- ---- the other ones
+  -- ---- the other actors
   out : Out lines old new known then_known actor s.ready.kept s.ready.waiting.path.items members is_decided
   out = record {
     keeps = s.keeps;

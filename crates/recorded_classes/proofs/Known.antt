@@ -1,4 +1,4 @@
--- Paths of which each job is settled.
+-- Paths whose jobs are all settled.
 use Rattle.std.proofs.Common.{◌≡◌, ℕ, true, List, [], ◌∷◌, ◌++◌, is_some, refl}
 use Rattle.std.specs.declared.alloc.Global.{Global}
 use Rattle.std.specs.declared.vec.Vec.{Vec}
@@ -25,7 +25,7 @@ stand_get plan lines path deeds place s = stand_append plan lines path deeds (re
 pub stand_submit : (plan : Plan) (lines : List RecordedLine) (path : List RecordedDeed) (deeds : List Deed) (job : ℕ) (classes : Vec ℕ Global) → StandFor plan lines path deeds → AreClassesOf plan lines job classes.items → StandFor plan lines (path ++ recorded.Submits job ∷ []) (deeds ++ deed.Submits classes ∷ [])
 stand_submit plan lines path deeds job classes s known = stand_append plan lines path deeds (recorded.Submits job ∷ []) (deed.Submits classes ∷ []) s (submit job classes [] [] known none)
 
--- ---- deeds
+-- ---- steps
 pub settled_at : (table : ClassTable) (deed : RecordedDeed) → ((job : ℕ) → submits job deed ≡ true → is_some (classes_in table job) ≡ true) → is_settled_deed table deed ≡ true
 settled_at table (recorded.Submits job) there = there job (same_self job)
 settled_at table (recorded.Gets place) there = refl

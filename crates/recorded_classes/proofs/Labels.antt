@@ -1,4 +1,4 @@
--- What the lines call a job or a round stays.
+-- Later lines do not change the label of a job or a round.
 use Rattle.std.proofs.Common.{◌≡◌, ◌≤◌, ℕ, ◌+◌, ◌==◌, true, if◌then◌else◌, List, [], ◌∷◌, ◌++◌, slice_get, Option, Some, None, refl, ap, ◌∙◌, arith}
 use Rattle.std.specs.Option.{option_to_list}
 use Rattle.std.specs.List.{filter_map}
@@ -35,7 +35,7 @@ label_stays before more job label kept h = onward (λ lines. label_of lines job 
 pub kind_stays : (before more : List RecordedLine) (round : ℕ) (kind : List ℕ) → KeepsRules (before ++ more) → kind_of before round ≡ Some kind → kind_of (before ++ more) round ≡ Some kind
 kind_stays before more round kind kept h = onward (λ lines. kind_of lines round ≡ Some kind) (λ lines line k. kind_more lines line round kind) before more kept h
 
--- ---- of one who comes
+-- ---- an actor that begins
 first_new : {X : Type 0} (xs : List X) (more : Option X) → slice_get xs 0 ≡ None → slice_get (xs ++ option_to_list more) 0 ≡ more
 first_new [] (Some x) h = refl
 first_new [] None h = refl

@@ -1,4 +1,4 @@
--- A job submits later ones.
+-- A job submits only jobs with larger numbers.
 use Rattle.std.proofs.Common.{◌≡◌, ◌<◌, ℕ, ◌&&◌, ◌||◌, not, Bool, true, false, List, [], refl, sym, ◌∙◌, arith}
 use Rattle.std.specs.List.{list_any}
 use Rattle.recording_lines.specs.declared.recording_line.RecordedActor.{RecordedActor}
@@ -16,7 +16,7 @@ use Rattle.recorded_paths.proofs.Fresh.{known_actor, next_number}
 use Rattle.recorded_paths.proofs.LinesSay.{has_submitted_more}
 use Rattle.recorded_paths.proofs.Places.{any_with_places}
 
--- an actor has submitted the jobs of its path, and was not refused them
+-- An actor has submitted exactly the jobs of its path, apart from refused ones.
 pub path_submits : (lines : List RecordedLine) (actor : RecordedActor) (job : ℕ) → list_any (submits job) (path_of lines actor) ≡ (has_submitted lines actor job && not (is_refused lines job))
 path_submits lines actor job = any_with_places job (deeds_of lines actor) ∙ deeds_submitted actor job lines
 

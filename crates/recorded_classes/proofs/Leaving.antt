@@ -1,4 +1,4 @@
--- What is left where the lines end, and what is told of one of those.
+-- The tables at the end of the lines, and the result for one remaining actor.
 use Rattle.std.proofs.Common.{◌≡◌, ◌⊎◌, ℕ, true, false, if◌then◌else◌, Bool, List, is_some, Option, Some, None, refl, ap, sym, subst, ◌∙◌, inl, inr}
 use Rattle.std.specs.List.{list_any}
 use Rattle.recording_lines.specs.declared.recording_line.RecordedActor.{RecordedActor}
@@ -29,7 +29,7 @@ use Rattle.recorded_classes.proofs.TakenOut.{Out, path_submitted, still, below_t
 use Rattle.recorded_classes.proofs.TellsTaken.{tells_one}
 use Rattle.recorded_classes.proofs.ToldOne.{told_one}
 
--- ---- all who are kept
+-- ---- the actors in the table
 at_end : (plan : Plan) (lines : List RecordedLine) (actors : ActorTable) (known : ClassTable) → IsKept plan lines actors known None → (one : RecordedActor) (kept : KeptActor) → in_table actors one ≡ Some kept → IsAt lines one kept.waiting
 at_end plan lines actors known k one kept there = by_option kept.waiting
     (λ waiting is.
@@ -48,7 +48,7 @@ left_of plan budget lines actors known k decided = record {
   submitter = k.submitter;
 }
 
--- ---- one who is not there
+-- ---- an actor that is not in the table
 below_same : (old new : ActorTable) (known : ClassTable) → ((one : RecordedActor) → in_table new one ≡ in_table old one) → (job : ℕ) → (is_some (in_table old (Job job)) ≡ true) ⊎ (is_some (classes_in known job) ≡ true) → (is_some (in_table new (Job job)) ≡ true) ⊎ (is_some (classes_in known job) ≡ true)
 below_same old new known same job (inl h) = inl (ap is_some (same (Job job)) ∙ h)
 below_same old new known same job (inr h) = inr h
@@ -70,7 +70,7 @@ gone_either false there h = refl
 pub same_without : (old new : ActorTable) (actor : RecordedActor) → in_table old actor ≡ None → ((one : RecordedActor) → is_same_actor actor one ≡ true → actor ≡ one) → ((one : RecordedActor) → in_table new one ≡ (if is_same_actor actor one then None else in_table old one)) → (one : RecordedActor) → in_table new one ≡ in_table old one
 same_without old new actor none same goes one = goes one ∙ gone_either (is_same_actor actor one) (in_table old one) (λ is. subst (λ (a : RecordedActor). in_table old a ≡ None) (same one is) none)
 
--- ---- one who is there
+-- ---- an actor that is in the table
 none_there : (lines : List RecordedLine) (actors : ActorTable) (actor : RecordedActor) → KeepsRules lines → AreNoneBelow actors actor → (job : ℕ) → list_any (submits job) (path_of lines actor) ≡ true → in_table actors (Job job) ≡ None
 none_there lines actors (Job one) keeps none job h = none job (jobs_are_later lines one job keeps h)
 none_there lines actors (Round round) keeps none job h = none job
@@ -107,6 +107,6 @@ module _ (plan : Plan) (budget : ℕ) (lines : List RecordedLine) (keeps : Keeps
   pub tells_left : TellsTaken (IsTold plan budget lines) before after old new
   tells_left = tells_one (IsTold plan budget lines) before after actor kept there goes (settled_as actor kept.label kept.pool done t.family) refl its_told old new t.behind
 
--- the same, where the budget is so called
+-- The same, for an equal budget.
 pub left_at : (plan : Plan) (given budget : ℕ) (lines : List RecordedLine) (before after : ActorTable) (known : ClassTable) (old new : List Settled) → given ≡ budget → IsLeft plan given lines after known × TellsTaken (IsTold plan given lines) before after old new → IsLeft plan budget lines after known × TellsTaken (IsTold plan budget lines) before after old new
 left_at plan given budget lines before after known old new is h = subst (λ (b : ℕ). IsLeft plan b lines after known × TellsTaken (IsTold plan b lines) before after old new) is h

@@ -1,4 +1,4 @@
--- The numbers of those who are left, while one after another is taken off the end of their list.
+-- The numbers of the remaining actors, in a loop that pops them from a list.
 use Rattle.std.proofs.Common.{◌≡◌, ◌<◌, ◌≤◌, ◌+◌, ◌==◌, ℕ, nat_eq, true, false, if◌then◌else◌, List, [], ◌∷◌, ◌++◌, length, slice_index_or, is_some, None, ap, sym, subst, ◌∙◌, arith}
 use Rattle.std.specs.List.Sorted.{IsNonDecreasing}
 use Rattle.std.specs.Set.{is_member}
@@ -83,7 +83,7 @@ rounds_among old new xs last goes among = λ round there.
     let was = was_there old new (Round last) (Round round) goes there in
     member_or xs last round (among round was.1) (λ front. front) (λ is. apart (last == round) (subst (λ (n : ℕ). (n == round) ≡ true) is (same_self round)) was.0)
 
--- where the list is empty
+-- The table has no job once the list is empty.
 pub no_jobs : (actors : ActorTable) → AreJobsAmong actors [] → (job : ℕ) → in_table actors (Job job) ≡ None
 no_jobs actors among job = by_bool (is_some (in_table actors (Job job))) (λ there. absurd (let e : false ≡ true = among job there in cc)) (is_none_of (in_table actors (Job job)))
 

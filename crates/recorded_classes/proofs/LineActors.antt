@@ -1,4 +1,4 @@
--- Who is through and who is about, once one more line stands behind the others.
+-- The open and the ended actors after one more line.
 use Rattle.std.proofs.Common.{◌≡◌, ◌<◌, ◌≤◌, ℕ, ◌+◌, ◌==◌, ◌||◌, not, nat_lt, true, false, if◌then◌else◌, List, [], ◌∷◌, ◌++◌, Option, Some, refl, ap, sym, subst, ◌∙◌, arith}
 use Rattle.std.specs.List.{list_any}
 use Rattle.recording_lines.specs.declared.recording_line.RecordedActor.{RecordedActor}
@@ -23,7 +23,7 @@ use Rattle.recorded_paths.specs.LastLine.{ended_by}
 use Rattle.recorded_classes.specs.Changes.{begun_by, refused_by}
 use Rattle.recorded_classes.proofs.Words.{by_bool, apart, or_left, or_right}
 
--- ---- what the line says
+-- ---- the form of the line
 job_ends : (j : ℕ) (line : RecordedLine) → finishes_job j line ≡ is_actor (Job j) (ended_by line)
 job_ends j (JobEnds job) = refl
 job_ends j (JobThrew job) = refl
@@ -68,19 +68,19 @@ ended_own one (JobThrew job) h = ap Some (same_actor (Job job) one h)
 ended_own one (RoundEnds round) h = ap Some (same_actor (Round round) one h)
 ended_own one line h = apart false h refl
 
--- the last line of an actor says nothing more of its path
+-- The last line of an actor adds nothing to its path.
 pub path_at_end : (before : List RecordedLine) (line : RecordedLine) (one : RecordedActor) → is_actor one (ended_by line) ≡ true → path_of (before ++ line ∷ []) one ≡ path_of before one
 path_at_end before (JobEnds job) one h = path_same before (JobEnds job) one (λ j. refl) refl
 path_at_end before (JobThrew job) one h = path_same before (JobThrew job) one (λ j. refl) refl
 path_at_end before (RoundEnds round) one h = path_same before (RoundEnds round) one (λ j. refl) refl
 path_at_end before line one h = apart false h refl
 
--- ---- who is through
+-- ---- ended actors
 pub through_after : (before : List RecordedLine) (line : RecordedLine) (one : RecordedActor) → is_through (before ++ line ∷ []) one ≡ (is_through before one || is_actor one (ended_by line))
 through_after before line (Job job) = done_more before line job ∙ ap (λ b. is_done before job || b) (job_ends job line)
 through_after before line (Round round) = is_ended_more before line round ∙ ap (λ b. is_ended before round || b) (round_ends round line)
 
--- ---- who comes
+-- ---- new actors
 next_begin : (before : List RecordedLine) (line : RecordedLine) (r : ℕ) → Keeps before line → is_actor (Round r) (begun_by line) ≡ true → begins before ≤ r
 next_begin before (RoundBegins round kind) r k h = next_round before round r kind k h
 next_begin before (Submits actor job class pool) r k h = apart false h refl
@@ -108,7 +108,7 @@ pub begun_submits_none : (before : List RecordedLine) (line : RecordedLine) (one
 unfolding has_submitted
 begun_submits_none before line one job kept h = none_weaker (submits_by one job) (is_of one) (own_submit one job) before (fresh_lines before line one kept h)
 
--- ---- who is about
+-- ---- open actors
 pub about_before : (before : List RecordedLine) (line : RecordedLine) (one : RecordedActor) → is_about (before ++ line ∷ []) one ≡ true → is_actor one (begun_by line) ≡ false → is_about before one ≡ true
 about_before before line (Job job) h other =
     grind (arith, h, submitted_more before line job, done_more before line job, sym (job_begins job line), other)
@@ -139,7 +139,7 @@ known_about before job kept known running =
     let low : job < submits before = grind (arith, known) in
     grind (arith, counted before kept job low, and_second (has_started before job) (not (is_done before job)) running)
 
--- an actor is about before its last line
+-- An actor is open before its last line.
 pub ended_about : (before : List RecordedLine) (line : RecordedLine) (one : RecordedActor) → KeepsRules (before ++ line ∷ []) → is_actor one (ended_by line) ≡ true → is_about before one ≡ true
 ended_about before line (Job job) kept h =
     let k = keeps_last before line kept in

@@ -20,7 +20,7 @@ use Rattle.recorded_classes.specs.Kept.{AreOnce}
 last_place : (path : List RecordedDeed) (deed : RecordedDeed) (i : ℕ) → i < length (path ++ deed ∷ []) → length path ≤ i → length path ≡ i
 last_place path deed i low past = omega (arith, low, past, length-append path (deed ∷ []))
 
--- the deed that comes last submits no job that another one does
+-- The appended step submits no job of an earlier step.
 last_once : (path : List RecordedDeed) (deed : RecordedDeed) → AreOnce path → ((job : ℕ) → submits job deed ≡ true → list_any (submits job) path ≡ false) → AreOnce (path ++ deed ∷ [])
 last_once path deed once fresh = λ i job low is.
     elim (cases_lt i (length path)) [

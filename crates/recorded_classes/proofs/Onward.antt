@@ -1,4 +1,4 @@
--- What holds of some lines, and still holds with each more behind them that keeps the rules.
+-- Properties of lines that are preserved by each further valid line.
 use Rattle.std.proofs.Common.{List, [], ◌∷◌, ◌++◌, ap, sym, subst, ◌∙◌, append-nil, append_assoc}
 use Rattle.recording_lines.specs.RecordingLine.{RecordedLine}
 use Rattle.recorded_paths.specs.StandsFor.{KeepsRules}

@@ -1,4 +1,4 @@
--- How far an actor has come that is through.
+-- The progress of an actor that has ended.
 use Rattle.std.proofs.Common.{◌≡◌, ◌≤◌, ◌<◌, ◌⊎◌, ℕ, zero, suc, not, nat_le, Bool, true, false, List, [], ◌∷◌, length, slice_get, is_some, Option, Some, None, refl, ap, sym, subst, ◌∙◌, inl, inr, arith}
 use Rattle.std.specs.Option.{option_and_then}
 use Rattle.std.proofs.lemmas.List.{take_all}
@@ -36,7 +36,7 @@ progress_of actors table actor waiting known len path same is within front there
   blocked = λ h. subst (λ (p : List RecordedDeed). known < length p) same (grind (arith, h, whole));
 }
 
--- ---- one that is ready
+-- ---- an actor that is ready
 pub settled_jobs : (actors : ActorTable) (table : ClassTable) (actor : RecordedActor) → (r : IsReady actors table actor) → (kept : KeptActor) (waiting : Waiting) → in_table actors actor ≡ Some kept → kept.waiting ≡ Some waiting → (job : ℕ) → list_any (submits job) waiting.path.items ≡ true → is_some (classes_in table job) ≡ true
 settled_jobs actors table actor r kept waiting there waits =
     let same : r.kept ≡ kept = one_of (in_table actors actor) r.kept kept r.there there in
@@ -50,7 +50,7 @@ pub fewer_of : (actor : RecordedActor) (submitter next : Option RecordedActor) �
 fewer_of (Job job) submitter next is h = refl
 fewer_of (Round round) submitter next is h = two_of_some next is h
 
--- ---- one that is not
+-- ---- an actor that is blocked
 blocked_or_its : (actors : ActorTable) (waiting : Waiting) (one actor : RecordedActor) (kept : KeptActor) → in_table actors one ≡ Some kept → kept.waiting ≡ Some waiting
     → ((kept : KeptActor) (waiting : Waiting) → in_table actors actor ≡ Some kept → kept.waiting ≡ Some waiting → IsBlocked actors waiting)
     → IsBlocked actors waiting ⊎ (Some actor ≡ Some one) → IsBlocked actors waiting ⊎ (None ≡ Some one)
@@ -88,7 +88,7 @@ kept_unready plan lines actors known actor k none = with_blocked plan lines acto
 unsettled_job : (table : ClassTable) (deed : Option RecordedDeed) (one : RecordedDeed) → deed ≡ Some one → is_unsettled table deed ≡ true → not (is_settled_deed table one) ≡ true
 unsettled_job table deed one is h = subst (λ (d : Option RecordedDeed). is_unsettled table d ≡ true) is h
 
--- the job of a submit that is not settled
+-- The job of a submit that is not settled.
 job_there : (table : ClassTable) (path : List RecordedDeed) (place : ℕ) (deed : RecordedDeed) → slice_get path place ≡ Some deed → not (is_settled_deed table deed) ≡ true → (job : ℕ) × (list_any (submits job) path ≡ true) × (is_some (classes_in table job) ≡ false)
 job_there table path place (recorded.Submits job) is h = (job, any_at (submits job) path place (recorded.Submits job) is (same_self job), not_true (is_some (classes_in table job)) h)
 job_there table path place (recorded.Gets got) is h = absurd (cc)
@@ -115,7 +115,7 @@ kept_blocked plan lines actors table actor reached k p = with_blocked plan lines
       kept = kept_job actors table j.0 j.2 (k.below actor j.0 (some_of (in_table actors actor) kept h) (and_first (has_submitted lines actor j.0) (not (is_refused lines j.0)) split) (not_true (is_refused lines j.0) (and_second (has_submitted lines actor j.0) (not (is_refused lines j.0)) split)));
     }))
 
--- ---- one that is ready
+-- ---- an actor that is ready
 waiting_there : (actors : ActorTable) (actor : RecordedActor) (waiting : Waiting) → (there : Option KeptActor) → in_table actors actor ≡ there → option_and_then (λ (k : KeptActor). k.waiting) there ≡ Some waiting → (kept : KeptActor) × (in_table actors actor ≡ Some kept) × (kept.waiting ≡ Some waiting)
 waiting_there actors actor waiting (Some kept) h is = (kept, h, is)
 waiting_there actors actor waiting None h is = absurd (cc)

@@ -1,4 +1,4 @@
--- What is kept and told, step by step.
+-- The tables and the results after each step.
 use Rattle.std.proofs.Common.{◌≡◌, ℕ, if◌then◌else◌, List, Option, Some, None, refl, sym}
 use Rattle.recording_lines.specs.declared.recording_line.RecordedActor.{RecordedActor}
 use Rattle.recording_lines.specs.RecordingLine.{RecordedLine}

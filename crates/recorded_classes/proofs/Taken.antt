@@ -1,4 +1,4 @@
--- The classes that go with a path.
+-- The classes that are removed with a path.
 use Rattle.std.proofs.Common.{◌≡◌, ◌<◌, ℕ, ◌||◌, Bool, true, false, if◌then◌else◌, List, ◌∷◌, ◌++◌, [], length, take, slice_index_or, is_some, Option, Some, None, refl, ap, sym, ◌∙◌, inl, inr}
 use Rattle.std.specs.List.{list_any}
 use Rattle.std.proofs.lemmas.List.Folds.{list_any_at}
@@ -19,7 +19,7 @@ none_or : (gone : Bool) (old : Option JobClasses) (known : JobClasses) → (if g
 none_or true old known h = absurd (let e : None ≡ Some known = h in cc)
 none_or false old known h = h
 
--- what is still there was there
+-- A job that is in the table after the step was in it before.
 pub was_there : (old new : ClassTable) (path : List RecordedDeed) → AreTaken old path new → (job : ℕ) (known : JobClasses) → classes_in new job ≡ Some known → classes_in old job ≡ Some known
 was_there old new path taken job known h = none_or (list_any (submits job) path) (classes_in old job) known (sym (taken job) ∙ h)
 
@@ -29,7 +29,7 @@ classes_still plan lines old new path taken are = λ job known h. are job known 
 pub decided_still : (old new : ClassTable) (path : List RecordedDeed) → AreTaken old path new → AreDecidedIn old → AreDecidedIn new
 decided_still old new path taken are = λ job known h. are job known (was_there old new path taken job known h)
 
--- what the path does not submit is still there
+-- A job that the path does not submit remains in the table.
 pub still_there : (old new : ClassTable) (path : List RecordedDeed) → AreTaken old path new → (job : ℕ) → is_some (classes_in old job) ≡ true → list_any (submits job) path ≡ false → is_some (classes_in new job) ≡ true
 still_there old new path taken job h other = ap is_some (taken job ∙ if_false (list_any (submits job) path) None (classes_in old job) other) ∙ h
 

@@ -1,4 +1,4 @@
--- What stays of the other actors, once one is taken out and what its path submits is forgotten.
+-- The other actors, after one is removed with the jobs of its path.
 use Rattle.std.proofs.Common.{◌≡◌, ◌⊎◌, ℕ, not, Bool, true, false, if◌then◌else◌, List, is_some, Option, Some, None, sym, subst, ap, ◌∙◌, inl, inr, arith}
 use Rattle.std.specs.List.{list_any}
 use Rattle.recording_lines.specs.declared.recording_line.RecordedActor.{RecordedActor}
@@ -23,7 +23,7 @@ use Rattle.recorded_classes.specs.Kept.{in_table, classes_in, AreClassesIn, AreD
 use Rattle.recorded_classes.proofs.Words.{by_bool, apart, some_of, two_of, some_at, if_true, if_false}
 use Rattle.recorded_classes.proofs.Later.{path_submits}
 
--- all that is known of the step
+-- The facts about the step.
 pub record Out (lines : List RecordedLine) (old new : ActorTable) (known then_known : ClassTable) (actor : RecordedActor) (kept : KeptActor) (path : List RecordedDeed) (members : List ℕ) (is_decided : Bool) : Type 0 where
   pub keeps : KeepsRules lines
   pub there : in_table old actor ≡ Some kept
@@ -37,7 +37,7 @@ pub record Out (lines : List RecordedLine) (old new : ActorTable) (known then_kn
 pub not_true : (b : Bool) → not b ≡ true → b ≡ false
 not_true b h = grind (arith, h)
 
--- an actor has submitted the jobs of its path, and was not refused them
+-- An actor has submitted the jobs of its path, and they were not refused.
 pub path_submitted : (lines : List RecordedLine) (one : RecordedActor) (job : ℕ) → list_any (submits job) (path_of lines one) ≡ true → (has_submitted lines one job ≡ true) × (is_refused lines job ≡ false)
 path_submitted lines one job h =
     let split = sym (path_submits lines one job) ∙ h in
@@ -51,7 +51,7 @@ still old new actor goes one kept h = by_bool (is_same_actor actor one)
 pub stays_there : (old new : ActorTable) (actor : RecordedActor) → ((one : RecordedActor) → in_table new one ≡ (if is_same_actor actor one then None else in_table old one)) → (one : RecordedActor) → is_same_actor actor one ≡ false → is_some (in_table old one) ≡ true → is_some (in_table new one) ≡ true
 stays_there old new actor goes one other h = ap is_some (goes one ∙ if_false (is_same_actor actor one) None (in_table old one) other) ∙ h
 
--- ---- the classes that are known then
+-- ---- the classes that are stored after the step
 known_or : (plan : Plan) (lines : List RecordedLine) (known : ClassTable) (actor : RecordedActor) (members : List ℕ) (is_decided : Bool) → AreClassesIn plan lines known → (is_decided ≡ true → CanBe plan lines actor members) → (job : ℕ) (one : JobClasses)
     → (classes_in known job ≡ Some one) ⊎ ((actor ≡ Job job) × (one.classes.items ≡ members) × (one.is_decided ≡ is_decided)) → one.is_decided ≡ true → AreClassesOf plan lines job one.classes.items
 known_or plan lines known actor members is_decided classes its job one (inl h) decided = classes job one h decided
@@ -71,9 +71,9 @@ pub decided_then : (known then_known : ClassTable) (path : List RecordedDeed) (a
     → AreDecidedIn known → is_decided ≡ true → AreDecidedIn then_known
 decided_then known then_known path actor submitter members is_decided puts are is = λ job one h. decided_or known actor members is_decided are is job one (puts.known job one h)
 
--- ---- the jobs of the others
+-- ---- the jobs of the other actors
 module _ {lines : List RecordedLine} {old new : ActorTable} {known then_known : ClassTable} {actor : RecordedActor} {kept : KeptActor} {path : List RecordedDeed} {members : List ℕ} {is_decided : Bool} (o : Out lines old new known then_known actor kept path members is_decided) where
-  -- a job of another one's path is not forgotten
+  -- A job of another actor's path is not removed.
   forgets_own : (one : RecordedActor) (job : ℕ) → is_same_actor actor one ≡ false → has_submitted lines one job ≡ true → list_any (submits job) path ≡ false
   forgets_own one job other submitted = by_bool (list_any (submits job) path)
       (λ own.
@@ -84,7 +84,7 @@ module _ {lines : List RecordedLine} {old new : ActorTable} {known then_known : 
   pub known_still : (one : RecordedActor) (job : ℕ) → is_same_actor actor one ≡ false → has_submitted lines one job ≡ true → is_some (classes_in known job) ≡ true → is_some (classes_in then_known job) ≡ true
   known_still one job other submitted h = o.puts.stay job h (forgets_own one job other submitted)
 
-  -- the submitter of the job that is taken out
+  -- The submitter of the removed job.
   pub its_submitter : (one : RecordedActor) (job : ℕ) → actor ≡ Job job → has_submitted lines one job ≡ true → is_refused lines job ≡ false → kept.submitter ≡ Some one
   its_submitter one job is submitted unrefused = o.submitter one job kept (subst (λ (a : RecordedActor). in_table old a ≡ Some kept) is o.there) submitted unrefused
 

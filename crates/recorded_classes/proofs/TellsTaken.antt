@@ -1,4 +1,4 @@
--- What is told of one after another, and of whom it is told.
+-- The results for several actors in order, and the actors that they concern.
 use Rattle.std.proofs.Common.{◌≡◌, ◌≤◌, ◌⊎◌, ◌+◌, ℕ, Bool, true, false, cond, if◌then◌else◌, List, [], ◌∷◌, ◌++◌, is_some, Some, None, count_by, All, refl, ap, sym, subst, ◌∙◌, inl, inr, append-nil, append_assoc, arith}
 use Rattle.std.specs.List.{list_any}
 use Rattle.std.proofs.lemmas.List.Elements.{All-nil, All-cons, All-append, All-weaker}
@@ -64,7 +64,7 @@ once_right p xs ys none h =
     let rest = none_counted p xs none in
     omega (arith, all, rest, h)
 
--- ---- nobody
+-- ---- no actor
 pub tells_same : (IsSo : Settled → Type 0) (old new : ActorTable) → ((one : RecordedActor) → is_some (in_table new one) ≡ is_some (in_table old one)) → (told : List Settled) → TellsTaken IsSo old new told told
 tells_same IsSo old new same told = record {
   more = [];
@@ -80,7 +80,7 @@ tells_same IsSo old new same told = record {
 pub tells_none : (IsSo : Settled → Type 0) (actors : ActorTable) (told : List Settled) → TellsTaken IsSo actors actors told told
 tells_none IsSo actors told = tells_same IsSo actors actors (λ one. refl) told
 
--- ---- one who is taken out
+-- ---- one removed actor
 pub tells_one : (IsSo : Settled → Type 0) (old new : ActorTable) (actor : RecordedActor) (kept : KeptActor) → in_table old actor ≡ Some kept → ((one : RecordedActor) → in_table new one ≡ (if is_same_actor actor one then None else in_table old one))
     → (one : Settled) → one.actor ≡ actor → IsSo one → (before after : List Settled) → after ≡ before ++ one ∷ [] → TellsTaken IsSo old new before after
 tells_one IsSo old new actor kept there goes one is so before after behind = record {
@@ -96,7 +96,7 @@ tells_one IsSo old new actor kept there goes one is so before after behind = rec
   fewer = λ who h. some_at (in_table new who) h (λ its is_there. some_of (in_table old who) its (still old new actor goes who its is_there).1);
 }
 
--- ---- one after another
+-- ---- several actors
 each_last : (IsSo : Settled → Type 0) (b c : ActorTable) (y z more : List Settled) (q : TellsTaken IsSo b c y z) (who : RecordedActor)
     → (is_some (in_table c who) ≡ true) ⊎ (list_any (is_told who) q.more ≡ true) → (is_some (in_table c who) ≡ true) ⊎ (list_any (is_told who) (more ++ q.more) ≡ true)
 each_last IsSo b c y z more q who (inl h) = inl h
@@ -107,7 +107,7 @@ each_then : (IsSo : Settled → Type 0) (a b c : ActorTable) (x y z : List Settl
 each_then IsSo a b c x y z p q who (inl h) = each_last IsSo b c y z p.more q who (q.each who h)
 each_then IsSo a b c x y z p q who (inr h) = inr (any_append_left (is_told who) p.more q.more h)
 
--- of whom it is not so that he is there, he is not the one of whom it is
+-- Two actors that differ in a property are different.
 pub another_told : (P : RecordedActor → Bool) (who : RecordedActor) (value : Bool) → P who ≡ value → (t : Settled) → ((value ≡ true) × (P t.actor ≡ false)) ⊎ ((value ≡ false) × (P t.actor ≡ true)) → is_told who t ≡ false
 another_told P who value is t (inl h) = by_bool (is_told who t)
     (λ same. apart (P who) (is ∙ h.0) (subst (λ (a : RecordedActor). P a ≡ false) (same_actor t.actor who same) h.1)) (λ other. other)

@@ -1,4 +1,4 @@
--- An actor that is through has no more lines, so its path is what it is.
+-- An ended actor has no further lines, so its path does not change.
 use Rattle.std.proofs.Common.{◌≡◌, ◌||◌, Bool, true, false, if◌then◌else◌, List, [], ◌∷◌, ◌++◌, Option, Some, None, refl, ap, ◌∙◌, arith}
 use Rattle.recording_lines.specs.declared.recording_line.RecordedActor.{RecordedActor}
 use Rattle.recording_lines.specs.declared.recording_line.RecordedActor.TheVariants.{Job, Round}
@@ -16,7 +16,7 @@ use Rattle.recorded_paths.proofs.PathAfter.{path_other, path_refused}
 use Rattle.recorded_classes.specs.Course.{is_through}
 use Rattle.recorded_classes.proofs.Onward.{onward}
 
--- ---- it stays so
+-- ---- an ended actor remains ended
 or_left : (a b : Bool) → a ≡ true → (a || b) ≡ true
 or_left a b h = ap (λ x. x || b) h
 
@@ -24,7 +24,7 @@ pub through_more : (before : List RecordedLine) (line : RecordedLine) (actor : R
 through_more before line (Job job) h = done_more before line job ∙ or_left (is_done before job) (finishes_job job line) h
 through_more before line (Round round) h = is_ended_more before line round ∙ or_left (is_ended before round) (ends_round round line) h
 
--- ---- no line is its own
+-- ---- no later line is its own
 another : (before : List RecordedLine) (named : Option RecordedActor) (actor : RecordedActor) → is_going before named ≡ true → is_running before named ≡ true → is_through before actor ≡ true → is_actor actor named ≡ false
 another before None actor going running h = refl
 another before (Some (Job one)) (Job job) going running h = grind (arith, running, h)

@@ -1,4 +1,4 @@
--- What is told of one actor is so by the lines.
+-- The result for one actor is correct for the lines.
 use Rattle.std.proofs.Common.{◌≡◌, ℕ, true, List, Option, sym, subst}
 use Rattle.std.specs.Prelude.{string_bytes}
 use Rattle.std.specs.declared.alloc.Global.{Global}

@@ -1,4 +1,4 @@
--- Small facts.
+-- Auxiliary lemmas.
 use Rattle.std.proofs.Common.{◌≡◌, ℕ, ◌&&◌, ◌||◌, Bool, true, false, if◌then◌else◌, List, is_some, Option, Some, None, refl, ap, sym, ◌∙◌, slice_get}
 use Rattle.std.specs.List.{list_any}
 use Rattle.std.specs.Result.{OnOk}

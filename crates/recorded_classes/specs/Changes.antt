@@ -1,4 +1,4 @@
--- What a line changes in the actors that are kept.
+-- The effect of a line on the table of unsettled actors.
 use Rattle.std.specs.Prelude.{◌≡◌, if◌then◌else◌, [], Option, Some, None}
 use Rattle.std.specs.Option.{option_map}
 use Rattle.recording_lines.specs.declared.recording_line.RecordedActor.{RecordedActor}
@@ -10,22 +10,22 @@ use Rattle.recorded_classes.specs.declared.actor_table.KeptActor.{KeptActor}
 use Rattle.recorded_classes.specs.declared.actor_table.Waiting.{Waiting}
 use Rattle.recorded_classes.specs.Kept.{in_table, Comes, without_submitter, with_waiting}
 
--- the actor that comes
+-- The actor that begins with the line.
 abbrev pub begun_by : RecordedLine → Option RecordedActor
 begun_by (RoundBegins round kind) = Some (Round round)
 begun_by (Submits actor job class pool) = Some (Job job)
 begun_by line = None
 
--- the job that was refused
+-- The job that was refused.
 abbrev pub refused_by : RecordedLine → Option RecordedActor
 refused_by (Refused actor job) = Some (Job job)
 refused_by line = None
 
--- something is done to what is kept of this actor, where it is there
+-- The entry of the actor is changed, if there is one.
 abbrev pub IsChanged : ActorTable → RecordedActor → (KeptActor → KeptActor) → ActorTable → Type 0
 IsChanged old actor change new = (one : RecordedActor) → in_table new one ≡ (if is_same_actor actor one then option_map change (in_table old one) else in_table old one)
 
--- the actor waits, with this path
+-- The change by one line. `waiting` has the path of the actor that the line ends.
 abbrev pub Changed : ActorTable → RecordedLine → Waiting → ActorTable → Type 0
 Changed old (RoundBegins round kind) waiting new = Comes old (Round round) kind [] None new
 Changed old (Submits actor job class pool) waiting new = Comes old (Job job) class pool (Some actor) new

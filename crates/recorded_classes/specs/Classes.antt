@@ -1,4 +1,4 @@
--- The classes that a recorded job can be of, and the kinds that a round can be of.
+-- The classes that a recorded job can belong to, and the kinds of a round.
 use Rattle.std.specs.Prelude.{◌≡◌, ℕ, true, List, [], ◌∷◌, Some}
 use Rattle.std.specs.List.{list_any}
 use Rattle.std.specs.declared.alloc.Global.{Global}
@@ -18,8 +18,8 @@ use Rattle.recorded_classes.specs.Course.{is_through, course_of}
 use Rattle.recorded_classes.specs.Label.{label_of, kind_of}
 
 mutual
-  -- The classes that the job can be of: those of its family of whose bodies its path is, where each job that it submitted
-  -- may be of any class that that job can be of.
+  -- The classes that the job can belong to: those of its family whose body its path matches. Each job that it submitted may
+  -- have any class that that job can belong to.
   pub data AreClassesOf (plan : Plan) (lines : List RecordedLine) : ℕ → List ℕ → Type 0 where
     by_path : (job : ℕ) (class pool : List ℕ) (deeds : List Deed) (classes : List ℕ)
         → label_of lines job ≡ Some (class, pool)
@@ -27,7 +27,7 @@ mutual
         → AreExactly (IsClassOf plan class pool (course_of lines (Job job)) deeds) classes
         → AreClassesOf plan lines job classes
 
-  -- the path, with the classes that each job that it submits can be of
+  -- The path, each submit with the classes that its job can belong to.
   pub data StandFor (plan : Plan) (lines : List RecordedLine) : List RecordedDeed → List Deed → Type 0 where
     none : StandFor plan lines [] []
     submit : (job : ℕ) (classes : Vec ℕ Global) (path : List RecordedDeed) (deeds : List Deed)
@@ -38,7 +38,7 @@ mutual
         → StandFor plan lines path deeds
         → StandFor plan lines (recorded.Gets place ∷ path) (deed.Gets place ∷ deeds)
 
--- the kinds that the round can be of
+-- The kinds that the round can belong to.
 pub record AreKindsOf (plan : Plan) (lines : List RecordedLine) (round : ℕ) (kinds : List ℕ) : Type 0 where
   pub kind : List ℕ
   pub deeds : List Deed
@@ -46,8 +46,8 @@ pub record AreKindsOf (plan : Plan) (lines : List RecordedLine) (round : ℕ) (k
   pub path : StandFor plan lines (path_of lines (Round round)) deeds
   pub exact : AreExactly (IsKindOf plan kind (course_of lines (Round round)) deeds) kinds
 
--- The actor is through, and so is each job of its path, and each of theirs, and so on: whatever lines come, they change no
--- class that it can be of.
+-- The actor has ended, and so have all jobs of its path, and those of their paths, and so on. Later lines do not change its
+-- classes.
 pub data IsSettled (lines : List RecordedLine) : RecordedActor → Type 0 where
   settled : (actor : RecordedActor)
       → is_through lines actor ≡ true

@@ -1,4 +1,4 @@
--- Whether an actor is through.
+-- Whether an actor has ended.
 use Rattle.std.specs.Prelude.{Bool, if◌then◌else◌, List}
 use Rattle.recording_lines.specs.declared.recording_line.RecordedActor.{RecordedActor}
 use Rattle.recording_lines.specs.declared.recording_line.RecordedActor.TheVariants.{Job, Round}
@@ -7,11 +7,11 @@ use Rattle.recorded_rules.specs.Before.{is_ended, is_done}
 use Rattle.body_paths.specs.declared.deed.Course.{Course}
 use Rattle.body_paths.specs.declared.deed.Course.TheVariants.{Whole, Begun}
 
--- its last line is there
+-- The last line of the actor is among the lines.
 abbrev pub is_through : List RecordedLine → RecordedActor → Bool
 is_through lines (Job job) = is_done lines job
 is_through lines (Round round) = is_ended lines round
 
--- how much of what the actor did its path has
+-- The path of the actor is whole, or only begun.
 abbrev pub course_of : List RecordedLine → RecordedActor → Course
 course_of lines actor = if is_through lines actor then Whole else Begun

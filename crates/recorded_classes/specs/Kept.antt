@@ -1,4 +1,4 @@
--- What is kept of the actors that are not settled, and of the jobs that are and whose submitters are not.
+-- The tables of the unsettled actors, and of the settled jobs whose submitters are not settled.
 use Rattle.std.specs.Prelude.{◌≡◌, ◌<◌, ◌⊎◌, ℕ, not, Bool, true, false, List, length, take, slice_get, slice_index_or, string_bytes, if◌then◌else◌, is_some, IsTrue, Option, Some, None}
 use Rattle.std.specs.List.{list_any}
 use Rattle.std.specs.Option.{option_map}
@@ -35,7 +35,7 @@ with_waiting waiting kept = record kept { waiting = Some waiting }
 abbrev pub with_known : ℕ → KeptActor → KeptActor
 with_known known kept = record kept { waiting = option_map (λ (waiting : Waiting). record waiting { known = known }) kept.waiting }
 
--- an actor with this label comes
+-- An open actor with this label is inserted.
 pub record Comes (old : ActorTable) (actor : RecordedActor) (label pool : List ℕ) (submitter : Option RecordedActor) (new : ActorTable) : Type 0 where
   pub kept : KeptActor
   pub label_is : string_bytes kept.label ≡ label
@@ -44,38 +44,38 @@ pub record Comes (old : ActorTable) (actor : RecordedActor) (label pool : List �
   pub going : kept.waiting ≡ None
   pub after : (one : RecordedActor) → in_table new one ≡ (if is_same_actor actor one then Some kept else in_table old one)
 
--- 1 of a job, 0 of a round
+-- 1 for a job, 0 for a round.
 abbrev pub is_job : RecordedActor → ℕ
 is_job (Job job) = 1
 is_job (Round round) = 0
 
 -- ---- settled jobs
--- the classes of each of these jobs are those that it can be of, where they are decided
+-- The stored classes of each job are those that it can belong to, if they are decided.
 abbrev pub AreClassesIn : Plan → List RecordedLine → ClassTable → Type 0
 AreClassesIn plan lines table = (job : ℕ) (known : JobClasses) → classes_in table job ≡ Some known → IsTrue known.is_decided → AreClassesOf plan lines job known.classes.items
 
--- each of these jobs is settled, and its classes are those that it can be of
+-- Each job of the table is settled, and its classes are those that it can belong to.
 pub record AreKnown (plan : Plan) (lines : List RecordedLine) (table : ClassTable) : Type 0 where
   pub settled : (job : ℕ) (known : JobClasses) → classes_in table job ≡ Some known → IsSettled lines (Job job)
   pub classes : AreClassesIn plan lines table
 
--- the classes of each of these jobs are decided
+-- The classes of each job of the table are decided.
 abbrev pub AreDecidedIn : ClassTable → Type 0
 AreDecidedIn table = (job : ℕ) (known : JobClasses) → classes_in table job ≡ Some known → IsTrue known.is_decided
 
--- each job that the path submits is there
+-- Each job that the path submits is in the table.
 abbrev pub AreAllIn : ClassTable → List RecordedDeed → Type 0
 AreAllIn table path = (job : ℕ) → list_any (submits job) path ≡ true → is_some (classes_in table job) ≡ true
 
--- the path submits no job twice
+-- The path submits no job twice.
 abbrev pub AreOnce : List RecordedDeed → Type 0
 AreOnce path = (i job : ℕ) → i < length path → submits job (slice_index_or path i (recorded.Submits 0)) ≡ true → list_any (submits job) (take i path) ≡ false
 
--- the jobs that the path submits before this place are there
+-- The jobs that the path submits before this index are in the table.
 abbrev pub AreSettledBefore : ClassTable → List RecordedDeed → ℕ → Type 0
 AreSettledBefore table path place = (job : ℕ) → list_any (submits job) (take place path) ≡ true → is_some (classes_in table job) ≡ true
 
--- a submit of a job that is there, or a get
+-- The step is a get, or a submit of a job in the table.
 abbrev pub is_settled_deed : ClassTable → RecordedDeed → Bool
 is_settled_deed table (recorded.Gets place) = true
 is_settled_deed table (recorded.Submits job) = is_some (classes_in table job)
@@ -84,21 +84,21 @@ abbrev pub is_unsettled : ClassTable → Option RecordedDeed → Bool
 is_unsettled table None = true
 is_unsettled table (Some deed) = not (is_settled_deed table deed)
 
--- at this place the path ends, or submits a job that is not there
+-- At this index the path ends, or submits a job that is not in the table.
 abbrev pub IsUnsettledAt : ClassTable → List RecordedDeed → ℕ → Type 0
 IsUnsettledAt table path place = is_unsettled table (slice_get path place) ≡ true
 
--- the jobs that the path submits are gone
+-- The jobs that the path submits are removed.
 abbrev pub AreTaken : ClassTable → List RecordedDeed → ClassTable → Type 0
 AreTaken old path new = (one : ℕ) → classes_in new one ≡ (if list_any (submits one) path then None else classes_in old one)
 
--- the actor has these classes, which are kept of a job that was submitted by one
+-- The classes of the actor are stored, if it is a job with a submitter.
 pub record Keeps (old : ClassTable) (actor : RecordedActor) (submitter : Option RecordedActor) (classes : List ℕ) (is_decided : Bool) (new : ClassTable) : Type 0 where
   pub known : (job : ℕ) (known : JobClasses) → classes_in new job ≡ Some known → (classes_in old job ≡ Some known) ⊎ ((actor ≡ Job job) × (known.classes.items ≡ classes) × (known.is_decided ≡ is_decided))
   pub there : (job : ℕ) (by : RecordedActor) → actor ≡ Job job → submitter ≡ Some by → is_some (classes_in new job) ≡ true
   pub stay : (job : ℕ) → is_some (classes_in old job) ≡ true → is_some (classes_in new job) ≡ true
 
--- the same, where what its path submits is kept no more
+-- The same, with the jobs of the path removed.
 pub record Replaces (old : ClassTable) (path : List RecordedDeed) (actor : RecordedActor) (submitter : Option RecordedActor) (classes : List ℕ) (is_decided : Bool) (new : ClassTable) : Type 0 where
   pub known : (job : ℕ) (known : JobClasses) → classes_in new job ≡ Some known → (classes_in old job ≡ Some known) ⊎ ((actor ≡ Job job) × (known.classes.items ≡ classes) × (known.is_decided ≡ is_decided))
   pub there : (job : ℕ) (by : RecordedActor) → actor ≡ Job job → submitter ≡ Some by → is_some (classes_in new job) ≡ true

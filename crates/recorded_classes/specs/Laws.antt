@@ -1,4 +1,4 @@
--- What stays of an actor that is through, whatever lines come; and that what it can be is determined.
+-- What later lines do not change, and what the lines determine.
 use Rattle.std.specs.Prelude.{◌≡◌, ◌<◌, ◌↔◌, ℕ, true, List, ◌++◌, Contains}
 use Rattle.std.specs.List.{list_any}
 use Rattle.recording_lines.specs.declared.recording_line.RecordedActor.{RecordedActor}
@@ -11,22 +11,22 @@ use Rattle.job_bodies.specs.Plan.{Plan}
 use Rattle.recorded_classes.specs.Course.{is_through}
 use Rattle.recorded_classes.specs.Classes.{AreClassesOf, AreKindsOf, IsSettled}
 
--- the path of an actor that is through is what it is
+-- Later lines do not change the path of an ended actor.
 abbrev pub PathsStay : Type 0
 PathsStay = (before more : List RecordedLine) (actor : RecordedActor) → KeepsRules (before ++ more) → is_through before actor ≡ true → path_of (before ++ more) actor ≡ path_of before actor
 
--- a job submits later ones
+-- A job submits only jobs with larger numbers.
 abbrev pub JobsAreLater : Type 0
 JobsAreLater = (lines : List RecordedLine) (submitter job : ℕ) → KeepsRules lines → list_any (submits job) (path_of lines (Job submitter)) ≡ true → submitter < job
 
--- the classes of a job that is settled are what they are, and so are the kinds of a round
+-- Later lines do not change the classes of a settled job, or the kinds of a settled round.
 abbrev pub ClassesStay : Type 0
 ClassesStay = (plan : Plan) (before more : List RecordedLine) (job : ℕ) (classes : List ℕ) → KeepsRules (before ++ more) → IsSettled before (Job job) → AreClassesOf plan before job classes → AreClassesOf plan (before ++ more) job classes
 
 abbrev pub KindsStay : Type 0
 KindsStay = (plan : Plan) (before more : List RecordedLine) (round : ℕ) (kinds : List ℕ) → KeepsRules (before ++ more) → IsSettled before (Round round) → AreKindsOf plan before round kinds → AreKindsOf plan (before ++ more) round kinds
 
--- the lines say of what classes a job can be, and of what kinds a round
+-- The lines determine the classes that a job can belong to, and the kinds of a round.
 abbrev pub ClassesAreDetermined : Type 0
 ClassesAreDetermined = (plan : Plan) (lines : List RecordedLine) (job : ℕ) (one other : List ℕ) → AreClassesOf plan lines job one → AreClassesOf plan lines job other → (class : ℕ) → Contains one class ↔ Contains other class
 

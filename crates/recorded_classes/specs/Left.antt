@@ -1,4 +1,4 @@
--- What is left of the actors where the lines end, while it is told of one after another.
+-- The tables at the end of the lines, while the remaining actors are classified.
 use Rattle.std.specs.Prelude.{◌≡◌, ◌<◌, ◌⊎◌, ℕ, nat_eq, true, false, List, is_some, Option, Some, None}
 use Rattle.std.specs.Set.{is_member}
 use Rattle.recording_lines.specs.declared.recording_line.RecordedActor.{RecordedActor}
@@ -18,17 +18,18 @@ use Rattle.recorded_classes.specs.Course.{is_through, course_of}
 use Rattle.recorded_classes.specs.Kept.{in_table, classes_in, AreClassesIn, AreDecidedIn}
 use Rattle.recorded_classes.specs.StandsFor.{IsNamed}
 
--- the actor is through, with this path, or it is about
+-- The actor has ended with this path, or it is open.
 abbrev pub IsAt : List RecordedLine → RecordedActor → Option Waiting → Type 0
 IsAt lines actor (Some waiting) = (is_through lines actor ≡ true) × (waiting.path.items ≡ path_of lines actor)
 IsAt lines actor None = is_about lines actor ≡ true
 
--- the actor did this
+-- The path of the actor.
 pub record IsDoneBy (lines : List RecordedLine) (actor : RecordedActor) (done : Done) : Type 0 where
   pub path : done.path.items ≡ path_of lines actor
   pub course : done.course ≡ course_of lines actor
 
--- The actors that are not told of are there, and of the jobs that are, the classes of those whose submitters are there.
+-- The actors that are not yet classified are in the table. Of the classified jobs, the classes of those whose submitters are
+-- in the table are stored.
 pub record IsLeft (plan : Plan) (budget : ℕ) (lines : List RecordedLine) (actors : ActorTable) (known : ClassTable) : Type 0 where
   pub named : (actor : RecordedActor) (kept : KeptActor) → in_table actors actor ≡ Some kept → IsNamed lines actor kept
   pub at : (actor : RecordedActor) (kept : KeptActor) → in_table actors actor ≡ Some kept → IsAt lines actor kept.waiting
@@ -38,12 +39,12 @@ pub record IsLeft (plan : Plan) (budget : ℕ) (lines : List RecordedLine) (acto
       → (is_some (in_table actors (Job job)) ≡ true) ⊎ (is_some (classes_in known job) ≡ true)
   pub submitter : (actor : RecordedActor) (job : ℕ) (kept : KeptActor) → in_table actors (Job job) ≡ Some kept → has_submitted lines actor job ≡ true → is_refused lines job ≡ false → kept.submitter ≡ Some actor
 
--- no job is there that the actor may have submitted: a job submits later ones
+-- The table has no job that the actor may have submitted: a job submits only jobs with larger numbers.
 abbrev pub AreNoneBelow : ActorTable → RecordedActor → Type 0
 AreNoneBelow actors (Job job) = (one : ℕ) → job < one → in_table actors (Job one) ≡ None
 AreNoneBelow actors (Round round) = (one : ℕ) → in_table actors (Job one) ≡ None
 
--- no number is missing
+-- The list has the number of each job in the table.
 abbrev pub AreJobsAmong : ActorTable → List ℕ → Type 0
 AreJobsAmong actors numbers = (job : ℕ) → is_some (in_table actors (Job job)) ≡ true → is_member nat_eq numbers job ≡ true
 

@@ -1,4 +1,4 @@
--- What is told of the actors of a recording.
+-- The results of classifying the actors of a recording.
 use Rattle.std.specs.Prelude.{◌≡◌, ◌≤◌, ◌↔◌, ◌⊎◌, ℕ, Bool, true, List, ◌++◌, count_by, string_bytes, IsTrue, All}
 use Rattle.std.specs.List.{list_any}
 use Rattle.std.specs.List.Sorted.{IsStrictlyIncreasing}
@@ -18,24 +18,25 @@ use Rattle.recorded_classes.specs.Budget.{IsEnoughForPlan}
 use Rattle.recorded_classes.specs.Label.{HasLabel}
 use Rattle.recorded_classes.specs.Classes.{AreClassesOf, StandFor, AreKindsOf, IsSettled}
 
--- ---- of one actor
--- the classes that the job can be of, or the kinds that the round can be of
+-- ---- one actor
+-- The classes that the job can belong to, or the kinds of the round.
 abbrev pub CanBe : Plan → List RecordedLine → RecordedActor → List ℕ → Type 0
 CanBe plan lines (Job job) classes = AreClassesOf plan lines job classes
 CanBe plan lines (Round round) kinds = AreKindsOf plan lines round kinds
 
--- the bodies of the family of a job, or of a round
+-- The bodies of the family of a job or a round.
 abbrev pub bodies_of : Plan → RecordedActor → List ℕ → List ℕ → List (List Action)
 bodies_of plan (Job job) label pool = class_bodies plan label pool
 bodies_of plan (Round round) label pool = client_bodies plan label
 
--- so much of what the actor did is explained, where each job that it submitted may be of any class that that job can be of
+-- The length of the longest prefix of the path that a body explains, where each job that the actor submitted may have any
+-- class that that job can belong to.
 pub record IsExplained (plan : Plan) (lines : List RecordedLine) (told : Settled) : Type 0 where
   pub deeds : List Deed
   pub path : StandFor plan lines (path_of lines told.actor) deeds
   pub most : IsMostExplained (bodies_of plan told.actor (string_bytes told.label) (string_bytes told.pool)) deeds told.family.explained
 
--- What is told of an actor is so by these lines, whether it is settled or not.
+-- The result is correct for these lines, whether the actor is settled or not.
 pub record IsTold (plan : Plan) (budget : ℕ) (lines : List RecordedLine) (told : Settled) : Type 0 where
   pub label : HasLabel lines told.actor (string_bytes told.label) (string_bytes told.pool)
   pub path : told.path.items ≡ path_of lines told.actor
@@ -44,33 +45,33 @@ pub record IsTold (plan : Plan) (budget : ℕ) (lines : List RecordedLine) (told
   pub explained : IsTrue told.family.is_decided → IsExplained plan lines told
   pub decided : IsEnoughForPlan budget plan → IsTrue told.family.is_decided
 
--- ---- of all
+-- ---- all actors
 abbrev pub is_told : RecordedActor → Settled → Bool
 is_told actor told = is_same_actor told.actor actor
 
--- no actor is told of twice
+-- No actor occurs twice.
 abbrev pub IsOnceEach : List Settled → Type 0
 IsOnceEach told = (actor : RecordedActor) → count_by (is_told actor) told ≤ 1
 
--- All that was told by these lines: of each actor that is settled, and of no other one.
+-- The results for all settled actors, and no others.
 pub record AreTold (plan : Plan) (budget : ℕ) (lines : List RecordedLine) (all : List Settled) : Type 0 where
   pub told : All (IsTold plan budget lines) all
   pub once : IsOnceEach all
   pub settled : (actor : RecordedActor) → (list_any (is_told actor) all ≡ true) ↔ IsSettled lines actor
 
--- the job was submitted, or the round began
+-- The job was submitted, or the round began.
 abbrev pub has_come : List RecordedLine → RecordedActor → Bool
 has_come lines (Job job) = is_submitted lines job
 has_come lines (Round round) = is_begun lines round
 
--- All that is told where the lines end: of each job that was submitted and each round that began, and of no other one.
+-- The results at the end of the lines: one for each job that was submitted and each round that began, and no others.
 pub record AreAllTold (plan : Plan) (budget : ℕ) (lines : List RecordedLine) (all : List Settled) : Type 0 where
   pub told : All (IsTold plan budget lines) all
   pub once : IsOnceEach all
   pub each : (actor : RecordedActor) → list_any (is_told actor) all ≡ has_come lines actor
 
--- ---- by one more line
--- behind what was told before, it is told of each actor that is settled by the lines with this one more, and was not before
+-- ---- one more line
+-- The list is extended by the results for all actors that become settled with the last line.
 pub record TellsSettled (plan : Plan) (budget : ℕ) (before after : List RecordedLine) (old new : List Settled) : Type 0 where
   pub more : List Settled
   pub behind : new ≡ old ++ more

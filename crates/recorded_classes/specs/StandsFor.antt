@@ -1,4 +1,4 @@
--- What is kept of the actors of a recording, and how it stands for the lines so far.
+-- The state of a classifier, as a function of the lines read.
 use Rattle.std.specs.Prelude.{◌≡◌, ◌≤◌, ◌⊎◌, ℕ, true, false, List, length, string_bytes, is_some, Option, Some, None}
 use Rattle.std.specs.List.{list_any}
 use Rattle.recording_lines.specs.declared.recording_line.RecordedActor.{RecordedActor}
@@ -20,25 +20,25 @@ use Rattle.recorded_classes.specs.Label.{HasLabel}
 use Rattle.recorded_classes.specs.Classes.{IsSettled}
 use Rattle.recorded_classes.specs.Kept.{in_table, classes_in, AreKnown, AreDecidedIn, AreSettledBefore}
 
--- it has the label that the lines give
+-- The entry has the label of the actor in the lines.
 abbrev pub IsNamed : List RecordedLine → RecordedActor → KeptActor → Type 0
 IsNamed lines actor kept = HasLabel lines actor (string_bytes kept.label) (string_bytes kept.pool)
 
--- the actor is through, with this path, of which so many deeds submit only jobs that are settled
+-- The actor has ended with this path, and the jobs of a prefix of the path are settled.
 pub record IsWaiting (lines : List RecordedLine) (known : ClassTable) (actor : RecordedActor) (waiting : Waiting) : Type 0 where
   pub through : is_through lines actor ≡ true
   pub path : waiting.path.items ≡ path_of lines actor
   pub within : waiting.known ≤ length waiting.path.items
   pub front : AreSettledBefore known waiting.path.items waiting.known
 
--- a job of its path is not settled
+-- A job of the path is not settled.
 pub record IsBlocked (actors : ActorTable) (waiting : Waiting) : Type 0 where
   pub job : ℕ
   pub next : list_any (submits job) waiting.path.items ≡ true
   pub kept : is_some (in_table actors (Job job)) ≡ true
 
--- The actors that are not settled are kept, and of those that are, the classes of jobs whose submitters are kept. One actor
--- may be there that need not wait for any job.
+-- The tables have the unsettled actors, and the classes of settled jobs whose submitters are unsettled. One actor, `ready`,
+-- may be in the table although it waits for no job.
 pub record IsKept (plan : Plan) (lines : List RecordedLine) (actors : ActorTable) (known : ClassTable) (ready : Option RecordedActor) : Type 0 where
   pub named : (actor : RecordedActor) (kept : KeptActor) → in_table actors actor ≡ Some kept → IsNamed lines actor kept
   pub going : (actor : RecordedActor) (kept : KeptActor) → in_table actors actor ≡ Some kept → kept.waiting ≡ None → is_through lines actor ≡ false
@@ -51,7 +51,7 @@ pub record IsKept (plan : Plan) (lines : List RecordedLine) (actors : ActorTable
       → (is_some (in_table actors (Job job)) ≡ true) ⊎ (is_some (classes_in known job) ≡ true)
   pub submitter : (actor : RecordedActor) (job : ℕ) (kept : KeptActor) → in_table actors (Job job) ≡ Some kept → has_submitted lines actor job ≡ true → is_refused lines job ≡ false → kept.submitter ≡ Some actor
 
--- what is kept stands for the lines so far, where each body has this budget
+-- The classifier has this budget, and its state is that of the lines read.
 pub record IsClassesOf (plan : Plan) (budget : ℕ) (classes : Classes) (lines : List RecordedLine) : Type 0 where
   pub has_budget : classes.budget ≡ budget
   pub paths : IsPathsOf classes.paths lines

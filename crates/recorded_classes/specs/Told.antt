@@ -1,4 +1,4 @@
--- When an actor is told of, and what is told of one after another.
+-- When an actor is classified, and the results for several actors in order.
 use Rattle.std.specs.Prelude.{◌≡◌, ◌≤◌, ◌<◌, ◌⊎◌, ℕ, Bool, true, false, List, [], ◌∷◌, ◌++◌, length, is_some, string_bytes, IsTrue, All, Option, Some, None}
 use Rattle.std.specs.Option.{option_and_then}
 use Rattle.std.specs.List.{list_any}
@@ -26,19 +26,19 @@ use Rattle.recorded_classes.specs.StandsFor.{IsKept}
 use Rattle.recorded_classes.specs.Settled.{IsTold, IsOnceEach, bodies_of, is_told}
 use Rattle.recorded_classes.specs.Kept.{in_table, classes_in, AreClassesIn, AreDecidedIn, AreAllIn, AreOnce, Replaces, AreSettledBefore, IsUnsettledAt}
 
--- the classes of a job, or the kinds of a round, with this label and these deeds
+-- The classes of a job or the kinds of a round, by its label and steps.
 abbrev pub AreMembersOf : Plan → RecordedActor → List ℕ → List ℕ → Course → List Deed → List ℕ → Type 0
 AreMembersOf plan (Job job) label pool course deeds members = AreExactly (IsClassOf plan label pool course deeds) members
 AreMembersOf plan (Round round) label pool course deeds members = AreExactly (IsKindOf plan label course deeds) members
 
--- what the family says of the deeds
+-- The family is correct for the steps.
 pub record IsFamilyOf (plan : Plan) (budget : ℕ) (actor : RecordedActor) (label pool : List ℕ) (course : Course) (deeds : List Deed) (family : PathFamily) : Type 0 where
   pub members : IsTrue family.is_decided → AreMembersOf plan actor label pool course deeds family.members.items
   pub explained : IsTrue family.is_decided → IsMostExplained (bodies_of plan actor label pool) deeds family.explained
   pub decided : IsEnoughForPlan budget plan → IsTrue family.is_decided
   pub ascending : IsStrictlyIncreasing family.members.items
 
--- who may be settled next
+-- The actor that may become settled next.
 abbrev pub submitter_of : RecordedActor → Option RecordedActor → Option RecordedActor
 submitter_of (Job job) submitter = submitter
 submitter_of (Round round) submitter = None
@@ -46,7 +46,7 @@ submitter_of (Round round) submitter = None
 abbrev pub waiting_of : ActorTable → RecordedActor → Option Waiting
 waiting_of actors actor = option_and_then (λ (kept : KeptActor). kept.waiting) (in_table actors actor)
 
--- the first place of the actor's path that submits a job that is not settled, and whether there is none
+-- `known` is the index of the first submit of an unsettled job in the actor's path. `is_ready` is true if there is none.
 pub record IsProgressOf (actors : ActorTable) (table : ClassTable) (actor : RecordedActor) (known : ℕ) (is_ready : Bool) : Type 0 where
   pub waiting : Waiting
   pub is : waiting_of actors actor ≡ Some waiting
@@ -56,7 +56,7 @@ pub record IsProgressOf (actors : ActorTable) (table : ClassTable) (actor : Reco
   pub ready : is_ready ≡ true → length waiting.path.items ≤ known
   pub blocked : is_ready ≡ false → known < length waiting.path.items
 
--- the actor is through, and each job of its path is settled
+-- The actor has ended, and each job of its path is settled.
 pub record IsReady (actors : ActorTable) (table : ClassTable) (actor : RecordedActor) : Type 0 where
   pub kept : KeptActor
   pub waiting : Waiting
@@ -64,8 +64,8 @@ pub record IsReady (actors : ActorTable) (table : ClassTable) (actor : RecordedA
   pub waits : kept.waiting ≡ Some waiting
   pub settled : (job : ℕ) → list_any (submits job) waiting.path.items ≡ true → is_some (classes_in table job) ≡ true
 
--- ---- what is told of one
--- the members, and how much is explained, of what the actor did, where the classes of its jobs are these
+-- ---- the result for one actor
+-- The members and the explained length of a path, by the classes of its jobs.
 pub record IsFamilyBy (plan : Plan) (lines : List RecordedLine) (actor : RecordedActor) (label pool : List ℕ) (done : Done) (family : PathFamily) : Type 0 where
   pub deeds : List Deed
   pub path : StandFor plan lines done.path.items deeds
@@ -75,7 +75,7 @@ pub record IsFamilyBy (plan : Plan) (lines : List RecordedLine) (actor : Recorde
 abbrev pub settled_as : RecordedActor → String Global → String Global → Done → PathFamily → Settled
 settled_as actor label pool done family = record { actor = actor; label = label; pool = pool; path = done.path; family = family }
 
--- behind what was told before, it is told of this actor, which did this, and the table is as it is then
+-- The list is extended by the result for this actor, and the table is updated.
 pub record TellsOne (plan : Plan) (budget : ℕ) (actor : RecordedActor) (submitter : Option RecordedActor) (label pool : String Global) (done : Done) (before after : ClassTable) (old new : List Settled) : Type 0 where
   pub family : PathFamily
   pub behind : new ≡ old ++ settled_as actor label pool done family ∷ []
@@ -84,8 +84,8 @@ pub record TellsOne (plan : Plan) (budget : ℕ) (actor : RecordedActor) (submit
   pub decided : IsEnoughForPlan budget plan → AreDecidedIn before → AreAllIn before done.path.items → AreOnce done.path.items → IsTrue family.is_decided
   pub ascending : IsStrictlyIncreasing family.members.items
 
--- ---- what is told of many
--- it is told of what is taken out of the table, and this is so of each that is told
+-- ---- the results for several actors
+-- The list is extended by the results for the actors that were removed from the table, and each satisfies `IsSo`.
 pub record TellsTaken (IsSo : Settled → Type 0) (before after : ActorTable) (old new : List Settled) : Type 0 where
   pub more : List Settled
   pub behind : new ≡ old ++ more
@@ -96,12 +96,12 @@ pub record TellsTaken (IsSo : Settled → Type 0) (before after : ActorTable) (o
   pub each : (actor : RecordedActor) → is_some (in_table before actor) ≡ true → (is_some (in_table after actor) ≡ true) ⊎ (list_any (is_told actor) more ≡ true)
   pub fewer : (actor : RecordedActor) → is_some (in_table after actor) ≡ true → is_some (in_table before actor) ≡ true
 
--- one that is settled is told of
+-- The result for a settled actor is correct.
 pub record IsSettledTold (plan : Plan) (budget : ℕ) (lines : List RecordedLine) (one : Settled) : Type 0 where
   pub told : IsTold plan budget lines one
   pub settled : IsSettled lines one.actor
 
--- it was told of some, and the rest is kept
+-- Some actors were classified and removed, and the tables have the others.
 pub record IsStep (plan : Plan) (budget : ℕ) (lines : List RecordedLine) (before after : ActorTable) (known : ClassTable) (next : Option RecordedActor) (old new : List Settled) : Type 0 where
   pub kept : IsKept plan lines after known next
   pub decided : IsEnoughForPlan budget plan → AreDecidedIn known

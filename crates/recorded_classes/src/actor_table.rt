@@ -1,4 +1,4 @@
-//! The actors of a recording that are not settled.
+//! The unsettled actors of a recording.
 
 ghost use Rattle.std.specs.Prelude.{◌≡◌, ◌+◌, ℕ, nat_eq, true, OnOk, IfOk, None, Some, is_some, if◌then◌else◌};
 ghost use Rattle.std.specs.List.Sorted.{IsNonDecreasing};
@@ -15,24 +15,24 @@ use recorded_paths::RecordedDeed;
 use recording_lines::RecordedActor;
 use std::alloc::{AllocError, Global};
 
-/// An actor that is not settled: it is about, or it is through and waits for a job of its path.
+/// An unsettled actor. It is open, or it has ended and waits for a job of its path.
 #[derive(Debug, Drop)]
 pub(crate) struct KeptActor {
     /// The class of a job, or the kind of a round.
     pub(crate) label: String,
     /// The pool of a job.
     pub(crate) pool: String,
-    /// Who submitted a job, unless it was refused.
+    /// The submitter of a job, unless the job was refused.
     pub(crate) submitter: Option<RecordedActor>,
-    /// Of one that is through.
+    /// The state of an actor that has ended.
     pub(crate) waiting: Option<Waiting>,
 }
 
-/// An actor that is through.
+/// The state of an actor that has ended and waits for jobs of its path.
 #[derive(Debug, Drop)]
 pub(crate) struct Waiting {
     pub(crate) path: Vec<RecordedDeed>,
-    /// So many of the first deeds submit only jobs that are settled.
+    /// The length of the prefix of the path whose jobs are all settled.
     pub(crate) known: usize,
 }
 
@@ -46,7 +46,7 @@ impl KeptActor {
     }
 }
 
-/// The actors that are not settled, by their numbers.
+/// The unsettled actors, by number.
 #[derive(Debug, Drop)]
 pub(crate) struct ActorTable {
     pub(crate) jobs: NumberTable<KeptActor>,
@@ -54,7 +54,7 @@ pub(crate) struct ActorTable {
 }
 
 impl ActorTable {
-    /// None so far.
+    /// Creates an empty table.
     pub(crate) fn new(alloc: Global) -> ActorTable
         ensures { (one : RecordedActor) → in_table result one ≡ None }
     {
@@ -64,7 +64,7 @@ impl ActorTable {
         }
     }
 
-    /// The actor comes.
+    /// Inserts an actor.
     pub(crate) fn insert(&mut self, actor: RecordedActor, kept: KeptActor) -> Result<(), AllocError>
         ensures { OnOk result
             ((one : RecordedActor)
@@ -77,11 +77,11 @@ impl ActorTable {
         }
     }
 
-    /// The actor comes, with this label.
+    /// Inserts an open actor with this label.
     ///
     /// # Errors
     ///
-    /// `AllocError` where there is no memory for it.
+    /// Returns `AllocError` if memory runs out.
     pub(crate) fn begin(
         &mut self,
         alloc: Global,
@@ -101,7 +101,7 @@ impl ActorTable {
         self.insert(actor, kept)
     }
 
-    /// The job was refused: it is of no path.
+    /// Removes the submitter of a refused job, which belongs to no path.
     pub(crate) fn forget_submitter(&mut self, job: usize)
         ensures { (one : RecordedActor)
             → in_table self.new one
@@ -113,7 +113,7 @@ impl ActorTable {
         }
     }
 
-    /// The actor, where it is there, is through.
+    /// Marks the actor as ended, if it is in the table.
     pub(crate) fn wait(&mut self, actor: RecordedActor, waiting: Waiting)
         ensures { (one : RecordedActor)
             → in_table self.new one
@@ -134,7 +134,7 @@ impl ActorTable {
         }
     }
 
-    /// How far the actor, where it is through, has come.
+    /// Returns the state of the actor, if it is in the table and has ended.
     pub(crate) fn waiting(&self, actor: RecordedActor) -> Option<&Waiting>
         ensures { option_copied result
             ≡ option_and_then (λ kept. kept.waiting) (in_table self.now actor) }
@@ -146,8 +146,8 @@ impl ActorTable {
         kept.waiting.as_ref()
     }
 
-    /// Of so many of its first deeds it is known that they submit only jobs that are settled, where the actor is there and
-    /// is through.
+    /// Sets the length of the settled prefix of the actor's path, if the actor is in the table and
+    /// has ended.
     pub(crate) fn advance(&mut self, actor: RecordedActor, known: usize)
         ensures after { (one : RecordedActor)
             → in_table self.new one
@@ -168,7 +168,7 @@ impl ActorTable {
         }
     }
 
-    /// The actor goes.
+    /// Removes and returns the actor.
     pub(crate) fn remove(&mut self, actor: RecordedActor) -> Option<KeptActor>
         ensures value { result ≡ in_table self.old actor }
         ensures after { (one : RecordedActor)
@@ -183,11 +183,11 @@ impl ActorTable {
         }
     }
 
-    /// The numbers of the jobs, ascending.
+    /// Returns the numbers of the jobs, in ascending order.
     ///
     /// # Errors
     ///
-    /// `AllocError` where there is no memory for them.
+    /// Returns `AllocError` if memory runs out.
     pub(crate) fn job_numbers(&self, alloc: Global) -> Result<Vec<usize>, AllocError>
         ensures all { IfOk result (λ numbers. AreJobsAmong self.now numbers.items) }
         ensures sorted { IfOk result (λ numbers. IsNonDecreasing numbers.items) }
@@ -195,11 +195,11 @@ impl ActorTable {
         numbers_of(alloc, &self.jobs)
     }
 
-    /// The numbers of the rounds, ascending.
+    /// Returns the numbers of the rounds, in ascending order.
     ///
     /// # Errors
     ///
-    /// `AllocError` where there is no memory for them.
+    /// Returns `AllocError` if memory runs out.
     pub(crate) fn round_numbers(&self, alloc: Global) -> Result<Vec<usize>, AllocError>
         ensures { IfOk result (λ numbers. AreRoundsAmong self.now numbers.items) }
     {

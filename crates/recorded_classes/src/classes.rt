@@ -1,4 +1,4 @@
-//! The classes that the jobs of a recording can be of, and the kinds that its rounds can be of.
+//! The classes that the jobs of a recording can belong to, and the client kinds of its rounds.
 
 ghost use Rattle.std.specs.Prelude.{◌≡◌, ◌<◌, ◌++◌, ◌∷◌, [], ℕ, List, None, Some, OnOk, IfOk, is_some, true, MatchOption};
 ghost use Rattle.number_tables.specs.Numbered.{count_of};
@@ -24,21 +24,24 @@ use recorded_paths::Paths;
 use recording_lines::{Line, RecordedActor};
 use std::alloc::{AllocError, Global};
 
-/// What is known of the actors of a recording by the lines so far: the path of each that is about, the path of each that is
-/// through and waits for a job of it to be settled, and the classes of each job that is settled and whose submitter is not.
+/// A classifier for the actors of a recording.
+///
+/// It stores the path of each open actor, the path of each ended actor that waits for a job of its
+/// path, and the classes of each settled job whose submitter is not settled.
 #[derive(Debug, Drop)]
 pub struct Classes {
     pub(crate) paths: Paths,
     pub(crate) actors: ActorTable,
     pub(crate) known: ClassTable,
     pub(crate) budget: u64,
-    // Of the path that was told of last. Kept for its room.
+    // The path that was classified last. Kept to reuse its allocation.
     pub(crate) deeds: Vec<Deed>,
     pub(crate) alloc: Global,
 }
 
 impl Classes {
-    /// No lines so far. Each body has so many steps for each path that it is asked of.
+    /// Creates a classifier, before the first line. `budget` limits the steps of each check of one
+    /// path against one body.
     pub fn new(alloc: Global, budget: u64) -> Classes
         ensures stands { (plan : plans.Plan) → IsClassesOf plan budget result [] }
         ensures told { (plan : plans.Plan) → AreTold plan budget [] [] }
@@ -53,12 +56,12 @@ impl Classes {
         }
     }
 
-    /// Takes the next line of a recording that keeps the rules, and tells of each actor that is settled by it.
+    /// Reads the next line of a valid recording. Appends each actor that becomes settled with this
+    /// line to `told`.
     ///
     /// # Errors
     ///
-    /// `AllocError` where there is no memory for what the line says. The lines so far are then lost: what is kept is of no
-    /// use any more.
+    /// Returns `AllocError` if memory runs out. The classifier must not be used after that.
     pub fn take(
         &mut self,
         plan: &Plan,
@@ -77,7 +80,7 @@ impl Classes {
             (TellsSettled plan.now budget before (before ++ line_seen line.now ∷ []) told.old.items
             told.new.items) }
 
-        // what was told earlier may have been taken out of the list
+        // The caller may have removed actors from the list.
         ensures all { (budget : ℕ) (before : List RecordedLine) (earlier : List Settled)
             → KeepsRules (before ++ line_seen line.now ∷ [])
             → IsClassesOf plan.now budget self.old before
@@ -116,7 +119,7 @@ impl Classes {
         }
     }
 
-    // What the line changes in the actors that are kept.
+    // Updates the unsettled actors for one line.
     fn note(&mut self, line: &Line<'_>, waiting: Waiting) -> Result<(), AllocError>
         ensures noted { OnOk result
             (Changed self.old.actors (line_seen line.now) waiting self.new.actors) }
@@ -155,7 +158,7 @@ impl Classes {
         }
     }
 
-    // How far the actor has come, where it is through.
+    // Returns how much of the path of an ended actor is settled.
     fn progress(&self, actor: RecordedActor) -> Option<Progress>
         ensures { MatchOption result (waiting_of self.now.actors actor ≡ None) (λ progress.
             IsProgressOf self.now.actors self.now.known actor progress.known progress.is_ready) }
@@ -168,7 +171,7 @@ impl Classes {
         })
     }
 
-    // The actor is told of and goes, where it is through and each job of its path is settled.
+    // Classifies and removes the actor, if it has ended and all jobs of its path are settled.
     fn tell(
         &mut self,
         plan: &Plan,
@@ -208,7 +211,8 @@ impl Classes {
         Ok(submitter_of(actor, submitter))
     }
 
-    // It is told of the actor, where it is through and each job of its path is settled. The answer is its submitter.
+    // Classifies the actor, if it has ended and all jobs of its path are settled. Returns its
+    // submitter in that case.
     fn settle_one(
         &mut self,
         plan: &Plan,
@@ -240,7 +244,8 @@ impl Classes {
         }
     }
 
-    // It is told of the actor, of its submitter, of the submitter's, and so on, up to one that waits for another job.
+    // Classifies the actor, its submitter, the submitter of that and so on, up to the first one
+    // that waits for another job.
     fn settle(
         &mut self,
         plan: &Plan,
@@ -267,7 +272,7 @@ impl Classes {
     }
 }
 
-/// How far an actor that is through has come.
+/// The progress of an actor that has ended.
 #[derive(Clone, Copy)]
 struct Progress {
     known: usize,

@@ -1,9 +1,9 @@
-//! What an actor did.
+//! The path of an actor.
 
 use body_paths::Course;
 use recorded_paths::RecordedDeed;
 
-/// What an actor did, up to its end or so far.
+/// The path of an actor, and whether the actor has ended.
 #[derive(Drop)]
 pub(crate) struct Done {
     pub(crate) path: Vec<RecordedDeed>,

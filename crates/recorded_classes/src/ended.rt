@@ -1,4 +1,4 @@
-//! Who comes to its end.
+//! The ends of actors.
 
 ghost use Rattle.std.specs.Prelude.{◌≡◌};
 ghost use Rattle.recording_lines.specs.RecordingLine.{line_seen};
@@ -6,7 +6,7 @@ ghost use Rattle.recorded_paths.specs.LastLine as spec;
 
 use recording_lines::{Line, RecordedActor};
 
-/// The actor whose last line this is.
+/// Returns the actor that the line ends, if there is one.
 pub(crate) fn ended_by(line: &Line<'_>) -> Option<RecordedActor>
     ensures { result ≡ spec.ended_by (line_seen line.now) }
 {

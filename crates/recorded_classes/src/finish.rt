@@ -1,4 +1,4 @@
-//! Where the lines end, it is told of the actors that are not settled.
+//! Classification of the unsettled actors at the end of a recording.
 
 ghost use Rattle.std.specs.Prelude.{◌≡◌, ◌++◌, ℕ, List, None, OnOk, if◌then◌else◌};
 ghost use Rattle.std.specs.List.Sorted.{IsNonDecreasing};
@@ -21,12 +21,12 @@ use recording_lines::RecordedActor;
 use std::alloc::AllocError;
 
 impl Classes {
-    /// The lines end. It is told of each actor that is not settled, with what it can be by the lines that are there: of the
-    /// jobs from the highest number down, then of the rounds.
+    /// Classifies each unsettled actor at the end of the recording, by the lines up to there.
+    /// Appends the jobs to `told` in descending order of their numbers, then the rounds.
     ///
     /// # Errors
     ///
-    /// `AllocError` where there is no memory for it.
+    /// Returns `AllocError` if memory runs out.
     pub fn finish(mut self, plan: &Plan, told: &mut Vec<Settled>) -> Result<(), AllocError>
         ensures { (budget : ℕ) (lines : List RecordedLine) (earlier : List Settled)
             → KeepsRules lines
@@ -54,7 +54,8 @@ impl Classes {
         self.leave_rounds(plan, rounds, told)
     }
 
-    // It is told of these jobs, from the last one on.
+    // Classifies these jobs, starting with the last one. A job submits only jobs with larger
+    // numbers, so each job is classified before its submitter.
     fn leave_jobs(
         &mut self,
         plan: &Plan,
@@ -82,7 +83,7 @@ impl Classes {
         Ok(())
     }
 
-    // It is told of these rounds, where it was told of all jobs.
+    // Classifies these rounds, after all jobs.
     fn leave_rounds(
         &mut self,
         plan: &Plan,
@@ -108,7 +109,8 @@ impl Classes {
         Ok(())
     }
 
-    // It is told of the actor, where it is there, and each job of its path is not.
+    // Classifies and removes the actor, if it is in the table. All jobs of its path must have been
+    // removed before.
     fn leave(
         &mut self,
         plan: &Plan,

@@ -1,4 +1,4 @@
-//! The classes of the jobs that are settled.
+//! The classes of the settled jobs.
 
 ghost use Rattle.std.specs.Prelude.{◌≡◌, ◌≤◌, ◌&&◌, ◌++◌, ◌∷◌, [], ℕ, List, OnOk, IfOk, IsTrue, None, Some, is_some, if◌then◌else◌, ◌==◌, length};
 ghost use Rattle.recording_lines.specs.RecordingLine.{RecordedLine};
@@ -15,14 +15,14 @@ use recorded_paths::RecordedDeed;
 use recording_lines::RecordedActor;
 use std::alloc::{AllocError, Global};
 
-/// The classes that a job can be of.
+/// The classes that a job can belong to.
 #[derive(Debug, Drop)]
 pub(crate) struct JobClasses {
     pub(crate) classes: Vec<usize>,
     pub(crate) is_decided: bool,
 }
 
-/// Those of the jobs that are settled and whose submitters are not, by their numbers.
+/// The classes of the settled jobs whose submitters are not settled, by job number.
 #[derive(Debug, Drop)]
 pub(crate) struct ClassTable {
     jobs: NumberTable<JobClasses>,
@@ -30,7 +30,7 @@ pub(crate) struct ClassTable {
 }
 
 impl ClassTable {
-    /// None so far.
+    /// Creates an empty table.
     pub(crate) fn new(alloc: Global) -> ClassTable
         ensures { (job : ℕ) → classes_in result job ≡ None }
     {
@@ -40,7 +40,7 @@ impl ClassTable {
         }
     }
 
-    /// The job is settled, and can be of these classes.
+    /// Stores the classes of a settled job.
     pub(crate) fn insert(&mut self, job: usize, classes: JobClasses) -> Result<(), AllocError>
         ensures { OnOk result
             ((one : ℕ)
@@ -50,11 +50,11 @@ impl ClassTable {
         self.jobs.insert(job, classes)
     }
 
-    /// Where the actor is a job that somebody submitted, its classes are kept.
+    /// Stores the classes of the actor, if it is a job that belongs to its submitter's path.
     ///
     /// # Errors
     ///
-    /// `AllocError` where there is no memory for them.
+    /// Returns `AllocError` if memory runs out.
     pub(crate) fn keep(
         &mut self,
         actor: RecordedActor,
@@ -75,7 +75,8 @@ impl ClassTable {
         Ok(())
     }
 
-    /// The first place of the path, from this one on, that submits a job that is not settled, or its end.
+    /// Returns the index of the first submit of an unsettled job in the path, starting at `from`,
+    /// or the length of the path.
     pub(crate) fn first_unsettled(&self, path: &[RecordedDeed], from: usize) -> usize
         ensures within { from ≤ length path.now → result ≤ length path.now }
         ensures before { AreSettledBefore self.now path.now from
@@ -89,7 +90,7 @@ impl ClassTable {
         place
     }
 
-    // A get is of a job that is submitted before it.
+    // A get refers to an earlier submit of the path, so it needs no check.
     fn is_settled(&self, deed: RecordedDeed) -> bool
         ensures { result ≡ is_settled_deed self.now deed }
     {
@@ -99,12 +100,12 @@ impl ClassTable {
         }
     }
 
-    /// The deeds of the path, with the classes of the jobs that it submits, which go. The answer is whether the classes of
-    /// each are decided.
+    /// Replaces `deeds` with the steps of the path, each submit with the classes of its job, and
+    /// removes these jobs from the table. Returns true if the classes of all of them are decided.
     ///
     /// # Errors
     ///
-    /// `AllocError` where there is no memory for them.
+    /// Returns `AllocError` if memory runs out.
     pub(crate) fn take_path(
         &mut self,
         path: &[RecordedDeed],
@@ -129,7 +130,8 @@ impl ClassTable {
         Ok(is_decided)
     }
 
-    // The deed comes behind the others, and its job goes. The answer is whether its classes are decided.
+    // Appends the step to `deeds` and removes its job. Returns true if the classes of the job are
+    // decided.
     fn take_deed(&mut self, deed: RecordedDeed, deeds: &mut Vec<Deed>) -> Result<bool, AllocError>
         ensures stands { (plan : Plan) (lines : List RecordedLine) (path : List RecordedDeed)
             → AreClassesIn plan lines self.old
@@ -157,7 +159,8 @@ impl ClassTable {
         }
     }
 
-    // Of a job that is not settled none are known, nor is anything decided.
+    // Removes and returns the classes of a job. A job that is not settled has no classes, and they
+    // are undecided.
     fn take_classes(&mut self, job: usize) -> JobClasses
         ensures classes { (plan : Plan) (lines : List RecordedLine)
             → AreClassesIn plan lines self.old

@@ -1,8 +1,9 @@
-//! Laws of the actors of a recording, the contracts of functions with nothing to do.
+//! Laws about the actors of a recording, stated as contracts of empty functions.
 
 ghost use Rattle.recorded_classes.specs.Laws.{PathsStay, JobsAreLater, ClassesStay, KindsStay, ClassesAreDetermined, KindsAreDetermined};
 
-/// Whatever lines come, an actor that is through has the path that it has, and one that is settled the classes.
+/// Proves that later lines change neither the path of an ended actor nor the classes of a settled
+/// one.
 pub fn settled_actors_stay()
     ensures paths { PathsStay }
     ensures later { JobsAreLater }
@@ -10,7 +11,7 @@ pub fn settled_actors_stay()
     ensures kinds { KindsStay }
 {}
 
-/// The lines determine the classes that a job can be of, and the kinds that a round can be of.
+/// Proves that the lines determine the classes that a job can belong to, and the kinds of a round.
 pub fn classes_are_determined()
     ensures classes { ClassesAreDetermined }
     ensures kinds { KindsAreDetermined }

@@ -1,18 +1,25 @@
-//! The classes that the jobs of a recording can be of, and the kinds that its rounds can be of (`docs/RECORDING.md`).
+//! The classes that the jobs of a recording can belong to, and the client kinds of its rounds
+//! (`docs/RECORDING.md`).
 //!
-//! A label of a recording may be several classes of a plan. The classes that a job can be of are those of its family
-//! (`plan_families`) of whose bodies its path is (`recorded_paths`, `body_paths`), where each job that it submitted may be
-//! of any class that that job can be of. They are *settled* once the job is through and all jobs of its path are settled:
-//! no line that comes changes them ([`settled_actors_stay`]). [`Classes`] takes one line after another of a recording that
-//! keeps its rules (`recorded_rules`), and tells of each actor that is settled by the line and of no other one: what the
-//! lines call it, what it did, the classes or kinds that it can be of, exactly, and how much of what it did is explained,
-//! where each was decided within the budget. Each is, where the budget is enough for each body of the plan (`plan_families`).
-//! Where the lines end, [`Classes::finish`] tells the same of each actor that is not settled, by the lines that are there.
+//! A label of a recording may refer to several classes of a plan. A job can belong to each class of
+//! its label's family (`plan_families`) whose body its path matches (`recorded_paths`,
+//! `body_paths`). In that comparison, each job that it submitted may have any class that that job
+//! can belong to. An actor is *settled* once it has ended and all jobs of its path are settled.
+//! Later lines do not change the classes of a settled actor ([`settled_actors_stay`]).
 //!
-//! What is kept is the actors that are about or that wait for a job of their path, and the classes of each settled job whose
-//! submitter is not. A job that was refused, cancelled or removed and never ran is about until the lines end. An actor that
-//! waits is gone along once, from one job that is not settled to the next. What a line costs is in no contract, nor in which
-//! order it is told of the actors.
+//! [`Classes`] reads the lines of a valid recording (`recorded_rules`) in order. For each line it
+//! returns exactly the actors that become settled with it: their label, their path, the exact set
+//! of classes or kinds that they can belong to, and the length of the longest prefix of the path
+//! that a body explains. The set and the length are exact if they were decided within the budget.
+//! If the budget is large enough for each body of the plan (`plan_families`), they always are. At
+//! the end of the recording, [`Classes::finish`] returns the same for each unsettled actor, by the
+//! lines up to there.
+//!
+//! Memory holds the open actors, the ended actors that wait for a job of their path, and the
+//! classes of each settled job whose submitter is not settled. A job that never ran because it was
+//! refused, cancelled or removed stays open until the end. The path of a waiting actor is scanned
+//! once, from one unsettled job to the next. No contract states the cost of a line, or the order of
+//! the actors.
 #![tactic(auto)]
 
 mod actor_table;

@@ -1,20 +1,21 @@
-//! What is told of an actor of a recording.
+//! The result of classifying an actor.
 
 use plan_families::PathFamily;
 use recorded_paths::RecordedDeed;
 use recording_lines::RecordedActor;
 
-/// What a job or a round did, and what it can be by that.
+/// A classified actor: its path, and the classes or kinds that it can belong to.
 #[derive(Debug, Drop)]
 pub struct Settled {
     pub actor: RecordedActor,
-    /// The class that its submit names, or the kind that its begin names.
+    /// The class that the job's submit names, or the kind that the round's begin names.
     pub label: String,
-    /// The pool that its submit names; of a round it is empty.
+    /// The pool that the job's submit names. It is empty for a round.
     pub pool: String,
-    /// What the actor did (`recorded_paths`).
+    /// The steps of the actor (`recorded_paths`).
     pub path: Vec<RecordedDeed>,
-    /// The classes that the job can be of, or the kinds that the round can be of. It is decided where each of those below
-    /// was, too: the jobs that the actor submitted, those that these submitted, and so on.
+    /// The classes that the job can belong to, or the kinds of the round. This is decided only if
+    /// the classes of all jobs below are: the jobs that the actor submitted, those that these
+    /// submitted, and so on.
     pub family: PathFamily,
 }

@@ -1,4 +1,4 @@
-//! What is told of one actor.
+//! Classification of one actor.
 
 ghost use Rattle.std.specs.Prelude.{◌≡◌, true, List, Some, OnOk, IfOk};
 ghost use Rattle.recording_lines.specs.RecordingLine.{RecordedLine};
@@ -20,11 +20,12 @@ use recording_lines::RecordedActor;
 use std::alloc::{AllocError, Global};
 
 impl Classes {
-    /// It is told of the actor, which did this. What it submitted is known no more.
+    /// Classifies the actor by its path, and appends the result to `told`. Drops the classes of the
+    /// jobs that it submitted.
     ///
     /// # Errors
     ///
-    /// `AllocError` where there is no memory for it.
+    /// Returns `AllocError` if memory runs out.
     pub(crate) fn tell_of(
         &mut self,
         plan: &Plan,
@@ -65,11 +66,11 @@ impl Classes {
         Ok(())
     }
 
-    /// The path of one that is about.
+    /// Returns the path of an open actor.
     ///
     /// # Errors
     ///
-    /// `AllocError` where there is no memory for it.
+    /// Returns `AllocError` if memory runs out.
     fn path_now(&self, actor: RecordedActor) -> Result<Vec<RecordedDeed>, AllocError>
         ensures { IfOk result (λ path.
             (lines : List RecordedLine)
@@ -83,11 +84,12 @@ impl Classes {
         }
     }
 
-    /// What the actor did: that for which it waits, or what there is of one that is about.
+    /// Returns the path of the actor: the stored one if it has ended, and the path so far if it is
+    /// open.
     ///
     /// # Errors
     ///
-    /// `AllocError` where there is no memory for it.
+    /// Returns `AllocError` if memory runs out.
     pub(crate) fn done_by(
         &self,
         actor: RecordedActor,
@@ -112,7 +114,7 @@ impl Classes {
     }
 }
 
-// The classes of a job, or the kinds of a round, that did this.
+// Returns the classes of a job or the kinds of a round with this path.
 fn members_of(
     alloc: Global,
     plan: &Plan,

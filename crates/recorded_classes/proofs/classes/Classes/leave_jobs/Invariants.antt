@@ -7,7 +7,7 @@ use Rattle.recorded_classes.specs.Settled.{IsTold}
 use Rattle.recorded_classes.specs.Told.{TellsTaken}
 use Rattle.recorded_classes.proofs.classes.Classes.leave_jobs.Given as goal
 
--- it was told of those that were taken off the list
+-- The jobs that were popped from the list are classified.
 abbrev pub invariant-loop-job : goal.invariant-loop-job
 invariant-loop-job l = record {
   left : (lines : List RecordedLine) → KeepsRules lines → IsPathsOf l.initial.self.paths lines → IsLeft l.plan l.initial.self.budget lines l.initial.self.actors l.initial.self.known → AreJobsAmong l.initial.self.actors l.fn.jobs.items → IsNonDecreasing l.fn.jobs.items

@@ -6,7 +6,7 @@ use Rattle.recorded_classes.specs.Settled.{IsTold}
 use Rattle.recorded_classes.specs.Told.{TellsTaken}
 use Rattle.recorded_classes.proofs.classes.Classes.leave_rounds.Given as goal
 
--- it was told of those that were taken off the list
+-- The rounds that were popped from the list are classified.
 abbrev pub invariant-loop-round : goal.invariant-loop-round
 invariant-loop-round l = record {
   left : (lines : List RecordedLine) → KeepsRules lines → IsPathsOf l.initial.self.paths lines → IsLeft l.plan l.initial.self.budget lines l.initial.self.actors l.initial.self.known → HasNoJobs l.initial.self.actors

@@ -8,7 +8,7 @@ use Rattle.recorded_classes.specs.StandsFor.{IsKept}
 use Rattle.recorded_classes.specs.Told.{IsStep}
 use Rattle.recorded_classes.proofs.classes.Classes.settle.Given as goal
 
--- it was told of those that were taken out, and this one is next
+-- The removed actors are classified, and this one is next.
 abbrev pub invariant-loop-next : goal.invariant-loop-next
 invariant-loop-next l = record {
   told : (lines : List RecordedLine) → IsKept l.plan lines l.initial.self.actors l.initial.self.known (Some l.fn.actor) → (IsEnoughForPlan l.initial.self.budget l.plan → AreDecidedIn l.initial.self.known) → KeepsRules lines → IsStep l.plan l.initial.self.budget lines l.initial.self.actors l.self.actors l.self.known (Some l.one) l.initial.told.items l.told.items;

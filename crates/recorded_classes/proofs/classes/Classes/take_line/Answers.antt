@@ -21,7 +21,7 @@ use Rattle.recorded_classes.proofs.classes.Classes.take_line.Goals as goal
 abbrev waits_for : Vec RecordedDeed Global → Waiting
 waits_for path = record { path = path; known = 0 }
 
--- where the line is an actor's last
+-- The line is an actor's last one.
 kept_some : (c : goal.After-settle) → (budget : _) (before : List RecordedLine) → KeepsRules (before ++ line_seen c.args.line.now ∷ []) → IsClassesOf c.args.plan.now budget c.args.self.now before → IsKept c.args.plan.now (before ++ line_seen c.args.line.now ∷ []) c.note.new.self.actors c.note.new.self.known c.ended_by.result
 kept_some c budget before keeps stand =
     kept_line c.args.plan.now before (line_seen c.args.line.now) (waits_for c.unwrap_or-path.result) c.args.self.now.actors c.note.new.self.actors c.args.self.now.known c.note.new.self.known c.ended_by.result keeps stand.kept
