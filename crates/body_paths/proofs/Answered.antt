@@ -1,4 +1,4 @@
--- What an answer of the walk through a body says of the path.
+-- The result of the search through a body is correct for the path.
 use Rattle.std.proofs.Common.{◌≡◌, ℕ, ◌-◌, List, [], ◌++◌, take, refl, subst, arith}
 use Rattle.job_bodies.specs.declared.action.Action.{Action}
 use Rattle.body_paths.specs.declared.deed.Deed.{Deed}
@@ -14,12 +14,12 @@ use Rattle.body_paths.proofs.Chosen.{chosen}
 use Rattle.body_paths.proofs.Walked.{walked, agrees_nothing}
 use Rattle.body_paths.proofs.Begun.{begun_goes_on, begun_before}
 
--- a walk through the whole body is a choice
+-- A search through the whole body gives a choice.
 pub path_from_walk : (course : Course) (body : List Action) (path : List Deed) → Walks course [] body 0 path → IsPathOf course body path
 path_from_walk Whole body path walks = chosen [] [] body 0 path made_nothing refl walks
 path_from_walk Begun body path walks = let on = begun_goes_on [] body 0 path walks in (on.0, chosen [] [] body 0 (path ++ on.0) made_nothing refl on.1)
 
--- a choice is a walk
+-- A choice gives a search.
 pub walk_from_path : (course : Course) (body : List Action) (path : List Deed) → IsPathOf course body path → Walks course [] body 0 path
 walk_from_path Whole body path of = walked of.0 [] [] body 0 path made_nothing refl (agrees_nothing of.0) of.1
 walk_from_path Begun body path of = begun_before [] body 0 path of.0 (walked of.1.0 [] [] body 0 (path ++ of.0) made_nothing refl (agrees_nothing of.1.0) of.1.1)

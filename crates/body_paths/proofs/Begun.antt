@@ -1,4 +1,4 @@
--- Walks along the path of an actor that may go on.
+-- Searches along the path of an actor that may continue.
 use Rattle.std.proofs.Common.{◌≡◌, ℕ, ◌+◌, List, [], ◌∷◌, ◌++◌, drop, inl, inr, refl}
 use Rattle.std.specs.Prelude.{Option, None, Some, slice_get}
 use Rattle.job_bodies.specs.declared.action.Action.{Action}
@@ -13,7 +13,7 @@ use Rattle.body_paths.specs.Walk.{ByWay, Walks}
 use Rattle.body_paths.proofs.Steps.{Places}
 use Rattle.body_paths.proofs.Walked.{submit_passed, get_made}
 
--- ---- a path that goes on
+-- ---- a path that continues
 goes_on_get : (places : Places) (t : ℕ) (actions : List Action) (place : ℕ) (o : Option ℕ) → place_of places t ≡ o
     → ((behind : List Deed) × Walks Whole (places ++ None ∷ []) actions place behind)
     → ((behind : List Deed) × Walks Whole (places ++ None ∷ []) actions (place + 1) behind)
@@ -24,7 +24,7 @@ goes_on_get places t actions place (Some p) at passing getting = (
   rw at (get_made p (Walks Whole (places ++ None ∷ []) actions place (deed.Gets p ∷ getting.0)) (Walks Whole (places ++ None ∷ []) actions (place + 1) getting.0) (Walks Whole (places ++ Some place ∷ []) actions (place + 1) getting.0) getting.1),
 )
 
--- the deeds of a walk that leaves all further submits out, and makes the gets that are due
+-- The steps of a search that skips all further submits and makes the gets that are due.
 goes_on : (places : Places) (actions : List Action) (place : ℕ) → (behind : List Deed) × Walks Whole places actions place behind
 goes_on places [] place = ([], refl)
 goes_on places (Work units ∷ actions) place = goes_on (places ++ None ∷ []) actions place
@@ -41,7 +41,7 @@ goes_on_by way.Gets passes gets submits h = gets h
 goes_on_by way.SubmitsOrPasses passes gets submits (inl h) = let on = submits h in (on.0, inl on.1)
 goes_on_by way.SubmitsOrPasses passes gets submits (inr h) = let on = passes h in (on.0, inr on.1)
 
--- the path of an actor that may go on is the front of a whole one
+-- The path of an actor that may continue is a prefix of a whole path.
 pub begun_goes_on : (places : Places) (actions : List Action) (place : ℕ) (deeds : List Deed) → Walks Begun places actions place deeds → (behind : List Deed) × Walks Whole places actions place (deeds ++ behind)
 begun_goes_on places actions place [] walks = goes_on places actions place
 begun_goes_on places [] place (d ∷ deeds) walks = cc
@@ -50,7 +50,7 @@ begun_goes_on places (a ∷ actions) place (d ∷ deeds) walks = goes_on_by (way
     {A' = λ behind. Walks Whole (places ++ None ∷ []) actions place (d ∷ (deeds ++ behind))} {B' = λ behind. Walks Whole (places ++ None ∷ []) actions (place + 1) (deeds ++ behind)} {C' = λ behind. Walks Whole (places ++ Some place ∷ []) actions (place + 1) (deeds ++ behind)}
     (λ h. begun_goes_on (places ++ None ∷ []) actions place (d ∷ deeds) h) (λ h. begun_goes_on (places ++ None ∷ []) actions (place + 1) deeds h) (λ h. begun_goes_on (places ++ Some place ∷ []) actions (place + 1) deeds h) walks
 
--- ---- the front of a path
+-- ---- a prefix of a path
 by_way : (w : Way) {A B C A' B' C' : Type 0} → (A → A') → (B → B') → (C → C') → ByWay w A B C → ByWay w A' B' C'
 by_way way.Stops passes gets submits h = absurd h
 by_way way.Passes passes gets submits h = passes h
@@ -58,7 +58,7 @@ by_way way.Gets passes gets submits h = gets h
 by_way way.SubmitsOrPasses passes gets submits (inl h) = inl (submits h)
 by_way way.SubmitsOrPasses passes gets submits (inr h) = inr (passes h)
 
--- a front of a whole path is the path of an actor that may go on
+-- Each prefix of a whole path is the path of an actor that may continue.
 pub begun_before : (places : Places) (actions : List Action) (place : ℕ) (deeds behind : List Deed) → Walks Whole places actions place (deeds ++ behind) → Walks Begun places actions place deeds
 begun_before places [] place [] behind walks = refl
 begun_before places [] place (d ∷ deeds) behind walks = cc

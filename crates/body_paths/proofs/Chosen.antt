@@ -1,4 +1,4 @@
--- The choice of a walk through a whole body.
+-- The choice of a search through a whole body.
 use Rattle.std.proofs.Common.{◌≡◌, ℕ, ◌+◌, Bool, true, false, cond, List, [], ◌∷◌, ◌++◌, length, map, append_assoc, inl, inr, refl, sym, ap, subst, ◌∙◌}
 use Rattle.std.specs.Prelude.{Option, None, Some, is_some, slice_get, filter}
 use Rattle.std.specs.List.{enumerate_from, AllZip}
@@ -18,11 +18,11 @@ use Rattle.body_paths.specs.Walk.{Walks}
 use Rattle.body_paths.proofs.Steps.{Places, Follows}
 use Rattle.body_paths.proofs.Places.{AreMadeAt, slice_get-append_left, slice_get_from_place, made_passed, made_get, made_submit}
 
--- a choice that begins as the places say, and goes on in this way
+-- A choice that agrees with `places` on the earlier submits and continues with `more`.
 abbrev pub choice_of : Places → List Bool → List Bool
 choice_of places more = map is_some places ++ more
 
--- what stays of the rest of a body by such a choice
+-- The actions of the rest of a body that such a choice keeps.
 abbrev pub rest_of : Places → List Bool → List Action → List (ℕ × Action)
 rest_of places more actions = filter (stays (choice_of places more)) (enumerate_from (length places) actions)
 
@@ -39,7 +39,7 @@ rest_of-stays places x more a actions e = rw e (ap (λ (entries : List (ℕ × A
 rest_of-left : (places : Places) (x : Option ℕ) (more : List Bool) (a : Action) (actions : List Action) → stays (choice_of places (is_some x ∷ more)) (length places, a) ≡ false → rest_of places (is_some x ∷ more) (a ∷ actions) ≡ rest_of (places ++ x ∷ []) more actions
 rest_of-left places x more a actions e = rw e (sym (rest_of-push places x more actions))
 
--- ---- whether an action stays
+-- ---- whether an action is kept
 keeps-here : (places : Places) (b : Bool) (more : List Bool) → keeps (choice_of places (b ∷ more)) (length places) ≡ b
 keeps-here places b more = get_or_at (map is_some places) b more false (length places) (length-map places is_some)
 
@@ -83,7 +83,7 @@ is_get places made more (deed.Submits classes) position t p m at e = cc
 is_get places made more (deed.Gets got) position t p m at e = let there = m.forth t p (slice_get_from_place places t p at) in let same : got ≡ p = eqb-true got p e in
     (there.0, subst (λ (n : ℕ). slice_get (made ++ more) n ≡ Some (t, Submit there.0)) (sym same) (slice_get-append_left made more p (t, Submit there.0) there.1))
 
--- ---- the ways on
+-- ---- the ways to continue
 chosen_submit : (places : Places) (made : List (ℕ × Action)) (class : ℕ) (actions : List Action) (place : ℕ) (d : Deed) (deeds : List Deed) (b : Bool) → submits d class ≡ b
     → (Walks Whole (places ++ None ∷ []) actions place (d ∷ deeds) → Chosen (places ++ None ∷ []) made actions (d ∷ deeds))
     → (Walks Whole (places ++ Some place ∷ []) actions (place + 1) deeds → Chosen (places ++ Some place ∷ []) (made ++ (length places, Submit class) ∷ []) actions deeds)
@@ -108,7 +108,7 @@ chosen_get places made t actions place deeds None m e passing making w = chosen_
 chosen_get places made t actions place [] (Some p) m e passing making w = absurd w
 chosen_get places made t actions place (d ∷ deeds) (Some p) m e passing making w = chosen_next_get places made t actions place d deeds p (gets d p) m e refl (making deeds) w
 
--- so many are made, and one more
+-- The number of kept actions after one more is kept.
 pub one_more : (made : List (ℕ × Action)) (entry : ℕ × Action) (place : ℕ) → length made ≡ place → length (made ++ entry ∷ []) ≡ place + 1
 one_more made entry place long = length_push made entry ∙ ap (λ (n : ℕ). n + 1) long
 

@@ -1,4 +1,4 @@
--- How many steps a walk takes at most.
+-- The maximum number of search steps.
 use Rattle.std.proofs.Common.{◌≡◌, ◌≢◌, ◌≤◌, ◌<◌, ℕ, suc, ◌+◌, ◌-◌, ◌*◌, ◌^◌, Bool, true, false, cond, List, [], ◌∷◌, length, take, drop, get_or, sym, ap, subst, ◌∙◌, arith}
 use Rattle.std.specs.Prelude.{Option, None, Some, slice_get}
 use Rattle.std.proofs.lemmas.List.{drop_more}
@@ -29,7 +29,7 @@ most_steps-more (Work units) actions = omega arith
 most_steps-more (Submit class) actions = omega arith
 most_steps-more (Get submit) actions = omega arith
 
--- ---- the submit alone has two ways on
+-- ---- only a submit has two ways to continue
 abbrev IsSubmitted : Way → Type 0
 IsSubmitted way.Stops = ⊥
 IsSubmitted way.Passes = ⊥
@@ -55,7 +55,7 @@ most_steps-either places a next actions is = most_steps-either_at places a next 
 most_steps-first : (body : List Action) (position : ℕ) → position < length body → most_steps (drop position body) ≡ most_steps (get_or body position (Work 0) ∷ drop (position + 1) body)
 most_steps-first body position l = ap most_steps (drop_more body position (Work 0) l)
 
--- ---- answers
+-- ---- results
 pub decided_not_begun : (actions : List Action) (before after : ℕ) (r : PathFit) → before ≡ 0 → IsDecidedWithin actions before after r
 decided_not_begun actions before after r none = λ enough. absurd (omega (arith, most_steps-some actions))
 

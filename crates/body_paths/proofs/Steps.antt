@@ -1,4 +1,4 @@
--- What an answer tells of a walk, from what one tells of the walk an action further on.
+-- The result of a search, derived from the result of the search one action later.
 use Rattle.std.proofs.Common.{◌≡◌, ◌≤◌, ℕ, suc, zero, ◌+◌, ◌-◌, ◌<◌, max, false, List, [], ◌∷◌, ◌++◌, length, take, drop, ◌⊎◌, inl, inr, refl, sym, subst, arith}
 use Rattle.std.proofs.lemmas.Bool.{cases_lt}
 use Rattle.std.specs.Prelude.{Option, None, Some, ⊤, slice_get}
@@ -18,7 +18,7 @@ use Rattle.body_paths.specs.Walk.{ends, ByWay, Walks, IsFurthest, IsToldOfWalk}
 abbrev pub Places : Type 0
 Places = List (Option ℕ)
 
--- what follows an action, by a way on
+-- What follows an action, by the way to continue.
 abbrev pub Follows : Course → Places → List Action → ℕ → List Deed → Way → Type 0
 Follows course places actions place deeds w = ByWay w
     (Walks course (places ++ None ∷ []) actions place deeds)
@@ -31,7 +31,7 @@ walks_by course places a actions place deeds e follows = rw e follows
 pub follows_by : (course : Course) (places : Places) (a : Action) (actions : List Action) (place : ℕ) (deeds : List Deed) → ends course deeds ≡ false → Walks course places (a ∷ actions) place deeds → Follows course places actions place deeds (way_on places a (slice_get deeds 0))
 follows_by course places a actions place deeds e walks = rw e at walks
 
--- the same, where the way on is known
+-- The same, if the way to continue is known.
 pub walks_along : (course : Course) (places : Places) (a : Action) (actions : List Action) (place : ℕ) (deeds : List Deed) (w : Way) → ends course deeds ≡ false → way_on places a (slice_get deeds 0) ≡ w → Follows course places actions place deeds w → Walks course places (a ∷ actions) place deeds
 walks_along course places a actions place deeds w e is follows = walks_by course places a actions place deeds e (subst (λ (v : Way). Follows course places actions place deeds v) (sym is) follows)
 
@@ -42,12 +42,12 @@ pub ends_not : (course : Course) (deed : Deed) (deeds : List Deed) → ends cour
 ends_not Whole deed deeds = refl
 ends_not Begun deed deeds = refl
 
--- an actor that may go on has come to where its path ends
+-- A search succeeds at the end of the path of an actor that may continue.
 pub walks_begun : (places : Places) (actions : List Action) (place : ℕ) → Walks Begun places actions place []
 walks_begun places [] place = refl
 walks_begun places (a ∷ actions) place = tt
 
--- ---- ways on where no deed is left
+-- ---- ways to continue when no step is left
 abbrev pub IsWithoutDeed : Way → Type 0
 IsWithoutDeed way.Stops = ⊤
 IsWithoutDeed way.Passes = ⊤
@@ -79,7 +79,7 @@ told_behind_end course places place (deed ∷ deeds) l = (
   },
 )
 
--- ---- the next deed is no way on
+-- ---- the next step does not match
 pub told_stops : (course : Course) (places : Places) (a : Action) (actions : List Action) (place : ℕ) (deeds : List Deed) → ends course deeds ≡ false → way_on places a (slice_get deeds 0) ≡ way.Stops → IsToldOfWalk course places (a ∷ actions) place deeds (Deviates place)
 told_stops course places a actions place deeds e is = (
   λ walks. follows_along course places a actions place deeds way.Stops e is walks,
@@ -95,7 +95,7 @@ told_stops course places a actions place deeds e is = (
   longest [] is (suc k) within walks = absurd (omega arith)
   longest (deed ∷ deeds) is (suc k) within walks = absurd (follows_along Begun places a actions place (deed ∷ take k deeds) way.Stops refl is walks)
 
--- ---- the action is passed
+-- ---- the action is skipped
 passes_front : (places : Places) (a : Action) (actions : List Action) (place : ℕ) (deeds : List Deed) → way_on places a (slice_get deeds 0) ≡ way.Passes → (m : ℕ) → Walks Begun (places ++ None ∷ []) actions place (take m deeds) → Walks Begun places (a ∷ actions) place (take m deeds)
 passes_front places a actions place deeds is zero walks = tt
 passes_front places a actions place [] is (suc k) walks = tt
@@ -119,8 +119,8 @@ told_passes course places a actions place deeds (Deviates furthest) e is told = 
   },
 )
 
--- ---- the next deed is the get
--- the first deeds up to a place behind the next one
+-- ---- the next step is the get
+-- The prefix of the steps up to an index after the next one.
 take_behind : (place furthest : ℕ) (deed : Deed) (deeds : List Deed) → place + 1 ≤ furthest → take (furthest - place) (deed ∷ deeds) ≡ deed ∷ take (furthest - (place + 1)) deeds
 take_behind place furthest deed deeds l = let e : furthest - place ≡ suc (furthest - (place + 1)) = omega arith in rw e refl
 
@@ -141,7 +141,7 @@ told_gets course places a actions place (deed ∷ deeds) (Deviates furthest) is 
   longest zero within walks = omega (arith, told.1.behind)
   longest (suc k) within walks = omega (arith, told.1.longest k (omega arith) (follows_along Begun places a actions place (deed ∷ take k deeds) way.Gets refl is walks))
 
--- ---- the next deed is the submit
+-- ---- the next step is the submit
 pub told_submits : (course : Course) (places : Places) (a : Action) (actions : List Action) (place : ℕ) (deeds : List Deed) → way_on places a (slice_get deeds 0) ≡ way.SubmitsOrPasses → Walks course (places ++ Some place ∷ []) actions (place + 1) (drop 1 deeds) → Walks course places (a ∷ actions) place deeds
 told_submits course places a actions place [] is walks = absurd (subst IsWithoutDeed is (without_deed places a))
 told_submits course places a actions place (deed ∷ deeds) is walks = walks_along course places a actions place (deed ∷ deeds) way.SubmitsOrPasses (ends_not course deed deeds) is (inl walks)

@@ -1,4 +1,4 @@
--- What an answer tells of a walk through slices, from what one tells of the walk an action further on.
+-- The result of a search through slices, derived from the result of the search one action later.
 use Rattle.std.proofs.Common.{◌≡◌, ◌≤◌, ◌<◌, ℕ, suc, zero, ◌+◌, true, false, List, [], ◌∷◌, ◌++◌, length, take, drop, set, get_or, refl, sym, ap, subst, ◌∙◌, arith}
 use Rattle.std.specs.Prelude.{Option, None, Some, is_none, slice_get}
 use Rattle.std.proofs.lemmas.List.{drop_more, drop-drop, drop_all, take-take, take-set, take_more_set}
@@ -26,7 +26,7 @@ ends_is_none : (deeds : List Deed) → ends Begun deeds ≡ is_none (slice_get d
 ends_is_none [] = refl
 ends_is_none (deed ∷ deeds) = refl
 
--- a path ends before a place at which it has no deed
+-- A path ends before each index at which it has no step.
 pub ends_at : (path : List Deed) (place : ℕ) → ends Begun (drop place path) ≡ is_none (slice_get path place)
 ends_at path place = ends_is_none (drop place path) ∙ ap is_none (first_of_drop path place)
 
@@ -39,23 +39,23 @@ pub walks_ended : (course : Course) (places : Places) (actions : List Action) (p
 walks_ended course places [] place deeds e = nil_from_ends course deeds e
 walks_ended course places (a ∷ actions) place deeds e = rw e tt
 
--- nothing is left of the body
+-- No action is left.
 pub at_body_end : (course : Course) (body : List Action) (path : List Deed) (places : Places) (position place : ℕ) (r : PathFit) → length body ≤ position → IsToldOfWalk course (take position places) [] place (drop place path) r → IsToldOfWalk course (take position places) (drop position body) place (drop place path) r
 at_body_end course body path places position place r l told = subst (λ (actions : List Action). IsToldOfWalk course (take position places) actions place (drop place path) r) (sym (drop_all position body l)) told
 
--- the way on from the action at a position
+-- The way to continue at the action at an index.
 way_there : (body : List Action) (path : List Deed) (places : Places) (position place : ℕ) (w : Way) → w ≡ way_on (take position places) (get_or body position (Work 0)) (slice_get path place) → way_on (take position places) (get_or body position (Work 0)) (slice_get (drop place path) 0) ≡ w
 way_there body path places position place w is = rw (first_of_drop path place) (sym is)
 
--- what is told of the actions from a position on, by the first of them
+-- The result for the actions from an index on, by the first of them.
 by_first : (course : Course) (body : List Action) (path : List Deed) (places : Places) (position place : ℕ) (r : PathFit) → position < length body → IsToldOfWalk course (take position places) (get_or body position (Work 0) ∷ drop (position + 1) body) place (drop place path) r → IsToldOfWalk course (take position places) (drop position body) place (drop place path) r
 by_first course body path places position place r l told = subst (λ (actions : List Action). IsToldOfWalk course (take position places) actions place (drop place path) r) (sym (drop_more body position (Work 0) l)) told
 
--- the places once one more is written
+-- `places` after one more is written.
 written : (course : Course) (actions : List Action) (place : ℕ) (deeds : List Deed) (r : PathFit) (places : Places) (position : ℕ) (kept : Option ℕ) → position < length places → IsToldOfWalk course (take (position + 1) (set places position kept)) actions place deeds r → IsToldOfWalk course (take position places ++ kept ∷ []) actions place deeds r
 written course actions place deeds r places position kept l told = subst (λ (before : Places). IsToldOfWalk course before actions place deeds r) (take_more_set places position kept l) told
 
--- the deeds behind the next one
+-- The steps after the next one.
 next_place : (course : Course) (before : Places) (actions : List Action) (path : List Deed) (place : ℕ) (r : PathFit) → IsToldOfWalk course before actions (place + 1) (drop (place + 1) path) r → IsToldOfWalk course before actions (place + 1) (drop 1 (drop place path)) r
 next_place course before actions path place r told = subst (λ (deeds : List Deed). IsToldOfWalk course before actions (place + 1) deeds r) (sym (drop-drop 1 place path)) told
 
@@ -74,7 +74,7 @@ gets_there course body path places position place r l room is told = by_first co
     (next_place course (take position places ++ None ∷ []) (drop (position + 1) body) path place r
     (written course (drop (position + 1) body) (place + 1) (drop (place + 1) path) r places position None (omega arith) told)))
 
--- the walk that makes the submit
+-- The search that makes the submit.
 submitted_there : (course : Course) (body : List Action) (path : List Deed) (places : Places) (position place : ℕ) (r : PathFit) → position < length body → length body ≤ length places → IsToldOfWalk course (take (position + 1) (set places position (Some place))) (drop (position + 1) body) (place + 1) (drop (place + 1) path) r → IsToldOfWalk course (take position places ++ Some place ∷ []) (drop (position + 1) body) (place + 1) (drop 1 (drop place path)) r
 submitted_there course body path places position place r l room told = next_place course (take position places ++ Some place ∷ []) (drop (position + 1) body) path place r
     (written course (drop (position + 1) body) (place + 1) (drop (place + 1) path) r places position (Some place) (omega arith) told)
@@ -95,6 +95,6 @@ either_there course body path places later position place submitted r l room lon
     (subst (λ (before : Places). IsToldOfWalk course (before ++ None ∷ []) (drop (position + 1) body) place (drop place path) r) kept
     (written course (drop (position + 1) body) place (drop place path) r later position None (omega arith) passed)))
 
--- the places before a position stay, where those up to it stay once it is written
+-- The indices before a position are unchanged, if those up to it are unchanged after the write.
 pub kept_below : (later places : Places) (position : ℕ) (kept : Option ℕ) → take (position + 1) later ≡ take (position + 1) (set places position kept) → take position later ≡ take position places
 kept_below later places position kept h = sym (take-take position (position + 1) later (omega arith)) ∙ ap (take position) h ∙ take-take position (position + 1) (set places position kept) (omega arith) ∙ take-set places position kept

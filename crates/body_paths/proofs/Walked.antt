@@ -1,4 +1,4 @@
--- The walk through a whole body that a choice tells.
+-- The search through a whole body that a choice describes.
 use Rattle.std.proofs.Common.{◌≡◌, ◌<◌, ℕ, suc, zero, ◌+◌, Bool, true, false, ◌&&◌, cond, nat_lt, nat_eq, List, [], ◌∷◌, ◌++◌, length, drop, append_assoc, inl, inr, refl, sym, ap, subst, arith}
 use Rattle.std.specs.Prelude.{Option, None, Some, slice_get, filter}
 use Rattle.std.specs.List.{enumerate_from, AllZip}
@@ -19,8 +19,8 @@ use Rattle.body_paths.proofs.Steps.{Places}
 use Rattle.body_paths.proofs.Places.{AreMadeAt, slice_get-append_cases, slice_get-push_cases, slice_get_from_place, place_from_slice_get, late, made_passed, made_get}
 use Rattle.body_paths.proofs.Chosen.{one_more, made_submit_at}
 
--- ---- the ways on
--- a submit may be left out, whatever the next deed is
+-- ---- the ways to continue
+-- A submit may be skipped, whatever the next step is.
 pub submit_passed : (class : ℕ) (next : Option Deed) (passes gets submits : Type 0) → passes → ByWay (way_of_submit class next) passes gets submits
 submit_passed class None A B C h = h
 submit_passed class (Some d) A B C h = by_test (submits d class) where
@@ -34,7 +34,7 @@ submit_made class d A B C e h = rw e (inl h)
 pub get_made : (p : ℕ) (passes gets submits : Type 0) → gets → ByWay (way_of_get p (Some (deed.Gets p))) passes gets submits
 get_made p A B C h = let e : nat_eq p p ≡ true = eq-eqb p p refl in rw e h
 
--- ---- the places that a choice has noted
+-- ---- the indices that agree with a choice
 pub record Agrees (choice : List Bool) (places : Places) : Type 0 where
   pub kept : (t p : ℕ) → slice_get places t ≡ Some (Some p) → keeps choice t ≡ true
 
@@ -47,7 +47,7 @@ agrees_passed choice places agrees = record { kept = λ t p e. elim (slice_get-p
 agrees_made : (choice : List Bool) (places : Places) (q : ℕ) → keeps choice (length places) ≡ true → Agrees choice places → Agrees choice (places ++ Some q ∷ [])
 agrees_made choice places q k agrees = record { kept = λ t p e. elim (slice_get-push_cases places (Some q) t (Some p) e) [ inl h ↦ agrees.kept t p h | inr h ↦ let at : t ≡ length places = h.0 in rw at k ] }
 
--- ---- what stays of the rest of a body
+-- ---- the kept actions of the rest of a body
 abbrev rest_by : List Bool → ℕ → List Action → List (ℕ × Action)
 rest_by choice n actions = filter (stays choice) (enumerate_from n actions)
 
@@ -72,7 +72,7 @@ and_true : (b c : Bool) → b ≡ true → c ≡ true → b && c ≡ true
 and_true true c e f = f
 and_true false c e f = e
 
--- a get stays only where its submit was made
+-- A get is kept only if its submit was made.
 no_place : (choice : List Bool) (places : Places) (t : ℕ) → Agrees choice places → nat_lt t (length places) && keeps choice t ≡ false → place_of places t ≡ None
 no_place choice places t agrees e = by_place (place_of places t) refl where
   by_place : (o : Option ℕ) → place_of places t ≡ o → o ≡ None
@@ -81,7 +81,7 @@ no_place choice places t agrees e = by_place (place_of places t) refl where
       let there = slice_get_from_place places t p at in
       let both : nat_lt t (length places) && keeps choice t ≡ true = and_true (nat_lt t (length places)) (keeps choice t) (lt-ltb t (length places) (slice_get_within places t (Some p) there)) (agrees.kept t p there) in cc
 
--- the submit of a get is one that was made before it
+-- The submit of a get was made before it.
 its_place : (choice : List Bool) (places : Places) (made : List (ℕ × Action)) (actions : List Action) (t p class : ℕ) → AreMadeAt places made → nat_lt t (length places) && keeps choice t ≡ true → slice_get (made ++ (length places, Get t) ∷ rest_by choice (length places + 1) actions) p ≡ Some (t, Submit class) → place_of places t ≡ Some p
 its_place choice places made actions t p class m e at = place_from_slice_get places t p (elim (slice_get-append_cases made ((length places, Get t) ∷ rest_by choice (length places + 1) actions) p (t, Submit class) at) [ inl h ↦ m.back t p class h | inr h ↦ absurd (behind h.0 h.2) ]) where
   early : t < length places
@@ -91,7 +91,7 @@ its_place choice places made actions t p class m e at = place_from_slice_get pla
   behind zero h = let same : Get t ≡ Submit class = ap (λ (entry : ℕ × Action). entry.1) (same_Some (length places, Get t) (t, Submit class) h) in cc
   behind (suc k) h = omega (arith, late (stays choice) (length places + 1) actions k t (Submit class) h, early)
 
--- what stays behind an action that stays
+-- The kept actions after a kept action.
 abbrev Behind : List Bool → Places → List (ℕ × Action) → Action → List Action → List Deed → Type 0
 Behind choice places made a actions deeds = AllZip (IsDeedOf (made ++ (length places, a) ∷ rest_by choice (length places + 1) actions)) deeds (rest_by choice (length places + 1) actions)
 

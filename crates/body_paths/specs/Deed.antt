@@ -1,15 +1,15 @@
--- What an actor did.
+-- The steps of an actor.
 use Rattle.std.specs.Prelude.{ℕ, Bool, false, ◌==◌}
 use Rattle.std.specs.List.{list_any}
 use Rattle.body_paths.specs.declared.deed.Deed.{Deed}
 use Rattle.body_paths.specs.declared.deed.Deed.TheVariants.{Submits, Gets}
 
--- a submit of a job that may be of this class
+-- The step submits a job that may belong to this class.
 abbrev pub submits : Deed → ℕ → Bool
 submits (Submits classes) class = list_any (λ one. one == class) classes.items
 submits (Gets place) class = false
 
--- a get of the job that the submit at this place of the path made
+-- The step gets the job that the submit at this index of the path made.
 abbrev pub gets : Deed → ℕ → Bool
 gets (Gets got) place = got == place
 gets (Submits classes) place = false

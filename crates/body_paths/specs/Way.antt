@@ -1,4 +1,5 @@
--- The ways on from an action of a body, where the submits before it were made at some places of the path, or left out.
+-- The ways to continue at an action of a body. `places` has the path index of each earlier submit, or `None` if it was
+-- skipped.
 use Rattle.std.specs.Prelude.{ℕ, if◌then◌else◌, List, Option, None, Some, slice_get}
 use Rattle.std.specs.Option.{option_and_then}
 use Rattle.job_bodies.specs.declared.action.Action.{Action}
@@ -8,7 +9,7 @@ use Rattle.body_paths.specs.declared.way.Way.{Way}
 use Rattle.body_paths.specs.declared.way.Way.TheVariants as way
 use Rattle.body_paths.specs.Deed.{submits, gets}
 
--- the place at which the submit at this position was made, if it was
+-- The path index of the submit at this position, if it was made.
 abbrev pub place_of : List (Option ℕ) → ℕ → Option ℕ
 place_of places submit = option_and_then (λ place. place) (slice_get places submit)
 

@@ -1,22 +1,23 @@
-//! Whether a path is of a body.
+//! The result of matching a path against a body.
 
 ghost use Rattle.std.specs.Prelude.{◌≡◌};
 ghost use Rattle.body_paths.specs.Answer as spec;
 
-/// Whether a path is of a body.
+/// The result of matching a path against a body.
 #[derive(Clone, Copy, Debug, PartialEq, Eq)]
 pub enum PathFit {
-    /// It is.
+    /// The path matches the body.
     Fits,
-    /// It is not. So many of its first deeds, and no more, are the first part of a path of the body: the deed at this place
-    /// deviates, or where that is behind the last one, the actor came to its end too early.
+    /// The path does not match. The number is the length of the longest prefix of the path that
+    /// begins a path of the body. The step at this index deviates, or the actor ended too early if
+    /// it is the length of the path.
     Deviates(usize),
-    /// The budget of steps was used up.
+    /// The budget was used up before a decision.
     Undecided,
 }
 
 impl PathFit {
-    /// The same, where so many of the first deeds were explained in another way.
+    /// Returns the same result, with the longer of two explained prefixes.
     pub(crate) fn or_explained(self, other: usize) -> PathFit
         ensures { result ≡ spec.or_explained self other }
     {

@@ -1,28 +1,28 @@
-//! What an actor did.
+//! The steps of an actor.
 
 ghost use Rattle.std.specs.Prelude.{◌≡◌};
 ghost use Rattle.body_paths.specs.Deed as spec;
 
-/// One thing that an actor did, as far as a body says it.
+/// A step of an actor, as far as bodies describe it.
 #[derive(Debug, Drop)]
 pub enum Deed {
-    /// It submitted a job that may be of any of these classes, by their numbers in the plan.
+    /// A submit of a job that may belong to any of these classes, by their numbers in the plan.
     Submits(Vec<usize>),
-    /// It got the job that the submit at this place of the same path made.
+    /// A get of the job that the submit at this index of the same path made.
     Gets(usize),
 }
 
-/// How much of what an actor did its path has.
+/// Whether a path is whole or only begun.
 #[derive(Clone, Copy, Debug, PartialEq, Eq)]
 pub enum Course {
-    /// All: the actor came to its end.
+    /// The whole path: the actor has ended.
     Whole,
-    /// The first part: the actor may go on.
+    /// A prefix of the path: the actor may continue.
     Begun,
 }
 
 impl Deed {
-    /// Whether it is a submit of a job that may be of this class.
+    /// Returns true if it is a submit of a job that may belong to this class.
     pub fn submits(&self, class: usize) -> bool
         ensures { result ≡ spec.submits self.now class }
     {
@@ -32,7 +32,7 @@ impl Deed {
         }
     }
 
-    /// Whether it gets the job that the submit at this place of its path made.
+    /// Returns true if it gets the job that the submit at this index of its path made.
     pub fn gets(&self, place: usize) -> bool
         ensures { result ≡ spec.gets self.now place }
     {

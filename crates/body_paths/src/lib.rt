@@ -1,8 +1,9 @@
-//! Whether what an actor did is what its body says: [`path_fits`] compares the path of a recorded job or round with a body
-//! of the plan.
+//! Matching of recorded paths against bodies of a plan. [`path_fits`] compares the path of a job or
+//! round with a body.
 //!
-//! A body is a straight line, and what it stands for may leave submits out, as an `if` or a shorter fan-out does. So a path
-//! is of a body if it is that body without its work, with some submits left out, each together with its get.
+//! A body is a sequence of actions without branches. Each of its submits is optional, to allow for
+//! an `if` or a smaller fan-out. A path matches a body if it is that body without its work and
+//! without some of its submits, each skipped together with its get.
 #![tactic(auto)]
 
 mod answer;

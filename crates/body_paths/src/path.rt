@@ -1,4 +1,4 @@
-//! Whether a path is of a body.
+//! Matching of a path against a body.
 
 ghost use Rattle.std.specs.Prelude.{◌≤◌, ◌+◌, ◌*◌, ◌^◌, length};
 ghost use Rattle.job_bodies.specs.declared.limits.TheConstants.{MAX_ACTIONS};
@@ -11,23 +11,25 @@ use crate::deed::{Course, Deed};
 use crate::walk::walk;
 use job_bodies::{Action, MAX_ACTIONS};
 
-/// Most bodies have no more actions, and need no room for more.
+/// The length of a body up to which a small buffer is enough. Most bodies are not longer.
 const FEW_ACTIONS: usize = 16;
 
-/// Whether what an actor did is what this body says, the submits left out that it did not make, each with its get.
+/// Matches the path of an actor against a body. Submits that the actor did not make are skipped,
+/// each with its get.
 ///
-/// It walks along the path through the body, and takes a step for each action that it comes to. Where a job may be of
-/// several submits of the body, the first one is tried first; if that leads nowhere, the next one. So it mostly takes no
-/// more steps than the body has actions, and one for their end. In the worst case each submit makes them twice as many.
+/// The search goes through the body along the path, with one search step for each action. If a job
+/// may come from several submits of the body, the first one is tried first, and then the next one.
+/// So it usually takes one step more than the body has actions. Each submit can double the number
+/// of steps in the worst case.
 pub fn path_fits(body: &[Action], path: &[Deed], course: Course, budget: u64) -> PathFit
     requires { length body.now ≤ MAX_ACTIONS }
     ensures fits { OnFits result (IsPathOf course body.now path.now) }
     ensures deviates { OnDeviates result (¬ IsPathOf course body.now path.now) }
 
-    // no more of the path than so many of its first deeds is the first part of a path of the body
+    // The number is the length of the longest prefix of the path that begins a path of the body.
     ensures explained { IfDeviates result (IsExplained body.now path.now) }
 
-    // a step for each action and one for the end, twice as many for each submit, are enough
+    // Enough is one step for each action and one for the end, doubled for each submit.
     ensures decided { (length body.now + 1) * 2 ^ submit_count body.now ≤ budget
         → IsDecided result }
 {
@@ -38,7 +40,7 @@ pub fn path_fits(body: &[Action], path: &[Deed], course: Course, budget: u64) ->
     }
 }
 
-/// The same, with room for the place of each submit.
+/// Matches the path, with a buffer for the index of each submit.
 fn walk_whole(
     body: &[Action],
     path: &[Deed],

@@ -1,4 +1,4 @@
-//! A walk through a body, along a path.
+//! The search for a way through a body, along a path.
 
 ghost use Rattle.std.specs.Prelude.{◌≡◌, ◌≤◌, ◌<◌, ℕ, List, [], Option, length, take, drop, slice_get, slice_index_or};
 ghost use Rattle.job_bodies.specs.declared.action.Action.TheVariants.{Work};
@@ -13,8 +13,9 @@ use crate::deed::{Course, Deed};
 use crate::way::{Way, way_on};
 use job_bodies::Action;
 
-/// Whether the deeds from a place on are of the actions from a position on. The submits before that position were made at
-/// these places of the path, or left out. It takes a step for each action that it comes to.
+/// Matches the path from the index `place` on against the body from the index `position` on.
+/// `places` has the path index of each earlier submit of the body, or `None` if it was skipped.
+/// Each action takes one of the search steps.
 pub(crate) fn walk(
     body: &[Action],
     path: &[Deed],
@@ -68,7 +69,7 @@ pub(crate) fn walk(
     }
 }
 
-/// Whether the path ends before this place, and its actor may go on.
+/// Returns true if the path ends before this index and its actor may continue.
 fn may_end(path: &[Deed], course: Course, place: usize) -> bool
     ensures { result ≡ ends course (drop place path.now) }
 {
@@ -78,7 +79,7 @@ fn may_end(path: &[Deed], course: Course, place: usize) -> bool
     }
 }
 
-/// What is told of the deeds from a place on, where nothing is left of the body.
+/// Returns the result for the path from `place` on when no actions are left.
 fn at_end(path: &[Deed], place: usize) -> PathFit
     requires { place ≤ length path.now }
     ensures told { (course : Course) (places : List (Option ℕ))
@@ -92,7 +93,7 @@ fn at_end(path: &[Deed], place: usize) -> PathFit
     }
 }
 
-/// The ways on from the action at a position, at a place of the path.
+/// Returns the ways to continue at an action of the body and an index of the path.
 fn way_at(
     body: &[Action],
     path: &[Deed],

@@ -1,4 +1,4 @@
-//! The ways on from an action of a body.
+//! The ways to continue at an action of a body.
 
 ghost use Rattle.std.specs.Prelude.{◌≡◌};
 ghost use Rattle.std.specs.Option.{option_copied};
@@ -7,20 +7,21 @@ ghost use Rattle.body_paths.specs.Way as spec;
 use crate::deed::Deed;
 use job_bodies::Action;
 
-/// What may come of an action of a body, at a place of a path.
+/// The ways to continue at an action of a body and an index of a path.
 #[derive(Clone, Copy, PartialEq, Eq)]
 pub(crate) enum Way {
-    /// It is passed, and none of the path.
+    /// The action is skipped, and no step of the path is used.
     Passes,
-    /// It is a submit, which the next deed may be; or it is left out.
+    /// The action is a submit. It is the next step of the path, or it is skipped.
     SubmitsOrPasses,
-    /// It is a get, and the next deed is that one.
+    /// The action is a get, and the next step of the path is that get.
     Gets,
-    /// It is a get, and the next deed is another one, or none.
+    /// The action is a get, and the next step is another one, or missing.
     Stops,
 }
 
-/// The ways on from an action, where the submits before it were made at these places of the path, or left out.
+/// Returns the ways to continue. `places` has the path index of each earlier submit of the body, or
+/// `None` if it was skipped.
 pub(crate) fn way_on(places: &[Option<usize>], action: Action, next: Option<&Deed>) -> Way
     ensures { result ≡ spec.way_on places.now action (option_copied next.entry) }
 {
@@ -34,7 +35,7 @@ pub(crate) fn way_on(places: &[Option<usize>], action: Action, next: Option<&Dee
     }
 }
 
-/// The place of the path at which the submit at this position was made, if it was.
+/// Returns the path index of the submit at this position, if it was made.
 fn place_of(places: &[Option<usize>], submit: usize) -> Option<usize>
     ensures { result ≡ spec.place_of places.now submit }
 {
