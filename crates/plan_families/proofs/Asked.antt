@@ -1,4 +1,4 @@
--- One body of a family after another.
+-- The result after each body of a family.
 use Rattle.std.proofs.Common.{◌≡◌, ℕ, ◌+◌, ◌<◌, ◌≤◌, max, Bool, false, List, [], ◌∷◌, ◌++◌, length, length-append, get_or, take, map, filter, refl, sym, subst, ◌∙◌, arith, IsTrue}
 use Rattle.std.specs.List.{All, AllPairs, Contains, range_with_len}
 use Rattle.std.specs.List.Sorted.{IsStrictlyIncreasing}
@@ -16,7 +16,7 @@ use Rattle.plan_families.specs.PathFamily.{IsMostExplained, IsEnoughFor}
 use Rattle.plan_families.specs.Told.{IsTold}
 use Rattle.plan_families.proofs.Explained.{explained_fits, explained_deviates}
 
--- ---- what a longer list says of its front
+-- ---- a prefix of a list
 All-front : {X : Type 0} → (P : X → Type 0) (xs ys : List X) → All P (xs ++ ys) → All P xs
 All-front P xs ys all k d inside = subst P (get_or_append_left xs ys d k inside) (all k d (omega (arith, length-append xs ys)))
 
@@ -27,7 +27,7 @@ pairs_front xs y pairs i j d before inside =
     let second : get_or (xs ++ y ∷ []) j d ≡ get_or xs j d = get_or_append_left xs (y ∷ []) d j inside in
     omega (arith, first, second, pairs i j d before (omega arith))
 
--- the last one is above each of the others
+-- The last number is larger than each other one.
 below_last : (xs : List ℕ) (y m : ℕ) → AllPairs (λ m n. m < n) (xs ++ y ∷ []) → Contains xs m → m < y
 below_last xs y m pairs there =
     let long : length (xs ++ y ∷ []) ≡ length xs + 1 = length-append xs (y ∷ []) in
@@ -35,17 +35,17 @@ below_last xs y m pairs there =
     let last : get_or (xs ++ y ∷ []) (length xs) m ≡ y = get_or_push xs y m (length xs) refl in
     omega (arith, first, last, there.2, pairs there.0 (length xs) m there.1 (omega arith))
 
--- ---- one body after another
--- what is said of each member: it was asked, and the path is of its body
+-- ---- body by body
+-- The number was matched, and the path matches its body.
 abbrev pub IsMember : (ℕ → List Action) → Course → List Deed → List ℕ → ℕ → Type 0
 IsMember body_of course path asked n = Contains asked n × IsPathOf course (body_of n) path
 
--- they stay members, where one more is asked
+-- Members remain members after one more body.
 members_stay : (body_of : ℕ → List Action) (course : Course) (path : List Deed) (asked members : List ℕ) (n : ℕ) → All (IsMember body_of course path asked) members → All (IsMember body_of course path (asked ++ n ∷ [])) members
 members_stay body_of course path asked members n sound =
     All-weaker (IsMember body_of course path asked) (IsMember body_of course path (asked ++ n ∷ [])) (λ m one. (Contains-append_left asked (n ∷ []) m one.0, one.1)) members sound
 
--- one more body
+-- One more body.
 bodies_more : (body_of : ℕ → List Action) (asked : List ℕ) (n : ℕ) → map body_of (asked ++ n ∷ []) ≡ map body_of asked ++ body_of n ∷ []
 bodies_more body_of asked n = map-append body_of asked (n ∷ [])
 
@@ -56,7 +56,7 @@ enough_last : (body_of : ℕ → List Action) (budget : ℕ) (asked : List ℕ) 
 enough_last body_of budget asked n enough =
     All-contains (IsEnoughFor budget) _ (body_of n) (subst (All (IsEnoughFor budget)) (bodies_more body_of asked n) enough) (Contains-push (map body_of asked) (body_of n))
 
--- where the path is of the next one's body
+-- The path matches the next body.
 pub told_fits : (body_of : ℕ → List Action) (course : Course) (path : List Deed) (budget : ℕ) (asked members : List ℕ) (longest : ℕ) (is_decided : Bool) (n : ℕ) → IsTold body_of course path budget asked members longest is_decided → IsPathOf course (body_of n) path
     → IsTold body_of course path budget (asked ++ n ∷ []) (members ++ n ∷ []) (length path) is_decided
 told_fits body_of course path budget asked members longest is_decided n told of =
@@ -70,13 +70,13 @@ told_fits body_of course path budget asked members longest is_decided n told of 
       ascending = λ pairs. all_pairs_push (λ l m. l < m) members n (told.ascending (pairs_front asked n pairs)) (λ k d inside. below_last asked n (get_or members k d) pairs (told.sound k d inside).0);
     }
 
--- none that the path is of is missing, where it is not of the next one's body
+-- If the path does not match the next body, no member is missing.
 told_not : (body_of : ℕ → List Action) (course : Course) (path : List Deed) (asked members : List ℕ) (n : ℕ) → All (λ m. IsPathOf course (body_of m) path → Contains members m) asked → ¬ IsPathOf course (body_of n) path
     → All (λ m. IsPathOf course (body_of m) path → Contains members m) (asked ++ n ∷ [])
 told_not body_of course path asked members n complete not_of =
     All-push (λ m. IsPathOf course (body_of m) path → Contains members m) asked n complete (λ of. absurd (not_of of))
 
--- where it is not
+-- The path does not match the next body.
 pub told_deviates : (body_of : ℕ → List Action) (course : Course) (path : List Deed) (budget : ℕ) (asked members : List ℕ) (longest : ℕ) (is_decided : Bool) (n explained : ℕ) → IsTold body_of course path budget asked members longest is_decided → ¬ IsPathOf course (body_of n) path → IsExplained (body_of n) path explained
     → IsTold body_of course path budget (asked ++ n ∷ []) members (max longest explained) is_decided
 told_deviates body_of course path budget asked members longest is_decided n explained told not_of by = record {
@@ -87,7 +87,7 @@ told_deviates body_of course path budget asked members longest is_decided n expl
   ascending = λ pairs. told.ascending (pairs_front asked n pairs);
 }
 
--- where that is not decided
+-- It is undecided whether the path matches the next body.
 pub told_undecided : (body_of : ℕ → List Action) (course : Course) (path : List Deed) (budget : ℕ) (asked members : List ℕ) (longest : ℕ) (is_decided : Bool) (n : ℕ) → IsTold body_of course path budget asked members longest is_decided → ¬ IsEnoughFor budget (body_of n)
     → IsTold body_of course path budget (asked ++ n ∷ []) members longest false
 told_undecided body_of course path budget asked members longest is_decided n told short = record {
@@ -99,23 +99,23 @@ told_undecided body_of course path budget asked members longest is_decided n tol
 }
 
 -- ---- the whole family
--- behind the last one, all were asked
+-- After the last body, all were matched.
 pub told_whole : (body_of : ℕ → List Action) (course : Course) (path : List Deed) (budget : ℕ) (items family : List ℕ) (index : ℕ) (members : List ℕ) (longest : ℕ) (is_decided : Bool) → IsTold body_of course path budget (take index items) members longest is_decided → length items ≤ index → items ≡ family
     → IsTold body_of course path budget family members longest is_decided
 told_whole body_of course path budget items family index members longest is_decided told over same =
     subst (λ (asked : List ℕ). IsTold body_of course path budget asked members longest is_decided) (take_all index items over ∙ same) told
 
--- one of the family that the path is of is a member
+-- Each entry of the family whose body the path matches is a member.
 pub told_complete : (body_of : ℕ → List Action) (course : Course) (path : List Deed) (budget : ℕ) (family members : List ℕ) (longest : ℕ) (is_decided : Bool) → IsTold body_of course path budget family members longest is_decided → IsTrue is_decided → (n : ℕ) → Contains family n → IsPathOf course (body_of n) path → Contains members n
 told_complete body_of course path budget family members longest is_decided told all n among of =
     All-contains (λ m. IsPathOf course (body_of m) path → Contains members m) family n (told.complete all) among of
 
--- the members of an ascending family ascend
+-- The members of an ascending family are in ascending order.
 pub told_ascending : (body_of : ℕ → List Action) (course : Course) (path : List Deed) (budget : ℕ) (family members : List ℕ) (longest : ℕ) (is_decided : Bool) → IsTold body_of course path budget family members longest is_decided → IsStrictlyIncreasing family → IsStrictlyIncreasing members
 told_ascending body_of course path budget family members longest is_decided told up k inside =
     told.ascending (AllPairs-from_increasing family up) k (k + 1) 0 (omega arith) inside
 
--- so do the numbers that a test lets through
+-- A filtered range is in ascending order.
 pub range_ascends : (test : ℕ → Bool) (count : ℕ) → IsStrictlyIncreasing (filter test (range_with_len 0 count))
 range_ascends test count = IsStrictlyIncreasing-filter test (range_with_len 0 count) (λ k inside.
     let long : length (range_with_len 0 count) ≡ count = length-range_with_len 0 count in

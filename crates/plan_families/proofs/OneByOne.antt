@@ -1,10 +1,10 @@
--- The numbers of a family, one after another.
+-- The numbers of a family, in order.
 use Rattle.std.proofs.Common.{◌≡◌, ℕ, zero, suc, ◌+◌, ◌<◌, Bool, true, false, cond, List, [], ◌∷◌, ◌++◌, filter, slice_get, Some, refl, sym, ap, ◌∙◌, append-nil, arith}
 use Rattle.std.specs.List.{range_with_len}
 use Rattle.std.proofs.lemmas.List.{map-id}
 use Rattle.std.proofs.lemmas.List.FromFn.{filter_of_map_range_with_len_more}
 
--- ---- one more
+-- ---- one more number
 pub kept_more : (p : ℕ → Bool) (n : ℕ) → filter p (range_with_len 0 (n + 1)) ≡ filter p (range_with_len 0 n) ++ cond (p n) (n ∷ []) []
 kept_more p n =
     ap (filter p) (sym (map-id (range_with_len 0 (n + 1))))
@@ -19,7 +19,7 @@ kept_one p n passes = kept_more p n ∙ by_test (p n) n (filter p (range_with_le
 pub kept_none : (p : ℕ → Bool) (n : ℕ) → p n ≡ false → filter p (range_with_len 0 (n + 1)) ≡ filter p (range_with_len 0 n)
 kept_none p n fails = kept_more p n ∙ (by_test (p n) n (filter p (range_with_len 0 n)) false fails ∙ append-nil (filter p (range_with_len 0 n)))
 
--- ---- the first one
+-- ---- the first number
 at_front : (b : Bool) (n : ℕ) (xs : List ℕ) → b ≡ true → slice_get (cond b (n ∷ xs) xs) 0 ≡ Some n
 at_front true n xs passes = refl
 at_front false n xs passes = cc
@@ -42,7 +42,7 @@ first_from p a (suc n) (suc j) less none passes =
     let parts = none_of_both (p a) a (filter p (range_with_len (a + 1) j)) none in
     behind (p a) a (filter p (range_with_len (a + 1) n)) parts.0 ∙ (first_from p (a + 1) n j (omega arith) parts.1 (ap p same ∙ passes) ∙ ap (λ (k : ℕ). Some k) same)
 
--- the first number below the end that passes is the first of all that pass
+-- The first number that passes the test is the first element of the filtered range.
 pub first_kept : (p : ℕ → Bool) (n j : ℕ) → j < n → filter p (range_with_len 0 j) ≡ [] → p j ≡ true → Some j ≡ slice_get (filter p (range_with_len 0 n)) 0
 first_kept p n j less none passes =
     let same : 0 + j ≡ j = omega arith in

@@ -1,4 +1,4 @@
--- The classes that a path is of, where all of the family were asked.
+-- The classes whose bodies a path matches, after the whole family.
 use Rattle.std.proofs.Common.{◌≡◌, ℕ, Bool, List, length, filter, subst, IsTrue}
 use Rattle.std.specs.List.{All, range_with_len}
 use Rattle.std.specs.List.Sorted.{IsStrictlyIncreasing}
@@ -27,7 +27,7 @@ unfolding class_family
 class_ascending plan label pool course path budget members longest is_decided told =
     told_ascending (class_body plan) course path budget (class_family plan label pool) members longest is_decided told (range_ascends (is_class_in_family plan label pool) (length plan.classes))
 
--- all of the plan were looked at
+-- All classes of the plan were tested.
 pub class_whole : (plan : Plan) (label pool : List ℕ) (course : Course) (path : List Deed) (budget : ℕ) (told : PathFamily) (count : ℕ) → count ≡ length plan.classes → Tells told (class_body plan) course path budget (filter (is_class_in_family plan label pool) (range_with_len 0 count)) → Tells told (class_body plan) course path budget (class_family plan label pool)
 unfolding class_family
 class_whole plan label pool course path budget told count all tells = subst (λ (n : ℕ). Tells told (class_body plan) course path budget (filter (is_class_in_family plan label pool) (range_with_len 0 n))) all tells

@@ -1,4 +1,4 @@
--- The kinds of clients that a path is of, where all of the family were asked.
+-- The client kinds whose bodies a path matches, after the whole family.
 use Rattle.std.proofs.Common.{◌≡◌, ℕ, Bool, List, length, filter, subst, IsTrue}
 use Rattle.std.specs.List.{All, range_with_len}
 use Rattle.std.specs.List.Sorted.{IsStrictlyIncreasing}
@@ -27,7 +27,7 @@ unfolding client_family
 kind_ascending plan label course path budget members longest is_decided told =
     told_ascending (client_body plan) course path budget (client_family plan label) members longest is_decided told (range_ascends (is_client_in_family plan label) (length plan.clients))
 
--- all of the plan were looked at
+-- All client kinds of the plan were tested.
 pub kind_whole : (plan : Plan) (label : List ℕ) (course : Course) (path : List Deed) (budget : ℕ) (told : PathFamily) (count : ℕ) → count ≡ length plan.clients → Tells told (client_body plan) course path budget (filter (is_client_in_family plan label) (range_with_len 0 count)) → Tells told (client_body plan) course path budget (client_family plan label)
 unfolding client_family
 kind_whole plan label course path budget told count all tells = subst (λ (n : ℕ). Tells told (client_body plan) course path budget (filter (is_client_in_family plan label) (range_with_len 0 n))) all tells

@@ -1,4 +1,4 @@
--- Families of small plans, computed from the definitions alone.
+-- Examples of families of small plans, computed from the definitions.
 use Rattle.std.proofs.Common.{◌≡◌, ℕ, true, false, List, [], ◌∷◌, refl}
 use Rattle.std.specs.Prelude.{codes}
 use Rattle.line_words.specs.Number.{is_whole_number, number_of}
@@ -42,12 +42,12 @@ pub part_of_it : is_of_family (codes "query") (codes "quer") ≡ false
 unfolding is_of_family
 part_of_it = refl
 
--- the family of another label
+-- A label with a number does not refer to the name without it.
 pub of_its_own : is_of_family (codes "query_2") (codes "query") ≡ false
 unfolding is_of_family
 of_its_own = refl
 
--- ---- classes and kinds
+-- ---- classes and client kinds
 abbrev pool : List ℕ → Pool
 pool name = record { name = name; core = 1; max = 1; queue = 1; prestart = false }
 

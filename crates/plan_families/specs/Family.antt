@@ -1,4 +1,4 @@
--- Families: the classes of a plan, or its kinds of clients, that one label of a recording may stand for.
+-- Families: the classes or client kinds of a plan that one label of a recording may refer to.
 use Rattle.std.specs.Prelude.{◌≡◌, ◌≤◌, ◌⊎◌, ℕ, Bool, true, false, ◌==◌, ◌&&◌, nat_le, List, [], ◌∷◌, ◌++◌, length, take, drop, filter, codes, decimal}
 use Rattle.std.specs.List.{range_with_len}
 use Rattle.std.specs.Option.{option_map_or}
@@ -8,32 +8,32 @@ use Rattle.line_words.specs.Number.{number_of}
 use Rattle.job_bodies.specs.Plan.{Plan, pool_at, class_at, client_at}
 
 -- ---- names
--- nothing, or `_` and a number from 2 on
+-- Empty, or `_` and a number from 2 on.
 abbrev pub is_family_end : List ℕ → Bool
 is_family_end [] = true
 is_family_end (byte ∷ digits) = byte == 95 && option_map_or (nat_le 2) (number_of digits) false
 
--- the name begins with the label, and behind it stands nothing, or `_` and a number from 2 on
+-- The name is the label followed by nothing, or by `_` and a number from 2 on.
 unfoldable pub is_of_family : List ℕ → List ℕ → Bool
 is_of_family label name = bytes_eq (take (length label) name) label && is_family_end (drop (length label) name)
 
--- the same in other words: the name is the label, or the label, `_` and a number from 2 on
+-- The same, without a parser: the name is the label, or the label, `_` and a number from 2 on.
 abbrev pub IsOfFamily : List ℕ → List ℕ → Type 0
 IsOfFamily label name = (name ≡ label) ⊎ ((n : ℕ) × (2 ≤ n) × (n ≤ MAX_LINE_NUMBER) × (name ≡ label ++ codes "_" ++ decimal n))
 
--- ---- classes and kinds
--- the class of this number has a name of the family, and a pool of this name
+-- ---- classes and client kinds
+-- The class has a name of the family, and its pool has this name.
 abbrev pub is_class_in_family : Plan → List ℕ → List ℕ → ℕ → Bool
 is_class_in_family plan label pool class = is_of_family label (class_at plan class).name && bytes_eq (pool_at plan (class_at plan class).pool).name pool
 
--- the kind of clients of this number has a name of the family
+-- The client kind has a name of the family.
 abbrev pub is_client_in_family : Plan → List ℕ → ℕ → Bool
 is_client_in_family plan label client = is_of_family label (client_at plan client).name
 
--- the numbers of the classes that jobs of this label may be of, in the pool of this name, ascending
+-- The numbers of the classes that jobs of this label in this pool may belong to, in ascending order.
 unfoldable pub class_family : Plan → List ℕ → List ℕ → List ℕ
 class_family plan label pool = filter (is_class_in_family plan label pool) (range_with_len 0 (length plan.classes))
 
--- the numbers of the kinds that rounds of this label may be of, ascending
+-- The numbers of the client kinds that rounds of this label may belong to, in ascending order.
 unfoldable pub client_family : Plan → List ℕ → List ℕ
 client_family plan label = filter (is_client_in_family plan label) (range_with_len 0 (length plan.clients))

@@ -1,4 +1,4 @@
--- What is told of the first bodies of a family, while one after another is asked.
+-- The result for the first bodies of a family.
 use Rattle.std.specs.Prelude.{◌<◌, ℕ, Bool, List, map, All, AllPairs, Contains, IsTrue}
 use Rattle.job_bodies.specs.declared.action.Action.{Action}
 use Rattle.body_paths.specs.declared.deed.Deed.{Deed}
@@ -7,7 +7,7 @@ use Rattle.body_paths.specs.Path.{IsPathOf}
 use Rattle.plan_families.specs.declared.path_family.PathFamily.{PathFamily}
 use Rattle.plan_families.specs.PathFamily.{IsMostExplained, IsEnoughFor}
 
--- the members so far, how much is explained, and whether all was decided, where these numbers, each with its body, were asked
+-- The members, the explained length and the flag are correct after these numbers, each with its body, were matched.
 pub record IsTold (body_of : ℕ → List Action) (course : Course) (path : List Deed) (budget : ℕ) (asked : List ℕ) (members : List ℕ) (longest : ℕ) (is_decided : Bool) : Type 0 where
   pub sound : All (λ n. Contains asked n × IsPathOf course (body_of n) path) members
   pub complete : IsTrue is_decided → All (λ n. IsPathOf course (body_of n) path → Contains members n) asked
@@ -15,6 +15,6 @@ pub record IsTold (body_of : ℕ → List Action) (course : Course) (path : List
   pub decided : All (IsEnoughFor budget) (map body_of asked) → IsTrue is_decided
   pub ascending : AllPairs (λ m n. m < n) asked → AllPairs (λ m n. m < n) members
 
--- the same, of what is kept
+-- The same for a `PathFamily`.
 abbrev pub Tells : PathFamily → (ℕ → List Action) → Course → List Deed → ℕ → List ℕ → Type 0
 Tells told body_of course path budget asked = IsTold body_of course path budget asked told.members.items told.explained told.is_decided

@@ -1,4 +1,4 @@
-//! The bodies of a plan by the numbers of their classes and kinds.
+//! The bodies of a plan, by the numbers of their classes and client kinds.
 
 ghost use Rattle.std.specs.Prelude.{◌≡◌, ◌≤◌, length};
 ghost use Rattle.job_bodies.specs.declared.limits.TheConstants.{MAX_ACTIONS};
@@ -6,7 +6,7 @@ ghost use Rattle.plan_families.specs.PathFamily as spec;
 
 use job_bodies::{Action, Plan};
 
-/// What a job of this class does; nothing where there is no such class.
+/// Returns the body of a class, or an empty one if there is no such class.
 pub(crate) fn class_body(plan: &Plan, class: usize) -> &[Action]
     ensures value { result.now ≡ spec.class_body plan.now class }
     ensures short { length result.now ≤ MAX_ACTIONS }
@@ -17,7 +17,7 @@ pub(crate) fn class_body(plan: &Plan, class: usize) -> &[Action]
     }
 }
 
-/// What a client of this kind does; nothing where there is no such kind.
+/// Returns the body of a client kind, or an empty one if there is no such kind.
 pub(crate) fn client_body(plan: &Plan, client: usize) -> &[Action]
     ensures value { result.now ≡ spec.client_body plan.now client }
     ensures short { length result.now ≤ MAX_ACTIONS }

@@ -1,4 +1,4 @@
-//! Which entries of a plan a label of a recording may stand for.
+//! The classes and client kinds of a plan that a label of a recording may refer to.
 
 ghost use Rattle.std.specs.Prelude.{◌≡◌, ◌↔◌, false, nat_le, slice_get, IsTrue, IfOk};
 ghost use Rattle.std.specs.Option.{option_map_or};
@@ -9,9 +9,9 @@ use job_bodies::Plan;
 use line_words::number_of;
 use std::alloc::{AllocError, Global};
 
-/// Whether an entry of this name is of the family of the label: the name is the label itself, or the label, `_` and a
-/// number from 2 to 1,000,000,000 in decimal digits without leading zeros, as are `query`, `query_2` and `query_17` of
-/// `query`.
+/// Returns true if an entry of this name is of the family of the label. The name must be the label
+/// itself, or the label, `_` and a number from 2 to 1,000,000,000 in decimal digits without leading
+/// zeros. For example, `query`, `query_2` and `query_17` are of the family of `query`.
 #[tactic(auto, unfolding(crate::specs::Family::is_of_family))]
 pub fn is_of_family(label: &str, name: &str) -> bool
     ensures value { result ≡ spec.is_of_family label.now name.now }
@@ -41,11 +41,12 @@ fn is_from_two(number: Option<usize>) -> bool
     }
 }
 
-/// The numbers of the classes that jobs of this label may be of, in the pool of this name, ascending.
+/// Returns the numbers of the classes that jobs of this label in this pool may belong to, in
+/// ascending order.
 ///
 /// # Errors
 ///
-/// [`AllocError`] where memory runs out.
+/// Returns [`AllocError`] if memory runs out.
 #[tactic(auto, unfolding(crate::specs::Family::class_family))]
 pub fn class_family(
     alloc: Global,
@@ -60,7 +61,7 @@ pub fn class_family(
         .collect(alloc)
 }
 
-/// The first of the classes that jobs of this label may be of, in the pool of this name. It needs no memory.
+/// Returns the first class that jobs of this label in this pool may belong to, without allocating.
 pub fn first_class(plan: &Plan, label: &str, pool: &str) -> Option<usize>
     ensures { result ≡ slice_get (spec.class_family plan.now label.now pool.now) 0 }
 {
@@ -78,18 +79,19 @@ pub(crate) fn is_class_in_family(plan: &Plan, label: &str, pool: &str, class: us
     is_of_family(label, plan.class_name(class)) && pool_of_class(plan, class) == pool
 }
 
-/// The name of the pool that runs the jobs of the class.
+/// Returns the name of the pool that runs the jobs of the class.
 fn pool_of_class(plan: &Plan, class: usize) -> &str
     ensures { result.now ≡ (pool_at plan.now (class_at plan.now class).pool).name }
 {
     plan.pool_name(plan.class_at(class).map_or(0, |class| class.pool))
 }
 
-/// The numbers of the kinds of clients that rounds of this label may be of, ascending.
+/// Returns the numbers of the client kinds that rounds of this label may belong to, in ascending
+/// order.
 ///
 /// # Errors
 ///
-/// [`AllocError`] where memory runs out.
+/// Returns [`AllocError`] if memory runs out.
 #[tactic(auto, unfolding(crate::specs::Family::client_family))]
 pub fn client_family(alloc: Global, plan: &Plan, label: &str) -> Result<Vec<usize>, AllocError>
     ensures { IfOk result (λ family. family.items ≡ spec.client_family plan.now label.now) }
@@ -99,7 +101,7 @@ pub fn client_family(alloc: Global, plan: &Plan, label: &str) -> Result<Vec<usiz
         .collect(alloc)
 }
 
-/// The first of the kinds of clients that rounds of this label may be of. It needs no memory.
+/// Returns the first client kind that rounds of this label may belong to, without allocating.
 pub fn first_client(plan: &Plan, label: &str) -> Option<usize>
     ensures { result ≡ slice_get (spec.client_family plan.now label.now) 0 }
 {

@@ -1,9 +1,9 @@
-//! Which classes of a plan, or kinds of clients, a recorded path is of.
+//! The classes and client kinds of a plan whose bodies a recorded path matches.
 //!
-//! A label of a recording stands for a family of a plan: the classes NAME, NAME_2, NAME_3, and so on, in the pool that
-//! its submits name, or the kinds of clients of these names ([`is_of_family`]). [`classes_of_path`] and
-//! [`kinds_of_path`] ask each body of the family whether the path is of it, and answer all that it is of, or how much of
-//! it is explained.
+//! A label of a recording refers to a family of a plan: the classes NAME, NAME_2, NAME_3 and so on
+//! in the pool that its submits name, or the client kinds of these names ([`is_of_family`]).
+//! [`classes_of_path`] and [`kinds_of_path`] match a path against each body of the family. They
+//! return all members whose body the path matches, and how much of the path the bodies explain.
 #![tactic(auto)]
 
 mod bodies;

@@ -1,4 +1,4 @@
-//! The classes and the kinds of clients that a path is of.
+//! The classes and client kinds whose bodies a path matches.
 
 ghost use Rattle.std.specs.Prelude.{All, IsTrue, IfOk};
 ghost use Rattle.std.specs.List.Sorted.{IsStrictlyIncreasing};
@@ -11,12 +11,12 @@ use body_paths::{Course, Deed};
 use job_bodies::Plan;
 use std::alloc::{AllocError, Global};
 
-/// The classes that a job of this label in this pool may be of, by what it did. Each body of the family has the budget
-/// for itself, in steps of [`path_fits`](body_paths::path_fits).
+/// Returns the classes that a job of this label in this pool may belong to, by its path. `budget`
+/// limits the steps of [`path_fits`](body_paths::path_fits) for each body of the family.
 ///
 /// # Errors
 ///
-/// [`AllocError`] where memory runs out.
+/// Returns [`AllocError`] if memory runs out.
 pub fn classes_of_path(
     alloc: Global,
     plan: &Plan,
@@ -48,12 +48,12 @@ pub fn classes_of_path(
     Ok(told)
 }
 
-/// The kinds of clients that a round of this label may be of, by what it did. Each body of the family has the budget
-/// for itself, in steps of [`path_fits`](body_paths::path_fits).
+/// Returns the client kinds that a round of this label may belong to, by its path. `budget` limits
+/// the steps of [`path_fits`](body_paths::path_fits) for each body of the family.
 ///
 /// # Errors
 ///
-/// [`AllocError`] where memory runs out.
+/// Returns [`AllocError`] if memory runs out.
 pub fn kinds_of_path(
     alloc: Global,
     plan: &Plan,

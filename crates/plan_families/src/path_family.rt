@@ -1,4 +1,4 @@
-//! Which of the bodies of a family a path is of, while one after another is asked.
+//! The result of matching a path against the bodies of a family.
 
 ghost use Rattle.std.specs.Prelude.{◌≡◌, ◌≤◌, ℕ, List, [], ◌∷◌, ◌++◌, length, OnOk};
 ghost use Rattle.job_bodies.specs.declared.action.Action.{Action};
@@ -11,21 +11,21 @@ use body_paths::{Course, Deed, PathFit, path_fits};
 use job_bodies::Action;
 use std::alloc::{AllocError, Global};
 
-/// What a family of classes, or of kinds of clients, says of a path.
+/// The result of matching a path against a family of classes or client kinds.
 #[derive(Debug, Drop)]
 pub struct PathFamily {
-    /// The numbers of those of the family that the path is of, ascending.
+    /// The numbers of the members whose body the path matches, in ascending order.
     pub members: Vec<usize>,
-    /// The most of the path's first deeds that a body of the family explains: all where there is a member, and 0 where
-    /// there is no family.
+    /// The length of the longest prefix of the path that a body of the family explains. It is the
+    /// length of the path if there is a member, and 0 if the family is empty.
     pub explained: usize,
-    /// Whether each body of the family was decided within the budget. Where one was not, there may be more members, and
-    /// more of the path explained.
+    /// True if each body of the family was decided within the budget. Otherwise there may be more
+    /// members, and a longer prefix may be explained.
     pub is_decided: bool,
 }
 
 impl PathFamily {
-    /// No body was asked yet.
+    /// Creates the result for an empty family.
     pub(crate) fn new(alloc: Global) -> PathFamily
         ensures { (body_of : ℕ → List Action) (course : Course) (path : List Deed) (budget : ℕ)
             → Tells result body_of course path budget [] }
@@ -37,7 +37,7 @@ impl PathFamily {
         }
     }
 
-    /// Asks one more: that of this number, which has this body.
+    /// Matches the path against one more body, that of the entry `number`.
     pub(crate) fn ask(
         &mut self,
         number: usize,
