@@ -1,4 +1,4 @@
--- Bodies that grow by submits, each with its get.
+-- Bodies that are extended by submits, each with its get.
 use Rattle.std.proofs.Common.{◌≡◌, ◌≤◌, ◌<◌, ℕ, ◌+◌, Bool, true, false, cond, ◌&&◌, List, [], ◌∷◌, ◌++◌, map, length, take, drop, refl, sym, ap, subst, ◌∙◌, arith}
 use Rattle.std.specs.Prelude.{filter, insert}
 use Rattle.std.proofs.lemmas.Bool.{lt-ltb}
@@ -64,7 +64,7 @@ grows_both body at class get_at l behind m = record {
   work = work_put_in (with_action body at (Submit class)) get_at (Get at) refl ∙ work_put_in body at (Submit class) refl;
 }
 
--- ---- what was made
+-- ---- the result
 pub grows_by_submit : (body new : List Action) (at class : ℕ) → at ≤ length body → new ≡ with_action body at (Submit class) → Grows body new
 grows_by_submit body new at class l e = subst (λ (actions : List Action). Grows body actions) (sym e) (grows_submit body at class l)
 

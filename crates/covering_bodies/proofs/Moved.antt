@@ -1,4 +1,4 @@
--- Where actions stand once one more is put in, and which of them stay.
+-- The indices of actions after an insertion, and the actions that are kept.
 use Rattle.std.proofs.Common.{◌≡◌, ◌≤◌, ◌<◌, ℕ, suc, zero, ◌+◌, Bool, true, false, cond, ◌&&◌, List, [], ◌∷◌, refl, sym, ap, subst, ◌∙◌, inl, inr, arith, add-one}
 use Rattle.std.specs.Prelude.{nat_lt}
 use Rattle.std.proofs.lemmas.Bool.{cases_lt, lt-ltb, le-ltb}
@@ -7,7 +7,7 @@ use Rattle.job_bodies.specs.declared.action.Action.TheVariants.{Work, Submit, Ge
 use Rattle.body_paths.specs.Path.{keeps, stays}
 use Rattle.covering_bodies.specs.Insertion.{moved, moved_action}
 
--- ---- places
+-- ---- indices
 pub moved-before : (at position : ℕ) → position < at → moved at position ≡ position
 moved-before at position l = let e = lt-ltb position at l in rw e refl
 
@@ -39,7 +39,7 @@ moved-lt at t p = elim (cases_lt t p) [
 ]
 
 -- ---- choices
--- the choice that leaves out what is put in at this place
+-- The choice that skips the action inserted at this index.
 abbrev pub left_out : ℕ → List Bool → List Bool
 left_out zero choice = false ∷ choice
 left_out (suc at) [] = []

@@ -1,4 +1,4 @@
--- A path is of the body that it has by itself.
+-- A path matches its own body.
 use Rattle.std.proofs.Common.{◌≡◌, ◌≤◌, ◌<◌, ℕ, suc, zero, ◌+◌, Bool, true, false, ◌&&◌, List, [], ◌∷◌, map, length, take, refl, sym, ap, subst, ◌∙◌, arith, eq-eqb, zero-add}
 use Rattle.std.specs.Prelude.{Option, None, Some, filter, slice_get, slice_index, nat_lt, not, ◌==◌, All}
 use Rattle.std.specs.List.{enumerate_from, AllZip, list_any}
@@ -15,7 +15,7 @@ use Rattle.body_paths.specs.declared.deed.Deed.TheVariants as deed
 use Rattle.body_paths.specs.Path.{keeps, stays, IsDeedOf, IsOfBody}
 use Rattle.covering_bodies.specs.PathBody.{action_of, body_of, HasClass, HasBody}
 
--- ---- what a list has at a place
+-- ---- the element at an index
 all_at : {X : Type 0} (P : X → Type 0) (xs : List X) (i : ℕ) (x : X) → All P xs → slice_get xs i ≡ Some x → P x
 all_at P xs i x all e = subst P (get_or_from_slice_get xs i x x e) (all i x (slice_get_within xs i x e))
 
@@ -24,7 +24,7 @@ enumerated_at n [] i x e = cc
 enumerated_at n (y ∷ ys) zero x e = let here : n + 0 ≡ n = omega arith in let same = same_Some y x e in cc
 enumerated_at n (y ∷ ys) (suc i) x e = let further : n + 1 + i ≡ n + suc i = omega arith in enumerated_at (n + 1) ys i x e ∙ ap (λ (k : ℕ). Some (k, x)) further
 
--- ---- the choice that keeps all
+-- ---- the choice that keeps all submits
 abbrev all_kept : ℕ → List Bool
 all_kept zero = []
 all_kept (suc n) = true ∷ all_kept n
@@ -48,7 +48,7 @@ deeds_each kept n (d ∷ path) each = (
   deeds_each kept (n + 1) path (λ p other e. let further : n + suc p ≡ n + 1 + p = omega arith in subst (λ (k : ℕ). IsDeedOf kept other (k, action_of other)) further (each (suc p) other e)),
 )
 
--- ---- a lawful get
+-- ---- a valid get
 submit_there : (o : Option Action) → submits o ≡ true → (class : ℕ) × (o ≡ Some (Submit class))
 submit_there None e = cc
 submit_there (Some (Work units)) e = cc
@@ -65,7 +65,7 @@ get_at path has p t e =
     let lawful = and_parts (nat_lt t p && submits (slice_get (body_of path) t)) (not (is_got (take p (body_of path)) t)) (has.gets p t action) in
     let parts = and_parts (nat_lt t p) (submits (slice_get (body_of path) t)) lawful.0 in record { behind = parts.0; submit = parts.1 }
 
--- ---- all of the body stays
+-- ---- all actions of the body are kept
 stays_here : (path : List Deed) → HasBody path → (p : ℕ) (d : Deed) → slice_get path p ≡ Some d → stays (all_kept (length path)) (p, action_of d) ≡ true
 stays_here path has p (deed.Submits classes) e = keeps-all (length path) p (slice_get_within path p (deed.Submits classes) e)
 stays_here path has p (deed.Gets t) e =
@@ -73,7 +73,7 @@ stays_here path has p (deed.Gets t) e =
     let within = slice_get_within path p (deed.Gets t) e in
     and_from (nat_lt t p) (keeps (all_kept (length path)) t) get.behind (keeps-all (length path) t (omega (arith, within, ltb-true t p get.behind)))
 
--- ---- each deed is its action
+-- ---- each step corresponds to its action
 deed_here : (path : List Deed) → HasBody path → (p : ℕ) (d : Deed) → slice_get path p ≡ Some d → IsDeedOf (enumerate_from 0 (body_of path)) d (p, action_of d)
 deed_here path has p (deed.Submits classes) e =
     let some : 1 ≤ length classes.items = all_at HasClass path p (deed.Submits classes) has.classes e in

@@ -1,4 +1,4 @@
--- What stays of a body with one action more, which does not stay.
+-- The kept actions of a body after the insertion of an action that is not kept.
 use Rattle.std.proofs.Common.{◌≡◌, ◌≤◌, ◌<◌, ℕ, suc, zero, ◌+◌, Bool, true, false, cond, List, [], ◌∷◌, ◌++◌, map, length, refl, sym, ap, subst, ◌∙◌, arith}
 use Rattle.std.specs.Prelude.{filter, insert, slice_get}
 use Rattle.std.specs.List.{enumerate_from, AllZip}
@@ -12,11 +12,11 @@ use Rattle.body_paths.specs.Path.{stays, kept_actions, IsDeedOf, IsOfBodyBy}
 use Rattle.covering_bodies.specs.Insertion.{moved, moved_action, with_action}
 use Rattle.covering_bodies.proofs.Moved.{left_out, moved-before, moved-behind, stays-moved}
 
--- an action with its position, once one more is put in
+-- An action with its index, after the insertion.
 abbrev moved_entry : ℕ → ℕ × Action → ℕ × Action
 moved_entry at (position, a) = (moved at position, moved_action at a)
 
--- ---- what stays
+-- ---- kept actions
 by_test : (at : ℕ) (entry : ℕ × Action) (rest all : List (ℕ × Action)) → all ≡ map (moved_entry at) rest → (b : Bool) → cond b (moved_entry at entry ∷ all) all ≡ map (moved_entry at) (cond b (entry ∷ rest) rest)
 by_test at entry rest all e false = e
 by_test at entry rest all e true = ap (λ (entries : List (ℕ × Action)). moved_entry at entry ∷ entries) e
@@ -36,7 +36,7 @@ stay_all at choice new out n zero body e l =
 stay_all at choice new out n (suc k) [] e l = absurd (omega (arith, l))
 stay_all at choice new out n (suc k) (a ∷ body) e l = stay_one at choice n n a (filter (stays choice) (enumerate_from (n + 1) body)) (filter (stays (left_out at choice)) (enumerate_from (n + 1) (insert (map (moved_action at) body) k new))) (moved-before at n (omega (arith, e))) (stay_all at choice new out (n + 1) k body (omega (arith, e)) (omega (arith, l)))
 
--- ---- deeds
+-- ---- steps
 deed_moved : (at : ℕ) (kept : List (ℕ × Action)) (d : Deed) (entry : ℕ × Action) → IsDeedOf kept d entry → IsDeedOf (map (moved_entry at) kept) d (moved_entry at entry)
 deed_moved at kept (deed.Submits classes) (p, action.Work units) is = absurd is
 deed_moved at kept (deed.Submits classes) (p, action.Submit class) is = is
@@ -51,6 +51,6 @@ zip_moved at kept [] (entry ∷ entries) is = absurd is
 zip_moved at kept (d ∷ path) [] is = absurd is
 zip_moved at kept (d ∷ path) (entry ∷ entries) is = (deed_moved at kept d entry is.0, zip_moved at kept path entries is.1)
 
--- the path is of the new body, by the choice that leaves out what was put in
+-- The path matches the new body, by the choice that skips the inserted action.
 pub put_in : (body : List Action) (at : ℕ) (new : Action) (choice : List Bool) (path : List Deed) → at ≤ length body → stays (left_out at choice) (at, new) ≡ false → IsOfBodyBy body choice path → IsOfBodyBy (with_action body at new) (left_out at choice) path
 put_in body at new choice path l out is = subst (λ (kept : List (ℕ × Action)). AllZip (IsDeedOf kept) path kept) (sym (stay_all at choice new out 0 at body (omega arith) l)) (zip_moved at (kept_actions body choice) path (kept_actions body choice) is)

@@ -1,4 +1,4 @@
--- A path that stands in a body, deed by deed.
+-- A path that corresponds to the actions of a body, step by step.
 use Rattle.std.proofs.Common.{◌≡◌, ◌<◌, ℕ, suc, List, [], ◌∷◌, length, subst, arith}
 use Rattle.std.specs.Prelude.{Bool, slice_get}
 use Rattle.std.specs.List.{AllZip}

@@ -1,4 +1,4 @@
--- Bodies that explain all that another one does.
+-- Bodies that cover all paths of another body.
 use Rattle.std.specs.Prelude.{◌≡◌, ◌≤◌, ◌+◌, ◌*◌, ◌^◌, Bool, true, false, List, length, filter}
 use Rattle.job_bodies.specs.declared.action.Action.{Action}
 use Rattle.job_bodies.specs.declared.action.Action.TheVariants.{Work, Submit, Get}
@@ -10,7 +10,7 @@ use Rattle.body_paths.specs.Path.{IsPathOf}
 use Rattle.body_paths.specs.Budget.{submit_count}
 use Rattle.covering_bodies.specs.Lawful.{HasLawfulGets}
 
--- each path of the body is one of the other body too
+-- Each path of the body is also a path of the other body.
 abbrev pub Covers : List Action → List Action → Type 0
 Covers body other = (course : Course) (path : List Deed) → IsPathOf course body path → IsPathOf course other path
 
@@ -19,16 +19,16 @@ is_work (Work units) = true
 is_work (Submit class) = false
 is_work (Get submit) = false
 
--- the work of a body, in order
+-- The work of a body, in order.
 abbrev pub work_of : List Action → List Action
 work_of body = filter is_work body
 
--- the other body covers the body, and has the same work
+-- The other body covers the body, and has the same work.
 pub record Grows (body other : List Action) : Type 0 where
   pub covers : Covers body other
   pub work : work_of other ≡ work_of body
 
--- The path is of the body, which is one that a plan may have, and has so few submits that each way through it is tried.
+-- The path matches the body. The body is valid in a plan, and has so few submits that the search always decides.
 pub record IsSurelyOf (body : List Action) (path : List Deed) : Type 0 where
   pub of : IsPathOf Whole body path
   pub short : length body ≤ MAX_ACTIONS

@@ -1,4 +1,4 @@
--- The body that a path has by itself.
+-- The body of a single path.
 use Rattle.std.specs.Prelude.{◌≤◌, List, length, map, slice_index, All}
 use Rattle.job_bodies.specs.declared.action.Action.{Action}
 use Rattle.job_bodies.specs.declared.action.Action.TheVariants.{Submit, Get}
@@ -7,22 +7,22 @@ use Rattle.body_paths.specs.declared.deed.Deed.{Deed}
 use Rattle.body_paths.specs.declared.deed.Deed.TheVariants as deed
 use Rattle.covering_bodies.specs.Lawful.{HasLawfulGets}
 
--- what is done: a submit of the first class that the job can be of, or the get of the submit at the same place
+-- The action of a step: a submit of the first class that the job can belong to, or the get of the submit at the same index.
 abbrev pub action_of : Deed → Action
 action_of (deed.Submits classes) = Submit (slice_index classes.items 0)
 action_of (deed.Gets place) = Get place
 
--- all that is done, in order
+-- The actions of all steps, in order.
 abbrev pub body_of : List Deed → List Action
 body_of path = map action_of path
 
--- the job can be of some class
+-- The job can belong to some class.
 abbrev pub HasClass : Deed → Type 0
 HasClass (deed.Submits classes) = 1 ≤ length classes.items
 HasClass (deed.Gets place) = Unit {0}
 
--- the path has a body: it is no longer than a body may be, each job can be of some class, and each get names an earlier
--- submit, which no earlier get names
+-- The path has a body: it is not too long, each job can belong to some class, and each get names an earlier submit that no
+-- earlier get names.
 pub record HasBody (path : List Deed) : Type 0 where
   pub short : length path ≤ MAX_ACTIONS
   pub classes : All HasClass path

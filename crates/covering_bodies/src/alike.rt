@@ -1,21 +1,23 @@
-//! Which actions of a body and deeds of a path may be one.
+//! The pairs of an action of a body and a step of a path that may correspond.
 
 use body_paths::Deed;
 use job_bodies::{Action, is_got};
 
-/// The place of the path at which the submit at this place is got.
+/// Returns the index in the path of the get for the submit at index `submit`.
 pub(crate) fn get_of(path: &[Deed], submit: usize) -> Option<usize> {
     path.iter().position(|deed| deed.gets(submit))
 }
 
-/// The position in the body at which the submit at this position is got.
+/// Returns the index in the body of the get for the submit at index `submit`.
 pub(crate) fn get_in_body(body: &[Action], submit: usize) -> Option<usize> {
     body.iter().position(|action| action.gets(submit))
 }
 
-/// Whether the action at a position of the body and the deed at a place of the path may be one: two submits of one class,
-/// both of them got or none, or the gets of two such submits. Where it is known which submits are one, the gets are those
-/// of such submits.
+/// Returns true if the action at index `position` of the body and the step at index `place` of the
+/// path may correspond.
+///
+/// Two submits may correspond if they are of one class, and both or neither have a get. Two gets
+/// may correspond if their submits may. If `known` is given, it decides which submits correspond.
 pub(crate) fn are_alike(
     body: &[Action],
     path: &[Deed],

@@ -1,12 +1,13 @@
-//! The submits and gets that a body and a path have in one order.
+//! The longest common subsequence of a body and a path.
 
 use crate::alike::{are_alike, get_in_body, get_of};
 use body_paths::Deed;
 use job_bodies::Action;
 use std::alloc::{AllocError, Global};
 
-/// For each deed of the path the position in the body of the action that it is one with; none for those that the body
-/// lacks. They stand in the same order, and a submit has a partner where its get has one, which is the get of that one.
+/// Returns, for each step of the path, the index of the corresponding action in the body, or `None`
+/// if the body has none. The indices are ascending. A submit has a partner exactly if its get has
+/// one, and then the partner of the get is the get of that partner.
 pub(crate) fn partners_of(
     alloc: Global,
     body: &[Action],
@@ -18,7 +19,7 @@ pub(crate) fn partners_of(
     Ok(partners)
 }
 
-/// The partners in a longest sequence that the body and the path have in common.
+/// Returns the partners in a longest common subsequence of the body and the path.
 fn longest_common(
     alloc: Global,
     body: &[Action],
@@ -52,7 +53,8 @@ fn length_at(lengths: &[Vec<usize>], position: usize, place: usize) -> usize {
     }
 }
 
-/// How long the longest common sequence of the first so many actions, and so many deeds, is.
+/// Returns the lengths of the longest common subsequences, for each prefix of the body and each
+/// prefix of the path.
 fn common_lengths(
     alloc: Global,
     body: &[Action],
@@ -68,7 +70,7 @@ fn common_lengths(
     Ok(rows)
 }
 
-/// The lengths with the action at this position.
+/// Returns the next row of lengths, for the prefix of the body that ends with this action.
 fn next_row(
     alloc: Global,
     body: &[Action],
@@ -91,7 +93,7 @@ fn next_row(
     Ok(row)
 }
 
-/// Drops each submit and each get of which the other half has no partner, or one that is not of that submit.
+/// Removes the partners of each submit and its get, unless both have partners that belong together.
 fn drop_halves(body: &[Action], path: &[Deed], partners: &mut [Option<usize>]) {
     for place in 0..path.len() {
         if let Some(get) = get_of(path, place) {

@@ -1,4 +1,4 @@
-//! A body that covers another one and a path.
+//! The extension of a body so that it covers one more path.
 
 ghost use Rattle.std.specs.Prelude.{◌≡◌, ◌≤◌, length, IfOk, IfSome, IsSome, IsSomeAnd, IsTrue};
 ghost use Rattle.job_bodies.specs.declared.limits.TheConstants.{MAX_ACTIONS};
@@ -15,15 +15,17 @@ use body_paths::{Course, Deed, PathFit, path_fits};
 use job_bodies::{Action, MAX_ACTIONS, MAX_PATH_STEPS};
 use std::alloc::{AllocError, Global};
 
-/// A body of which the path is, and every path of the given body too: the given one, with the submits and gets of the
-/// path put in that it does not have in the same order. Where the path is of the given body, that is it.
+/// Returns a body that the path matches, and that every path of the given body matches too. It is
+/// the given body with inserts for the submits and gets of the path that it lacks in this order. If
+/// the path already matches the given body, that is the result.
 ///
-/// None where none was found: a longer body than a plan may have would be needed, the body or the path has a get that
-/// names no earlier submit, or a second one of the same submit, or a submit of the path can be of no class.
+/// Returns `None` if no such body was found. The reasons are a result longer than a plan allows, a
+/// get of the body or path that names no earlier submit, a second get of one submit, or a submit of
+/// the path that cannot belong to any class.
 ///
 /// # Errors
 ///
-/// [`AllocError`] where memory runs out.
+/// Returns [`AllocError`] if memory runs out.
 pub fn covering_body(
     alloc: Global,
     body: &[Action],
@@ -36,7 +38,7 @@ pub fn covering_body(
     ensures short { IfOk result (λ found. IfSome found (λ new. length new.items ≤ MAX_ACTIONS)) }
     ensures lawful { IfOk result (λ found. IfSome found (λ new. HasLawfulGets new.items)) }
 
-    // where the path is of a short body already, that is the answer
+    // If the path already matches the body, and the body is short, the result is the body.
     ensures same { IsSurelyOf body.now path.now
         → IfOk result (λ found. IsSomeAnd found (λ new. new.items ≡ body.now)) }
 {
@@ -49,7 +51,7 @@ pub fn covering_body(
     }
 }
 
-/// The body, where the path is of it; else with what it lacks of the path.
+/// Returns the body if the path matches it, or the body extended by the path.
 fn grown(alloc: Global, body: &[Action], path: &[Deed]) -> Result<Option<Vec<Action>>, AllocError>
     requires { length body.now ≤ MAX_ACTIONS }
     ensures fits { IfOk result (λ found. IfSome found (λ new. IsPathOf Whole new.items path.now)) }
@@ -64,7 +66,7 @@ fn grown(alloc: Global, body: &[Action], path: &[Deed]) -> Result<Option<Vec<Act
     }
 }
 
-/// Whether the path is of the body. No, too, where that was not found out.
+/// Returns true if the path matches the body. Returns false if this is undecided.
 fn is_path_of(body: &[Action], path: &[Deed]) -> bool
     requires { length body.now ≤ MAX_ACTIONS }
     ensures yes { IsTrue result → IsPathOf Whole body.now path.now }
@@ -76,7 +78,7 @@ fn is_path_of(body: &[Action], path: &[Deed]) -> bool
     }
 }
 
-/// The body, with what it lacks of the path.
+/// Returns the body extended by the steps of the path that it lacks.
 fn with_path(
     alloc: Global,
     body: &[Action],
@@ -101,7 +103,7 @@ fn with_path(
     }
 }
 
-/// The body, where it is one that a plan may have.
+/// Returns the body if a plan may have it.
 fn if_lawful(body: Vec<Action>) -> Option<Vec<Action>>
     ensures same { IfSome result (λ found. found ≡ body) }
     ensures short { IfSome result (λ found. length found.items ≤ MAX_ACTIONS) }

@@ -1,4 +1,4 @@
-//! Bodies with a submit more, or with a submit and its get.
+//! Insertion of a submit, or of a submit and its get, into a body.
 
 ghost use Rattle.std.specs.Prelude.{◌≡◌, ◌≤◌, length, map, IfOk, IfSome};
 ghost use Rattle.covering_bodies.specs.Covers.{Grows};
@@ -7,7 +7,8 @@ ghost use Rattle.covering_bodies.specs.Insertion as spec;
 use job_bodies::Action;
 use std::alloc::{AllocError, Global};
 
-/// The body with a submit of this class put in at this place. None where there is no such place.
+/// Returns the body with a submit of this class inserted at index `at`, or `None` if the index is
+/// past the end.
 pub(crate) fn with_submit(
     alloc: Global,
     body: &[Action],
@@ -19,8 +20,8 @@ pub(crate) fn with_submit(
     with_action(alloc, body, at, Action::Submit(class))
 }
 
-/// The body with a submit of this class put in at this place, and then its get at that one behind it. None where there is
-/// no such place.
+/// Returns the body with a submit of this class inserted at index `at`, and then its get at index
+/// `get_at`. Returns `None` if an index is past the end or `get_at` is not after `at`.
 pub(crate) fn with_submit_and_get(
     alloc: Global,
     body: &[Action],
@@ -39,7 +40,7 @@ pub(crate) fn with_submit_and_get(
     }
 }
 
-/// The body with an action put in at this place. None where there is no such place.
+/// Returns the body with an action inserted at index `at`, or `None` if the index is past the end.
 fn with_action(
     alloc: Global,
     body: &[Action],
@@ -62,7 +63,8 @@ fn with_action(
     }
 }
 
-/// The same actions, once one more is put in at this place. None where a get names a submit past all memory.
+/// Returns the actions with the indices of their gets adjusted for an insertion at index `at`, or
+/// `None` if an index overflows.
 fn all_moved(alloc: Global, body: &[Action], at: usize) -> Result<Option<Vec<Action>>, AllocError>
     ensures { IfOk result
         (λ found. IfSome found (λ new. new.items ≡ map (spec.moved_action at) body.now)) }
@@ -77,7 +79,7 @@ fn all_moved(alloc: Global, body: &[Action], at: usize) -> Result<Option<Vec<Act
     Ok(Some(new))
 }
 
-/// The same action, once one more is put in at this place.
+/// Returns the action with the index of its get adjusted for an insertion at index `at`.
 fn moved_action(at: usize, action: Action) -> Option<Action>
     ensures { IfSome result (λ new. new ≡ spec.moved_action at action) }
 {
@@ -88,7 +90,7 @@ fn moved_action(at: usize, action: Action) -> Option<Action>
     }
 }
 
-/// Where an action stands once one more is put in at this place.
+/// Returns the index of an action after an insertion at index `at`, or `None` on overflow.
 pub(crate) fn moved(at: usize, position: usize) -> Option<usize>
     ensures { IfSome result (λ new. new ≡ spec.moved at position) }
 {

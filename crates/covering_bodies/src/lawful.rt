@@ -1,4 +1,4 @@
-//! Gets as a plan asks them of a body.
+//! Validity of the gets of a body.
 
 ghost use Rattle.std.specs.Prelude.{◌≡◌, ◌↔◌, IsTrue, take, slice_get};
 ghost use Rattle.job_bodies.specs.WellFormed as spec;
@@ -7,7 +7,7 @@ ghost use Rattle.covering_bodies.specs.Lawful.{HasLawfulGets, is_lawful_at};
 
 use job_bodies::Action;
 
-/// Whether each get names an earlier submit of the body, which no earlier get names.
+/// Returns true if each get names an earlier submit of the body that no earlier get names.
 pub(crate) fn has_lawful_gets(body: &[Action]) -> bool
     ensures { IsTrue result ↔ HasLawfulGets body.now }
 {
@@ -19,7 +19,7 @@ pub(crate) fn has_lawful_gets(body: &[Action]) -> bool
     true
 }
 
-/// Whether what stands at this position of the body is no get, or one that names an earlier submit.
+/// Returns true if the action at this index is a valid get, or not a get.
 fn is_lawful_at(body: &[Action], position: usize) -> bool
     ensures { result ≡ is_lawful_at body.now position (slice_get body.now position) }
 {
@@ -29,7 +29,7 @@ fn is_lawful_at(body: &[Action], position: usize) -> bool
     }
 }
 
-/// Whether a get at this position may name that submit.
+/// Returns true if a get at index `position` may name the submit at index `submit`.
 fn is_lawful_get(body: &[Action], position: usize, submit: usize) -> bool
     ensures { result ≡ spec.is_lawful_get body.now position submit }
 {

@@ -1,9 +1,10 @@
-//! Bodies that explain what was done: [`body_of_path`] is the body that a path has by itself, and [`covering_body`] makes
-//! a body a little longer, so that one more path is of it.
+//! Construction of bodies that explain observed paths. [`body_of_path`] returns the body of a
+//! single path. [`covering_body`] extends a body so that one more path matches it.
 //!
-//! A body is a straight line of which submits may be left out, each together with its get. So where a path is not of a
-//! body, one finds the submits and gets that both have in one order, and puts the other ones of the path in between. All
-//! paths of the old body are of the new one too, as what was put in may be left out.
+//! Each submit of a body may be skipped together with its get. To extend a body, the submits and
+//! gets that it shares with the path in the same order are found, and the others are inserted
+//! between them. Every path of the old body still matches the new one, because the inserted actions
+//! may be skipped.
 #![tactic(auto)]
 
 mod alike;

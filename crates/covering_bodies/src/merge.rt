@@ -1,4 +1,4 @@
-//! A body, with what it lacks of a path put in.
+//! Insertion of the missing steps of a path into a body.
 
 ghost use Rattle.std.specs.Prelude.{IfOk, IfSome};
 ghost use Rattle.covering_bodies.specs.Covers.{Grows};
@@ -9,8 +9,9 @@ use body_paths::Deed;
 use job_bodies::Action;
 use std::alloc::{AllocError, Global};
 
-/// The body, with each submit of the path put in that has no place in it, and its get. The places are those in the body
-/// of the deeds of the path; none for those that it lacks.
+/// Returns the body with each submit of the path inserted that it lacks, and its get. `places` has
+/// the index in the body of each step of the path, or `None` for a missing one. The function
+/// updates it.
 pub(crate) fn merged(
     alloc: Global,
     body: &[Action],
@@ -36,7 +37,8 @@ pub(crate) fn merged(
     Ok(Some(new))
 }
 
-/// The body with the submit at this place of the path put in, and its get if it has one.
+/// Returns the body with the submit at index `place` of the path inserted, and its get if it has
+/// one.
 fn with_deed(
     alloc: Global,
     body: &[Action],
@@ -62,12 +64,12 @@ fn with_deed(
     }
 }
 
-/// The place in the body of the deed at this place of the path.
+/// Returns the index in the body of the step at index `place` of the path.
 fn place_at(places: &[Option<usize>], place: usize) -> Option<usize> {
     *places.get(place)?
 }
 
-/// The first place in the body behind all the deeds that stand before this place of the path.
+/// Returns the first index in the body after all steps before index `place` of the path.
 fn behind_those_before(places: &[Option<usize>], place: usize) -> usize {
     let mut behind = 0;
     for at in places.iter().take(place).flatten() {
@@ -76,7 +78,7 @@ fn behind_those_before(places: &[Option<usize>], place: usize) -> usize {
     behind
 }
 
-/// Notes that the deed at this place of the path is put in there.
+/// Records that the step at index `place` of the path is inserted at index `at` of the body.
 fn put(places: &mut [Option<usize>], place: usize, at: usize) {
     for other in places.iter_mut() {
         *other = match *other {

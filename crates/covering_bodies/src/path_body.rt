@@ -1,4 +1,4 @@
-//! The body that a path has by itself.
+//! The body of a single path.
 
 ghost use Rattle.std.specs.Prelude.{◌≡◌, ◌≤◌, ◌↔◌, IfOk, IfSome, MatchOption, All, IsTrue, length};
 ghost use Rattle.job_bodies.specs.declared.limits.TheConstants.{MAX_ACTIONS};
@@ -12,14 +12,15 @@ use body_paths::Deed;
 use job_bodies::{Action, MAX_ACTIONS};
 use std::alloc::{AllocError, Global};
 
-/// The body that a path has by itself: each submit, of the first class that its job can be of, and each get.
+/// Returns the body that consists of the steps of a path. Each submit gets the first class that its
+/// job can belong to.
 ///
-/// None where the path is longer than a body may be, a submit can be of no class, or a get names no earlier submit, or
-/// one that an earlier get names.
+/// Returns `None` if the path is longer than a body may be, a submit cannot belong to any class, or
+/// a get names no earlier submit or one that an earlier get names.
 ///
 /// # Errors
 ///
-/// [`AllocError`] where memory runs out.
+/// Returns [`AllocError`] if memory runs out.
 pub fn body_of_path(alloc: Global, path: &[Deed]) -> Result<Option<Vec<Action>>, AllocError>
     ensures exact { IfOk result (λ found.
         MatchOption found (¬ spec.HasBody path.now) (λ body. body.items ≡ spec.body_of path.now)) }

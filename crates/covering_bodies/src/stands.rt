@@ -1,4 +1,4 @@
-//! A path that stands in a body at known positions.
+//! A check that a path matches a body at given indices.
 
 ghost use Rattle.std.specs.Prelude.{◌≡◌, ℕ, Some, IfOk, IsTrue, slice_get};
 ghost use Rattle.std.specs.List.{AllZip};
@@ -10,8 +10,8 @@ use body_paths::Deed;
 use job_bodies::Action;
 use std::alloc::{AllocError, Global};
 
-/// Whether the path is what stays of the body, where only the submits at these positions are kept, and their gets. Where
-/// it is, the path is of the body.
+/// Returns true if the path corresponds to the actions of the body that remain when only the
+/// submits at these indices are kept, with their gets. The path then matches the body.
 pub(crate) fn stands_at(
     alloc: Global,
     body: &[Action],
@@ -25,7 +25,7 @@ pub(crate) fn stands_at(
     Ok(are_deeds_of(&kept, path))
 }
 
-/// For each position of a body whether it is one of these.
+/// Returns, for each index of a body, whether it is one of `places`.
 fn choice_of(alloc: Global, len: usize, places: &[Option<usize>]) -> Result<Vec<bool>, AllocError> {
     let mut choice = Vec::new(alloc);
     for position in 0..len {
@@ -34,7 +34,7 @@ fn choice_of(alloc: Global, len: usize, places: &[Option<usize>]) -> Result<Vec<
     Ok(choice)
 }
 
-/// The actions of the body that stay by this choice, each with its position.
+/// Returns the actions of the body that the choice keeps, each with its index.
 fn kept_actions(
     alloc: Global,
     body: &[Action],
@@ -65,7 +65,7 @@ fn keeps(choice: &[bool], position: usize) -> bool
     choice.get(position).copied().unwrap_or(false)
 }
 
-/// Whether the deeds are what these actions say, one by one.
+/// Returns true if the steps correspond to these actions one by one.
 fn are_deeds_of(kept: &[(usize, Action)], path: &[Deed]) -> bool
     ensures { IsTrue result → AllZip (spec.IsDeedOf kept.now) path.now kept.now }
 {
@@ -90,7 +90,7 @@ fn is_deed_at(kept: &[(usize, Action)], path: &[Deed], place: usize) -> bool
     }
 }
 
-/// Whether the deed is what this action says.
+/// Returns true if the step corresponds to this action.
 fn is_deed_of(kept: &[(usize, Action)], deed: &Deed, action: Action) -> bool
     ensures { IsTrue result → (position : ℕ) → spec.IsDeedOf kept.now deed.now (position, action) }
 {
@@ -101,7 +101,7 @@ fn is_deed_of(kept: &[(usize, Action)], deed: &Deed, action: Action) -> bool
     }
 }
 
-/// Whether the submit at this position of the body stays, at this place of those that do.
+/// Returns true if the kept action at index `place` is the submit at index `submit` of the body.
 fn is_submit_at(kept: &[(usize, Action)], place: usize, submit: usize) -> bool
     ensures { IsTrue result
         → (class : ℕ) × (slice_get kept.now place ≡ Some (submit, Submit class)) }
