@@ -1,4 +1,4 @@
--- What stands behind what was found before.
+-- Extensions of the list of differences.
 use Rattle.std.proofs.Common.{List, [], ◌∷◌, ◌++◌, map, refl, ap, sym, ◌∙◌, append-nil, append_assoc}
 use Rattle.std.proofs.lemmas.List.{map-append}
 use Rattle.plan_differences.specs.declared.pool_watch.PoolDeviation.{PoolDeviation}

@@ -1,4 +1,4 @@
--- Lists that are made line by line, with one more line behind.
+-- Lists that are built line by line, after one more line.
 use Rattle.std.proofs.Common.{◌≡◌, ◌+◌, ◌||◌, Bool, cond, if◌then◌else◌, List, [], ◌∷◌, ◌++◌, map, count_by, refl, ap, sym, subst, ◌∙◌, append-nil, append_assoc, arith}
 use Rattle.std.specs.List.{list_any, flat_map, filter_map, cons_option}
 use Rattle.std.specs.Option.{option_to_list}
@@ -8,7 +8,7 @@ use Rattle.std.proofs.lemmas.List.Sums.{sum_by_push}
 use Rattle.recording_lines.specs.RecordingLine.{RecordedLine}
 use Rattle.recorded_paths.specs.LineDeeds.{with_lines_before}
 
--- ---- what holds of no lines, and still holds with one more behind them
+-- ---- induction over lines, from the first one
 onward : (P : List RecordedLine → Type 0) → ((before : List RecordedLine) (line : RecordedLine) → P before → P (before ++ line ∷ [])) → (front rest : List RecordedLine) → P front → P (front ++ rest)
 onward P more front [] h = subst P (sym (append-nil front)) h
 onward P more front (line ∷ rest) h = subst P (append_assoc front (line ∷ []) rest) (onward P more (front ++ line ∷ []) rest (more front line h))
@@ -54,7 +54,7 @@ all_more f before line = ap (flat_map f) (lines_before_more before line) ∙ fla
 pub any_line_more : (p : List RecordedLine × RecordedLine → Bool) (before : List RecordedLine) (line : RecordedLine) → list_any p (with_lines_before (before ++ line ∷ [])) ≡ (list_any p (with_lines_before before) || p (before, line))
 any_line_more p before line = ap (list_any p) (lines_before_more before line) ∙ any_more p (with_lines_before before) (before, line)
 
--- ---- nothing in all of it
+-- ---- empty results
 pub nothing_first : {X : Type 0} (xs ys : List X) → xs ++ ys ≡ [] → xs ≡ []
 nothing_first [] ys h = refl
 nothing_first (x ∷ xs) ys h = cc

@@ -1,4 +1,4 @@
--- In lines that keep the rules, a round that ends is open: more rounds of its kind began than ended.
+-- In a valid recording a round that ends is open: more rounds of its kind began than ended.
 use Rattle.std.proofs.Common.{◌≡◌, ℕ, ◌+◌, ◌<◌, ◌==◌, ◌&&◌, ◌||◌, not, Bool, true, false, if◌then◌else◌, List, [], ◌∷◌, ◌++◌, count_by, Option, Some, None, refl, ap, sym, ◌∙◌, ◌≢◌, append_assoc, subst, suc, ⊎_elim, ◌⊎◌, inl, inr, arith}
 use Rattle.std.proofs.lemmas.Bool.{eqb-true, and_parts, not-true}
 use Rattle.recording_lines.specs.RecordingLine.{RecordedLine, RoundBegins, RoundEnds}
@@ -12,7 +12,7 @@ use Rattle.plan_differences.specs.RoundExcesses.{kind_of, is_kind, begins_kind, 
 use Rattle.plan_differences.proofs.LineByLine.{by_last, any_more, count_more}
 use Rattle.plan_differences.proofs.Tally.{tally, tally_same, tally_below, tally_more}
 
--- ---- what a line keeps
+-- ---- the rules for a line
 record Keeps (before : List RecordedLine) (line : RecordedLine) : Type 0 where
   numbers : keeps_numbers before line ≡ true
   rounds : keeps_rounds before line ≡ true
@@ -53,7 +53,7 @@ ended_more : (before : List RecordedLine) (line : RecordedLine) (round : ℕ) �
 unfolding is_ended
 ended_more before line round = any_more (ends_round round) before line
 
--- ---- the rounds of a kind, by their numbers
+-- ---- the rounds of a kind, by number
 abbrev of_kind : List (Option ℕ) → ℕ → ℕ → Bool
 of_kind kinds kind round = is_kind kind (kind_of kinds round)
 
@@ -79,7 +79,7 @@ and_false a = grind arith
 plus_none : (n : ℕ) → n + 0 ≡ n
 plus_none n = omega arith
 
--- a line of another kind changes nothing
+-- A line of another kind changes nothing.
 other_numbered : (kinds : List (Option ℕ)) (kind : ℕ) (before : List RecordedLine) (line : RecordedLine) → is_begin line ≡ false → begins_kind kinds kind line ≡ false → ends_kind kinds kind line ≡ false
     → ((round : ℕ) → begins_round round line ≡ false) → ((round : ℕ) → ends_round round line ≡ false) → AreNumbered kinds kind before → AreNumbered kinds kind (before ++ line ∷ [])
 other_numbered kinds kind before line no_begin no_begins no_ends no_begun no_ended n =
@@ -101,7 +101,7 @@ not_below : (b : Bool) (n : ℕ) → (b ≡ true → n < n) → b ≡ false
 not_below true n h = absurd (omega (arith, h refl))
 not_below false n h = refl
 
--- the round that begins has the next number
+-- The round that begins has the next number.
 begun_numbered : (kinds : List (Option ℕ)) (kind : ℕ) (before : List RecordedLine) (round : ℕ) (name : List ℕ) → round ≡ begins before → AreNumbered kinds kind before → AreNumbered kinds kind (before ++ RoundBegins round name ∷ [])
 begun_numbered kinds kind before round name next n =
     let line = RoundBegins round name in
@@ -154,7 +154,7 @@ tally_ends p old new n k others within was is true here =
 tally_ends p old new n k others within was is false here =
     tally_same (λ m. p m && new m) (λ m. p m && old m) n (λ m h. same_and p old new k m others here) ∙ sym (plus_none _)
 
--- the round that ends is one that began and has not ended
+-- The round that ends has begun and has not ended.
 ended_numbered : (kinds : List (Option ℕ)) (kind : ℕ) (before : List RecordedLine) (round : ℕ) → Keeps before (RoundEnds round) → AreNumbered kinds kind before → AreNumbered kinds kind (before ++ RoundEnds round ∷ [])
 ended_numbered kinds kind before round k n =
     let line = RoundEnds round in
@@ -185,7 +185,7 @@ numbered kinds kind =
     by_last (λ lines. KeepsRules lines → AreNumbered kinds kind lines) (λ kept. none_numbered kinds kind)
     (λ before line h kept. line_numbered kinds kind before line (keeps_last before line kept) (h (keeps_before before line kept)))
 
--- ---- more began than ended
+-- ---- more rounds began than ended
 pub is_open : (kinds : List (Option ℕ)) (kind : ℕ) (before : List RecordedLine) (round : ℕ) → KeepsRules (before ++ RoundEnds round ∷ []) → is_kind kind (kind_of kinds round) ≡ true
     → count_by (ends_kind kinds kind) before < count_by (begins_kind kinds kind) before
 is_open kinds kind before round kept here =

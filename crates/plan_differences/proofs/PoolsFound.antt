@@ -1,4 +1,4 @@
--- What is known of the pools where nothing is found.
+-- The facts about pools if no differences are found.
 use Rattle.std.proofs.Common.{◌≡◌, ℕ, zero, suc, ◌+◌, ◌<◌, ◌==◌, nat_lt, ◌&&◌, ◌||◌, not, Bool, true, false, if◌then◌else◌, List, [], ◌∷◌, ◌++◌, length, map, slice_index_or, Option, Some, None, refl, ap, sym, subst, ◌∙◌, append-nil, append_assoc, arith}
 use Rattle.std.specs.Prelude.{is_some}
 use Rattle.std.specs.List.{filter_map, cons_option, enumerate_from, position_or_len}
@@ -41,8 +41,8 @@ pub told_none : (plan : Plan) (pool : ℕ) (difference : Difference) → has_tol
 unfolding has_told
 told_none plan pool difference = refl
 
--- ---- a line that tells nothing
--- the plan has the pool, and the line has no difference
+-- ---- a line without differences
+-- The plan has the pool, and the line has no difference.
 record IsSame (plan : Plan) (is_first : Bool) (sizes : PoolSizes) (there : Option ℕ) : Type 0 where
   pool : ℕ
   is : there ≡ Some pool
@@ -80,7 +80,7 @@ has_none : (plan : Plan) (is_first : Bool) (sizes : PoolSizes) (there : Option �
 has_none plan is_first sizes there pool difference same =
     ap (λ (one : Option ℕ). is_pool pool one && is_among (differences is_first sizes (pool_at plan pool)) difference) same.is ∙ by_number plan is_first sizes same.pool pool difference _ refl same.none
 
--- ---- lines that tell nothing
+-- ---- lines without differences
 record IsNothing (plan : Plan) (lines : List RecordedLine) : Type 0 where
   told : (pool : ℕ) (difference : Difference) → has_told plan lines pool difference ≡ false
   planned : (name : List ℕ) → has_pool lines name ≡ true → is_some (pool_named plan name) ≡ true
@@ -143,7 +143,7 @@ nothing_before plan before (line ∷ behind) h =
     let more = nothing_before plan (before ++ line ∷ []) behind (subst (λ lines. deviations_by_lines plan lines ≡ []) (sym (append_assoc before (line ∷ []) behind)) h) in
     nothing_first (deviations_by_lines plan before) _ (sym (deviations_add_up plan before line) ∙ more)
 
--- ---- a planned pool is one of the plan's
+-- ---- a planned pool is in the plan
 pub named_read : (plan : Plan) (name : List ℕ) (pool : ℕ) → pool_named plan name ≡ Some pool → (pool < length plan.pools) × ((pool_at plan pool).name ≡ name)
 named_read plan name pool read =
     let test = λ (pool : plans.Pool). bytes_eq pool.name name in
@@ -155,7 +155,7 @@ agrees : (agree : Bool) (difference : Difference) → unless agree difference �
 agrees true difference h = refl
 agrees false difference h = cc
 
--- in a first line the numbers of prestarted threads have to agree
+-- In a first line the numbers of prestarted threads must be equal.
 counts_first : (is_first agree : Bool) → (not is_first || agree) ≡ true → is_first ≡ true → agree ≡ true
 counts_first true agree h first = h
 counts_first false agree h first = cc
@@ -190,7 +190,7 @@ pools_are_as_planned plan lines nothing before behind name sizes is =
     let front = all_nothing plan before (nothing_first (deviations_by_lines plan before) _ both) in
     planned_pool plan (not (has_pool before name)) name sizes (here_same plan before (length before + 1) name sizes front (nothing_last (deviations_by_lines plan before) _ both))
 
--- ---- each of the plan's pools has a line
+-- ---- each pool of the plan has a line
 cons_none : {X : Type 0} (o : Option X) (xs : List X) → cons_option o xs ≡ [] → (o ≡ None) × (xs ≡ [])
 cons_none None xs h = (refl, h)
 cons_none (Some x) xs h = cc

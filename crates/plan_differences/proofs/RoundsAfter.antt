@@ -1,4 +1,4 @@
--- The rounds of a kind, once one more line stands behind the others.
+-- The rounds of a kind after one more line.
 use Rattle.std.proofs.Common.{◌≡◌, ℕ, ◌+◌, ◌&&◌, ◌||◌, Bool, true, false, if◌then◌else◌, List, [], ◌∷◌, ◌++◌, length, is_some, Option, ◌<◌, count_by, refl, ap, ap₂, sym, ◌∙◌, arith}
 use Rattle.std.proofs.lemmas.Bool.{lt-ltb}
 use Rattle.job_bodies.specs.Plan.{Plan, client_at}
@@ -65,7 +65,7 @@ rounds_same plan kinds before line kind begins ends =
     counts_more plan kinds before line kind false false begins ends
     ∙ (ap₂ (counted plan kind) (plus_none _) (plus_none _) ∙ sym (counts_of plan kinds before kind))
 
--- ---- what is kept
+-- ---- the state
 or_false : (a b : Bool) → b ≡ false → (a || b) ≡ a
 or_false a b h = grind (arith, h)
 
@@ -105,7 +105,7 @@ pub none_within : (plan : Plan) (kinds : List (Option ℕ)) (kind : ℕ) → IsW
 unfolding rounds_of
 none_within plan kinds kind = record { at_once = omega arith; in_all = λ h. omega arith }
 
--- a round that ends was open
+-- A round that ends was open.
 pub open_here : (plan : Plan) (kinds : List (Option ℕ)) (before : List RecordedLine) (round kind : ℕ) → KeepsRules (before ++ RoundEnds round ∷ []) → is_kind kind (kind_of kinds round) ≡ true
     → (rounds_of plan kinds before kind).ended < (rounds_of plan kinds before kind).begun
 unfolding rounds_of

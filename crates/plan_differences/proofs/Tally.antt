@@ -1,4 +1,4 @@
--- How many of the numbers below another one pass a test.
+-- The number of numbers below a bound that pass a test.
 use Rattle.std.proofs.Common.{◌≡◌, ℕ, zero, suc, ◌+◌, ◌<◌, ◌≤◌, Bool, true, false, if◌then◌else◌, ◌≢◌, ⊎_elim, refl, subst, arith}
 use Rattle.std.proofs.lemmas.Bool.{cases_lt}
 
@@ -19,7 +19,7 @@ pub tally_weaker : (p q : ℕ → Bool) (n : ℕ) → ((k : ℕ) → p k ≡ tru
 tally_weaker p q zero weaker = omega arith
 tally_weaker p q (suc n) weaker = let rest = tally_weaker p q n weaker in let here = at_most (p n) (q n) (weaker n) in omega arith
 
--- one of them passes the weaker test alone
+-- If `q` is weaker than `p` and one number passes only `q`, more numbers pass `q`.
 pub tally_below : (p q : ℕ → Bool) (n k : ℕ) → ((k : ℕ) → p k ≡ true → q k ≡ true) → k < n → p k ≡ false → q k ≡ true → tally p n < tally q n
 tally_below p q zero k weaker within fails passes = absurd (omega arith)
 tally_below p q (suc n) k weaker within fails passes =
@@ -36,7 +36,7 @@ tally_below p q (suc n) k weaker within fails passes =
     grind (arith, rest, out, into))
     (cases_lt k n)
 
--- one of them more
+-- If `q` differs from `p` only in one number that passes `q`, one number more passes `q`.
 pub tally_more : (p q : ℕ → Bool) (n k : ℕ) → ((m : ℕ) → m ≢ k → p m ≡ q m) → k < n → p k ≡ false → q k ≡ true → tally q n ≡ tally p n + 1
 tally_more p q zero k same within fails passes = absurd (omega arith)
 tally_more p q (suc n) k same within fails passes =

@@ -1,4 +1,4 @@
--- What the watches keep stands for the lines with one more behind them.
+-- The states of the comparisons after one more line.
 use Rattle.std.proofs.Common.{◌≡◌, ℕ, ◌≤◌, map, ◌&&◌, ◌||◌, not, nat_lt, Bool, true, false, if◌then◌else◌, List, [], ◌∷◌, ◌++◌, length, slice_get, Option, Some, None, refl, ap, sym, ◌∙◌, arith}
 use Rattle.std.specs.Option.{option_map, option_to_list}
 use Rattle.std.proofs.lemmas.Bool.{ltb-true}
@@ -85,7 +85,7 @@ rounds_none plan kinds watch is = record {
   kept = λ kind. ap (λ (kept : List KindRounds). slice_get kept kind) is ∙ (slice_get-map first_kept plan.clients kind ∙ known_first plan kinds kind _ refl);
 }
 
--- the rounds of a kind that the plan has change as they are kept
+-- Mapping the entry of a kind, which exists if the plan has the kind.
 mapped : (f : KindRounds → KindRounds) (known : Bool) (a b : KindRounds) → b ≡ f a → option_map f (if known then Some a else None) ≡ (if known then Some b else None)
 mapped f true a b h = ap Some (sym h)
 mapped f false a b h = refl
@@ -119,7 +119,7 @@ rounds_after plan kinds given old new before line is kept s counted = record {
       ∙ (ap (kind_after (kind_at kinds line) line kind) (s.kept kind) ∙ after plan kinds before line kind (nat_lt kind (length plan.clients)) kept));
 }
 
--- ---- what of them is told
+-- ---- the reported excesses
 told_known : (plan : Plan) (kinds : List (Option ℕ)) (before : List RecordedLine) (number round : ℕ) (name : List ℕ) (kind : ℕ) (known : Bool) → is_kind kind (kind_of kinds round) ≡ true
     → told_of_kind number kind (if known then Some (kept_of plan kinds before kind) else None)
     ≡ (if known then option_to_list (option_map (excess_at number kind) (first_excess plan kinds before (RoundBegins round name) kind)) else [])

@@ -1,4 +1,4 @@
--- The words of a difference between a recorded pool and the plan's, and when two differences are the same one.
+-- The text of a difference between a recorded pool and the plan's pool, and equality of differences.
 use Rattle.std.specs.Prelude.{ℕ, ◌==◌, ◌&&◌, ◌++◌, Bool, true, false, List, codes, decimal}
 use Rattle.recording_lines.specs.declared.pool_sizes.QueueKind.{QueueKind}
 use Rattle.recording_lines.specs.declared.pool_sizes.QueueKind.TheVariants as queue
@@ -6,7 +6,7 @@ use Rattle.recording_lines.specs.LineText.{queue_word}
 use Rattle.plan_differences.specs.declared.difference.Difference.{Difference}
 use Rattle.plan_differences.specs.declared.difference.Difference.TheVariants.{Core, Max, KindOfQueue, Capacity, CoreTimeout, Prestarted}
 
--- without the pool's name, and without a newline
+-- The text has no pool name and no newline.
 abbrev pub difference_text : Difference → List ℕ
 difference_text (Core recorded planned) = codes "core " ++ decimal recorded ++ codes ", plan " ++ decimal planned
 difference_text (Max recorded planned) = codes "max " ++ decimal recorded ++ codes ", plan " ++ decimal planned
@@ -15,7 +15,7 @@ difference_text (Capacity recorded planned) = codes "queue " ++ decimal recorded
 difference_text CoreTimeout = codes "core threads may time out"
 difference_text (Prestarted recorded planned) = decimal recorded ++ codes " threads prestarted, plan " ++ decimal planned
 
--- ---- the same difference
+-- ---- equality
 abbrev pub is_same_kind : QueueKind → QueueKind → Bool
 is_same_kind queue.Array queue.Array = true
 is_same_kind queue.Linked queue.Linked = true

@@ -1,4 +1,4 @@
--- What a watch of the pools keeps, and how it stands for the lines so far.
+-- The state of a comparison of pools, as a function of the lines read.
 use Rattle.std.specs.Prelude.{◌≡◌, ℕ, ◌==◌, ◌&&◌, Bool, List, ◌++◌, ◌||◌, map}
 use Rattle.std.specs.List.{list_any}
 use Rattle.std.specs.HashSet.{contains_text}
@@ -24,19 +24,19 @@ is_difference pool difference told = told.pool == pool && is_same_difference tol
 abbrev pub is_told : ToldDifferences → ℕ → Difference → Bool
 is_told told pool difference = list_any (is_difference pool difference) told.items.items
 
--- which pools have a line, and which differences they have of the plan's; and whether the recording is whole
+-- The state has the pools with a line, their reported differences, and whether the recording is whole.
 pub record IsPoolWatchOf (plan : Plan) (watch : PoolWatch) (lines : List RecordedLine) : Type 0 where
   pub named : (pool : List ℕ) → has_name watch.named pool ≡ has_pool lines pool
   pub told : (pool : ℕ) (difference : Difference) → is_told watch.told pool difference ≡ has_told plan lines pool difference
   pub closed : watch.closed ≡ is_closed lines
 
--- what a line changes
+-- The effect of a line on the state.
 pub record IsNoted (plan : Plan) (old : PoolWatch) (line : RecordedLine) (new : PoolWatch) : Type 0 where
   pub named : (pool : List ℕ) → has_name new.named pool ≡ (has_name old.named pool || declares pool line)
   pub told : (pool : ℕ) (difference : Difference) → is_told new.told pool difference ≡ (is_told old.told pool difference || has_difference plan (has_name old.named) pool difference line)
   pub closed : new.closed ≡ (old.closed || is_end line)
 
--- these stand behind what was found before
+-- The list is extended by these differences.
 pub record Adds (old : List PoolDeviation) (told : List Deviation) (new : List PoolDeviation) : Type 0 where
   pub more : List PoolDeviation
   pub behind : new ≡ old ++ more

@@ -1,4 +1,4 @@
--- What a watch of the rounds keeps, and how it stands for the lines so far.
+-- The state of a comparison of rounds, as a function of the lines read.
 use Rattle.std.specs.Prelude.{◌≡◌, ℕ, ◌+◌, ◌||◌, nat_lt, if◌then◌else◌, List, length, slice_get, is_some, Option, Some, None, []}
 use Rattle.std.specs.Option.{option_map, option_to_list}
 use Rattle.job_bodies.specs.Plan.{Plan}
@@ -13,11 +13,11 @@ use Rattle.plan_differences.specs.RoundExcesses.{is_kind, rounds_of, has_exceede
 abbrev pub kept_of : Plan → List (Option ℕ) → List RecordedLine → ℕ → KindRounds
 kept_of plan kinds lines kind = record { rounds = rounds_of plan kinds lines kind; has_exceeded = has_exceeded plan kinds lines kind }
 
--- of each kind of the plan its rounds are kept, and whether there were more than the plan says
+-- The state has the counts of each client kind, and whether the kind ever had more rounds than the plan allows.
 pub record IsRoundWatchOf (plan : Plan) (kinds : List (Option ℕ)) (watch : RoundWatch) (lines : List RecordedLine) : Type 0 where
   pub kept : (kind : ℕ) → slice_get watch.kinds.items kind ≡ (if nat_lt kind (length plan.clients) then Some (kept_of plan kinds lines kind) else None)
 
--- ---- what a line changes in the rounds of one kind
+-- ---- the effect of a line on the rounds of one kind
 abbrev pub with_begun : Rounds → Rounds
 with_begun rounds = record rounds { begun = rounds.begun + 1 }
 
@@ -37,11 +37,11 @@ told_of_kind number kind (Some kept) = told_of_begin number kind kept
 abbrev pub with_ended : Rounds → Rounds
 with_ended rounds = record rounds { ended = rounds.ended + 1 }
 
--- where a round is open
+-- The count changes only if a round is open.
 abbrev pub after_end : KindRounds → KindRounds
 after_end kept = record kept { rounds = if nat_lt kept.rounds.ended kept.rounds.begun then with_ended kept.rounds else kept.rounds }
 
--- ---- what a line changes, and what it tells, where the round that it begins or ends is of this kind
+-- ---- the effect and the result of a line whose round has this kind
 abbrev pub kind_after : Option ℕ → RecordedLine → ℕ → Option KindRounds → Option KindRounds
 kind_after given (RoundBegins round name) kind there = if is_kind kind given then option_map after_begin there else there
 kind_after given (RoundEnds round) kind there = if is_kind kind given then option_map after_end there else there

@@ -1,4 +1,4 @@
--- What the watches' answers come to over all lines.
+-- Laws about the results of the comparisons for all lines.
 use Rattle.std.specs.Prelude.{◌≡◌, ◌<◌, ◌+◌, ℕ, Bool, true, not, List, [], ◌∷◌, ◌++◌, length, Option}
 use Rattle.job_bodies.specs.Plan.{Plan, pool_at}
 use Rattle.recording_lines.specs.declared.pool_sizes.PoolSizes.{PoolSizes}
@@ -18,8 +18,8 @@ abbrev pub ExcessesAddUp : Type 0
 ExcessesAddUp = (plan : Plan) (kinds : List (Option ℕ)) (before : List RecordedLine) (line : RecordedLine)
     → excesses_by_lines plan kinds (before ++ line ∷ []) ≡ excesses_by_lines plan kinds before ++ excesses_by_line plan kinds before (length before + 1) line
 
--- ---- where nothing is found
--- the plan has a pool of this name, with these sizes as far as they count in this line
+-- ---- no differences
+-- The plan has a pool of this name, with these sizes as far as they are compared in this line.
 pub record IsPlannedPool (plan : Plan) (is_first : Bool) (name : List ℕ) (sizes : PoolSizes) : Type 0 where
   pub pool : ℕ
   pub there : pool < length plan.pools
@@ -34,7 +34,7 @@ abbrev pub PoolsAreRecorded : Type 0
 PoolsAreRecorded = (plan : Plan) (lines : List RecordedLine) → is_closed lines ≡ true → deviations_at_end plan lines ≡ []
     → (pool : ℕ) → pool < length plan.pools → has_pool lines (pool_at plan pool).name ≡ true
 
--- after each of the lines
+-- This holds after each of the lines.
 abbrev pub RoundsAreWithinPlan : Type 0
 RoundsAreWithinPlan = (plan : Plan) (kinds : List (Option ℕ)) (before behind : List RecordedLine) → excesses_by_lines plan kinds (before ++ behind) ≡ []
     → (kind : ℕ) → kind < length plan.clients → IsWithinPlan (rounds_of plan kinds before kind)

@@ -1,4 +1,4 @@
-//! One thing in which a pool is not as the plan says, and its words.
+//! Differences between a recorded pool and the plan's pool, and their texts.
 
 ghost use Rattle.std.specs.Prelude.{◌≡◌, Some};
 ghost use Rattle.recording_lines.specs.LineText.{queue_word};
@@ -7,27 +7,28 @@ ghost use Rattle.plan_differences.specs.Difference as spec;
 use recording_lines::QueueKind;
 use std::fmt;
 
-/// One thing in which a recorded pool is not as the plan says.
+/// A difference between a recorded pool and the plan's pool.
 ///
-/// It prints as a few words without the pool's name and without a newline, as `max 20, plan 10`.
+/// It formats as a short phrase without the pool's name, such as `max 20, plan 10`.
 #[derive(Clone, Copy, Debug, PartialEq, Eq)]
 pub enum Difference {
     /// The core pool size, in threads.
     Core { recorded: u64, planned: u64 },
     /// The maximum pool size, in threads.
     Max { recorded: u64, planned: u64 },
-    /// The queue is of this kind, and neither an array queue nor a linked one.
+    /// A queue of this kind, which is neither an array queue nor a linked one.
     KindOfQueue(QueueKind),
     /// The capacity of the queue, in jobs.
     Capacity { recorded: u64, planned: u64 },
-    /// Core threads may time out, which those of a plan never do.
+    /// Core threads may time out. Those of a plan never do.
     CoreTimeout,
-    /// How many threads the pool began with. The plan has core there, or none where it does not say `prestart`.
+    /// The number of threads when the recording began. A plan with `prestart` has all core threads
+    /// then, and one without it has none.
     Prestarted { recorded: u64, planned: u64 },
 }
 
 impl Difference {
-    /// Whether both are the same one, with the same numbers.
+    /// Returns true if both are of the same variant, with the same numbers.
     pub(crate) fn is_same(self, other: Difference) -> bool
         ensures { result ≡ spec.is_same_difference self other }
     {
@@ -59,7 +60,7 @@ impl fmt::Display for Difference {
     }
 }
 
-/// The word that a `pool` line has for the kind of a queue.
+/// Returns the keyword of `pool` lines for the kind of a queue.
 fn kind_word(kind: QueueKind) -> &'static str
     ensures { result.now ≡ queue_word kind }
 {

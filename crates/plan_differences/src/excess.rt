@@ -1,18 +1,18 @@
-//! What of the rounds of a kind is more than the plan says, and its words.
+//! Rounds of a client kind beyond its `count`, and their text.
 
 ghost use Rattle.std.specs.Prelude.{Some};
 ghost use Rattle.plan_differences.specs.Excess as spec;
 
 use std::fmt;
 
-/// Rounds of a kind of clients that are more than the plan's `count`.
+/// More rounds of a client kind than its `count` in the plan.
 ///
-/// It prints as a few words without the kind's name and without a newline, as `31 at once, count is 30`.
+/// It formats as a short phrase without the kind's name, such as `31 at once, count is 30`.
 #[derive(Clone, Copy, Debug, PartialEq, Eq)]
 pub enum Excess {
-    /// So many rounds are between their begin and their end.
+    /// This many rounds are open at once.
     AtOnce { rounds: u64, count: u64 },
-    /// So many rounds began, of a kind that does not repeat.
+    /// This many rounds began in all, of a kind that does not repeat.
     InAll { rounds: u64, count: u64 },
 }
 

@@ -1,10 +1,10 @@
-//! What of a recording is not as the plan says, as far as no body of the plan is asked: the sizes of a pool, and how many
-//! rounds there are of a kind of clients.
+//! Differences between a recording and a plan in the sizes of pools and the numbers of rounds. The
+//! bodies of the plan do not matter here.
 //!
-//! [`differences`] tells of one `pool` line what is not as in the plan's pool, and [`RoundCount`] watches the rounds of one
-//! kind as they begin and end. Each answer prints as its words, as `max 20, plan 10` and `31 at once, count is 30`.
-//! [`PoolWatch`] and [`RoundWatch`] take the lines of a recording one after another, and find where pools and rounds first
-//! are not as the plan says.
+//! [`differences`] compares one `pool` line with the plan's pool, and [`RoundCount`] counts the
+//! rounds of one client kind. Their results format as short phrases, such as `max 20, plan 10` and
+//! `31 at once, count is 30`. [`PoolWatch`] and [`RoundWatch`] read the lines of a recording in
+//! order, and report the first line of each difference.
 #![tactic(auto)]
 
 mod difference;

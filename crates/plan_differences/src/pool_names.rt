@@ -1,4 +1,4 @@
-//! Names of pools.
+//! A set of pool names.
 
 ghost use Rattle.std.specs.Prelude.{◌≡◌, ◌||◌, ℕ, List, OnOk, false};
 ghost use Rattle.std.specs.Str.{bytes_eq};
@@ -7,7 +7,7 @@ ghost use Rattle.plan_differences.specs.PoolWatch.{has_name};
 use std::alloc::{AllocError, Global};
 use std::collections::HashSet;
 
-/// A set of names of pools.
+/// A set of pool names.
 #[derive(Debug, Drop)]
 pub(crate) struct PoolNames {
     names: HashSet<String>,
@@ -15,7 +15,7 @@ pub(crate) struct PoolNames {
 }
 
 impl PoolNames {
-    /// None so far.
+    /// Creates an empty set.
     pub(crate) fn new(alloc: Global) -> PoolNames
         ensures { (q : List ℕ) → has_name result q ≡ false }
     {
@@ -31,11 +31,11 @@ impl PoolNames {
         self.names.contains(name)
     }
 
-    /// The name is one of them from here on.
+    /// Adds a name.
     ///
     /// # Errors
     ///
-    /// `AllocError` where there is no memory for a name.
+    /// Returns `AllocError` if memory runs out.
     pub(crate) fn insert(&mut self, name: &str) -> Result<(), AllocError>
         ensures { OnOk result
             ((q : List ℕ) → has_name self.new q ≡ (has_name self.old q || bytes_eq name.now q)) }

@@ -1,4 +1,4 @@
-//! A watch over the pools of a recording.
+//! Comparison of the pools of a recording with a plan, line by line.
 
 ghost use Rattle.std.specs.Prelude.{◌≡◌, List, [], ◌∷◌, ◌++◌, map, length, ◌<◌, if◌then◌else◌, OnOk, IfSome};
 ghost use Rattle.std.specs.Option.{option_to_list};
@@ -15,29 +15,30 @@ use job_bodies::{Plan, Pool};
 use recording_lines::{Line, PoolSizes};
 use std::alloc::{AllocError, Global};
 
-/// One thing in which the pools of a recording are not those of the plan. Lines are numbered from 1.
+/// A difference between the pools of a recording and those of a plan. Lines are numbered from 1.
 #[derive(Debug, Drop)]
 pub enum PoolDeviation {
-    /// A pool of this name has a line, and the plan has no such pool.
+    /// A pool that is not in the plan, with its first line.
     NotPlanned {
         line: usize,
         pool: String,
     },
-    /// The plan's pool of this number is another one in this line.
+    /// A line in which the plan's pool of this number differs from the plan.
     Differs {
         line: usize,
         pool: usize,
         difference: Difference,
     },
-    /// The recording is whole and has no line of the plan's pool of this number.
+    /// A pool of the plan, by number, without a line in a recording that ends with `end`.
     NotRecorded {
         pool: usize,
     },
 }
 
-/// The pools of a recording, watched line by line beside those of a plan.
+/// A comparison of the pools of a recording with those of a plan, line by line.
 ///
-/// It keeps the names of the pools that have a line, each once, and of each of the plan's pools each difference that was told.
+/// It stores the name of each recorded pool, and the differences that were reported of each pool of
+/// the plan.
 #[derive(Debug, Drop)]
 pub struct PoolWatch {
     named: PoolNames,
@@ -47,7 +48,7 @@ pub struct PoolWatch {
 }
 
 impl PoolWatch {
-    /// No lines so far.
+    /// Creates a comparison, before the first line.
     pub fn new(alloc: Global) -> PoolWatch
         ensures { (plan : plans.Plan) → IsPoolWatchOf plan result [] }
     {
@@ -59,12 +60,13 @@ impl PoolWatch {
         }
     }
 
-    /// Takes the next line, which has this number. It finds a pool that the plan has not at its first line, and of each pool
-    /// each [`Difference`] at the first line that has it. How many threads were prestarted counts in a first line alone.
+    /// Reads line `number`. Appends a pool that is not in the plan at its first line, and each
+    /// [`Difference`] of a pool at the first line that has it. The number of prestarted threads is
+    /// compared only in the first line of a pool.
     ///
     /// # Errors
     ///
-    /// `AllocError` where there is no memory for a name or for what is found. The watch is then of no use any more.
+    /// Returns `AllocError` if memory runs out. The comparison must not be used after that.
     pub fn take(
         &mut self,
         plan: &Plan,
@@ -84,11 +86,12 @@ impl PoolWatch {
         self.note(plan, number, line, found)
     }
 
-    /// Where the last line was `end`, it finds each of the plan's pools that has no line, in the plan's order.
+    /// Appends each pool of the plan without a line, in the order of the plan, if the last line was
+    /// `end`.
     ///
     /// # Errors
     ///
-    /// `AllocError` where there is no memory for what is found.
+    /// Returns `AllocError` if memory runs out.
     pub fn finish(&self, plan: &Plan, found: &mut Vec<PoolDeviation>) -> Result<(), AllocError>
         ensures { (lines : List RecordedLine)
             → IsPoolWatchOf plan.now self.now lines
@@ -151,7 +154,7 @@ impl PoolWatch {
         }
     }
 
-    // Those of the differences that were not told yet of the plan's pool of this number.
+    // Appends the differences that were not reported before for this pool of the plan.
     fn push_untold(
         &self,
         line: usize,
@@ -205,7 +208,7 @@ impl PoolWatch {
     }
 }
 
-/// The number of the plan's pool of this name.
+/// Returns the number of the plan's pool with this name.
 fn pool_named(plan: &Plan, name: &str) -> Option<usize>
     ensures is { result ≡ spec.pool_named plan.now name.now }
     ensures within { IfSome result (λ pool. pool < length plan.now.pools) }
@@ -215,7 +218,7 @@ fn pool_named(plan: &Plan, name: &str) -> Option<usize>
         .position(|pool| pool.name.as_str() == name)
 }
 
-// The plan has no pool of this name.
+// Appends a pool that is not in the plan, if this is its first line.
 fn push_unplanned(
     alloc: Global,
     is_first: bool,

@@ -1,4 +1,4 @@
-//! How many rounds of a kind there are, as they begin and end.
+//! The number of rounds of a client kind.
 
 ghost use Rattle.std.specs.Prelude.{◌≡◌, ◌↔◌, ◌+◌, ◌<◌, IsTrue, IsNone};
 ghost use Rattle.plan_differences.specs.Rounds as spec;
@@ -7,9 +7,10 @@ use crate::Excess;
 use job_bodies::{Client, MAX_RECORDED_ROUNDS};
 use std::marker::Model;
 
-/// The rounds of one kind of clients, counted while they begin and end, and what the plan says of the kind.
+/// A counter for the rounds of one client kind, with the limits of the plan.
 ///
-/// A contract sees the plan's `count` and `repeat`, and how many rounds began and ended so far.
+/// Contracts see it as the plan's `count` and `repeat`, and the numbers of rounds that began and
+/// ended.
 #[derive(Debug, Drop)]
 pub struct RoundCount {
     count: u64,
@@ -31,7 +32,7 @@ impl Model for RoundCount {
 }
 
 impl RoundCount {
-    /// No rounds yet, of a kind of clients as the plan has it.
+    /// Creates a counter for a client kind of the plan, with no rounds.
     pub fn new(client: &Client) -> RoundCount
         ensures { result ≡ spec.no_rounds client.now }
     {
@@ -43,12 +44,11 @@ impl RoundCount {
         }
     }
 
-    /// A round of the kind begins. Answers whether there are more now than the plan says, and how many: more than `count`
-    /// at once, whatever the kind; or else, of a kind that does not repeat, more than `count` in all. None where there
-    /// are not.
+    /// Counts the begin of a round, and returns [`excess`](RoundCount::excess) after it.
     ///
-    /// Fewer than [`MAX_RECORDED_ROUNDS`] began before, as of any recording whose rounds are numbered in order.
-    /// [`can_begin`](RoundCount::can_begin) tests it.
+    /// Fewer than [`MAX_RECORDED_ROUNDS`] rounds must have begun before, which
+    /// [`can_begin`](RoundCount::can_begin) tests. This is the case in any recording that numbers
+    /// its rounds in order.
     pub fn begin(&mut self) -> Option<Excess>
         requires { self.old.begun < MAX_RECORDED_ROUNDS }
         ensures counted { self.new ≡ record self.old { begun = self.old.begun + 1 } }
@@ -59,8 +59,8 @@ impl RoundCount {
         self.excess()
     }
 
-    /// A round of the kind ends, of those that are between their begin and their end.
-    /// [`can_end`](RoundCount::can_end) tests whether there is one.
+    /// Counts the end of a round. A round must be open, which [`can_end`](RoundCount::can_end)
+    /// tests.
     pub fn end(&mut self)
         requires { self.old.ended < self.old.begun }
         ensures { self.new ≡ record self.old { ended = self.old.ended + 1 } }
@@ -68,21 +68,22 @@ impl RoundCount {
         self.ended += 1;
     }
 
-    /// Whether one more round may begin: fewer than [`MAX_RECORDED_ROUNDS`] began so far.
+    /// Returns true if fewer than [`MAX_RECORDED_ROUNDS`] rounds have begun.
     pub fn can_begin(&self) -> bool
         ensures { IsTrue result ↔ (self.now.begun < MAX_RECORDED_ROUNDS) }
     {
         self.begun < MAX_RECORDED_ROUNDS
     }
 
-    /// Whether a round may end: one is between its begin and its end.
+    /// Returns true if a round is open.
     pub fn can_end(&self) -> bool
         ensures { IsTrue result ↔ (self.now.ended < self.now.begun) }
     {
         self.ended < self.begun
     }
 
-    /// What of the rounds so far is more than the plan says.
+    /// Returns how the rounds exceed the plan: more than `count` are open at once or, if the kind
+    /// does not repeat, more than `count` began in all. Returns `None` if they are within the plan.
     pub fn excess(&self) -> Option<Excess>
         ensures exact { result ≡ spec.excess_of self.now }
         ensures none { IsNone result ↔ spec.IsWithinPlan self.now }

@@ -1,4 +1,4 @@
-//! A watch over the rounds of a recording.
+//! Comparison of the rounds of a recording with a plan, line by line.
 
 ghost use Rattle.std.specs.Prelude.{◌≡◌, ◌<◌, ◌+◌, ◌++◌, ◌∷◌, [], ℕ, List, Option, IfOk, OnOk, slice_get, if◌then◌else◌, ◌==◌, false};
 ghost use Rattle.std.specs.Option.{option_map};
@@ -14,17 +14,17 @@ use job_bodies::{Client, Plan};
 use recording_lines::Line;
 use std::alloc::{AllocError, Global};
 
-/// There are more rounds of a kind of clients than the plan says, and this line is the first with which it is so.
+/// The first line at which a client kind has more rounds than the plan allows.
 #[derive(Clone, Copy, Debug, PartialEq, Eq)]
 pub struct RoundExcess {
-    /// Counted from 1.
+    /// The number of the line, from 1.
     pub line: usize,
     /// The number of the kind in the plan.
     pub kind: usize,
     pub excess: Excess,
 }
 
-/// The rounds of one kind of clients.
+/// The rounds of one client kind.
 #[derive(Debug, Drop)]
 struct KindRounds {
     rounds: RoundCount,
@@ -41,7 +41,7 @@ impl KindRounds {
         }
     }
 
-    // A round begins. Answers the first excess.
+    // Counts the begin of a round. Returns the first excess, and `None` after that.
     fn begin(&mut self) -> Result<Option<Excess>, AllocError>
         ensures begun { OnOk result (self.new ≡ after_begin self.old) }
         ensures told { IfOk result (λ told. told ≡ told_by_begin self.old) }
@@ -57,7 +57,7 @@ impl KindRounds {
         Ok(excess)
     }
 
-    // A round begins with this line, of the kind of this number.
+    // Counts the begin of a round, and appends the first excess.
     fn note_begin(
         &mut self,
         line: usize,
@@ -77,7 +77,7 @@ impl KindRounds {
         }
     }
 
-    // A round ends, where one is open.
+    // Counts the end of a round, if one is open.
     fn end(&mut self)
         ensures { self.new ≡ after_end self.old }
     {
@@ -87,18 +87,18 @@ impl KindRounds {
     }
 }
 
-/// The rounds of a recording, watched line by line beside what a plan says of their kinds.
+/// A comparison of the rounds of a recording with the client kinds of a plan, line by line.
 #[derive(Debug, Drop)]
 pub struct RoundWatch {
     kinds: Vec<KindRounds>,
 }
 
 impl RoundWatch {
-    /// No lines so far, beside this plan.
+    /// Creates a comparison with this plan, before the first line.
     ///
     /// # Errors
     ///
-    /// `AllocError` where there is no memory for each kind of clients.
+    /// Returns `AllocError` if memory runs out.
     pub fn new(alloc: Global, plan: &Plan) -> Result<RoundWatch, AllocError>
         ensures { (kinds : List (Option ℕ))
             → IfOk result (λ watch. IsRoundWatchOf plan.now kinds watch []) }
@@ -110,16 +110,16 @@ impl RoundWatch {
         Ok(RoundWatch { kinds })
     }
 
-    /// Takes the next line of a recording that keeps the rules, which has this number. It finds the first excess of each kind
-    /// of clients of the plan.
+    /// Reads line `number` of a valid recording. Appends the first excess of each client kind.
     ///
-    /// Where the line begins or ends a round, `kind` is the round's kind, the same with both lines. None and a number of which
-    /// the plan has no kind are of no kind of the plan. With any other line it is none.
+    /// If the line begins or ends a round, `kind` is the number of the round's kind in the plan. It
+    /// must be the same in both lines. Rounds whose kind is `None` or out of range are not counted.
+    /// For any other line, `kind` is `None`.
     ///
     /// # Errors
     ///
-    /// `AllocError` where there is no memory for what is found, or where more rounds of a kind begin than a recording has
-    /// numbers for. The watch is then of no use any more.
+    /// Returns `AllocError` if memory runs out, or if more than `MAX_RECORDED_ROUNDS` rounds of a
+    /// kind begin. The comparison must not be used after that.
     pub fn take(
         &mut self,
         kind: Option<usize>,
@@ -171,7 +171,7 @@ impl RoundWatch {
         }
     }
 
-    // A round of this kind begins.
+    // Counts the begin of a round of this kind.
     fn begin(
         &mut self,
         kind: usize,
@@ -193,7 +193,7 @@ impl RoundWatch {
         }
     }
 
-    // A round of this kind ends.
+    // Counts the end of a round of this kind.
     fn end(&mut self, kind: usize)
         ensures { (k : ℕ)
             → slice_get self.new.kinds.items k

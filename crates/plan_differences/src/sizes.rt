@@ -1,4 +1,4 @@
-//! What of a pool's sizes is not as the plan says.
+//! Comparison of one `pool` line with a pool of the plan.
 
 ghost use Rattle.std.specs.Prelude.{◌≡◌, ◌++◌, ◌↔◌, [], OnOk, IfOk};
 ghost use Rattle.plan_differences.specs.Sizes as spec;
@@ -8,13 +8,15 @@ use job_bodies::Pool;
 use recording_lines::{PoolSizes, QueueKind};
 use std::alloc::{AllocError, Global};
 
-/// All in which a pool, as a `pool` line tells it, is not as the plan says, in the order of [`Difference`]'s variants, each
-/// at most once. How many threads were prestarted counts in the first line of the pool alone. The list is empty just where
-/// the pool is as planned. The handler is none of it, since after a yes none is ever called.
+/// Returns all differences between a `pool` line and the plan's pool, in the order of the variants
+/// of [`Difference`]. The list is empty exactly when the pool is as planned.
+///
+/// The number of prestarted threads is compared only in the first line of the pool. The handler is
+/// not compared, because it is never called if the plan is SAFE.
 ///
 /// # Errors
 ///
-/// [`AllocError`] where memory runs out.
+/// Returns [`AllocError`] if memory runs out.
 pub fn differences(
     alloc: Global,
     sizes: &PoolSizes,
@@ -60,14 +62,14 @@ pub fn differences(
     Ok(found)
 }
 
-/// Whether jobs wait in a queue of one of the two kinds that a plan may stand for.
+/// Returns true if the queue is of one of the two kinds that a plan can describe.
 fn is_array_or_linked(kind: QueueKind) -> bool
     ensures { result ≡ spec.is_array_or_linked kind }
 {
     matches!(kind, QueueKind::Array | QueueKind::Linked)
 }
 
-/// Puts the difference behind the others, unless the two agree.
+/// Appends the difference, unless the two sides agree.
 fn push_unless(
     found: &mut Vec<Difference>,
     agree: bool,

@@ -1,4 +1,4 @@
-//! The differences that were told of the pools.
+//! The differences of pools that were reported.
 
 ghost use Rattle.std.specs.Prelude.{◌≡◌, ◌&&◌, ◌||◌, ◌==◌, ℕ, OnOk, false};
 ghost use Rattle.plan_differences.specs.declared.difference.Difference as Known;
@@ -16,14 +16,14 @@ pub(crate) struct PoolDifference {
     difference: Difference,
 }
 
-/// The differences that were told of the plan's pools, of each pool each once.
+/// A set of the differences that were reported for the pools of the plan.
 #[derive(Debug, Drop)]
 pub(crate) struct ToldDifferences {
     items: Vec<PoolDifference>,
 }
 
 impl ToldDifferences {
-    /// None so far.
+    /// Creates an empty set.
     pub(crate) fn new(alloc: Global) -> ToldDifferences
         ensures { (pool : ℕ) (difference : Known.Difference)
             → is_told result pool difference ≡ false }
@@ -39,11 +39,11 @@ impl ToldDifferences {
         self.items.iter().any(|told| told.is_of(pool, difference))
     }
 
-    /// These differences of the pool are told from here on.
+    /// Adds these differences of the pool.
     ///
     /// # Errors
     ///
-    /// `AllocError` where there is no memory for one of them.
+    /// Returns `AllocError` if memory runs out.
     pub(crate) fn insert_all(
         &mut self,
         pool: usize,

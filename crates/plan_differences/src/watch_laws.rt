@@ -1,18 +1,19 @@
-//! Laws of what the watches find, the contracts of functions with nothing to do.
+//! Laws about the comparisons, stated as contracts of empty functions.
 
 ghost use Rattle.plan_differences.specs.WatchLaws.{DeviationsAddUp, ExcessesAddUp, PoolsAreAsPlanned, PoolsAreRecorded, RoundsAreWithinPlan};
 
-/// What is found of all lines is what is found line by line. Where it is nothing, each pool with a line is one of the plan's
-/// and as planned in each of its lines, though how many threads were prestarted counts in the first one alone; and where the
-/// recording is whole, each of the plan's pools has a line.
+/// Proves that the differences of all lines are those found line by line. If there are none, each
+/// recorded pool is in the plan and as planned in each of its lines, where the number of prestarted
+/// threads counts only in the first one. If the recording is also whole, each pool of the plan has
+/// a line.
 pub fn pools_are_as_planned()
     ensures adds_up { DeviationsAddUp }
     ensures as_planned { PoolsAreAsPlanned }
     ensures recorded { PoolsAreRecorded }
 {}
 
-/// What is found of all lines is what is found line by line. Where it is nothing, there are never more rounds of a kind than
-/// the plan says.
+/// Proves that the excesses of all lines are those found line by line. If there are none, no client
+/// kind ever has more rounds than the plan allows.
 pub fn rounds_are_within_plan()
     ensures adds_up { ExcessesAddUp }
     ensures within { RoundsAreWithinPlan }
