@@ -1,4 +1,4 @@
--- What is kept is enough: its first void of each word is the first one of all, and it stays so behind a line.
+-- The stored events are enough: the first one of each type is the first of all, also after one more line.
 use Rattle.std.proofs.Common.{◌≡◌, ℕ, ◌&&◌, ◌||◌, not, Bool, true, false, if◌then◌else◌, List, [], ◌∷◌, ◌++◌, map, Option, Some, None, refl, ap, sym, subst, ◌∙◌, append-nil}
 use Rattle.std.specs.Str.{bytes_eq}
 use Rattle.std.specs.Option.{option_to_list}
@@ -11,7 +11,7 @@ use Rattle.recorded_notes.specs.Voids.{word_of, has_word, first_of_each}
 use Rattle.recorded_notes.specs.Noted.{voids_in, closed_with, IsEnough, none, keep, leave, is_first_before, kept_with, closes, stays_behind, closed_by, settled_by}
 use Rattle.recorded_notes.proofs.Firsts.{same_text, unlike}
 
--- ---- some go
+-- ---- removed events
 or_wider : (a b c : Bool) → (a ≡ true → b ≡ true) → (a || c) ≡ true → (b || c) ≡ true
 or_wider true b c wider h = ap (λ x. x || c) (wider refl)
 or_wider false true c wider h = refl
@@ -42,7 +42,7 @@ enough_filter p pends _ wider _ _ more (keep closed kept all one h) =
 enough_filter p pends _ wider _ _ more (leave closed kept all one is_closed h) =
     leave_if (p one) wider one (filter p kept) (filter p all) (more (word_of one.void.what) is_closed) (enough_filter p pends closed wider kept all more h)
 
--- ---- some are closed
+-- ---- events that are no longer pending
 or_closer : (a b pending closes c : Bool) → (a ≡ true → b ≡ true) → (a || (not pending && c)) ≡ true → (b || (not (pending && not closes) && c)) ≡ true
 or_closer true b pending closes c more h = ap (λ x. x || (not (pending && not closes) && c)) (more refl)
 or_closer false true pending closes c more h = refl
@@ -68,7 +68,7 @@ enough_settled line closed kept all h =
     enough_closed line closed closed (filter (stays_behind line) kept) (filter (stays_behind line) all) (λ word c. c)
     (enough_filter (stays_behind line) (λ one goes. open_goes one.pending _ goes) closed closed kept all (λ word c. c) h)
 
--- ---- one comes
+-- ---- a new event
 enough_push : (one : NotedVoid) (closed : List ℕ → Bool) (kept all : List NotedVoid) → IsEnough closed kept all → IsEnough closed (kept ++ one ∷ []) (all ++ one ∷ [])
 enough_push one _ _ _ (none closed) = keep closed [] [] one (none (closed_with closed one))
 enough_push one _ _ _ (keep closed kept all first h) = keep closed (kept ++ one ∷ []) (all ++ one ∷ []) first (enough_push one (closed_with closed first) kept all h)
@@ -104,7 +104,7 @@ enough_with (Some one) kept all h = first_if one kept all h (list_any (is_first_
 pub enough_more : (line : RecordedLine) (more : Option NotedVoid) (kept all : List NotedVoid) → IsEnough no_word kept all → IsEnough no_word (kept_with more (settled_by line kept)) (settled_by line all ++ option_to_list more)
 enough_more line more kept all h = enough_with more (settled_by line kept) (settled_by line all) (enough_settled line no_word kept all h)
 
--- ---- the first ones
+-- ---- the first events
 abbrev is_new : (List ℕ → Bool) → Void → Bool
 is_new closed void = not (closed (word_of void.what))
 
@@ -116,7 +116,7 @@ both_ways false true false = refl
 both_ways false false true = refl
 both_ways false false false = refl
 
--- of the words that are new behind `one`, those that are not its own
+-- Of the types that are new after `one`, those other than its own.
 new_behind : (closed : List ℕ → Bool) (one : NotedVoid) (xs : List Void) → filter (is_new closed) (filter (unlike one.void) xs) ≡ filter (unlike one.void) (filter (is_new (closed_with closed one)) xs)
 new_behind closed one xs =
     let both : Void → Bool = λ other. unlike one.void other && is_new closed other in
@@ -128,7 +128,7 @@ same_behind : (closed : List ℕ → Bool) (one : NotedVoid) (xs ys : List Void)
 same_behind closed one xs ys same =
     ap (λ (zs : List Void). if is_new closed one.void then one.void ∷ zs else zs) (new_behind closed one xs ∙ (ap (filter (unlike one.void)) same ∙ sym (new_behind closed one ys)))
 
--- one whose word is not new
+-- An event whose type is not new.
 not_own : (closed : List ℕ → Bool) (one : NotedVoid) → closed (word_of one.void.what) ≡ true → (other : Void) → (s : Bool) → has_word other.what one.void ≡ s → is_new closed other ≡ (not s && is_new closed other)
 not_own closed one is_closed other true same = ap not (subst (λ word. closed word ≡ true) (same_text (word_of one.void.what) (word_of other.what) same) is_closed)
 not_own closed one is_closed other false same = refl

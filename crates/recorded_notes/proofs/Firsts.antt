@@ -1,4 +1,4 @@
--- The first void of each word.
+-- The first event of each type.
 use Rattle.std.proofs.Common.{◌≡◌, ℕ, ◌||◌, not, Bool, true, false, if◌then◌else◌, List, [], ◌∷◌, ◌++◌, length, take, get_or, ◌+◌, ◌<◌, refl, ap, sym, subst, ◌∙◌}
 use Rattle.std.specs.Str.{bytes_eq}
 use Rattle.std.specs.List.{list_any, filter}
@@ -16,7 +16,7 @@ same_text xs ys h = (bytes_eq-Decides xs ys).0 h
 pub apart : (b : Bool) {P : Type 0} → b ≡ true → b ≡ false → P
 apart b holds fails = absurd (let e : true ≡ false = sym holds ∙ fails in cc)
 
--- ---- behind one of a word, those of it go
+-- ---- later events of a type are removed
 abbrev pub unlike : Void → Void → Bool
 unlike void other = not (has_word other.what void)
 
@@ -32,7 +32,7 @@ any_filter : {X : Type 0} (p q : X → Bool) → ((x : X) → p x ≡ true → q
 any_filter p q stays [] = refl
 any_filter p q stays (x ∷ xs) = any_if p (q x) x (filter q xs) (stays x) ∙ ap (λ b. p x || b) (any_filter p q stays xs)
 
--- another one of a word that `void` has not
+-- Another event of a type that `void` does not have.
 not_like : (void one other : Void) → has_word one.what void ≡ false → has_word one.what other ≡ true → (b : Bool) → has_word other.what void ≡ b → not b ≡ true
 not_like void one other fresh like true same =
     let one_word = same_text (word_of void.what) (word_of other.what) same in
@@ -42,8 +42,8 @@ not_like void one other fresh like false same = refl
 stays_unlike : (void one other : Void) → has_word one.what void ≡ false → has_word one.what other ≡ true → unlike void other ≡ true
 stays_unlike void one other fresh like = not_like void one other fresh like (has_word other.what void) refl
 
--- ---- one more behind them
--- what is behind the first one, where that has the word of the last one or not
+-- ---- one more event
+-- The events after the first one, whether it is of the type of the last one or not.
 last_goes : (void one : Void) (firsts : List Void) (there : Bool) → unlike void one ≡ false → filter (unlike void) (if there then firsts else firsts ++ one ∷ []) ≡ filter (unlike void) firsts
 last_goes void one firsts true like = refl
 last_goes void one firsts false like = filter_more (unlike void) firsts one ∙ ap (λ (b : Bool). if b then filter (unlike void) firsts ++ one ∷ [] else filter (unlike void) firsts) like
@@ -71,7 +71,7 @@ firsts_more (void ∷ voids) one =
     ap (λ (xs : List Void). void ∷ filter (unlike void) xs) (firsts_more voids one)
     ∙ step void one (first_of_each voids) (has_word one.what void) refl
 
--- the list behind a loop that goes over what is kept, by the element that it reads
+-- The list after a loop over the stored events, in terms of the element read.
 pub firsts_next : (kept : List NotedVoid) (i : ℕ) (d : NotedVoid) → i < length kept → with_word (get_or kept i d).void (first_of_each (voids_in (take i kept))) ≡ first_of_each (voids_in (take (i + 1) kept))
 firsts_next kept i d within =
     let one = get_or kept i d in

@@ -1,4 +1,4 @@
--- Who submitted which job, and who got it, by the lines with one more behind them.
+-- The submitter of each job, and the actors that got it, after one more line.
 use Rattle.std.proofs.Common.{◌≡◌, ◌≤◌, ℕ, ◌+◌, ◌==◌, ◌&&◌, ◌||◌, not, Bool, true, false, if◌then◌else◌, List, [], ◌∷◌, ◌++◌, length, map, Option, Some, None, slice_get, refl, ap, sym, ◌∙◌, arith}
 use Rattle.std.specs.Option.{option_to_list}
 use Rattle.std.specs.List.{list_any, filter_map}
@@ -69,7 +69,7 @@ pub none_foreign : first_foreign_get [] ≡ None
 unfolding foreign_gets
 none_foreign = refl
 
--- ---- a job that is to come
+-- ---- a job that is not yet submitted
 record IsFresh (lines : List RecordedLine) (job : ℕ) : Type 0 where
   submitter : submitter_of lines job ≡ None
   got : is_got_by_own lines job ≡ false
@@ -101,7 +101,7 @@ fresh_job =
     let all : submits before + (if is_submit line then 1 else 0) ≤ j = rw (← submits_more before line) past in
     fresh_more before line j (h j (omega arith)) (unsubmitted_past before line j (next_number before line k) all))
 
--- ---- what is kept of a job
+-- ---- the entry of a job
 abbrev pub ungot_of : Bool → Option RecordedActor → Option RecordedActor
 ungot_of got submitter = if got then None else submitter
 
@@ -143,7 +143,7 @@ pub ungot_behind : (before : List RecordedLine) (line : RecordedLine) → KeepsR
     ≡ ungot_of (is_got_by_own (before ++ line ∷ []) job) (submitter_of (before ++ line ∷ []) job)
 ungot_behind before line kept k job = behind_line before line job kept k ∙ sym (with_last before line job)
 
--- ---- a get by another one
+-- ---- a get by another actor
 and_true : (a : Bool) → a ≡ (a && true)
 and_true true = refl
 and_true false = refl

@@ -1,4 +1,4 @@
--- The voids of the lines with one more behind them.
+-- The invalidating events after one more line.
 use Rattle.std.proofs.Common.{◌≡◌, ℕ, ◌+◌, suc, not, Bool, true, false, if◌then◌else◌, List, [], ◌∷◌, ◌++◌, length, map, is_none, Option, Some, None, slice_get, refl, ap, sym, ◌∙◌, arith}
 use Rattle.std.specs.Option.{option_to_list, option_map, option_and_then}
 use Rattle.std.specs.List.{filter, cons_option}
@@ -37,7 +37,7 @@ asked_by actor job (TimedOut who one) h = and_first _ _ h
 asked_by actor job (Interrupted who one) h = and_first _ _ h
 asked_by actor job line h = absurd (let e : false ≡ true = h in cc)
 
--- ---- what one is behind a line
+-- ---- an event after a line
 abbrev behind_one : RecordedLine → Option NotedVoid → Option NotedVoid
 behind_one line None = None
 behind_one line (Some one) = if stays_behind line one then Some (closed_by line one) else None
@@ -45,7 +45,7 @@ behind_one line (Some one) = if stays_behind line one then Some (closed_by line 
 abbrev noted_with : ℕ → Voiding → Bool → NotedVoid
 noted_with number what pending = record { void = record { line = number; what = what }; pending = pending }
 
--- a get that was not done, by the next line of its actor
+-- A get that did not succeed, with the next line of its actor.
 abbrev asked : ℕ → Voiding → RecordedActor → ℕ → Option RecordedLine → Option NotedVoid
 asked number what actor job next = if asks_next actor job next then None else Some (noted_with number what (is_none next))
 
@@ -100,7 +100,7 @@ last_line : (number : ℕ) (said : Option Voiding) → option_and_then (noted_if
 last_line number None = refl
 last_line number (Some what) = last_what number what
 
--- ---- all of them
+-- ---- all events
 settled_if : (line : RecordedLine) (b : Bool) (one : NotedVoid) (rest : List NotedVoid)
     → map (closed_by line) (if b then one ∷ rest else rest) ≡ cons_option (if b then Some (closed_by line one) else None) (map (closed_by line) rest)
 settled_if line true one rest = refl
@@ -134,7 +134,7 @@ noted_more number (first ∷ lines) line =
     ∙ (cons_append (behind_one line (noted_at number first lines)) rest last
     ∙ ap (λ (all : List NotedVoid). all ++ last) (sym (settled_cons line (noted_at number first lines) (noted_from (number + 1) lines)))))
 
--- ---- as voids
+-- ---- without the pending flag
 choice : (b : Bool) (one : NotedVoid) → option_map (λ (one : NotedVoid). one.void) (if b then None else Some one) ≡ (if b then None else Some one.void)
 choice true one = refl
 choice false one = refl

@@ -7,16 +7,16 @@ use Rattle.recorded_rules.specs.LineParts.{is_same_actor, is_actor}
 use Rattle.recorded_paths.specs.LineDeeds.{with_lines_before}
 use Rattle.recorded_notes.specs.declared.foreign_get.ForeignGet.{ForeignGet}
 
--- who submits the job by this line
+-- The actor that submits the job with this line.
 abbrev pub submitter_by : ℕ → RecordedLine → Option RecordedActor
 submitter_by job (Submits actor one class pool) = if one == job then Some actor else None
 submitter_by job line = None
 
--- who submitted the job
+-- The actor that submitted the job.
 unfoldable pub submitter_of : List RecordedLine → ℕ → Option RecordedActor
 submitter_of lines job = slice_get (filter_map (submitter_by job) lines) 0
 
--- ---- gets by the one that submitted the job
+-- ---- gets by the submitter
 abbrev pub is_own_get : ℕ → List RecordedLine → RecordedLine → Bool
 is_own_get job before (Got actor one) = (one == job) && is_actor actor (submitter_of before job)
 is_own_get job before line = false
@@ -24,12 +24,12 @@ is_own_get job before line = false
 unfoldable pub is_got_by_own : List RecordedLine → ℕ → Bool
 is_got_by_own lines job = list_any (λ (before, line). is_own_get job before line) (with_lines_before lines)
 
--- ---- gets by another one
+-- ---- gets by another actor
 abbrev pub is_another : Option RecordedActor → RecordedActor → Bool
 is_another None actor = false
 is_another (Some submitter) actor = not (is_same_actor submitter actor)
 
--- another one submitted the job, and has not got it so far
+-- The get by this line, if another actor submitted the job and has not got it.
 abbrev pub foreign_get_of : List RecordedLine → RecordedLine → Option ForeignGet
 foreign_get_of before (Got actor job) =
     if is_another (submitter_of before job) actor && not (is_got_by_own before job) then Some (record { line = length before + 1; actor = actor; job = job }) else None

@@ -1,4 +1,4 @@
--- The lines that void a yes, as they are kept while lines come.
+-- The invalidating events, as they are stored while lines are read.
 use Rattle.std.specs.Prelude.{◌≡◌, ℕ, ◌+◌, ◌&&◌, ◌||◌, not, Bool, true, false, if◌then◌else◌, List, [], ◌∷◌, ◌++◌, map, is_none, Option, Some, None}
 use Rattle.std.specs.Str.{bytes_eq}
 use Rattle.std.specs.List.{list_any, filter, cons_option}
@@ -12,7 +12,7 @@ use Rattle.recorded_notes.specs.declared.voiding.Voiding.TheVariants as what
 use Rattle.recorded_notes.specs.Voids.{word_of, is_same_word, has_word, asks_for, next_of, voiding_of, is_excused}
 
 -- ---- by all lines
--- its actor's next line may excuse it, and is not there
+-- The next line of the actor may excuse the event, and is not there yet.
 abbrev pub is_pending : Voiding → List RecordedLine → Bool
 is_pending (what.TimedOut actor job) behind = is_none (next_of actor behind)
 is_pending (what.Interrupted actor job) behind = is_none (next_of actor behind)
@@ -21,7 +21,7 @@ is_pending what behind = false
 abbrev pub noted_if : ℕ → List RecordedLine → Voiding → Option NotedVoid
 noted_if number behind what = if is_excused what behind then None else Some (record { void = record { line = number; what = what }; pending = is_pending what behind })
 
--- the line of this number, with those behind it
+-- The event of the line with this number, by that line and the lines after it.
 abbrev pub noted_at : ℕ → RecordedLine → List RecordedLine → Option NotedVoid
 noted_at number line behind = option_and_then (noted_if number behind) (voiding_of line)
 
@@ -29,12 +29,12 @@ abbrev pub noted_from : ℕ → List RecordedLine → List NotedVoid
 noted_from number [] = []
 noted_from number (line ∷ behind) = cons_option (noted_at number line behind) (noted_from (number + 1) behind)
 
--- ---- what is kept of them
+-- ---- the stored events
 abbrev pub closed_with : (List ℕ → Bool) → NotedVoid → List ℕ → Bool
 closed_with closed one word = closed word || (not one.pending && bytes_eq (word_of one.void.what) word)
 
--- One may be left out that stands behind one of its word which is not pending, since it can never be the first one. `closed`
--- tells of which words there is such a one already.
+-- `kept` may omit an event after one of its type that is not pending, because it can never be the first of its type.
+-- `closed` tells which types already have such an event.
 pub data IsEnough : (List ℕ → Bool) → List NotedVoid → List NotedVoid → Type 0 where
   none : (closed : List ℕ → Bool) → IsEnough closed [] []
   keep : (closed : List ℕ → Bool) (kept all : List NotedVoid) (one : NotedVoid) → IsEnough (closed_with closed one) kept all
@@ -44,7 +44,7 @@ pub data IsEnough : (List ℕ → Bool) → List NotedVoid → List NotedVoid �
 abbrev pub voids_in : List NotedVoid → List Void
 voids_in noted = map (λ one. one.void) noted
 
--- behind the first ones of some voids, where none of them has its word
+-- The event is appended, unless the list has one of its type.
 abbrev pub with_word : Void → List Void → List Void
 with_word one firsts = if list_any (has_word one.what) firsts then firsts else firsts ++ one ∷ []
 
@@ -67,13 +67,13 @@ abbrev pub kept_with : Option NotedVoid → List NotedVoid → List NotedVoid
 kept_with None kept = kept
 kept_with (Some one) kept = with_first one kept
 
--- the line asks again
+-- The line repeats the get.
 abbrev pub excuses : RecordedLine → Voiding → Bool
 excuses line (what.TimedOut actor job) = asks_for actor job line
 excuses line (what.Interrupted actor job) = asks_for actor job line
 excuses line what = false
 
--- the line is of the actor that asked
+-- The line is of the actor of the get.
 abbrev pub closes : RecordedLine → Voiding → Bool
 closes line (what.TimedOut actor job) = is_of actor line
 closes line (what.Interrupted actor job) = is_of actor line

@@ -1,4 +1,4 @@
--- How what is noted stands for the lines so far.
+-- The state of the notes, as a function of the lines read.
 use Rattle.std.specs.Prelude.{◌≡◌, ℕ, false, if◌then◌else◌, List, None}
 use Rattle.recording_lines.specs.RecordingLine.{RecordedLine}
 use Rattle.recorded_notes.specs.declared.notes.RecordedNotes.{RecordedNotes}

@@ -1,4 +1,4 @@
--- The jobs that their submitters have not got, as they are kept while lines come.
+-- The jobs that their submitters have not got, as they are stored while lines are read.
 use Rattle.std.specs.Prelude.{ℕ, ◌==◌, if◌then◌else◌, Option, Some, None}
 use Rattle.number_tables.specs.Numbered.{value_at}
 use Rattle.recording_lines.specs.declared.recording_line.RecordedActor.{RecordedActor}
@@ -11,18 +11,18 @@ use Rattle.recorded_notes.specs.ForeignGets.{is_another}
 abbrev pub submitter_in : Ungot → ℕ → Option RecordedActor
 submitter_in ungot job = value_at ungot.submitters job
 
--- the actor got the job: nothing is left where it is the one that submitted it
+-- The entry of the job after the actor got it. It is removed if the actor is the submitter.
 abbrev pub ungot_by : RecordedActor → Option RecordedActor → Option RecordedActor
 ungot_by actor None = None
 ungot_by actor (Some submitter) = if is_same_actor submitter actor then None else Some submitter
 
--- what the line makes of what is there of the job
+-- The entry of the job after the line.
 abbrev pub table_behind : RecordedLine → ℕ → Option RecordedActor → Option RecordedActor
 table_behind (Submits actor job class pool) one there = if job == one then Some actor else there
 table_behind (Got actor job) one there = if job == one then ungot_by actor there else there
 table_behind line one there = there
 
--- the first foreign get, with a line of this number
+-- The first foreign get, if the line with this number is one.
 abbrev pub foreign_by : Ungot → ℕ → RecordedLine → Option ForeignGet
 foreign_by ungot number (Got actor job) = if is_another (submitter_in ungot job) actor then Some (record { line = number; actor = actor; job = job }) else None
 foreign_by ungot number line = None

@@ -1,9 +1,9 @@
--- The words for what voids a yes.
+-- The texts of the invalidating events.
 use Rattle.std.specs.Prelude.{ℕ, ◌++◌, List, codes, decimal}
 use Rattle.recorded_notes.specs.declared.voiding.Voiding.{Voiding}
 use Rattle.recorded_notes.specs.declared.voiding.Voiding.TheVariants as what
 
--- without the line's number, and without a newline
+-- The text has no line number and no newline.
 abbrev pub void_text : Voiding → List ℕ
 void_text (what.Refused actor job) = codes "job " ++ decimal job ++ codes " was refused"
 void_text (what.TimedOut actor job) = codes "a get of job " ++ decimal job ++ codes " timed out"

@@ -1,11 +1,11 @@
-//! A get of a job by an actor that did not submit it.
+//! Gets of jobs by actors that did not submit them.
 
 use recording_lines::RecordedActor;
 
-/// The actor got a job that another one submitted, and that this other one had not got before.
+/// A get of a job by an actor that did not submit it, before its submitter got it.
 #[derive(Clone, Copy, Debug, PartialEq, Eq)]
 pub struct ForeignGet {
-    /// The line's number, from 1.
+    /// The number of the line, from 1.
     pub line: usize,
     pub actor: RecordedActor,
     pub job: usize,

@@ -1,13 +1,16 @@
-//! What in a recording voids a yes (`docs/RECORDING.md`), and which jobs are got by others than those that submitted them.
+//! The events of a recording that invalidate a SAFE answer (`docs/RECORDING.md`), and the gets of
+//! jobs by actors that did not submit them.
 //!
-//! [`RecordedNotes`] takes one line after another of a recording that keeps its rules (`recorded_rules`). Of each of the
-//! eight words that void a yes it has the first line, and it has the first get of a job by an actor that did not submit
-//! it, before the one that did has got it. What a `pool` line changes is not noted here, nor whether the path of an actor
-//! without a get that timed out is of a plan's body.
+//! A SAFE answer applies to the service up to the first invalidating event. [`RecordedNotes`] reads
+//! the lines of a valid recording (`recorded_rules`) in order. It has the first line of each of the
+//! eight event types that invalidate the answer, and the first get of a job by an actor that did
+//! not submit it, before its submitter got it. It does not consider changes of `pool` lines, nor
+//! whether the path of an actor without a get that timed out matches a body of the plan.
 //!
-//! What is kept is a line for each word, one for each actor whose last line is a `timeout` or `interrupted`, and who
-//! submitted each job that this actor has not got: so it grows with the jobs that are never got. What a line costs is a
-//! look-up in a table, and a look along the lines that are kept. That is seen in the code and is in no contract.
+//! Memory holds one line for each event type, one for each actor whose last line is a `timeout` or
+//! `interrupted`, and the submitter of each job that its submitter has not got. So it grows with
+//! the jobs that are never got. A line costs one table lookup and a scan of the stored lines. No
+//! contract states these costs.
 #![tactic(auto)]
 
 mod foreign_get;

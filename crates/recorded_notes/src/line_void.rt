@@ -1,4 +1,4 @@
-//! What one line says of a yes.
+//! The event of a single line.
 
 ghost use Rattle.std.specs.Prelude.{◌≡◌};
 ghost use Rattle.recording_lines.specs.RecordingLine.{line_seen};
@@ -9,30 +9,30 @@ ghost use Rattle.recorded_notes.specs.Noted as noted;
 use crate::voiding::{Void, Voiding};
 use recording_lines::{Line, RecordedActor};
 
-/// A line that voids a yes, as far as the lines so far say.
+/// An event that invalidates a SAFE answer, by the lines so far.
 #[derive(Clone, Copy, Debug)]
 pub(crate) struct NotedVoid {
     pub(crate) void: Void,
-    /// It is the last line of its actor, whose next line may say that it voids nothing.
+    /// True if it is the last line of its actor so far. The actor's next line can then excuse it.
     pub(crate) pending: bool,
 }
 
 impl NotedVoid {
-    /// Whether it is not pending, and has the word of another one.
+    /// Returns true if it is not pending, and of the same event type.
     pub(crate) fn is_first_before(self, what: Voiding) -> bool
         ensures { result ≡ noted.is_first_before what self }
     {
         !self.pending && is_same_word(self.void.what, what)
     }
 
-    /// Whether the line says that it voids nothing.
+    /// Returns true if the line excuses the event.
     pub(crate) fn is_excused_by(self, line: &Line<'_>) -> bool
         ensures { result ≡ noted.is_excused_by (line_seen line.now) self }
     {
         self.pending && excuses(self.void.what, line)
     }
 
-    /// What it is behind this line.
+    /// Returns the event after this line, no longer pending if the line is its actor's.
     pub(crate) fn behind(self, line: &Line<'_>) -> NotedVoid
         ensures { result ≡ noted.closed_by (line_seen line.now) self }
     {
@@ -43,7 +43,8 @@ impl NotedVoid {
     }
 }
 
-/// What of the line voids a yes, unless its actor's next line says otherwise.
+/// Returns the event of the line that invalidates a SAFE answer, unless its actor's next line
+/// excuses it.
 pub(crate) fn voiding_of(line: &Line<'_>) -> Option<Voiding>
     ensures { result ≡ spec.voiding_of (line_seen line.now) }
 {
@@ -60,14 +61,14 @@ pub(crate) fn voiding_of(line: &Line<'_>) -> Option<Voiding>
     }
 }
 
-/// Whether the next line of an actor can say that it voids nothing.
+/// Returns true if the next line of the actor can excuse the event.
 pub(crate) fn is_asked(what: Voiding) -> bool
     ensures { result ≡ noted.is_asked what }
 {
     matches!(what, Voiding::TimedOut { .. } | Voiding::Interrupted { .. })
 }
 
-/// Whether two have the same word.
+/// Returns true if both are of the same event type.
 pub(crate) fn is_same_word(one: Voiding, other: Voiding) -> bool
     ensures { result ≡ spec.is_same_word one other }
 {
@@ -116,7 +117,7 @@ fn asks_for(actor: RecordedActor, job: usize, line: &Line<'_>) -> bool
     }
 }
 
-/// Whether the line is the actor's.
+/// Returns true if the actor is the subject of the line.
 fn is_line_of(actor: RecordedActor, line: &Line<'_>) -> bool
     ensures { result ≡ is_of actor (line_seen line.now) }
 {

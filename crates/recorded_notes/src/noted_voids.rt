@@ -1,4 +1,4 @@
-//! The lines that void a yes, by the lines so far.
+//! The events that invalidate a SAFE answer, by the lines so far.
 
 ghost use Rattle.std.specs.Prelude.{◌≡◌, [], OnOk, IfOk, map};
 ghost use Rattle.std.specs.List.{list_any, filter};
@@ -11,14 +11,14 @@ use crate::voiding::{Void, Voiding};
 use recording_lines::Line;
 use std::alloc::{AllocError, Global};
 
-/// The first line of each word that voids a yes, and those that may yet turn out to be the first one.
+/// The first line of each invalidating event type, and the pending lines that may precede it.
 #[derive(Debug, Drop)]
 pub(crate) struct NotedVoids {
     kept: Vec<NotedVoid>,
 }
 
 impl NotedVoids {
-    /// No lines so far.
+    /// Creates an empty list.
     pub(crate) fn new(alloc: Global) -> NotedVoids
         ensures { result.kept.items ≡ [] }
     {
@@ -27,11 +27,11 @@ impl NotedVoids {
         }
     }
 
-    /// Takes the next line, which has this number.
+    /// Reads line `number`.
     ///
     /// # Errors
     ///
-    /// `AllocError` where there is no memory for it.
+    /// Returns `AllocError` if memory runs out.
     pub(crate) fn take(&mut self, number: usize, line: &Line<'_>) -> Result<(), AllocError>
         ensures { OnOk result
             (self.new.kept.items
@@ -52,11 +52,11 @@ impl NotedVoids {
         }
     }
 
-    /// The first line of each word, in their order.
+    /// Returns the first line of each event type, in the order of the lines.
     ///
     /// # Errors
     ///
-    /// `AllocError` where there is no memory for the answer.
+    /// Returns `AllocError` if memory runs out.
     pub(crate) fn firsts(&self, alloc: Global) -> Result<Vec<Void>, AllocError>
         ensures { IfOk result
             (λ firsts. firsts.items ≡ spec.first_of_each (noted.voids_in self.now.kept.items)) }
@@ -65,14 +65,14 @@ impl NotedVoids {
     }
 }
 
-/// Those that the line says void nothing go.
+/// Removes the events that the line excuses.
 fn excuse(kept: &mut Vec<NotedVoid>, line: &Line<'_>)
     ensures { kept.new.items ≡ filter (noted.stays_behind (line_seen line.now)) kept.old.items }
 {
     kept.retain(|one| !one.is_excused_by(line));
 }
 
-/// The line is the next one of its actor.
+/// Marks the events of the line's actor as no longer pending.
 fn close(kept: &mut [NotedVoid], line: &Line<'_>)
     ensures { kept.new ≡ map (noted.closed_by (line_seen line.now)) kept.old }
 {
@@ -81,7 +81,7 @@ fn close(kept: &mut [NotedVoid], line: &Line<'_>)
     }
 }
 
-/// Puts it behind the others, unless it cannot be the first of its word.
+/// Appends the event, unless an earlier one of its type is certain to remain.
 fn push_first(kept: &mut Vec<NotedVoid>, one: NotedVoid) -> Result<(), AllocError>
     ensures { OnOk result (kept.new.items ≡ noted.with_first one kept.old.items) }
 {
@@ -107,7 +107,7 @@ fn firsts_of(alloc: Global, kept: &[NotedVoid]) -> Result<Vec<Void>, AllocError>
     Ok(firsts)
 }
 
-/// Puts it behind the others, unless one of them has its word.
+/// Appends the event, unless there is one of its type.
 fn push_word(voids: &mut Vec<Void>, void: Void) -> Result<(), AllocError>
     ensures { OnOk result (voids.new.items ≡ noted.with_word void voids.old.items) }
 {

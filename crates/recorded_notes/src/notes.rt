@@ -1,4 +1,4 @@
-//! What is noted of the lines of a recording so far.
+//! Notes on the lines of a recording.
 
 ghost use Rattle.std.specs.Prelude.{◌≡◌, ◌+◌, ◌++◌, ◌∷◌, [], List, OnOk, IfOk, length};
 ghost use Rattle.recording_lines.specs.RecordingLine.{RecordedLine, line_seen};
@@ -15,7 +15,8 @@ use crate::voiding::Void;
 use recording_lines::Line;
 use std::alloc::{AllocError, Global};
 
-/// What voids a yes by the lines so far, and the first get of a job by an actor that did not submit it.
+/// The events that invalidate a SAFE answer, and the first get of a job by an actor that did not
+/// submit it, for the lines read so far.
 #[derive(Debug, Drop)]
 pub struct RecordedNotes {
     pub(crate) voids: NotedVoids,
@@ -24,7 +25,7 @@ pub struct RecordedNotes {
 }
 
 impl RecordedNotes {
-    /// No lines so far.
+    /// Creates the notes, before the first line.
     pub fn new(alloc: Global) -> RecordedNotes
         ensures { IsNotesOf result [] }
     {
@@ -35,11 +36,11 @@ impl RecordedNotes {
         }
     }
 
-    /// Takes the next line of a recording that keeps the rules. Lines are numbered from 1.
+    /// Reads line `number` of a valid recording. Lines are numbered from 1.
     ///
     /// # Errors
     ///
-    /// `AllocError` where there is no memory for what the line says. What is noted is then of no use any more.
+    /// Returns `AllocError` if memory runs out. The notes must not be used after that.
     pub fn take(&mut self, number: usize, line: &Line<'_>) -> Result<(), AllocError>
         ensures { (before : List RecordedLine)
             → KeepsRules (before ++ line_seen line.now ∷ [])
@@ -52,13 +53,13 @@ impl RecordedNotes {
         self.ungot.take(line)
     }
 
-    /// The first line of each word that voids a yes, in the order of the lines. A `timeout` or `interrupted` is among them
-    /// where it is the last line of its actor so far, or where the next one is no `timeout`, `interrupted` or `got` of
-    /// the same job.
+    /// Returns the first line of each invalidating event type, in the order of the lines. A
+    /// `timeout` or `interrupted` counts if it is the last line of its actor so far, or if the next
+    /// one is no `timeout`, `interrupted` or `got` of the same job.
     ///
     /// # Errors
     ///
-    /// `AllocError` where there is no memory for the answer.
+    /// Returns `AllocError` if memory runs out.
     pub fn voids(&self, alloc: Global) -> Result<Vec<Void>, AllocError>
         ensures { (lines : List RecordedLine)
             → IsNotesOf self.now lines
@@ -67,7 +68,8 @@ impl RecordedNotes {
         self.voids.firsts(alloc)
     }
 
-    /// The first get of a job by an actor that did not submit it, while the one that did had not got it.
+    /// Returns the first get of a job by an actor that did not submit it, before its submitter got
+    /// it.
     pub fn foreign_get(&self) -> Option<ForeignGet>
         ensures { (lines : List RecordedLine)
             → IsNotesOf self.now lines

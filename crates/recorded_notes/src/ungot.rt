@@ -1,4 +1,4 @@
-//! The jobs that were submitted, and that their submitters have not got.
+//! The jobs that their submitters have not got.
 
 ghost use Rattle.std.specs.Prelude.{◌≡◌, ℕ, ◌==◌, OnOk, None, Some, if◌then◌else◌};
 ghost use Rattle.recording_lines.specs.RecordingLine.{line_seen};
@@ -10,14 +10,14 @@ use number_tables::NumberTable;
 use recording_lines::{Line, RecordedActor};
 use std::alloc::{AllocError, Global};
 
-/// Who submitted each job that this actor has not got.
+/// The submitter of each job that its submitter has not got.
 #[derive(Debug, Drop)]
 pub(crate) struct Ungot {
     submitters: NumberTable<RecordedActor>,
 }
 
 impl Ungot {
-    /// None so far.
+    /// Creates an empty table.
     pub(crate) fn new(alloc: Global) -> Ungot
         ensures { (job : ℕ) → submitter_in result job ≡ None }
     {
@@ -26,7 +26,7 @@ impl Ungot {
         }
     }
 
-    /// Whether another actor submitted the job, and has not got it.
+    /// Returns true if another actor submitted the job and has not got it.
     pub(crate) fn is_anothers(&self, job: usize, actor: RecordedActor) -> bool
         ensures { result ≡ spec.is_another (submitter_in self.now job) actor }
     {
@@ -36,11 +36,11 @@ impl Ungot {
         }
     }
 
-    /// Takes the next line.
+    /// Reads the next line.
     ///
     /// # Errors
     ///
-    /// `AllocError` where there is no memory for it.
+    /// Returns `AllocError` if memory runs out.
     pub(crate) fn take(&mut self, line: &Line<'_>) -> Result<(), AllocError>
         ensures { OnOk result
             ((job : ℕ)
@@ -60,7 +60,7 @@ impl Ungot {
         }
     }
 
-    // The actor got the job.
+    // Removes the job, if the actor is its submitter.
     fn got(&mut self, actor: RecordedActor, job: usize)
         ensures { (one : ℕ)
             → submitter_in self.new one

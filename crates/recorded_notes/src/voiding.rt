@@ -1,4 +1,4 @@
-//! What voids a yes, and its words.
+//! The events that invalidate a SAFE answer, and their texts.
 
 ghost use Rattle.std.specs.Prelude.{◌≡◌, Some};
 ghost use Rattle.recorded_notes.specs.VoidText as spec;
@@ -7,16 +7,16 @@ ghost use Rattle.recorded_notes.specs.Voids.{word_of};
 use recording_lines::RecordedActor;
 use std::fmt;
 
-/// What voids a yes from its line on.
+/// An event that invalidates a SAFE answer, from its line on.
 ///
-/// It prints as a few words without the line's number and without a newline, as `job 4 was refused`.
+/// It formats as a short phrase without the line number, such as `job 4 was refused`.
 #[derive(Clone, Copy, Debug, PartialEq, Eq)]
 pub enum Voiding {
     /// A pool had no room for the job that this actor submitted.
     Refused { actor: RecordedActor, job: usize },
-    /// A get of the job by this actor ended because its time was over.
+    /// A get of the job by this actor timed out.
     TimedOut { actor: RecordedActor, job: usize },
-    /// A get of the job by this actor ended because its thread was interrupted.
+    /// A get of the job by this actor was interrupted.
     Interrupted { actor: RecordedActor, job: usize },
     /// The actor cancelled the job.
     Cancelled { actor: RecordedActor, job: usize },
@@ -26,20 +26,20 @@ pub enum Voiding {
     Removed { job: usize },
     /// The job's exception ended its thread.
     Threw { job: usize },
-    /// So many jobs were run of which no line tells.
+    /// This many jobs ran without a line in the recording.
     Unseen { jobs: usize },
 }
 
-/// A line that voids a yes.
+/// A line with an event that invalidates a SAFE answer.
 #[derive(Clone, Copy, Debug, PartialEq, Eq)]
 pub struct Void {
-    /// The line's number, from 1.
+    /// The number of the line, from 1.
     pub line: usize,
     pub what: Voiding,
 }
 
 impl Voiding {
-    /// The word of its line.
+    /// Returns the keyword of its line.
     pub fn word(self) -> &'static str
         ensures { result.now ≡ word_of self }
     {

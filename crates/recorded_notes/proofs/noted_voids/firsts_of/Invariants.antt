@@ -3,6 +3,6 @@ use Rattle.recorded_notes.specs.Voids.{first_of_each}
 use Rattle.recorded_notes.specs.Noted.{voids_in}
 use Rattle.recorded_notes.proofs.noted_voids.firsts_of.Given as goal
 
--- the first ones of those so far
+-- The first event of each type among those read.
 abbrev pub invariant-loop-one : goal.invariant-loop-one
 invariant-loop-one l = l.firsts.items ≡ first_of_each (voids_in (take l.one-index l.kept))
