@@ -24,7 +24,7 @@ named_submit lines did one job class is one_is label =
 pub named_get : (lines : List RecordedLine) (did : Option JobDeed) (one : JobDeed) (job : ℕ) (class : String Global) → did ≡ Some one → one ≡ deed.Gets job → IsLabelOf lines (Job job) (string_bytes class) → spec.IsNamed lines did (Some (named.Gets class))
 named_get lines did one job class is one_is label = subst (λ (d : Option JobDeed). spec.IsNamed lines d (Some (named.Gets class))) (sym (is ∙ ap Some one_is)) (spec.something (deed.Gets job) (named.Gets class) (spec.got job class label))
 
--- ---- a step that no body explains
+-- ---- the first deviating step
 pub stray_end : (lines : List RecordedLine) (is_classless : ℕ → Bool) (did : Option JobDeed) → did ≡ None → spec.IsStrayDeed lines is_classless did stray.Ends
 stray_end lines is_classless did is = subst (λ (d : Option JobDeed). spec.IsStrayDeed lines is_classless d stray.Ends) (sym is) spec.ends
 

@@ -52,7 +52,7 @@ pub record Conforms (plan : Plan) (lines : List RecordedLine) : Type 0 where
   pub actors : DoAsPlanned plan lines
   pub gets : first_foreign_get lines ≡ None
 
--- ---- events that invalidate a conforming result, whatever the paths are
+-- ---- events that invalidate a SAFE answer, whatever the paths are
 abbrev pub is_void : RecordedLine → Bool
 is_void (Refused actor job) = true
 is_void (Cancels actor job) = true

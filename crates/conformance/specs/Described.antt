@@ -1,4 +1,4 @@
--- The step of an actor that no body explains.
+-- The first deviating step of an actor.
 use Rattle.std.specs.Prelude.{◌≡◌, ℕ, zero, suc, Bool, true, false, List, slice_get, string_bytes, option_map, Option, Some, None}
 use Rattle.std.specs.Option.{option_and_then}
 use Rattle.std.specs.declared.alloc.Global.{Global}
@@ -58,7 +58,7 @@ pub data IsNamed (lines : List RecordedLine) : Option JobDeed → Option NamedDe
   nothing : IsNamed lines None None
   something : (did : JobDeed) (name : NamedDeed) → IsNamedDeed lines did name → IsNamed lines (Some did) (Some name)
 
--- The step that no body explains: the actor's end, the submit of a job whose own path matches no class, or any other step.
+-- The first deviating step: the actor's end, the submit of a job whose own path matches no class, or any other step.
 pub data IsStrayDeed (lines : List RecordedLine) (is_classless : ℕ → Bool) : Option JobDeed → StrayDeed → Type 0 where
   ends : IsStrayDeed lines is_classless None stray.Ends
   submits_stray : (job : ℕ) (class : String Global) → is_classless job ≡ true → IsLabelOf lines (Job job) (string_bytes class)
@@ -71,8 +71,8 @@ pub data IsStrayDeed (lines : List RecordedLine) (is_classless : ℕ → Bool) :
 abbrev pub number_seen : Option (ℕ × RecordedLine) → Option ℕ
 number_seen found = option_map (λ (number, line). number) found
 
--- The description of an actor: its label, its first step that no body explains, the line of that step, and the step before
--- it.
+-- The description of an actor: its label, the step after the longest prefix of its path that a body explains, the line of
+-- that step, and the last step of the prefix.
 pub record IsDescribed (lines : List RecordedLine) (is_classless : ℕ → Bool) (told : Settled) (number : Option ℕ) (found : Stray) : Type 0 where
   pub actor_is : found.actor ≡ told.actor
   pub label_is : string_bytes found.label ≡ string_bytes told.label

@@ -38,7 +38,7 @@ is_classless_in told job = list_any (is_classless_job job) told
 -- differs, with the first line that shows it; each pool that the recording lacks; each label that is not in the plan; for
 -- each label of the plan, the first actor whose path matches no body and the first one for which this is undecided; the
 -- first line at which each kind has too many rounds; the first get of another actor's job; and the first line of each event
--- type that invalidates a conforming result.
+-- type that invalidates a SAFE answer.
 pub record AreFindingsOf (plan : Plan) (budget : ℕ) (lines : List RecordedLine) (findings : List Finding) : Type 0 where
   pub told : List Settled
   pub all_told : AreAllTold plan budget lines told

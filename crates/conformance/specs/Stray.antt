@@ -28,7 +28,7 @@ behind_text None = codes " at its begin"
 behind_text (Some (Submits class)) = codes " behind submit " ++ string_bytes class
 behind_text (Some (Gets class)) = codes " behind get " ++ string_bytes class
 
--- The step that no body explains.
+-- The first deviating step.
 abbrev pub stray_deed_text : StrayDeed → Option NamedDeed → List ℕ
 stray_deed_text Ends behind = end_text
 stray_deed_text (SubmitsStray job class) behind = cause_text job (string_bytes class)

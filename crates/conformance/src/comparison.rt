@@ -27,9 +27,9 @@ use std::alloc::{AllocError, Global};
 pub enum Conformance {
     /// The first invalid line of the recording. No comparison was made.
     Bad(RecordingFault),
-    /// Every difference from the plan and every event that invalidates a conforming result, each
-    /// listed once. Findings are ordered by line; those without a line come last. The recording
-    /// conforms if the list is empty.
+    /// Every difference from the plan and every event that invalidates a SAFE answer, each listed
+    /// once. Findings are ordered by line; those without a line come last. The recording conforms
+    /// if the list is empty.
     Compared(Vec<Finding>),
 }
 
@@ -49,7 +49,7 @@ pub enum Conformance {
 /// - for each client kind, the first line at which it has more rounds than the plan allows. Each
 ///   round counts as the first kind that it can belong to;
 /// - the first get of a job by an actor that did not submit it;
-/// - for each event type that invalidates a conforming result, its first line.
+/// - for each event type that invalidates a SAFE answer, its first line.
 ///
 /// If no finding concerns a label, a path or a number of rounds, all jobs and rounds behave as
 /// planned, whatever the pools are.
@@ -85,7 +85,7 @@ pub fn conform(
     }
 }
 
-// Returns the findings for a recording without a invalid line, from its survey.
+// Returns the findings for a recording whose lines are all valid, from its survey.
 fn compared(
     alloc: Global,
     plan: &Plan,
@@ -120,8 +120,8 @@ fn compared(
 }
 
 // Returns, for each kind, the first line at which it has more rounds than the plan allows. The
-// rounds are counted again only if one of them belongs to another kind than the first of its label,
-// as which the survey counted it.
+// survey counted each round as the first kind of its label. The rounds are counted again only if
+// one of them belongs to another kind.
 fn counted(
     alloc: Global,
     plan: &Plan,

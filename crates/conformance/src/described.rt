@@ -1,4 +1,4 @@
-//! The step of an actor that no body explains, looked up in the text of the recording.
+//! The first deviating step of an actor, looked up in the text of the recording.
 
 ghost use Rattle.std.specs.Prelude.{◌≡◌, IfOk, string_bytes};
 ghost use Rattle.recording_lines.specs.declared.recording_line.RecordedActor.TheVariants.{Job};
@@ -15,8 +15,9 @@ use recorded_paths::RecordedDeed;
 use recording_lines::{Line, RecordedActor};
 use std::alloc::{AllocError, Global};
 
-/// Returns the actor's first step that no body explains, with the number of its line. `classless`
-/// has the jobs whose path matches no class of the plan.
+/// Describes the actor by the step after the longest prefix of its path that a body explains.
+/// Returns the number of the line of that step, and the description. `classless` has the jobs whose
+/// path matches no class of the plan.
 ///
 /// # Errors
 ///

@@ -9,26 +9,27 @@ use plan_differences::{PoolDeviation, RoundExcess};
 use recorded_notes::{ForeignGet, Void};
 use recording_lines::RecordedActor;
 
-/// A difference between a recording and a plan, or an event that invalidates a conforming result.
-/// Lines are numbered from 1.
+/// A difference between a recording and a plan, or an event that invalidates a SAFE answer. Lines
+/// are numbered from 1.
 #[derive(Debug, Drop)]
 pub enum Finding {
     /// A pool that differs from the plan.
     Pool(PoolDeviation),
     /// A label that is not in the plan.
     NotPlanned(NotPlanned),
-    /// The actor with the smallest number of a label of the plan whose path matches no body, with
-    /// the line of its first unexplained step.
+    /// Of the actors of one label whose path matches no body, the one with the smallest number, and
+    /// the line of its first deviating step. The label is in the plan.
     Strays { line: Option<usize>, stray: Stray },
-    /// The actor with the smallest number of a label of the plan for which the budget was too small
-    /// to decide which bodies its path matches. The result is then neither yes nor no.
+    /// Of the actors of one label for which the budget was too small to decide which bodies their
+    /// path matches, the one with the smallest number. The label is in the plan. The result for
+    /// this label is neither yes nor no.
     NotDecided { actor: RecordedActor, label: String },
     /// More rounds of a kind than the plan allows, where each round counts as the first kind that
     /// it can belong to.
     TooMany(RoundExcess),
     /// The first get of a job by an actor that did not submit it.
     ForeignGet { get: ForeignGet, label: String },
-    /// The first line of an event type that invalidates a conforming result.
+    /// The first line of an event type that invalidates a SAFE answer.
     Void(Void),
 }
 

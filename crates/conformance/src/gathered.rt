@@ -92,7 +92,7 @@ fn push_judged(
     push_undecided(findings, undecided.actors)
 }
 
-// Appends the first get of another actor's job, and the events that invalidate a conforming result.
+// Appends the first get of another actor's job, and the events that invalidate a SAFE answer.
 fn push_noted(
     findings: &mut Vec<Finding>,
     alloc: Global,
@@ -214,7 +214,7 @@ fn push_lasting(findings: &mut Vec<Finding>, voids: &[Void]) -> Result<(), Alloc
     Ok(())
 }
 
-/// Returns true if the event invalidates the result even when the actor's path matches a body.
+/// Returns true if the event invalidates a SAFE answer even if the actor's path matches a body.
 fn is_lasting(void: Void) -> bool
     ensures { result ≡ spec.is_lasting void }
 {

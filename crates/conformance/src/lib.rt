@@ -3,8 +3,8 @@
 //! [`conform`] takes a plan and the bytes of a recording. It returns the first invalid line of the
 //! recording, or the complete list of findings: pools that differ from the plan, labels that are
 //! not in it, jobs and rounds whose path matches no body, too many rounds of a kind, a get of
-//! another actor's job, and events that invalidate a conforming result. It lists each finding once,
-//! and nothing else. [`push_findings`] writes each finding as a line.
+//! another actor's job, and events that invalidate a SAFE answer. It lists each finding once, and
+//! nothing else. [`push_findings`] writes each finding as a line.
 //!
 //! If there are no findings, the recording conforms: each job can belong to a class of the plan,
 //! each round to a client kind, and no kind has more rounds than the plan allows. These three facts

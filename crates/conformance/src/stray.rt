@@ -13,13 +13,13 @@ pub struct Stray {
     pub actor: RecordedActor,
     /// The class of a job, or the kind of a round.
     pub label: String,
-    /// The first step that no body explains.
+    /// The step after the longest prefix of its path that a body explains.
     pub deed: StrayDeed,
-    /// The last step that a body explains, or `None` if no step is explained.
+    /// The last step of that prefix, or `None` if the prefix is empty.
     pub behind: Option<NamedDeed>,
 }
 
-/// A step that no body explains.
+/// The first deviating step of an actor.
 #[derive(Debug, Drop)]
 pub enum StrayDeed {
     /// The actor submitted or got a job.
