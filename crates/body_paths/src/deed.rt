@@ -12,7 +12,7 @@ pub enum Deed {
     Gets(usize),
 }
 
-/// Whether a path is whole or only begun.
+/// The state of a path: whole, or only begun.
 #[derive(Clone, Copy, Debug, PartialEq, Eq)]
 pub enum Course {
     /// The whole path: the actor has ended.

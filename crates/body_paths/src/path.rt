@@ -18,9 +18,9 @@ const FEW_ACTIONS: usize = 16;
 /// each with its get.
 ///
 /// The search goes through the body along the path, with one search step for each action. If a job
-/// may come from several submits of the body, the first one is tried first, and then the next one.
-/// So it usually takes one step more than the body has actions. Each submit can double the number
-/// of steps in the worst case.
+/// may come from several submits of the body, the first one is tried, and the next one only if that
+/// fails. So the search usually takes at most one step more than the body has actions. In the worst
+/// case each submit doubles the number of steps.
 pub fn path_fits(body: &[Action], path: &[Deed], course: Course, budget: u64) -> PathFit
     requires { length body.now ≤ MAX_ACTIONS }
     ensures fits { OnFits result (IsPathOf course body.now path.now) }

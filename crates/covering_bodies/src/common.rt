@@ -6,7 +6,7 @@ use job_bodies::Action;
 use std::alloc::{AllocError, Global};
 
 /// Returns, for each step of the path, the index of the corresponding action in the body, or `None`
-/// if the body has none. The indices are ascending. A submit has a partner exactly if its get has
+/// if the body has none. The indices are ascending. A submit has a partner exactly when its get has
 /// one, and then the partner of the get is the get of that partner.
 pub(crate) fn partners_of(
     alloc: Global,
@@ -93,7 +93,8 @@ fn next_row(
     Ok(row)
 }
 
-/// Removes the partners of each submit and its get, unless both have partners that belong together.
+/// Removes the partners of a submit and its get, unless these partners are also a submit and its
+/// get.
 fn drop_halves(body: &[Action], path: &[Deed], partners: &mut [Option<usize>]) {
     for place in 0..path.len() {
         if let Some(get) = get_of(path, place) {

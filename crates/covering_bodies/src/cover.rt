@@ -15,9 +15,9 @@ use body_paths::{Course, Deed, PathFit, path_fits};
 use job_bodies::{Action, MAX_ACTIONS, MAX_PATH_STEPS};
 use std::alloc::{AllocError, Global};
 
-/// Returns a body that the path matches, and that every path of the given body matches too. It is
-/// the given body with inserts for the submits and gets of the path that it lacks in this order. If
-/// the path already matches the given body, that is the result.
+/// Returns a body that the path matches, and that every path of the given body matches too. The
+/// result is the given body with insertions of the submits and gets of the path that it lacks in
+/// this order. If the path already matches the given body, that is the result.
 ///
 /// Returns `None` if no such body was found. The reasons are a result longer than a plan allows, a
 /// get of the body or path that names no earlier submit, a second get of one submit, or a submit of
@@ -103,7 +103,7 @@ fn with_path(
     }
 }
 
-/// Returns the body if a plan may have it.
+/// Returns the body if it is valid in a plan, and `None` otherwise.
 fn if_lawful(body: Vec<Action>) -> Option<Vec<Action>>
     ensures same { IfSome result (λ found. found ≡ body) }
     ensures short { IfSome result (λ found. length found.items ≤ MAX_ACTIONS) }

@@ -9,9 +9,11 @@ use body_paths::Deed;
 use job_bodies::Action;
 use std::alloc::{AllocError, Global};
 
-/// Returns the body with each submit of the path inserted that it lacks, and its get. `places` has
-/// the index in the body of each step of the path, or `None` for a missing one. The function
-/// updates it.
+/// Returns the body with insertions of the submits and gets of the path that it lacks, or `None` if
+/// one of them cannot be inserted, such as a submit that cannot belong to any class.
+///
+/// `places` has the index in the body of each step of the path, or `None` for a missing one. The
+/// function updates it for the insertions.
 pub(crate) fn merged(
     alloc: Global,
     body: &[Action],

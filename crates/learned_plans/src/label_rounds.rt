@@ -75,7 +75,7 @@ impl LabelRounds {
         }
     }
 
-    // The rules of recordings number the rounds consecutively.
+    // A valid recording numbers its rounds consecutively, so this never returns `Stop::TooMuch`.
     fn begin(&mut self, round: usize, label: &str) -> Result<(), Stop>
         ensures ok { (before : List RecordedLine)
             → AreLabelRoundsOf self.old before
@@ -93,7 +93,7 @@ impl LabelRounds {
         Ok(())
     }
 
-    // The rules of recordings let only an open round end.
+    // In a valid recording only an open round ends, so this never returns `Stop::TooMuch`.
     fn end(&mut self, round: usize) -> Result<(), Stop>
         ensures ok { (before : List RecordedLine)
             → AreLabelRoundsOf self.old before

@@ -60,7 +60,8 @@ pub(crate) fn seen_names(
     Ok(Ok(names))
 }
 
-// Returns the first invalid line, if a later line is invalid. Otherwise returns the reason to stop.
+// Returns the first invalid line or, if all lines are valid, `stop` as an error. A line after the
+// one that exceeded a limit may still be invalid.
 fn stopped(
     alloc: Global,
     recording: &[u8],

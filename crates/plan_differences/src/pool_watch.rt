@@ -37,8 +37,8 @@ pub enum PoolDeviation {
 
 /// A comparison of the pools of a recording with those of a plan, line by line.
 ///
-/// It stores the name of each recorded pool, and the differences that were reported of each pool of
-/// the plan.
+/// It stores the name of each recorded pool, and the differences that were reported for each pool
+/// of the plan.
 #[derive(Debug, Drop)]
 pub struct PoolWatch {
     named: PoolNames,

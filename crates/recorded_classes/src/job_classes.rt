@@ -100,8 +100,9 @@ impl ClassTable {
         }
     }
 
-    /// Replaces `deeds` with the steps of the path, each submit with the classes of its job, and
-    /// removes these jobs from the table. Returns true if the classes of all of them are decided.
+    /// Replaces the contents of the list with the steps of the path, each submit with the classes
+    /// of its job, and removes these jobs from the table. Returns true if the classes of all of
+    /// them are decided.
     ///
     /// # Errors
     ///
@@ -130,7 +131,7 @@ impl ClassTable {
         Ok(is_decided)
     }
 
-    // Appends the step to `deeds` and removes its job. Returns true if the classes of the job are
+    // Appends the step to the list and removes its job. Returns true if the classes of the job are
     // decided.
     fn take_deed(&mut self, deed: RecordedDeed, deeds: &mut Vec<Deed>) -> Result<bool, AllocError>
         ensures stands { (plan : Plan) (lines : List RecordedLine) (path : List RecordedDeed)

@@ -12,7 +12,7 @@ use std::fmt;
 /// It formats as a short phrase without the line number, such as `job 4 was refused`.
 #[derive(Clone, Copy, Debug, PartialEq, Eq)]
 pub enum Voiding {
-    /// A pool had no room for the job that this actor submitted.
+    /// A pool refused the job that this actor submitted, for example because it was full.
     Refused { actor: RecordedActor, job: usize },
     /// A get of the job by this actor timed out.
     TimedOut { actor: RecordedActor, job: usize },
