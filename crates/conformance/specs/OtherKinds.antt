@@ -44,7 +44,7 @@ kind_or None first = first
 abbrev pub kind_by : Plan → OtherKinds → ℕ → List ℕ → Option ℕ
 kind_by plan others round label = kind_or (value_at others.kinds round) (first_of plan label)
 
--- Each round that has begun has this kind.
+-- `kinds` gives each round that has begun the kind of `kind_by`.
 pub record AreGiven (plan : Plan) (others : OtherKinds) (lines : List RecordedLine) (kinds : List (Option ℕ)) : Type 0 where
   pub each : (round : ℕ) (label : List ℕ) → labels.kind_of lines round ≡ Some label → rounds.kind_of kinds round ≡ kind_by plan others round label
 
