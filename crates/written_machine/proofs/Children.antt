@@ -13,7 +13,7 @@ use Rattle.written_machine.specs.Laws.{IsLater}
 use Rattle.written_machine.proofs.Kept.{HasChild}
 use Rattle.written_machine.proofs.Stages.{staged, stage-staged, get_or-staged_other, class-staged, child-stage}
 
--- ---- who made a job
+-- ---- the creator of a job
 
 pub same_actor_true : (a b : Parent) → same_parent a b ≡ true → a ≡ b
 same_actor_true (parent.Client a) (parent.Client b) e = ap parent.Client (eqb-true a b e)
@@ -30,20 +30,20 @@ maker_of job a t made =
     let parts = and_parts (same_parent a job.parent) (eqb t job.slot) made in
     (same_actor_true a job.parent parts.0, eqb-true t job.slot parts.1)
 
--- one job has one maker
+-- each job has one creator and one submit
 pub one_maker : (job : Made) (a b : Parent) (t u : ℕ) → is_made_by a t job ≡ true → is_made_by b u job ≡ true → (a ≡ b) × (t ≡ u)
 one_maker job a b t u of_a of_b =
     let first = maker_of job a t of_a in
     let second = maker_of job b u of_b in
     (first.0 ∙ sym second.0, first.1 ∙ sym second.1)
 
--- the job that an actor waits for is made by it
+-- the job that an actor waits for exists, and the actor created it
 pub child_is : (jobs : List Made) (a : Parent) (t n : ℕ) → last_of (places_where (is_made_by a t) jobs) ≡ Some n → (n < length jobs) × (is_made_by a t (get_or jobs n no_job) ≡ true)
 child_is jobs a t n e =
     let last = last_where_is (is_made_by a t) jobs n e in
     (last.inside, last.passes no_job)
 
--- one job is waited for at one place
+-- each job is waited for by at most one actor, at one submit
 pub one_child : (jobs : List Made) (a b : Parent) (t u n : ℕ) → last_of (places_where (is_made_by a t) jobs) ≡ Some n → last_of (places_where (is_made_by b u) jobs) ≡ Some n → (a ≡ b) × (t ≡ u)
 one_child jobs a b t u n of_a of_b = one_maker (get_or jobs n no_job) a b t u (child_is jobs a t n of_a).1 (child_is jobs b u n of_b).1
 
@@ -83,7 +83,7 @@ HasChild-pushed jobs job a t k of_other child =
       later = child.later;
     }
 
--- the new job is its maker's latest
+-- a new job is the latest of its creator
 pub HasChild_new : (jobs : List Made) (job : Made) (a : Parent) (t k : ℕ) → is_made_by a t job ≡ true → job.class ≡ k → job.stage ≢ Stage.Claimed → IsLater a (length jobs) → HasChild (jobs ++ job ∷ []) a t k
 HasChild_new jobs job a t k of_actor of_class unclaimed after =
     let is_new : get_or (jobs ++ job ∷ []) (length jobs) no_job ≡ job = get_or_push jobs job no_job (length jobs) refl in
@@ -95,7 +95,7 @@ HasChild_new jobs job a t k of_actor of_class unclaimed after =
       later = after;
     }
 
--- ---- whether the new job is an actor's
+-- ---- whether an actor created the new job
 
 pub made_by_maker : (k : ℕ) (a : Parent) (i : ℕ) (stage : Stage) → is_made_by a i (new_job k a i stage) ≡ true
 made_by_maker k a i stage = and_from (same_parent a a) (eqb i i) (same_actor_refl a) (eq-eqb i i refl)

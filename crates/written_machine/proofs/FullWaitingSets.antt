@@ -1,4 +1,4 @@
--- Full waiting sets stay: no event moves a member, gives its pool an idle worker or puts another job to work there.
+-- Full waiting sets stay: no event moves a member, gives its pool an idle worker or starts another job in its pool.
 use Rattle.std.proofs.Common.{◌≡◌, ◌≢◌, ℕ, suc, ◌+◌, ◌<◌, ◌⊎◌, true, false, eqb, List, [], ◌∷◌, ◌++◌, length, slice_get, Option, Some, None, refl, sym, ap, subst, ◌∙◌, arith}
 use Rattle.std.proofs.lemmas.Bool.{and_parts, eqb-true, ne_eqb, and_from, eq-eqb}
 use Rattle.std.proofs.lemmas.Option.{same_Some}
@@ -25,29 +25,29 @@ use Rattle.written_machine.proofs.KeptSubmits.{class_exists, room_for_thread}
 use Rattle.written_machine.proofs.KeptStep.{done_still, kept_step}
 use Rattle.written_machine.proofs.Leaves.{SamePool, Leaves, IsOutside, leaves_twice, leaves-clients, leaves-staged, leaves-moved, leaves-pushed, leaves-part, idle_elsewhere, idle_as_before}
 
--- a queued job is queued in its class's pool
+-- a queued job is queued in the pool of its class
 queued_in_own : (plan : Plan) (job : Made) → is_queued job.stage ≡ true → is_queued_in plan (pool_of plan job.class) job ≡ true
 queued_in_own plan job queued = and_from (is_queued job.stage) (eqb (pool_of plan job.class) (pool_of plan job.class)) queued (eq-eqb (pool_of plan job.class) (pool_of plan job.class) refl)
 
--- equal gets name one submit
+-- equal gets name the same submit
 same_get : (t u : ℕ) → Some (action.Get t) ≡ Some (action.Get u) → t ≡ u
 same_get t u e = cc
 
 -- ---- the members
 
 module _ (plan : Plan) (s : State) (members : List ℕ) (waiting : IsWaitingSet plan s members) where
-  -- a member waits as its stage says
+  -- a member waits in the way that belongs to its stage
   member_waits : (j : ℕ) (stage : Stage) → IsMember members j → (job_at s j).stage ≡ stage → WaitsAs plan s members j stage
   member_waits j stage member is_stage = subst (WaitsAs plan s members j) is_stage (waiting.each j member)
 
-  -- no member is done, and each was made
+  -- no member is done, and each member exists
   not_done : (j : ℕ) → (job_at s j).stage ≡ Stage.Done → ¬ IsMember members j
   not_done j done member = member_waits j Stage.Done member done
 
   member_made : (j : ℕ) → IsMember members j → j < length s.jobs
   member_made j member = job_made s j (λ claimed. member_waits j Stage.Claimed member claimed)
 
-  -- a member that stands somewhere stands at a get whose job is a member
+  -- a member at a position is at a get, and the job that the get waits for is a member
   member_at_get : (j : ℕ) (body : List Action) (i : ℕ) (there : Option Action) → IsMember members j → StandsAt plan s (parent.Job j) body i there
       → (t : ℕ) × (there ≡ Some (action.Get t)) × (n : ℕ) × (child s (parent.Job j) t ≡ Some n) × IsMember members n
   member_at_get j body i there member at =
@@ -55,13 +55,13 @@ module _ (plan : Plan) (s : State) (members : List ℕ) (waiting : IsWaitingSet 
       let waits : WaitsAtGet plan s members j i = member_waits j (Stage.At i) member was.0 in
       (waits.submit, sym at.is_there ∙ ap (λ (b : List Action). slice_get b i) was.1 ∙ waits.stands, waits.child_number, waits.is_child, waits.member)
 
-  -- an actor whose action is no get is no member
+  -- an actor whose next action is not a get is not a member
   acts_outside : (a : Parent) (body : List Action) (i : ℕ) (there : Option Action) → StandsAt plan s a body i there → ((t : ℕ) → there ≢ Some (action.Get t)) → IsOutside members a
   acts_outside a body i there at no_get j member same =
       let found = member_at_get j body i there member (subst (λ (b : Parent). StandsAt plan s b body i there) same at) in
       no_get found.0 found.1
 
-  -- an actor whose get finds a job that is done is no member
+  -- an actor whose get finds a finished job is not a member
   gets_outside : (a : Parent) (body : List Action) (i t n : ℕ) → StandsAt plan s a body i (Some (action.Get t)) → child s a t ≡ Some n → (job_at s n).stage ≡ Stage.Done → IsOutside members a
   gets_outside a body i t n at is_child done j member same =
       let found = member_at_get j body i (Some (action.Get t)) member (subst (λ (b : Parent). StandsAt plan s b body i (Some (action.Get t))) same at) in
@@ -70,29 +70,29 @@ module _ (plan : Plan) (s : State) (members : List ℕ) (waiting : IsWaitingSet 
       let same_child : found.2 ≡ n = same_Some found.2 n (sym found.3 ∙ ap (child s (parent.Job j)) (sym submit) ∙ of_member) in
       not_done n done (subst (IsMember members) same_child found.4)
 
--- ---- the pools in whose queues members wait
+-- ---- the pools with queued members
 
 -- a member waits in the pool's queue
 abbrev QueuesMember : Plan → State → List ℕ → ℕ → Type 0
 QueuesMember plan s members p = (j : ℕ) × IsMember members j × (is_queued_in plan p (job_at s j) ≡ true)
 
--- they are full, no worker is idle, and all that are at work are members
+-- the pool has max threads, no worker is idle, and all jobs that run in it are members
 record IsClosed (plan : Plan) (s : State) (members : List ℕ) (p : ℕ) : Type 0 where
   full : IsFull plan s p
   none_idle : (pool_part s p).idle ≡ 0
   all_at_work : (n : ℕ) → is_busy_in plan p (job_at s n) ≡ true → IsMember members n
 
--- the members, and those pools
+-- the change leaves the members, and the pools with queued members, as they were
 abbrev LeavesSet : Plan → List ℕ → State → State → Type 0
 LeavesSet plan members s s' = Leaves plan members (QueuesMember plan s members) s s'
 
--- ---- what an event leaves
+-- ---- every event leaves the set
 
 module _ (plan : Plan) (s : State) (members : List ℕ) (ordered : IsOrdered plan) (kept : Kept plan s) (set : IsFullWaitingSet plan s members) where
   abbrev among : ℕ → Type 0
   among = QueuesMember plan s members
 
-  -- such a pool is full and busy with members alone
+  -- a pool with a queued member is closed in this sense
   closed : (p : ℕ) → among p → IsClosed plan s members p
   closed p queuing =
       let job = job_at s queuing.0 in
@@ -101,24 +101,24 @@ module _ (plan : Plan) (s : State) (members : List ℕ) (ordered : IsOrdered pla
       subst (IsClosed plan s members) (eqb-true (pool_of plan job.class) p parts.1)
       (record { full = set.full (pool_of plan job.class) queuing.0 queuing.1 (queued_in_own plan job parts.0); none_idle = waits.none_idle; all_at_work = waits.all_at_work })
 
-  -- a pool with an idle worker is none of them
+  -- a pool with an idle worker has no queued member
   idle_not_among : (p q idle : ℕ) → (pool_part s q).idle ≡ suc idle → among p → p ≢ q
   idle_not_among p q idle is_idle queuing same =
       let none : (pool_part s q).idle ≡ 0 = subst (λ (x : ℕ). (pool_part s x).idle ≡ 0) same (closed p queuing).none_idle in
       omega arith
 
-  -- a full pool starts no thread
+  -- a pool that has room for another thread has no queued member
   started_elsewhere : (q p : ℕ) → q < length plan.pools → (threads plan s q < (pool_at plan q).max) ⊎ (threads plan s q < (pool_at plan q).core) → among p → q ≢ p
   started_elsewhere q p inside below queuing same =
       let room = room_for_thread plan s q ordered inside below in
       let full = subst (IsFull plan s) (sym same) (closed p queuing).full in
       omega arith
 
-  -- an actor comes to another position by an action that is no get
+  -- a move by an action that is not a get leaves the set
   leaves_acts : (a : Parent) (body : List Action) (i i' : ℕ) (there : Option Action) → StandsAt plan s a body i there → ((t : ℕ) → there ≢ Some (action.Get t)) → LeavesSet plan members s (with_position a i' s)
   leaves_acts a body i i' there at no_get = leaves-moved plan members among s a body i i' at.stands (acts_outside plan s members set.waits a body i there at no_get)
 
-  -- a new job, which is at work in none of those pools
+  -- a new job leaves the set if it does not run in a pool with queued members
   leaves_submit : (a : Parent) (body : List Action) (i k : ℕ) (stage : Stage) → StandsAt plan s a body i (Some (action.Submit k)) → ((p : ℕ) → among p → is_busy_in plan p (new_job k a i stage) ≡ false)
       → LeavesSet plan members s (with_job (new_job k a i stage) (with_position a (i + 1) s))
   leaves_submit a body i k stage at elsewhere =
@@ -129,7 +129,7 @@ module _ (plan : Plan) (s : State) (members : List ℕ) (ordered : IsOrdered pla
       (λ j member. let made = member_made plan s members set.waits j member in omega (arith, length-moved s a (i + 1)))
       (λ j t member. not_by_other k a i stage (parent.Job j) t (λ same. acts_outside plan s members set.waits a body i (Some (action.Submit k)) at (λ t same. cc) j member (sym same))) elsewhere)
 
-  -- a get claims a job that is done
+  -- a get that claims a finished job leaves the set
   leaves_gets : (a : Parent) (body : List Action) (i t n : ℕ) → StandsAt plan s a body i (Some (action.Get t)) → child s a t ≡ Some n → (job_at s n).stage ≡ Stage.Done → LeavesSet plan members s (with_stage n Stage.Claimed (with_position a (i + 1) s))
   leaves_gets a body i t n at is_child done =
       let moved : State = with_position a (i + 1) s in
@@ -139,7 +139,7 @@ module _ (plan : Plan) (s : State) (members : List ℕ) (ordered : IsOrdered pla
       (leaves-staged plan members among moved n Stage.Claimed (job_made moved n (λ claimed. cc)) (not_done plan s members set.waits n done)
       (λ p is_among. busy_in-as plan p (job_at moved n) Stage.Claimed (sym (ap is_at still))))
 
-  -- a job comes to another stage, and its pool, which is none of those, has this queue and so many idle workers
+  -- a job outside the set changes its stage, and its pool, which has no queued member, gets this queue and idle count
   leaves_worker : (j : ℕ) (stage : Stage) (q : ℕ) (queue : List ℕ) (idle : ℕ) → j < length s.jobs → pool_of plan (job_at s j).class ≡ q → ¬ IsMember members j → ((p : ℕ) → among p → p ≢ q) → LeavesSet plan members s (with_part q queue idle (with_stage j stage s))
   leaves_worker j stage q queue idle inside of_pool outside elsewhere =
       let changed : State = with_stage j stage s in
@@ -150,7 +150,7 @@ module _ (plan : Plan) (s : State) (members : List ℕ) (ordered : IsOrdered pla
       not_own : (p : ℕ) → among p → pool_of plan (job_at s j).class ≢ p
       not_own p is_among same = elsewhere p is_among (sym same ∙ of_pool)
 
-  -- a job at work finishes
+  -- the end of a running job leaves the set
   leaves_finishes : (j : ℕ) (body : List Action) (i : ℕ) → StandsAt plan s (parent.Job j) body i None → LeavesSet plan members s (finished_job plan s j (pool_of plan (job_at s j).class))
   leaves_finishes j body i at =
       let q = pool_of plan (job_at s j).class in
@@ -159,14 +159,14 @@ module _ (plan : Plan) (s : State) (members : List ℕ) (ordered : IsOrdered pla
       leaves_worker j Stage.Done q (pool_part s q).queue ((pool_part s q).idle + 1) (standing_made plan s j body i at.stands) refl outside
       (λ p is_among same. outside ((closed p is_among).all_at_work j (busy_in_own plan p (job_at s j) (sym same) ∙ ap is_at was.0)))
 
-  -- an idle worker takes the head of a queue
+  -- a take of the head of a queue by an idle worker leaves the set
   leaves_takes : (p j : ℕ) (queue : List ℕ) (idle : ℕ) → (pool_part s p).queue ≡ j ∷ queue → (pool_part s p).idle ≡ suc idle → LeavesSet plan members s (with_part p queue idle (with_stage j (Stage.At 0) s))
   leaves_takes p j queue idle is_queue is_idle =
       let head = head_of_queue plan s p j queue kept is_queue in
       let queued : is_queued_in plan p (job_at s j) ≡ true = subst (λ (q : ℕ). is_queued_in plan q (job_at s j) ≡ true) head.of_pool (queued_in_own plan (job_at s j) (ap is_queued head.queued)) in
       leaves_worker j (Stage.At 0) p queue idle head.inside head.of_pool (λ member. idle_not_among p p idle is_idle (j, member, queued) refl) (λ q is_among. idle_not_among q p idle is_idle is_among)
 
-  -- every event
+  -- every event leaves the set
   leaves : (s' : State) (o : Outcome) {e : Event} → Happens plan s e s' o → LeavesSet plan members s s'
   leaves s' o (works a body i u at) = leaves_acts a body i (i + 1) (Some (action.Work u)) at (λ t same. cc)
   leaves s' o (starts a body i k at below) =
@@ -188,7 +188,7 @@ module _ (plan : Plan) (s : State) (members : List ℕ) (ordered : IsOrdered pla
 -- ---- the set stays
 
 module _ (plan : Plan) (s s' : State) (members : List ℕ) (left : LeavesSet plan members s s') where
-  -- a member waits as it did
+  -- a member waits after the change as it did before
   still_waits : (j : ℕ) (stage : Stage) → IsMember members j → (job_at s j).stage ≡ stage → WaitsAs plan s members j stage → WaitsAs plan s' members j stage
   still_waits j Stage.Queued member is_stage waits =
       let q = pool_of plan (job_at s j).class in
@@ -223,12 +223,12 @@ module _ (plan : Plan) (s s' : State) (members : List ℕ) (left : LeavesSet pla
         omega (arith, same.idle, same.busy_as_many);
   }
 
--- what follows the set through a list of events
+-- the induction hypothesis for a list of events
 pub record Stayed (plan : Plan) (members : List ℕ) (first s : State) : Type 0 where
   pub is_kept : Kept plan s
   pub has_stayed : HasStayed plan first s members
 
--- through one event
+-- one event keeps it
 pub stays_through : (plan : Plan) (members : List ℕ) (first s s' : State) (o : Outcome) {e : Event} → IsOrdered plan → Stayed plan members first s → Happens plan s e s' o → Stayed plan members first s'
 stays_through plan members first s s' o ordered stayed happened =
     let set = stayed.has_stayed.still in
@@ -238,9 +238,9 @@ stays_through plan members first s s' o ordered stayed happened =
       has_stayed = record { still = still_set plan s s' members left set; unmoved = λ j member. left.jobs j member ∙ stayed.has_stayed.unmoved j member };
     }
 
--- ---- pools of fixed sizes
+-- ---- pools of fixed size
 
--- where a job is queued in a pool of a fixed size, the pool has core threads, and so all
+-- a pool of fixed size with a queued job has core threads, and therefore all its threads
 pub fixed_are_full : (plan : Plan) (s : State) (members : List ℕ) → IsOrdered plan → Kept plan s → IsWaitingSet plan s members → WhereMembersQueue plan s members (IsFixed plan) → IsFullWaitingSet plan s members
 fixed_are_full plan s members ordered kept waiting fixed = record {
   waits = waiting;

@@ -1,4 +1,4 @@
--- What every reached state keeps.
+-- The invariant of reachable states.
 use Rattle.std.proofs.Common.{◌≡◌, ◌≢◌, ℕ, ◌+◌, ◌<◌, ◌≤◌, List, length, get_or, Some, All}
 use Rattle.std.specs.List.{slice_get, count_by}
 use Rattle.numbered_lists.specs.Places.{places_where, last_of}
@@ -10,7 +10,7 @@ use Rattle.written_machine.specs.State.{Stage, State, Made, PoolPart, no_job, jo
 use Rattle.written_machine.specs.Step.{point}
 use Rattle.written_machine.specs.Laws.{IsLater}
 
--- the actor's latest job from position t is of class k, and was not claimed
+-- the latest job that the actor created at position t is of class k, unclaimed, and later than the actor
 pub record HasChild (jobs : List Made) (a : Parent) (t k : ℕ) : Type 0 where
   pub number : ℕ
   pub is_child : last_of (places_where (is_made_by a t) jobs) ≡ Some number
@@ -18,12 +18,12 @@ pub record HasChild (jobs : List Made) (a : Parent) (t k : ℕ) : Type 0 where
   pub unclaimed : (get_or jobs number no_job).stage ≢ Stage.Claimed
   pub later : IsLater a number
 
--- an actor at position i of its body: each get that is still to come finds its job, if the submit was passed
+-- the invariant of an actor at position i: each later get whose submit is before i finds its job
 pub record ActorKept (jobs : List Made) (a : Parent) (body : List Action) (i : ℕ) : Type 0 where
   pub inside : i ≤ length body
   pub ready : (g t : ℕ) → i ≤ g → t < i → slice_get body g ≡ Some (action.Get t) → HasChild jobs a t (class_got body t)
 
--- a pool's state, the numbers of its queued jobs, and how many of its jobs are at work
+-- the invariant of a pool, given its state, the numbers of its queued jobs, and the number of its running jobs
 pub record PoolKept (pool : Pool) (part : PoolPart) (places : List ℕ) (busy : ℕ) : Type 0 where
   pub queue : part.queue ≡ places
   pub within_max : part.idle + busy ≤ pool.max

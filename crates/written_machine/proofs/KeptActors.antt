@@ -1,4 +1,4 @@
--- What each event leaves of an actor: each get that is still to come finds its job.
+-- Each event keeps the invariant of each actor: every get that is still to come finds its job.
 use Rattle.std.proofs.Common.{◌≡◌, ◌≢◌, ℕ, ◌+◌, ◌<◌, ◌≤◌, ◌⊎◌, false, inl, inr, List, [], ◌∷◌, ◌++◌, length, slice_get, Some, refl, sym, ap, subst, ◌∙◌, arith}
 use Rattle.std.proofs.lemmas.Bool.{false≢true, cases_lt}
 use Rattle.std.proofs.lemmas.Option.{slice_get_within}
@@ -17,22 +17,22 @@ use Rattle.written_machine.proofs.Kept.{HasChild, ActorKept}
 use Rattle.written_machine.proofs.Stages.{staged, length-moved, child-moved}
 use Rattle.written_machine.proofs.Children.{one_child, HasChild-staged, HasChild-moved, HasChild-pushed, HasChild_new, made_by_maker, not_at_slot, not_by_other}
 
--- a job that an actor makes has a greater number than it
+-- a job that an actor creates has a greater number than the actor
 pub is_after : (plan : Plan) (s : State) (a : Parent) (body : List Action) (i i' : ℕ) → point plan s a ≡ Some (record { body = body; position = i }) → IsLater a (length (moved_jobs a i' s))
 is_after plan s (parent.Client c) body i i' stands = tt
 is_after plan s (parent.Job j) body i i' stands =
     let inside = standing_made plan s j body i stands in
     omega (arith, length-moved s (parent.Job j) i')
 
--- no get names a position where no submit stands
+-- no get names a position that is not a submit
 pub no_get : (plan : Plan) (body : List Action) (i g : ℕ) (there : Action) → IsLawful plan body → slice_get body i ≡ Some there → submits (Some there) ≡ false → slice_get body g ≡ Some (action.Get i) → ⊥
 no_get plan body i g there lawful is_there no_submit is_get = false≢true (sym no_submit ∙ ap submits (sym is_there) ∙ lawful.of_submit g i is_get)
 
--- at the start of a body nothing is to come that was submitted
+-- at the start of a body no submit is before the actor
 pub actor_begins : (jobs : List Made) (a : Parent) (body : List Action) → ActorKept jobs a body 0
 actor_begins jobs a body = record { inside = omega arith; ready = λ g t low below is_get. absurd (omega arith) }
 
--- an actor passes an action that is no submit
+-- an action that is not a submit keeps the invariant of its actor
 pub actor_passes : (plan : Plan) (jobs : List Made) (a : Parent) (body : List Action) (i : ℕ) (there : Action) → IsLawful plan body → ActorKept jobs a body i → slice_get body i ≡ Some there → submits (Some there) ≡ false → ActorKept jobs a body (i + 1)
 actor_passes plan jobs a body i there lawful kept is_there no_submit =
     let within = slice_get_within body i there is_there in
@@ -44,7 +44,7 @@ actor_passes plan jobs a body i there lawful kept is_there no_submit =
         let here : t ≡ i = omega arith in
         absurd (no_get plan body i g there lawful is_there no_submit (is_get ∙ ap (λ (n : ℕ). Some (action.Get n)) here))
 
--- a change of the jobs that leaves the jobs that the actor waits for
+-- a change of the jobs keeps the invariant if the jobs that the actor waits for stay
 pub actor_changed : (jobs jobs' : List Made) (a : Parent) (body : List Action) (i : ℕ) → ActorKept jobs a body i
     → ((g t k : ℕ) → i ≤ g → slice_get body g ≡ Some (action.Get t) → HasChild jobs a t k → HasChild jobs' a t k) → ActorKept jobs' a body i
 actor_changed jobs jobs' a body i kept change =
@@ -56,7 +56,7 @@ actor_moved s b i' a body i kept = actor_changed s.jobs (moved_jobs b i' s) a bo
 pub actor_staged : (jobs : List Made) (j : ℕ) (stage : Stage) (a : Parent) (body : List Action) (i : ℕ) → stage ≢ Stage.Claimed → ActorKept jobs a body i → ActorKept (staged jobs j stage) a body i
 actor_staged jobs j stage a body i unclaimed kept = actor_changed jobs (staged jobs j stage) a body i kept (λ g t k low is_get child. HasChild-staged jobs j stage a t k child (λ same. unclaimed))
 
--- the actor that submitted finds the new job
+-- after a submit the actor finds the new job
 pub actor_submits : (plan : Plan) (s : State) (a : Parent) (body : List Action) (i k : ℕ) (stage : Stage) → ActorKept s.jobs a body i → point plan s a ≡ Some (record { body = body; position = i }) → slice_get body i ≡ Some (action.Submit k) → stage ≢ Stage.Claimed
     → ActorKept (moved_jobs a (i + 1) s ++ new_job k a i stage ∷ []) a body (i + 1)
 actor_submits plan s a body i k stage kept stands is_there unclaimed =
@@ -72,7 +72,7 @@ actor_submits plan s a body i k stage kept stands is_there unclaimed =
         subst (λ (n : ℕ). HasChild (moved_jobs a (i + 1) s ++ new_job k a i stage ∷ []) a n (class_got body n)) here
         (HasChild_new (moved_jobs a (i + 1) s) (new_job k a i stage) a i (class_got body i) (made_by_maker k a i stage) (sym (ap class_of_submit is_there)) unclaimed (is_after plan s a body i (i + 1) stands))
 
--- the other actors find what they found
+-- after a submit all other actors find the jobs that they found before
 pub other_submits : (s : State) (b : Parent) (j k : ℕ) (stage : Stage) (a : Parent) (body : List Action) (i : ℕ) → a ≢ b → ActorKept s.jobs a body i → ActorKept (moved_jobs b (j + 1) s ++ new_job k b j stage ∷ []) a body i
 other_submits s b j k stage a body i other kept =
     actor_changed s.jobs (moved_jobs b (j + 1) s ++ new_job k b j stage ∷ []) a body i kept
@@ -80,11 +80,11 @@ other_submits s b j k stage a body i other kept =
 
 -- ---- a get claims the job that one actor waited for at one position
 
--- job n is the latest that the actor made at position t
+-- job n is the latest job that the actor created at position t
 abbrev pub IsLatest : State → Parent → ℕ → ℕ → Type 0
 IsLatest s a t n = last_of (places_where (is_made_by a t) s.jobs) ≡ Some n
 
--- another get's job is another one
+-- two gets that find the same job are the same get of the same actor
 not_got : (s : State) (b : Parent) (i' : ℕ) (a : Parent) (t u j n : ℕ) → IsLatest s b u j → last_of (places_where (is_made_by a t) (moved_jobs b i' s)) ≡ Some n → n ≡ j → (a ≡ b) × (t ≡ u)
 not_got s b i' a t u j n of_b of_a same =
     one_child (moved_jobs b i' s) a b t u j (of_a ∙ ap Some same) (child-moved s b i' b u ∙ of_b)

@@ -1,4 +1,4 @@
--- The start keeps what every reached state keeps.
+-- The initial state satisfies the invariant.
 use Rattle.std.proofs.Common.{◌≡◌, ℕ, zero, suc, Bool, true, false, cond, ◌<◌, ◌≤◌, ⊎_elim, List, [], length, replicate, slice_get, Some, refl, sym, ap, subst, ◌∙◌, arith}
 use Rattle.std.specs.List.{enumerate_from}
 use Rattle.std.proofs.lemmas.List.{length-map, get_or-map}
@@ -18,8 +18,6 @@ use Rattle.written_machine.proofs.Kept.{ActorKept, PoolKept, Kept}
 use Rattle.written_machine.proofs.Actors.{Stands}
 use Rattle.written_machine.proofs.KeptActors.{actor_begins}
 
--- ---- the start
-
 In-replicate : {X : Type 0} (n : ℕ) (x y : X) → In y (replicate n x) → y ≡ x
 In-replicate zero x y i = absurd (not_In_nil i)
 In-replicate (suc n) x y i = ⊎_elim (λ first. first) (λ later. In-replicate n x y later) (In-cons_cases i)
@@ -37,11 +35,11 @@ start_actor plan (parent.Job j) body i stands =
     let made : j < 0 = standing_made plan (start plan) j body i stands in
     absurd (omega arith)
 
--- each pool's own state, at the start
+-- the state of each pool at the start
 pub pool_part_at_start : (plan : Plan) (p : ℕ) → p < length plan.pools → pool_part (start plan) p ≡ part_of (new_pool (pool_at plan p))
 pool_part_at_start plan p inside = get_or-map (λ (pool : Pool). part_of (new_pool pool)) plan.pools p no_pool no_pool_part inside
 
--- a pool begins with no more workers than core
+-- a pool begins with at most core workers
 few_first_workers : (core : ℕ) (prestart : Bool) → cond prestart core 0 ≤ core
 few_first_workers core true = omega arith
 few_first_workers core false = omega arith

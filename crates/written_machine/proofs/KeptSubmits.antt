@@ -1,4 +1,4 @@
--- A move of an actor and a submit keep what every reached state keeps.
+-- Moves and submits keep the invariant.
 use Rattle.std.proofs.Common.{◌≡◌, ◌≢◌, ℕ, ◌+◌, ◌<◌, ◌≤◌, ◌⊎◌, Bool, true, cond, eqb, inl, inr, List, [], ◌∷◌, ◌++◌, length, Some, refl, sym, ap, ap₂, subst, ◌∙◌, arith}
 use Rattle.std.proofs.lemmas.Bool.{eqb-true, eq-eqb, ne_eqb}
 use Rattle.std.proofs.lemmas.List.{length-set}
@@ -21,7 +21,7 @@ use Rattle.written_machine.proofs.KeptPools.{same_pool, started_pool, queued_poo
 use Rattle.written_machine.proofs.Actors.{Stands, point_same, same_position, standing-moved, standing-pushed}
 use Rattle.written_machine.proofs.KeptActors.{is_after, actor_begins, actor_moved, actor_submits, other_submits}
 
--- ---- an actor came to another position
+-- ---- an actor moved to another position
 
 pub kept_moved : (plan : Plan) (s : State) (a : Parent) (body : List Action) (i i' : ℕ) → Kept plan s → Stands plan s a body i → ActorKept s.jobs a body i' → Kept plan (with_position a i' s)
 kept_moved plan s a body i i' kept stands next = record {
@@ -47,7 +47,7 @@ made_actors plan s a body i k stage kept at unclaimed begins b body' n now = eli
   ]
 ]
 
--- the submit names a class that there is
+-- the class that a submit names exists
 pub class_exists : (plan : Plan) (s : State) (a : Parent) (body : List Action) (i k : ℕ) → IsOrdered plan → StandsAt plan s a body i (Some (action.Submit k)) → k < length plan.classes
 class_exists plan s a body i k ordered at =
     let lawful : IsLawful plan body = lawful_point plan s a body i ordered at.stands in
@@ -86,7 +86,7 @@ kept_starts plan s a body i k ordered kept at below = record {
   actors = made_actors plan s a body i k (Stage.At 0) kept at (At≢Claimed refl) (λ n e. sym (same_position 0 n e));
 }
 
--- the pool of the queued job, and the others
+-- the pool whose queue the new job joined; then all other pools
 queued_here : (plan : Plan) (s : State) (a : Parent) (body : List Action) (i k : ℕ) → Kept plan s → StandsAt plan s a body i (Some (action.Submit k)) → pool_of plan k < length plan.pools
     → (pool_at plan (pool_of plan k)).core ≤ threads plan s (pool_of plan k) → length (pool_part s (pool_of plan k)).queue < (pool_at plan (pool_of plan k)).queue
     → PoolIsKept plan (moved_jobs a (i + 1) s ++ new_job k a i Stage.Queued ∷ []) (pool_of plan k) (record { queue = (pool_part s (pool_of plan k)).queue ++ length s.jobs ∷ []; idle = (pool_part s (pool_of plan k)).idle })

@@ -1,4 +1,4 @@
--- As long as a job is unfinished, and no set of jobs waits only for its own members, an event of a job or a taking is possible.
+-- While a job is unfinished, and no set of jobs waits only for its own members, an event of a job or a take is possible.
 use Rattle.std.proofs.Common.{◌≡◌, ◌≢◌, ℕ, zero, suc, ◌≤◌, ⊎_elim, Bool, true, false, not, eqb, List, [], ◌∷◌, length, slice_get, Option, Some, None, is_some, refl, sym, ap, ap₂, ◌∙◌, arith}
 use Rattle.std.specs.List.{list_all}
 use Rattle.std.proofs.lemmas.Bool.{and_parts, and_cases, eqb-false, false_from_ne_true}
@@ -22,9 +22,9 @@ use Rattle.written_machine.proofs.Queues.{queued_in_queue}
 use Rattle.written_machine.proofs.WaitingSets.{member_of_In, waiting_set_test}
 use Rattle.written_machine.proofs.ReachedLaws.{child_at_get}
 
--- ---- one element of a list that fails
+-- ---- an element of a list that fails a test
 
--- where not all elements pass, one fails
+-- if not all elements pass, one of them fails
 fails_somewhere : {X : Type 0} (test : X → Bool) (xs : List X) → list_all test xs ≡ false → (x : X) × In x xs × (test x ≡ false)
 fails_somewhere test [] none = absurd cc
 fails_somewhere test (x ∷ xs) none =
@@ -32,15 +32,15 @@ fails_somewhere test (x ∷ xs) none =
 
 -- ---- the unfinished jobs
 
--- their numbers
+-- the numbers of the unfinished jobs
 abbrev unfinished : State → List ℕ
 unfinished s = places_where (λ (job : Made). is_unfinished job.stage) s.jobs
 
--- none of them is claimed
+-- no unfinished job is claimed
 unfinished_unclaimed : (stage : Stage) → is_unfinished stage ≡ true → stage ≢ Stage.Claimed
 unfinished_unclaimed stage still claimed = let over : is_unfinished stage ≡ false = ap is_unfinished claimed in cc
 
--- each unfinished job is among them
+-- the list contains each unfinished job
 In-unfinished : (s : State) (j : ℕ) → is_unfinished (job_at s j).stage ≡ true → In j (unfinished s)
 In-unfinished s j still = In-places_where (λ (job : Made). is_unfinished job.stage) s.jobs j no_job (job_made s j (unfinished_unclaimed (job_at s j).stage still)) still
 
@@ -51,15 +51,15 @@ at_unfinished Stage.Queued at = absurd cc
 at_unfinished Stage.Done at = absurd cc
 at_unfinished Stage.Claimed at = absurd cc
 
--- all jobs at work in a pool are among them
+-- the list contains all jobs that run in a pool
 busy_unfinished : (plan : Plan) (s : State) (p : ℕ) → list_all (is_member (unfinished s)) (places_where (is_busy_in plan p) s.jobs) ≡ true
 busy_unfinished plan s p =
     list_all_from_where (is_member (unfinished s)) (is_busy_in plan p) s.jobs no_job
     (λ j inside passes. member_of_In (unfinished s) j (In-unfinished s j (at_unfinished (job_at s j).stage (and_parts (is_at (job_at s j).stage) (eqb (pool_of plan (job_at s j).class) p) passes).0)))
 
--- ---- what is possible
+-- ---- possible events
 
--- an idle worker takes the head of a queue
+-- an idle worker can take the head of a queue
 can_take : (plan : Plan) (s : State) (p idle : ℕ) (queue : List ℕ) → (pool_part s p).idle ≡ idle → (pool_part s p).queue ≡ queue → idle ≢ 0 → 1 ≤ length queue → CanGoOn plan s
 can_take plan s p zero queue is_idle is_queue some_idle some_queued = absurd (some_idle refl)
 can_take plan s p (suc idle) [] is_idle is_queue some_idle some_queued = absurd (omega arith)
@@ -69,7 +69,7 @@ can_take plan s p (suc idle) (j ∷ queue) is_idle is_queue some_idle some_queue
   possible = ap₂ (λ (n : ℕ) (jobs : List ℕ). is_some (took s p (taken_from (pool_seen plan s p) n jobs))) is_idle is_queue;
 }
 
--- a job acts
+-- a job can act if its step is defined
 can_act : (plan : Plan) (s : State) (n i : ℕ) (next : Option Action) → (job_at s n).stage ≡ Stage.At i → slice_get (class_at plan (job_at s n).class).body i ≡ next → is_some (acted plan s (parent.Job n) i next) ≡ true → CanGoOn plan s
 can_act plan s n i next at is_there acts = record {
   event = event.Job n;
@@ -84,7 +84,7 @@ done_of (Stage.At i) over unclaimed = absurd cc
 done_of Stage.Done over unclaimed = refl
 done_of Stage.Claimed over unclaimed = absurd (unclaimed refl)
 
--- the child that a get waits for is done, if it is not unfinished
+-- a job can pass its get if the child that it waits for is finished
 can_get : (plan : Plan) (s : State) (n i t : ℕ) → IsOrdered plan → Kept plan s → (job_at s n).stage ≡ Stage.At i → slice_get (class_at plan (job_at s n).class).body i ≡ Some (action.Get t)
     → is_some_member (unfinished s) (child s (parent.Job n) t) ≡ false → CanGoOn plan s
 can_get plan s n i t ordered kept at is_there free =
@@ -97,14 +97,14 @@ can_get plan s n i t ordered kept at is_there free =
     can_act plan s n i (Some (action.Get t)) at is_there
     (ap (λ (found : Option ℕ). is_some (got_child s (parent.Job n) i found)) latest.is_child ∙ ap (λ (stage : Stage). is_some (got s (parent.Job n) i latest.number stage)) done)
 
--- whatever action stands before a job that waits for no unfinished job
+-- a job at any action can act if it does not wait for an unfinished job
 can_go_at : (plan : Plan) (s : State) (n i : ℕ) (next : Option Action) → IsOrdered plan → Kept plan s → (job_at s n).stage ≡ Stage.At i → slice_get (class_at plan (job_at s n).class).body i ≡ next → waits_at s (unfinished s) (parent.Job n) next ≡ false → CanGoOn plan s
 can_go_at plan s n i None ordered kept at is_there free = can_act plan s n i None at is_there refl
 can_go_at plan s n i (Some (action.Work u)) ordered kept at is_there free = can_act plan s n i (Some (action.Work u)) at is_there refl
 can_go_at plan s n i (Some (action.Submit k)) ordered kept at is_there free = can_act plan s n i (Some (action.Submit k)) at is_there refl
 can_go_at plan s n i (Some (action.Get t)) ordered kept at is_there free = can_get plan s n i t ordered kept at is_there free
 
--- a job in a queue whose pool has an idle worker
+-- a queued job that does not wait has an idle worker in its pool, which can take the head of the queue
 can_go_queued : (plan : Plan) (s : State) (n : ℕ) → IsOrdered plan → Kept plan s → (job_at s n).stage ≡ Stage.Queued → waits_as plan s (unfinished s) n (job_at s n).class Stage.Queued ≡ false → CanGoOn plan s
 can_go_queued plan s n ordered kept queued free =
     let p = pool_of plan (job_at s n).class in
@@ -114,7 +114,7 @@ can_go_queued plan s n ordered kept queued free =
     (λ some_other. absurd cc)
     (and_cases (eqb (pool_part s p).idle 0) (list_all (is_member (unfinished s)) (places_where (is_busy_in plan p) s.jobs)) free)
 
--- an unfinished job that does not wait for unfinished jobs alone
+-- an unfinished job that does not wait only for unfinished jobs leads to a possible event
 can_go : (plan : Plan) (s : State) (n : ℕ) (stage : Stage) → IsOrdered plan → Kept plan s → (job_at s n).stage ≡ stage → is_unfinished stage ≡ true → waits_as plan s (unfinished s) n (job_at s n).class stage ≡ false → CanGoOn plan s
 can_go plan s n Stage.Queued ordered kept is_stage still free = can_go_queued plan s n ordered kept is_stage free
 can_go plan s n (Stage.At i) ordered kept is_stage still free = can_go_at plan s n i (slice_get (class_at plan (job_at s n).class).body i) ordered kept is_stage refl free
@@ -126,7 +126,7 @@ not_none : (ns : List ℕ) (n : ℕ) → In n ns → not (is_none ns) ≡ true
 not_none (m ∷ ns) n i = refl
 not_none [] n i = absurd (elim i [ ])
 
--- the unfinished jobs are no waiting set, so one of them does not wait for the others alone
+-- the unfinished jobs are not a waiting set, so one of them does not wait only for the others
 pub goes_on : (plan : Plan) (s : State) (j : ℕ) → IsOrdered plan → Kept plan s → ((members : List ℕ) → ¬ IsWaitingSet plan s members) → is_unfinished (job_at s j).stage ≡ true → CanGoOn plan s
 goes_on plan s j ordered kept none still =
     let members = unfinished s in

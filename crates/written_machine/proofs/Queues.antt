@@ -1,4 +1,4 @@
--- The pools' queues, as the list of jobs tells them.
+-- The queues of the pools, as the list of jobs determines them.
 use Rattle.std.proofs.Common.{◌≡◌, ◌≢◌, ℕ, ◌<◌, ◌≤◌, Bool, true, false, ◌&&◌, eqb, inl, inr, List, [], ◌∷◌, ◌++◌, length, get_or, Some, refl, sym, ap, subst, ◌∙◌, arith, append-nil}
 use Rattle.std.proofs.lemmas.Bool.{false≢true, cases_lt, and_parts, and_from, and_left, and_right, eqb-true, eq-eqb, ne_eqb}
 use Rattle.std.proofs.lemmas.List.{get_or_past}
@@ -16,7 +16,7 @@ use Rattle.written_machine.proofs.Standing.{stage_of_standing, job_made}
 use Rattle.written_machine.proofs.Kept.{Kept, places}
 use Rattle.written_machine.proofs.Stages.{staged}
 
--- ---- what stands in a queue
+-- ---- the members of a queue
 
 pub queued_stage : (stage : Stage) → is_queued stage ≡ true → stage ≡ Stage.Queued
 queued_stage Stage.Queued e = refl
@@ -27,7 +27,7 @@ queued_stage Stage.Claimed e = absurd (false≢true e)
 pub Queued≢Claimed : {stage : Stage} → stage ≡ Stage.Queued → stage ≢ Stage.Claimed
 Queued≢Claimed queued claimed = cc
 
--- the head of a queue is a job that is queued in that pool, and the rest are the others
+-- the head of a queue is a job that is queued in that pool, and the rest are the other queued jobs
 pub record IsHead (plan : Plan) (s : State) (p j : ℕ) (rest : List ℕ) : Type 0 where
   pub exists : p < length plan.pools
   pub inside : j < length s.jobs
@@ -57,11 +57,11 @@ head_of_queue plan s p j rest kept e =
       others = λ stage gone. sym (first.without (record (job_at s j) { stage = stage }) (and_left (is_queued stage) (eqb (pool_of plan (job_at s j).class) p) gone));
     }
 
--- the pool of a job that was made
+-- the pool of an existing job exists
 pub pool_of_made : (plan : Plan) (s : State) (j : ℕ) → IsOrdered plan → Kept plan s → j < length s.jobs → pool_of plan (job_at s j).class < length plan.pools
 pool_of_made plan s j ordered kept inside = ordered.pools (job_at s j).class (kept.classes j no_job inside)
 
--- a job that is queued stands in its pool's queue
+-- a queued job is in the queue of its pool
 pub In-queue : (plan : Plan) (s : State) (j : ℕ) → IsOrdered plan → Kept plan s → (job_at s j).stage ≡ Stage.Queued → In j (pool_part s (pool_of plan (job_at s j).class)).queue
 In-queue plan s j ordered kept queued =
     let p = pool_of plan (job_at s j).class in
@@ -78,7 +78,7 @@ queued_in_queue plan s j ordered kept queued = length-In (pool_part s (pool_of p
 
 -- ---- queues after a change of the jobs
 
--- a stage that is queued as the old one was leaves each queue
+-- a change between stages that are both queued, or both not queued, leaves each queue
 pub places-staged : (plan : Plan) (jobs : List Made) (j : ℕ) (stage : Stage) (p : ℕ) → is_queued stage ≡ is_queued (get_or jobs j no_job).stage → places plan (staged jobs j stage) p ≡ places plan jobs p
 places-staged plan jobs j stage p same =
     places_where-set_same (is_queued_in plan p) jobs j (record (get_or jobs j no_job) { stage = stage }) no_job (ap (λ (b : Bool). b && eqb (pool_of plan (get_or jobs j no_job).class) p) same)
@@ -95,7 +95,7 @@ pub places_push_same : (plan : Plan) (jobs : List Made) (job : Made) (p : ℕ) �
 places_push_same plan jobs job p elsewhere =
     places_push plan jobs job p ∙ ap (λ (b : Bool). places plan jobs p ++ cons_if b (length jobs) []) elsewhere ∙ append-nil (places plan jobs p)
 
--- the pools that are not the job's
+-- a change of a job's stage leaves the queues of all other pools
 pub places-staged_elsewhere : (plan : Plan) (jobs : List Made) (j : ℕ) (stage : Stage) (p : ℕ) → pool_of plan (get_or jobs j no_job).class ≢ p → places plan (staged jobs j stage) p ≡ places plan jobs p
 places-staged_elsewhere plan jobs j stage p other =
     let elsewhere = ne_eqb (pool_of plan (get_or jobs j no_job).class) p other in

@@ -1,4 +1,4 @@
--- What holds at the start and stays through every event holds in every reached state.
+-- A property of the initial state that every event keeps holds in every reachable state.
 use Rattle.std.proofs.Common.{◌≡◌, List, [], ◌∷◌, Option, Some, None, refl, subst}
 use Rattle.std.proofs.lemmas.Option.{same_Some}
 use Rattle.job_bodies.specs.Plan.{Plan}
@@ -14,7 +14,7 @@ use Rattle.written_machine.proofs.Kept.{Kept}
 use Rattle.written_machine.proofs.KeptStart.{kept_start}
 use Rattle.written_machine.proofs.KeptStep.{kept_step}
 
--- the fact goes from each state to the states after its events
+-- every event keeps the property
 abbrev pub StaysThrough : Plan → (State → Type 0) → Type 0
 StaysThrough plan holds = (s : State) (e : Event) (s' : State) (o : Outcome) → holds s → Happens plan s e s' o → holds s'
 

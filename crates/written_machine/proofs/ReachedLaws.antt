@@ -1,4 +1,4 @@
--- The laws of the machine, for the crates above.
+-- The laws of the machine, for the crates that depend on this one.
 use Rattle.std.proofs.Common.{ℕ, List, Some, refl, arith}
 use Rattle.job_bodies.specs.declared.action.Action.{Action}
 use Rattle.job_bodies.specs.declared.action.Action.TheVariants as action
@@ -53,7 +53,7 @@ full_sets_stay plan s s' events members well_formed reached set replayed =
 pub fixed_pools_full : FixedPoolsAreFull
 fixed_pools_full plan s members well_formed reached waiting fixed = fixed_are_full plan s members (ordered plan well_formed) (kept plan s well_formed reached) waiting fixed
 
--- what is kept, and the jobs that were made
+-- the invariant and the bound on the number of threads and queued jobs hold together
 have_jobs : (plan : Plan) (s : State) → IsWellFormed plan → IsReached plan s → HaveJobs plan s
 have_jobs plan s well_formed reached =
     let both = reached_keeps plan (λ s₁. Kept plan s₁ × HaveJobs plan s₁) (kept_start plan (ordered plan well_formed), have_jobs_start plan)

@@ -1,4 +1,4 @@
--- The list of jobs after one of them came to another stage, and after one more was made.
+-- The list of jobs after one of them changed its stage, and after a new job was created.
 use Rattle.std.proofs.Common.{◌≡◌, ◌≢◌, ℕ, zero, suc, ◌<◌, inl, inr, List, [], ◌∷◌, ◌++◌, length, get_or, set, All, refl, sym, ap, subst, ◌∙◌, Bool, arith}
 use Rattle.std.specs.List.{count_by}
 use Rattle.std.proofs.lemmas.Bool.{cases_lt}
@@ -12,25 +12,25 @@ use Rattle.written_machine.specs.State.{Stage, State, Made, no_job, is_made_by}
 use Rattle.written_machine.specs.Step.{moved_jobs}
 use Rattle.written_machine.specs.Laws.{IsLater}
 
--- the jobs, with job j at this stage
+-- the list in which job j has this stage
 abbrev pub staged : List Made → ℕ → Stage → List Made
 staged jobs j stage = set jobs j (record (get_or jobs j no_job) { stage = stage })
 
 pub length-staged : (jobs : List Made) (j : ℕ) (stage : Stage) → length (staged jobs j stage) ≡ length jobs
 length-staged jobs j stage = length-set jobs j (record (get_or jobs j no_job) { stage = stage })
 
--- the job itself is what it was but for the stage
+-- the job itself keeps everything except its stage
 pub get_or-staged_same : (jobs : List Made) (j : ℕ) (stage : Stage) → j < length jobs → get_or (staged jobs j stage) j no_job ≡ record (get_or jobs j no_job) { stage = stage }
 get_or-staged_same jobs j stage inside = get_or-set_same jobs j (record (get_or jobs j no_job) { stage = stage }) no_job inside
 
 pub stage-staged : (jobs : List Made) (j : ℕ) (stage : Stage) → j < length jobs → (get_or (staged jobs j stage) j no_job).stage ≡ stage
 stage-staged jobs j stage inside = ap (λ (job : Made). job.stage) (get_or-staged_same jobs j stage inside)
 
--- the other jobs are as they were
+-- the other jobs are unchanged
 pub get_or-staged_other : (jobs : List Made) (j : ℕ) (stage : Stage) (n : ℕ) (d : Made) → n ≢ j → get_or (staged jobs j stage) n d ≡ get_or jobs n d
 get_or-staged_other jobs j stage n d other = get_or-set_other jobs j n (record (get_or jobs j no_job) { stage = stage }) d other
 
--- no more than a stage changes
+-- only the stage changes
 job-staged : (jobs : List Made) (j : ℕ) (stage : Stage) (n : ℕ) (d : Made) → get_or (staged jobs j stage) n d ≡ record (get_or jobs n d) { stage = (get_or (staged jobs j stage) n d).stage }
 job-staged [] j stage n d = refl
 job-staged (x ∷ xs) zero stage zero d = refl
@@ -44,11 +44,11 @@ class-staged jobs j stage n d = ap (λ (job : Made). job.class) (job-staged jobs
 pub parent-staged : (jobs : List Made) (j : ℕ) (stage : Stage) (n : ℕ) (d : Made) → (get_or (staged jobs j stage) n d).parent ≡ (get_or jobs n d).parent
 parent-staged jobs j stage n d = ap (λ (job : Made). job.parent) (job-staged jobs j stage n d)
 
--- an actor's latest job is the same
+-- the latest job of an actor at a position stays the same
 pub child-stage : (jobs : List Made) (a : Parent) (t j : ℕ) (stage : Stage) → last_of (places_where (is_made_by a t) (staged jobs j stage)) ≡ last_of (places_where (is_made_by a t) jobs)
 child-stage jobs a t j stage = ap last_of (places_where-set_same (is_made_by a t) jobs j (record (get_or jobs j no_job) { stage = stage }) no_job refl)
 
--- a count of jobs that the change does not touch
+-- the number of jobs that satisfy a test stays if the change does not affect the test
 pub count-staged : (test : Made → Bool) (jobs : List Made) (j : ℕ) (stage : Stage) → test (record (get_or jobs j no_job) { stage = stage }) ≡ test (get_or jobs j no_job) → count_by test (staged jobs j stage) ≡ count_by test jobs
 count-staged test jobs j stage same =
     sym (length-places test (staged jobs j stage)) ∙ ap length (places_where-set_same test jobs j (record (get_or jobs j no_job) { stage = stage }) no_job same) ∙ length-places test jobs
@@ -79,9 +79,9 @@ classes_moved classes s (parent.Job j) i each = classes_staged classes s.jobs j 
 pub classes_pushed : (classes : ℕ) (jobs : List Made) (job : Made) → HaveClasses classes jobs → job.class < classes → HaveClasses classes (jobs ++ job ∷ [])
 classes_pushed classes jobs job each inside = All-push (λ (x : Made). x.class < classes) jobs job each inside
 
--- ---- the makers of the jobs
+-- ---- the creators of the jobs
 
--- each job has a greater number than its maker
+-- each job has a greater number than the job that created it
 abbrev pub HaveParents : List Made → Type 0
 HaveParents jobs = (j : ℕ) → j < length jobs → IsLater (get_or jobs j no_job).parent j
 

@@ -1,4 +1,4 @@
--- The test for a waiting set says what the words say.
+-- The test for a waiting set agrees with the definition.
 use Rattle.std.proofs.Common.{◌≡◌, ℕ, ◌<◌, ◌↔◌, true, not, eqb, inl, inr, List, [], ◌∷◌, length, slice_get, Option, Some, None, IsTrue, refl, sym, ap, subst, ◌∙◌}
 use Rattle.std.specs.List.{list_all}
 use Rattle.std.proofs.lemmas.Bool.{false≢true, cases_lt, and_parts, and_from, eqb-true, eq-eqb}
@@ -30,7 +30,7 @@ some_member (j ∷ js) first member = refl
 
 -- ---- at a get
 
--- a child that is a member
+-- the child that the get finds is a member
 record MemberChild (members : List ℕ) (found : Option ℕ) : Type 0 where
   number : ℕ
   is_child : found ≡ Some number
@@ -50,7 +50,7 @@ waits_at_get plan s members j i (Some (Get t)) is_there passes =
 
 -- ---- each stage
 
--- a job at work was made
+-- a running job exists
 busy_made : (plan : Plan) (s : State) (p n : ℕ) → is_busy_in plan p (job_at s n) ≡ true → n < length s.jobs
 busy_made plan s p n busy = elim (cases_lt n (length s.jobs)) [
   | inl inside ↦ inside

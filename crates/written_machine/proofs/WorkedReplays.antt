@@ -18,18 +18,18 @@ use Rattle.written_machine.specs.Waiting.{is_waiting_set}
 abbrev pool_of_sizes : ℕ → ℕ → ℕ → ℕ → Pool
 pool_of_sizes letter core max queue = record { name = letter ∷ []; core = core; max = max; queue = queue; prestart = false }
 
--- all pools begin with their core threads
+-- the plan with every pool prestarted
 abbrev prestarted : Plan → Plan
 prestarted plan = record plan { pools = map (λ (pool : Pool). record pool { prestart = true }) plan.pools }
 
 abbrev class_in : ℕ → List Action → Class
 class_in pool body = record { name = 97 ∷ []; pool = pool; body = body }
 
--- so many clients of a kind, each of which submits a job of this class, gets it, and begins again
+-- a kind of `count` clients, each of which submits a job of this class, gets it, and starts again
 abbrev asking : ℕ → ℕ → Client
 asking count class = record { name = 99 ∷ []; count = count; repeat = true; body = Submit class ∷ Get 0 ∷ [] }
 
--- one pool, and clients that each submit one piece of work and wait for it
+-- one pool, with clients that each submit one job and wait for it
 abbrev one_pool : ℕ → ℕ → ℕ → ℕ → Plan
 one_pool core max queue clients = record {
   pools = pool_of_sizes 112 core max queue ∷ [];
@@ -37,7 +37,7 @@ one_pool core max queue clients = record {
   clients = asking clients 0 ∷ [];
 }
 
--- the same, where each client asks but once
+-- the same, except that each client does not repeat
 abbrev one_pool_once : ℕ → ℕ → ℕ → ℕ → Plan
 one_pool_once core max queue clients =
     let plan = one_pool core max queue clients in
@@ -55,7 +55,7 @@ nested core max queue = record {
 abbrev helped : Plan
 helped = record (nested 1 2 1) { clients = asking 1 0 ∷ record { name = 104 ∷ []; count = 1; repeat = false; body = Submit 1 ∷ [] } ∷ [] }
 
--- two pools whose jobs wait for jobs of the other, and a third pool beside them
+-- two pools whose jobs wait for jobs of the other pool, and a third independent pool
 abbrev crossed : ℕ → Plan
 crossed threads = record {
   pools = pool_of_sizes 112 1 1 2 ∷ pool_of_sizes 113 threads threads 2 ∷ pool_of_sizes 114 1 1 1 ∷ [];
@@ -63,19 +63,19 @@ crossed threads = record {
   clients = asking 1 0 ∷ asking 1 2 ∷ asking 1 4 ∷ [];
 }
 
--- what comes of each event from the start on
+-- the outcome of each event, from the start
 abbrev told : Plan → List Event → List (Option Outcome)
 told plan events = outcomes plan (Some (start plan)) events
 
--- what is asked of the state that the events reach
+-- the value of a function on the state that the events reach
 abbrev after : {X : Type 0} → Plan → List Event → (State → X) → Option X
 after plan events ask = option_map ask (replay plan (Some (start plan)) events)
 
--- how many submits were refused, and how many jobs are unfinished
+-- the number of rejected submits, and the number of unfinished jobs
 abbrev ends : State → ℕ × ℕ
 ends s = (s.refusals, count_by (λ job. is_unfinished job.stage) s.jobs)
 
--- the events of each replay that are possible
+-- the possible events of each replay
 abbrev two_clients_refused-events : List Event
 two_clients_refused-events = event.Client 0 ∷ event.Job 0 ∷ event.Job 0 ∷ event.Client 0 ∷ event.Client 0 ∷ event.Client 0 ∷ event.Client 1 ∷ []
 
@@ -106,9 +106,9 @@ drain_met_exactly_prestarted-events = event.Client 0 ∷ event.Take 0 ∷ event.
 abbrev stuck_for_now-events : List Event
 stuck_for_now-events = nested_one_worker-events ++ event.Client 1 ∷ event.Job 2 ∷ event.Job 2 ∷ event.Take 0 ∷ event.Job 1 ∷ event.Job 1 ∷ event.Job 0 ∷ event.Job 0 ∷ []
 
--- ---- what comes of the events
+-- ---- the outcomes of the events
 
--- one worker and a queue of one: the seventh event is refused, though a worker is idle and only two jobs are outstanding
+-- with one worker and a queue of one, the seventh event is rejected, although a worker is idle and only two jobs are open
 pub two_clients_refused : told (one_pool 1 1 1 2) two_clients_refused-events
     ≡ Some (Started 0) ∷ Some (Worked 1) ∷ Some (Finished 0) ∷ Some (Got 0) ∷ Some Looped ∷ Some (Queued 1) ∷ Some (Refused 0) ∷ []
 two_clients_refused = refl
@@ -122,17 +122,17 @@ pub cross_pools_stuck : told (crossed 1) cross_pools_stuck-events
     ≡ Some (Started 0) ∷ Some (Started 1) ∷ Some (Queued 2) ∷ Some (Queued 3) ∷ Some (Started 4) ∷ Some (Worked 1) ∷ []
 cross_pools_stuck = refl
 
--- a worker above core may end, one of core may not
+-- a worker above core may end, a core worker may not
 pub retire : told (one_pool 1 2 1 3) (retire-events ++ event.Retire 0 ∷ [])
     ≡ Some (Started 0) ∷ Some (Queued 1) ∷ Some (Started 2) ∷ Some (Worked 1) ∷ Some (Finished 2) ∷ Some Retired ∷ Some (Worked 1) ∷ Some (Finished 0) ∷ None ∷ []
 retire = refl
 
--- below core a new thread starts the job, though a worker is idle
+-- below core a new thread starts the job, although a worker is idle
 pub start_before_queue : told (one_pool 2 2 2 2) start_before_queue-events
     ≡ Some (Started 0) ∷ Some (Worked 1) ∷ Some (Finished 0) ∷ Some (Started 1) ∷ Some (Got 0) ∷ Some Looped ∷ Some (Queued 2) ∷ Some (Took 2) ∷ Some (Worked 1) ∷ []
 start_before_queue = refl
 
--- the queue is full, so a second thread starts, and takes the inner job for which the outer one waits
+-- the queue is full, so a second thread starts, and then takes the inner job for which the outer one waits
 pub stuck_for_now : told helped stuck_for_now-events
     ≡ Some (Started 0) ∷ Some (Queued 1) ∷ Some (Started 2) ∷ Some (Worked 1) ∷ Some (Finished 2) ∷ Some (Took 1) ∷ Some (Worked 1) ∷ Some (Finished 1) ∷ Some (Got 1) ∷ Some (Finished 0) ∷ []
 stuck_for_now = refl
@@ -141,21 +141,21 @@ stuck_for_now = refl
 pub prestarted_queues : told (prestarted (one_pool 2 2 2 2)) prestarted_queues-events ≡ Some (Queued 0) ∷ Some (Took 0) ∷ Some (Worked 1) ∷ []
 prestarted_queues = refl
 
--- a prestarted pool can refuse a job though its workers are idle
+-- a prestarted pool can reject a job although its workers are idle
 pub lifetime_first : told (prestarted (one_pool_once 2 2 1 3)) lifetime_first-events ≡ Some (Queued 0) ∷ Some (Refused 0) ∷ []
 lifetime_first = refl
 
--- five steps drain the pool of an outer job and its inner one
+-- five steps drain the pool of an outer job and its inner job
 pub drain_met_exactly : told (nested 2 2 5) (drain_met_exactly-events ++ event.Take 0 ∷ [])
     ≡ Some (Started 0) ∷ Some (Started 1) ∷ Some (Worked 1) ∷ Some (Finished 1) ∷ Some (Got 1) ∷ Some (Finished 0) ∷ None ∷ []
 drain_met_exactly = refl
 
--- where it is prestarted both are taken from the queue, and seven steps drain it
+-- in a prestarted pool both jobs are taken from the queue, and seven steps drain the pool
 pub drain_met_exactly_prestarted : told (prestarted (nested 2 2 5)) drain_met_exactly_prestarted-events
     ≡ Some (Queued 0) ∷ Some (Took 0) ∷ Some (Queued 1) ∷ Some (Took 1) ∷ Some (Worked 1) ∷ Some (Finished 1) ∷ Some (Got 1) ∷ Some (Finished 0) ∷ []
 drain_met_exactly_prestarted = refl
 
--- ---- refusals and unfinished jobs after the last event that is possible
+-- ---- refusals and unfinished jobs after the last possible event
 
 pub two_clients_refused-ends : after (one_pool 1 1 1 2) two_clients_refused-events ends ≡ Some (1, 1)
 two_clients_refused-ends = refl
@@ -189,18 +189,18 @@ drain_met_exactly_prestarted-ends = refl
 
 -- ---- waiting sets after some of the events
 
--- the outer job and the inner one wait for each other alone
+-- the outer job and the inner job wait only for each other
 pub nested_one_worker-stuck : after (nested 1 1 5) nested_one_worker-events (λ s. is_waiting_set (nested 1 1 5) s (0 ∷ 1 ∷ [])) ≡ Some true
 nested_one_worker-stuck = refl
 
--- the four jobs of the two pools wait for each other alone
+-- the four jobs of the two pools wait only for each other
 pub cross_pools_stuck-all : after (crossed 1) cross_pools_stuck-events (λ s. is_waiting_set (crossed 1) s (0 ∷ 1 ∷ 2 ∷ 3 ∷ [])) ≡ Some true
 cross_pools_stuck-all = refl
 
--- two of them also wait for jobs that are not among them
+-- two of them also wait for jobs outside the list
 pub cross_pools_stuck-two : after (crossed 1) cross_pools_stuck-events (λ s. is_waiting_set (crossed 1) s (0 ∷ 1 ∷ [])) ≡ Some false
 cross_pools_stuck-two = refl
 
--- a waiting set whose pool has not all its threads can end
+-- a waiting set can end if its pool does not have all its threads
 pub stuck_for_now-two : after helped nested_one_worker-events (λ s. is_waiting_set helped s (0 ∷ 1 ∷ [])) ≡ Some true
 stuck_for_now-two = refl

@@ -1,4 +1,4 @@
--- How many jobs of a pool were ever made, and that its threads and its queue are no more.
+-- The number of jobs created for a pool bounds the number of its threads and queued jobs.
 use Rattle.std.specs.Prelude.{◌≡◌, ◌≤◌, ◌<◌, ◌+◌, ◌==◌, ℕ, Bool, Some, length, count_by}
 use Rattle.job_bodies.specs.Plan.{Plan, pool_at, first_workers}
 use Rattle.job_bodies.specs.WellFormed.{IsWellFormed}
@@ -9,22 +9,22 @@ use Rattle.written_machine.specs.Step.{step}
 use Rattle.written_machine.specs.Reach.{IsReached}
 use Rattle.written_machine.specs.Laws.{HoldsWhereReached}
 
--- a job of one of the pool's classes, however far it is
+-- the job has a class of the pool, at any stage
 abbrev pub is_of_pool : Plan → ℕ → Made → Bool
 is_of_pool plan p job = pool_of plan job.class == p
 
 abbrev pub jobs_made : Plan → State → ℕ → ℕ
 jobs_made plan s p = count_by (is_of_pool plan p) s.jobs
 
--- but for the pool's first workers, a job of its own was made for each thread and for each place of the queue that is taken
+-- the pool has at most as many threads and queued jobs as jobs created for it, plus the workers with which it began
 abbrev pub HasJobs : Plan → State → ℕ → Type 0
 HasJobs plan s p = threads plan s p + length (pool_part s p).queue ≤ jobs_made plan s p + first_workers (pool_at plan p)
 
--- in every reached state of a well-formed plan, of each pool
+-- this holds for each pool in every reachable state of a well-formed plan
 abbrev pub ThreadsHaveJobs : Type 0
 ThreadsHaveJobs = HoldsWhereReached (λ plan s. (p : ℕ) → p < length plan.pools → HasJobs plan s p)
 
--- a submit is refused only where as many jobs were made as the queue and the threads hold, but for the first workers
+-- a pool rejects a submit only if its queue capacity plus max is at most the jobs created for it, plus its first workers
 abbrev pub RefusalsNeedJobs : Type 0
 RefusalsNeedJobs = (plan : Plan) (p : ℕ) (s s' : State) (event : Event) → IsWellFormed plan → IsReached plan s → step plan s event ≡ Some (s', Refused p)
     → (pool_at plan p).queue + (pool_at plan p).max ≤ jobs_made plan s p + first_workers (pool_at plan p)

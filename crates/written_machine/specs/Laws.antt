@@ -1,4 +1,4 @@
--- What holds in every reached state of a well-formed plan.
+-- Laws about every reachable state of a well-formed plan.
 use Rattle.std.specs.Prelude.{◌≡◌, ◌≢◌, ◌<◌, ◌≤◌, ◌↔◌, ⊤, ℕ, IsTrue, List, length, Some, slice_get}
 use Rattle.job_bodies.specs.declared.action.Action.{Action}
 use Rattle.job_bodies.specs.declared.action.Action.TheVariants.{Get}
@@ -11,11 +11,11 @@ use Rattle.written_machine.specs.Step.{point}
 use Rattle.written_machine.specs.Reach.{IsReached}
 use Rattle.written_machine.specs.Waiting.{IsWaitingSet, is_waiting_set}
 
--- the fact holds of every well-formed plan and every state that it reaches
+-- the property holds for every well-formed plan and every reachable state of it
 abbrev pub HoldsWhereReached : (Plan → State → Type 0) → Type 0
 HoldsWhereReached holds = (plan : Plan) (s : State) → IsWellFormed plan → IsReached plan s → holds plan s
 
--- the pool has no more threads than its max, and no more queued jobs than its queue holds
+-- the pool has at most max threads, and at most as many queued jobs as its capacity
 pub record KeepsSizes (plan : Plan) (s : State) (p : ℕ) : Type 0 where
   pub within_max : threads plan s p ≤ (pool_at plan p).max
   pub within_queue : length (pool_part s p).queue ≤ (pool_at plan p).queue
@@ -23,16 +23,16 @@ pub record KeepsSizes (plan : Plan) (s : State) (p : ℕ) : Type 0 where
 abbrev pub PoolsKeepTheirSizes : Type 0
 PoolsKeepTheirSizes = HoldsWhereReached (λ plan s. (p : ℕ) → p < length plan.pools → KeepsSizes plan s p)
 
--- where a job waits in a pool's queue, the pool has at least core threads
+-- a pool with a queued job has at least core threads
 abbrev pub QueuesOnlyAtCore : Type 0
 QueuesOnlyAtCore = HoldsWhereReached (λ plan s. (p : ℕ) → p < length plan.pools → 1 ≤ length (pool_part s p).queue → (pool_at plan p).core ≤ threads plan s p)
 
--- a job's children have greater numbers than it
+-- the job's number is greater than the number of its creator, if the creator is a job
 abbrev pub IsLater : Parent → ℕ → Type 0
 IsLater (Client c) n = ⊤
 IsLater (Job j) n = j < n
 
--- the actor's latest job from position t is of class k, was not claimed, and is later than the actor
+-- the latest job that the actor created at position t is of class k, unclaimed, and later than the actor
 pub record HasLatest (s : State) (a : Parent) (t k : ℕ) : Type 0 where
   pub number : ℕ
   pub is_child : child s a t ≡ Some number
@@ -40,10 +40,10 @@ pub record HasLatest (s : State) (a : Parent) (t k : ℕ) : Type 0 where
   pub unclaimed : (job_at s number).stage ≢ Stage.Claimed
   pub later : IsLater a number
 
--- an actor that stands at a get has a latest job there, of the class that the submit names
+-- an actor at a get has such a latest job, of the class that the submit names
 abbrev pub GetsHaveChildren : Type 0
 GetsHaveChildren = HoldsWhereReached (λ plan s. (a : Parent) (body : List Action) (i t : ℕ) → point plan s a ≡ Some (record { body = body; position = i }) → slice_get body i ≡ Some (Get t) → HasLatest s a t (class_got body t))
 
--- the test for a waiting set says what the words say
+-- the test for a waiting set agrees with the definition
 abbrev pub WaitingSetsAreTested : Type 0
 WaitingSetsAreTested = (plan : Plan) (s : State) (members : List ℕ) → IsTrue (is_waiting_set plan s members) ↔ IsWaitingSet plan s members

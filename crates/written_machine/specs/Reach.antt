@@ -9,12 +9,12 @@ use Rattle.written_machine.specs.declared.event.Outcome.{Outcome}
 use Rattle.written_machine.specs.State.{State, part_of}
 use Rattle.written_machine.specs.Step.{step}
 
--- the clients of a numbered kind, at the start
+-- the clients of a kind at the start, given the kind with its number
 abbrev pub new_clients : ℕ × Client → List ClientState
 new_clients entry = replicate entry.1.count (record { kind = entry.0; position = 0 })
 
--- no jobs, each pool with core idle workers where it is prestarted, else with none, each kind's clients at 0, no
--- refusals
+-- the initial state: no jobs and no refusals, core idle workers in each prestarted pool and none in the others, and each
+-- client at position 0
 abbrev pub start : Plan → State
 start plan = record {
   jobs = [];
@@ -27,7 +27,7 @@ abbrev pub state_after : Option (State × Outcome) → Option State
 state_after None = None
 state_after (Some x) = Some x.0
 
--- the state after the events, or None where one of them is not possible
+-- the state after the events, or None if one of them is not possible
 abbrev pub replay : Plan → Option State → List Event → Option State
 replay plan s [] = s
 replay plan None (e ∷ events) = None
@@ -37,7 +37,7 @@ abbrev pub outcome_of : Option (State × Outcome) → Option Outcome
 outcome_of None = None
 outcome_of (Some x) = Some x.1
 
--- what comes of each event of the list; nothing is possible after an event that is not
+-- the outcome of each event of the list; no event is possible after an impossible one
 abbrev pub outcomes : Plan → Option State → List Event → List (Option Outcome)
 outcomes plan s [] = []
 outcomes plan None (e ∷ events) = None ∷ outcomes plan None events

@@ -1,4 +1,4 @@
--- States of a plan: every job ever made, the pools' queues and idle workers, and where the clients stand.
+-- States of a plan: every job ever created, the queues and idle workers of the pools, and the positions of the clients.
 use Rattle.std.specs.Prelude.{ℕ, ◌+◌, ◌==◌, ◌&&◌, Bool, true, false, List, [], Option, slice_index_or, count_by}
 use Rattle.numbered_lists.specs.Places.{places_where, last_of}
 use Rattle.job_bodies.specs.Plan.{Pool, Plan, pool_at, class_at}
@@ -12,21 +12,21 @@ same_parent (Client a) (Client b) = a == b
 same_parent (Job a) (Job b) = a == b
 same_parent _ _ = false
 
--- how far a job is: in its pool's queue, at a position of its body, finished, or finished and got
+-- the progress of a job: in its pool's queue, at a position of its body, finished, or finished with its result returned
 pub data Stage : Type 0 where
   Queued : Stage
   At : ℕ → Stage
   Done : Stage
   Claimed : Stage
 
--- a job that was made: its class, who made it, the position of the submit, and how far it is
+-- a job that was created: its class, its creator, the position of the submit, and its stage
 pub record Made : Type 0 where
   pub class : ℕ
   pub parent : Parent
   pub slot : ℕ
   pub stage : Stage
 
--- a pool's queue of job numbers, and its idle workers
+-- a pool's queue of job numbers, and its number of idle workers
 pub record PoolPart : Type 0 where
   pub queue : List ℕ
   pub idle : ℕ
@@ -37,7 +37,7 @@ pub record State : Type 0 where
   pub clients : List ClientState
   pub refusals : ℕ
 
--- what stands past the end of a list of the state; a job that is not claimed was made
+-- the values returned past the end of a list of the state; the default job is claimed, so an unclaimed job exists
 abbrev pub no_pool_part : PoolPart
 no_pool_part = record { queue = []; idle = 0 }
 
@@ -70,7 +70,7 @@ is_unfinished Queued = true
 is_unfinished (At i) = true
 is_unfinished _ = false
 
--- the pool of a job's class
+-- the pool of a job class
 abbrev pub pool_of : Plan → ℕ → ℕ
 pool_of plan k = (class_at plan k).pool
 
@@ -80,18 +80,18 @@ is_busy_in plan p job = is_at job.stage && pool_of plan job.class == p
 abbrev pub is_queued_in : Plan → ℕ → Made → Bool
 is_queued_in plan p job = is_queued job.stage && pool_of plan job.class == p
 
--- how many jobs of the pool's classes are at work
+-- the number of jobs that run in the pool
 abbrev pub busy : Plan → State → ℕ → ℕ
 busy plan s p = count_by (is_busy_in plan p) s.jobs
 
 abbrev pub threads : Plan → State → ℕ → ℕ
 threads plan s p = (pool_part s p).idle + busy plan s p
 
--- the queue and the idle workers of a pool by itself
+-- the queue and the idle workers of a pool view
 abbrev pub part_of : PoolView → PoolPart
 part_of pool = record { queue = pool.queue; idle = pool.idle }
 
--- one pool of the state by itself
+-- the pool view with the sizes of the pool, this queue, these idle workers and this many threads
 abbrev pub pool_view : Pool → PoolPart → ℕ → PoolView
 pool_view pool part threads = record { core = pool.core; max = pool.max; capacity = pool.queue; threads = threads; idle = part.idle; queue = part.queue }
 
@@ -101,6 +101,6 @@ pool_seen plan s p = pool_view (pool_at plan p) (pool_part s p) (threads plan s 
 abbrev pub is_made_by : Parent → ℕ → Made → Bool
 is_made_by a t job = same_parent a job.parent && t == job.slot
 
--- the latest job that the actor made at position t, if it made one
+-- the latest job that the actor created at position t, or None if there is no such job
 abbrev pub child : State → Parent → ℕ → Option ℕ
 child s a t = last_of (places_where (is_made_by a t) s.jobs)

@@ -1,4 +1,4 @@
--- One event of a state: what comes of it, and the state after it.
+-- The transition function: the outcome of an event, and the state after it.
 use Rattle.std.specs.Prelude.{ℕ, ◌+◌, List, [], ◌∷◌, ◌++◌, length, Option, Some, None, slice_get, slice_set, if◌then◌else◌}
 use Rattle.std.specs.Option.{option_map}
 use Rattle.job_bodies.specs.declared.action.Action.{Action}
@@ -17,7 +17,7 @@ use Rattle.written_machine.specs.declared.event.Outcome.TheVariants.{Started, Qu
 use Rattle.written_machine.specs.State as state
 use Rattle.written_machine.specs.State.{Stage, Made, State, job_at, client_state, pool_of, part_of, pool_seen, child}
 
--- ---- where an actor stands
+-- ---- the position of an actor
 
 -- a body, and a position in it
 pub record Point : Type 0 where
@@ -31,17 +31,17 @@ abbrev pub point_of_job : Plan → ℕ → Stage → Option Point
 point_of_job plan k (state.Stage.At i) = Some (record { body = (class_at plan k).body; position = i })
 point_of_job plan k _ = None
 
--- None for an actor that there is not, and for a job that is not at a position
+-- None if the actor does not exist, and for a job that is queued or finished
 abbrev pub point : Plan → State → Parent → Option Point
 point plan s (parent.Client c) = option_map (point_of_client plan) (slice_get s.clients c)
 point plan s (parent.Job j) = point_of_job plan (job_at s j).class (job_at s j).stage
 
--- ---- the changes of a state
+-- ---- changes of a state
 
 abbrev pub with_stage : ℕ → Stage → State → State
 with_stage j stage s = record s { jobs = slice_set s.jobs j (record (job_at s j) { stage = stage }) }
 
--- the jobs, and the clients, after the actor came to position i
+-- the jobs and the clients after the actor moved to position i
 abbrev pub moved_jobs : Parent → ℕ → State → List Made
 moved_jobs (parent.Client c) i s = s.jobs
 moved_jobs (parent.Job j) i s = slice_set s.jobs j (record (job_at s j) { stage = state.Stage.At i })
@@ -56,7 +56,7 @@ with_position a i s = record s { jobs = moved_jobs a i s; clients = moved_client
 abbrev pub with_job : Made → State → State
 with_job job s = record s { jobs = s.jobs ++ job ∷ [] }
 
--- the pool's queue and idle workers as this view has them; its threads are those and the jobs at work
+-- the state with the queue and idle workers of this pool view; the number of threads follows from the running jobs
 abbrev pub with_pool : ℕ → PoolView → State → State
 with_pool p pool s = record s { pools = slice_set s.pools p (part_of pool) }
 
@@ -65,7 +65,7 @@ with_pool p pool s = record s { pools = slice_set s.pools p (part_of pool) }
 abbrev pub new_job : ℕ → Parent → ℕ → Stage → Made
 new_job k a i stage = record { class = k; parent = a; slot = i; stage = stage }
 
--- the submit of a job of class k by an actor at position i, as the pool answers it
+-- the state and outcome after an actor at position i submitted a job of class k and the pool gave this answer
 abbrev pub answered : Plan → State → Parent → ℕ → ℕ → Offer → State × Outcome
 answered plan s a i k offer.Started =
     (with_job (new_job k a i (state.Stage.At 0)) (with_position a (i + 1) s), Started (length s.jobs))
@@ -79,7 +79,7 @@ answered plan s a i k offer.Refused = (record s { refusals = s.refusals + 1 }, R
 abbrev pub submitted : Plan → State → Parent → ℕ → ℕ → State × Outcome
 submitted plan s a i k = answered plan s a i k (answer (pool_seen plan s (pool_of plan k)))
 
--- the get of job j, which is so far, by an actor at position i
+-- the state and outcome after an actor at position i gets job j, which is at this stage; None if the job is not done
 abbrev pub got : State → Parent → ℕ → ℕ → Stage → Option (State × Outcome)
 got s a i j state.Stage.Done = Some (with_stage j state.Stage.Claimed (with_position a (i + 1) s), Got j)
 got s a i j _ = None
@@ -88,7 +88,7 @@ abbrev pub got_child : State → Parent → ℕ → Option ℕ → Option (State
 got_child s a i None = None
 got_child s a i (Some j) = got s a i j (job_at s j).stage
 
--- job j of a pool is done, and its worker is idle
+-- the state after job j finished and its worker became idle
 abbrev pub finished_job : Plan → State → ℕ → ℕ → State
 finished_job plan s j p = with_pool p (finished (pool_seen plan s p)) (with_stage j state.Stage.Done s)
 
@@ -96,12 +96,12 @@ abbrev pub looped : Plan → State → ℕ → Option ClientState → Option (St
 looped plan s c None = None
 looped plan s c (Some client) = if (client_at plan client.kind).repeat then Some (with_position (parent.Client c) 0 s, Looped) else None
 
--- at the end of its body a job finishes, and a client begins again where its kind repeats
+-- at the end of its body a job finishes, and a client starts again if its kind repeats
 abbrev pub ended : Plan → State → Parent → Option (State × Outcome)
 ended plan s (parent.Client c) = looped plan s c (slice_get s.clients c)
 ended plan s (parent.Job j) = Some (finished_job plan s j (pool_of plan (job_at s j).class), Finished j)
 
--- an actor at position i, with the action that stands there
+-- the step of an actor at position i with this next action; None stands for the end of the body
 abbrev pub acted : Plan → State → Parent → ℕ → Option Action → Option (State × Outcome)
 acted plan s a i None = ended plan s a
 acted plan s a i (Some (Work u)) = Some (with_position a (i + 1) s, Worked u)
@@ -114,7 +114,7 @@ stepped plan s a (Some at) = acted plan s a at.position (slice_get at.body at.po
 
 -- ---- the events of a pool
 
--- the head of the queue starts
+-- the head of the queue starts to run
 abbrev pub took : State → ℕ → Option (ℕ × PoolView) → Option (State × Outcome)
 took s p None = None
 took s p (Some x) = Some (with_pool p x.1 (with_stage x.0 (state.Stage.At 0) s), Took x.0)
@@ -123,7 +123,7 @@ abbrev pub let_go : State → ℕ → Option PoolView → Option (State × Outco
 let_go s p None = None
 let_go s p (Some pool) = Some (with_pool p pool s, Retired)
 
--- the state and the outcome after the event, or None where the event is not possible
+-- the state and the outcome after the event, or None if the event is not possible
 abbrev pub step : Plan → State → Event → Option (State × Outcome)
 step plan s (Client c) = stepped plan s (parent.Client c) (point plan s (parent.Client c))
 step plan s (Job j) = stepped plan s (parent.Job j) (point plan s (parent.Job j))

@@ -10,7 +10,7 @@ use Rattle.written_machine.specs.declared.parent.Parent.TheVariants as parent
 use Rattle.written_machine.specs.State.{Stage, State, job_at, pool_part, pool_of, is_busy_in, child}
 use Rattle.written_machine.specs.State.Stage.{Queued, At}
 
--- ---- in words
+-- ---- as a definition
 
 abbrev pub is_member : List ℕ → ℕ → Bool
 is_member members j = list_any (λ member. member == j) members
@@ -18,7 +18,7 @@ is_member members j = list_any (λ member. member == j) members
 abbrev pub IsMember : List ℕ → ℕ → Type 0
 IsMember members j = IsTrue (is_member members j)
 
--- the job at position i of its body stands at a get whose job is a member
+-- the job is at position i, which is a get, and the job that the get waits for is a member
 pub record WaitsAtGet (plan : Plan) (s : State) (members : List ℕ) (j i : ℕ) : Type 0 where
   pub submit : ℕ
   pub stands : slice_get (class_at plan (job_at s j).class).body i ≡ Some (Get submit)
@@ -26,18 +26,18 @@ pub record WaitsAtGet (plan : Plan) (s : State) (members : List ℕ) (j i : ℕ)
   pub is_child : child s (parent.Job j) submit ≡ Some child_number
   pub member : IsMember members child_number
 
--- no worker of the queued job's pool is idle, and every job at work in that pool is a member
+-- no worker of the queued job's pool is idle, and every job that runs in that pool is a member
 pub record WaitsInQueue (plan : Plan) (s : State) (members : List ℕ) (j : ℕ) : Type 0 where
   pub none_idle : (pool_part s (pool_of plan (job_at s j).class)).idle ≡ 0
   pub all_at_work : (n : ℕ) → IsTrue (is_busy_in plan (pool_of plan (job_at s j).class) (job_at s n)) → IsMember members n
 
--- an unfinished job that waits for members alone; a job that is done waits for nothing
+-- an unfinished job that waits only for members; a finished job waits for nothing
 abbrev pub WaitsAs : Plan → State → List ℕ → ℕ → Stage → Type 0
 WaitsAs plan s members j Queued = WaitsInQueue plan s members j
 WaitsAs plan s members j (At i) = WaitsAtGet plan s members j i
 WaitsAs plan s members j _ = ⊥
 
--- the members are some unfinished jobs, and each of them waits for members alone
+-- there is at least one member, all members are unfinished, and each waits only for members
 pub record IsWaitingSet (plan : Plan) (s : State) (members : List ℕ) : Type 0 where
   pub first : ℕ
   pub not_empty : IsMember members first
@@ -49,7 +49,7 @@ abbrev pub is_some_member : List ℕ → Option ℕ → Bool
 is_some_member members None = false
 is_some_member members (Some j) = is_member members j
 
--- an actor with this action before it stands at a get whose job is a member
+-- the next action of the actor is a get whose job is a member
 abbrev pub waits_at : State → List ℕ → Parent → Option Action → Bool
 waits_at s members a (Some (Get t)) = is_some_member members (child s a t)
 waits_at s members a _ = false

@@ -1,6 +1,6 @@
-//! Where a client stands.
+//! The state of a client.
 
-/// A client: its kind, and the position in the kind's body at which it stands.
+/// A client: its kind, and its current position in the body of the kind.
 #[derive(Clone, Copy, Debug, PartialEq, Eq)]
 pub struct ClientState {
     pub kind: usize,

@@ -1,37 +1,38 @@
-//! What can happen, and what comes of it.
+//! The events of the machine, and their outcomes.
 
-/// One event of a plan's machine.
+/// An event of a plan's machine.
 #[derive(Clone, Copy, Debug, PartialEq, Eq)]
 pub enum Event {
-    /// The client of this number makes its next step. Clients are numbered from 0: the kinds in plan order, each kind
-    /// as often as its count says.
+    /// The client with this number performs its next action. Clients are numbered from 0, kind by
+    /// kind in plan order; a kind with count `n` has `n` clients.
     Client(usize),
-    /// The job of this number makes its next step. Jobs are numbered from 0 in the order in which they were made.
+    /// The job with this number performs its next action. Jobs are numbered from 0 in the order in
+    /// which they were created.
     Job(usize),
-    /// An idle worker of the pool of this number takes the head of the pool's queue.
+    /// An idle worker of the pool with this number takes the head of the pool's queue.
     Take(usize),
-    /// An idle worker of the pool of this number ends.
+    /// An idle worker of the pool with this number ends.
     Retire(usize),
 }
 
-/// What comes of an event that is possible.
+/// The outcome of a possible event.
 #[derive(Clone, Copy, Debug, PartialEq, Eq)]
 pub enum Outcome {
-    /// A submit: a new thread starts the new job of this number.
+    /// A submit created the job with this number, and a new thread runs it.
     Started(usize),
-    /// A submit: the new job of this number waits in its pool's queue.
+    /// A submit created the job with this number, and the job waits in its pool's queue.
     Queued(usize),
-    /// A submit: the pool of this number refused the job, which was not made.
+    /// The pool with this number rejected a submit. No job was created.
     Refused(usize),
-    /// So many units of work were done.
+    /// This many units of work were done.
     Worked(u32),
-    /// The job of this number was done, and its result was got.
+    /// A get returned the result of the job with this number.
     Got(usize),
-    /// The client begins its body again.
+    /// The client starts its body again.
     Looped,
-    /// The job of this number is done.
+    /// The job with this number finished.
     Finished(usize),
-    /// The job of this number left its pool's queue and starts.
+    /// The job with this number left its pool's queue and starts to run.
     Took(usize),
     /// The pool has one thread fewer.
     Retired,

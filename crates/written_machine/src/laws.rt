@@ -1,4 +1,4 @@
-//! Laws of the machine, each the contract of a function with nothing to do.
+//! Laws of the machine. Each law is the contract of a function with an empty body.
 
 ghost use Rattle.written_machine.specs.FullWaitingSets.{FullWaitingSetsStay, FixedPoolsAreFull};
 ghost use Rattle.written_machine.specs.JobsMade.{ThreadsHaveJobs, RefusalsNeedJobs};
@@ -9,51 +9,52 @@ ghost use Rattle.written_machine.specs.Laws.{
   WaitingSetsAreTested,
 };
 
-/// In every state that a well-formed plan reaches, each pool has at most as many threads as its maximum, and at most as
-/// many jobs in its queue as the queue holds.
+/// In every reachable state of a well-formed plan, each pool has at most `max` threads, and its
+/// queue holds at most as many jobs as its capacity.
 pub fn pools_keep_their_sizes()
     ensures { PoolsKeepTheirSizes }
 {}
 
-/// In every state that a well-formed plan reaches, a pool in whose queue a job waits has at least core threads: jobs are
-/// queued only from core on, and core threads never end.
+/// In every reachable state of a well-formed plan, a pool with a queued job has at least `core`
+/// threads: a pool queues a job only at `core` threads or more, and core threads never end.
 pub fn queues_only_at_core()
     ensures { QueuesOnlyAtCore }
 {}
 
-/// In every state that a well-formed plan reaches, an actor that stands at a get finds the job that the get waits for:
-/// the latest that it made at the submit which the get names, of the class which that submit names, not claimed yet, and
-/// with a greater number than the actor's own where the actor is a job.
+/// In every reachable state of a well-formed plan, an actor at a get finds the job that the get
+/// waits for. This is the latest job that the actor created at the submit that the get names. Its
+/// class is the class of that submit, and it is not claimed yet. If the actor is a job, the found
+/// job has a greater number.
 pub fn gets_have_children()
     ensures { GetsHaveChildren }
 {}
 
-/// The test for a waiting set passes exactly at the lists of jobs that are waiting sets: at least one job, each of them
-/// queued or at a get, and each waiting for members of the list alone.
+/// The test for a waiting set accepts exactly the lists of jobs that are waiting sets: they have at
+/// least one job, each job is queued or at a get, and each waits only for members of the list.
 pub fn waiting_sets_are_tested()
     ensures { WaitingSetsAreTested }
 {}
 
-/// Where members of a waiting set wait in queues of pools that have all their threads, the set stays through every list
-/// of events, and none of its jobs ever moves again.
+/// A waiting set stays a waiting set after any list of events, and none of its jobs ever moves
+/// again, if each pool with a queued member has all its threads.
 pub fn full_waiting_sets_stay()
     ensures { FullWaitingSetsStay }
 {}
 
-/// In every state that a well-formed plan reaches, a waiting set whose queued members wait in pools of fixed sizes, core
-/// equal to max, waits in pools that have all their threads.
+/// In every reachable state of a well-formed plan, if the queued members of a waiting set wait only
+/// in pools of fixed size (`core` equal to `max`), then these pools have all their threads.
 pub fn fixed_pools_are_full()
     ensures { FixedPoolsAreFull }
 {}
 
-/// In every state that a well-formed plan reaches, a job of its own was made for each thread of a pool and for each place
-/// of its queue that is taken, but for the workers with which the pool began.
+/// In every reachable state of a well-formed plan, the number of threads and queued jobs of a pool
+/// is at most the number of jobs created for it, plus the workers with which the pool began.
 pub fn threads_have_jobs()
     ensures { ThreadsHaveJobs }
 {}
 
-/// A submit is refused only where as many jobs of the pool were made before it as its queue and its threads hold, but for
-/// the workers with which the pool began.
+/// A pool rejects a submit only if its queue capacity plus `max` is at most the number of jobs
+/// created for it before, plus the workers with which it began.
 pub fn refusals_need_jobs()
     ensures { RefusalsNeedJobs }
 {}

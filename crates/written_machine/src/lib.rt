@@ -1,5 +1,5 @@
-//! The machine as it is written down: what a state of a plan is, what an event does to it, and which states a list of
-//! events reaches. The definitions stand in `specs/`, and nothing here runs.
+//! The specification of the machine: the states of a plan, the effect of each event, and the states
+//! that a list of events reaches. The definitions are in `specs/`; no code of this crate runs.
 #![tactic(auto)]
 
 mod client_state;

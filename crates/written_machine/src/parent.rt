@@ -1,6 +1,6 @@
-//! Who makes jobs.
+//! The actors of a plan, which create jobs.
 
-/// Who made a job, and who acts: the client or the job of this number.
+/// An actor, such as the creator of a job: the client or the job with this number.
 #[derive(Clone, Copy, Debug, PartialEq, Eq)]
 pub enum Parent {
     Client(usize),
