@@ -1,4 +1,4 @@
--- What the change of one job's stage leaves as it was seen.
+-- A change of one job's stage changes only that job in the view.
 use Rattle.std.proofs.Common.{◌≡◌, ◌≢◌, ℕ, ◌<◌, true, List, length, set, Option, Some, None, ⊎_elim, refl, sym, ap, ap₂, ◌∙◌, arith, length-set}
 use Rattle.std.proofs.lemmas.Bool.{cases_eq}
 use Rattle.std.proofs.lemmas.List.{get_or-set_same, get_or-set_other}
@@ -17,12 +17,12 @@ use Rattle.live_views.specs.LiveView.{may_ask, phase_seen, job_with, job_seen, l
 use Rattle.live_views.specs.ViewStep.{live_job}
 use Rattle.live_views.proofs.View.{seen, phase_with, job_seen-with, length-view, view_at, jobs_are}
 
--- ---- a job as it is seen
+-- ---- one job in the view
 
 abbrev pub as_seen : Made → Phase → JobView
 as_seen job phase = record { class = job.class; parent = job.parent; slot = job.slot; phase = phase }
 
--- the answers that a job's look depends on are the same
+-- the view of a job stays if the job, whether its parent may ask, and the parent's latest job stay
 pub seen_same : (s s' : State) (n : ℕ) → job_at s' n ≡ job_at s n → may_ask s' (job_at s n).parent ≡ may_ask s (job_at s n).parent
     → child s' (job_at s n).parent (job_at s n).slot ≡ child s (job_at s n).parent (job_at s n).slot → seen s' n ≡ seen s n
 seen_same s s' n same asks latest =
@@ -32,7 +32,7 @@ seen_same s s' n same asks latest =
 pub seen_at : (s : State) (n : ℕ) (stage : Stage) (phase : Phase) → (job_at s n).stage ≡ stage → phase_seen s n (job_at s n) stage ≡ Some phase → seen s n ≡ Some (as_seen (job_at s n) phase)
 seen_at s n stage phase e there = ap (job_with (job_at s n)) (ap (phase_seen s n (job_at s n)) e ∙ there)
 
--- ---- another stage
+-- ---- a change of a stage
 
 pub may_ask-staged_other : (s : State) (j : ℕ) (stage : Stage) (a : Parent) → a ≢ parent.Job j → may_ask (with_stage j stage s) a ≡ may_ask s a
 may_ask-staged_other s j stage (parent.Client c) other = refl
@@ -45,7 +45,7 @@ may_ask-staged s j stage (parent.Job m) inside same =
     (λ (other : m ≢ j). ap (λ (job : Made). is_unfinished job.stage) (get_or-staged_other s.jobs j stage m no_job other))
     (cases_eq m j)
 
--- a job that goes on as unfinished, or that was done and is claimed: only it is seen as another
+-- if an unfinished job stays unfinished, or a done job is claimed, only that job changes in the view
 pub jobs-staged : (plan : Plan) (s : State) (j : ℕ) (stage : Stage) (there : Option JobView) → j < length s.jobs → is_unfinished stage ≡ is_unfinished (job_at s j).stage → seen (with_stage j stage s) j ≡ there
     → (live_view plan (with_stage j stage s)).jobs ≡ set (live_view plan s).jobs j there
 jobs-staged plan s j stage there inside same here =

@@ -1,4 +1,4 @@
--- A step on views commutes with the live view.
+-- Steps commute with the live view.
 use Rattle.std.proofs.Common.{◌≡◌, ℕ, ◌+◌, Option, Some, None, slice_get, List, refl, sym, ap, ◌∙◌}
 use Rattle.std.specs.Option.{option_map}
 use Rattle.job_bodies.specs.declared.action.Action.{Action}

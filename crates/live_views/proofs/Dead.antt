@@ -1,4 +1,4 @@
--- No job that is not live comes back.
+-- A job that is not live never becomes live again.
 use Rattle.std.proofs.Common.{◌≡◌, ◌≢◌, ℕ, ◌+◌, ◌<◌, ◌≤◌, Bool, true, false, if◌then◌else◌, List, [], ◌∷◌, ◌++◌, length, map, set, slice_get, Option, Some, None, ⊎_elim, refl, sym, ap, ◌∙◌, arith, length-set, le_refl}
 use Rattle.std.proofs.lemmas.Bool.{cases_eq}
 use Rattle.std.proofs.lemmas.List.{length-map, length_push, get_or-map, get_or_append_left, get_or-set_same, get_or-set_other}
@@ -23,7 +23,7 @@ use Rattle.written_machine.specs.Step.{Point}
 use Rattle.live_views.specs.LiveView.{View}
 use Rattle.live_views.specs.ViewStep.{live_job, live_child, is_done, in_phase, with_phase, unless_stale, unless_orphan, finished_or_gone, move_actor, new_live_job, made, answered_in, got_in, got_child_in, finished_job_in, looped_in, acted_in, point_in, step_actor, took_in, let_go_in, pool_in, view_step}
 
--- what is not live stays so, and no number is taken back
+-- a job that is not live stays so, and the list of jobs never gets shorter
 pub record Gone (jobs jobs' : List (Option JobView)) : Type 0 where
   pub long : length jobs ≤ length jobs'
   pub stays : (n : ℕ) → n < length jobs → live_job jobs n ≡ None → live_job jobs' n ≡ None
@@ -67,7 +67,7 @@ gone_moved (parent.Job j) i view = gone_phase view.jobs j (phase.At i)
 
 -- ---- after an event
 
--- where the event is possible
+-- the property holds after the event, if the event is possible
 abbrev pub Leaves : View → Option (View × Outcome) → Type 0
 Leaves view None = Unit {0}
 Leaves view (Some x) = Gone view.jobs x.0.jobs

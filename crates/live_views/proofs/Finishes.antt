@@ -28,7 +28,7 @@ use Rattle.live_views.proofs.Changes.{as_seen, seen_same, seen_at, may_ask-stage
 use Rattle.live_views.proofs.Children.{made_by_itself, child_seen}
 use Rattle.live_views.proofs.Older.{Settled, latest_unclaimed}
 
--- ---- nobody asks for a done job whose parent has finished
+-- ---- no actor can request the result of a done job whose parent has finished
 
 unless_orphan-kept : (j : ℕ) (job : Made) (phase : Phase) → is_done phase ≡ false → unless_orphan j (Some (as_seen job phase)) ≡ Some (as_seen job phase)
 unless_orphan-kept j job phase going = ap (λ b. if b then None else Some (as_seen job phase)) (and_right (same_parent (parent.Job j) job.parent) (is_done phase) going)
@@ -85,7 +85,7 @@ finished_stays : (j : ℕ) (job : Made) (b : Bool) → same_parent (parent.Job j
 finished_stays j job true other = unless_orphan-other j job (Some phase.Done) other
 finished_stays j job false other = refl
 
--- whether it is its parent's latest job, as the view tells while the parent may ask
+-- while the parent may ask, the view and the state agree on whether the job is its parent's latest
 latest_seen : (plan : Plan) (s : State) (j : ℕ) → Settled plan s → j < length s.jobs → (job_at s j).stage ≢ Claimed → may_ask s (job_at s j).parent ≡ true → (o : Option ℕ) → child s (job_at s j).parent (job_at s j).slot ≡ o
     → is_number o j ≡ is_number (live_child (live_view plan s).jobs (job_at s j).parent (job_at s j).slot) j
 latest_seen plan s j settled inside unclaimed asks None e =

@@ -1,4 +1,4 @@
--- An actor moves: works, begins again, or gets the job that it waits for.
+-- An actor moves: it works, starts again, or gets the job that it waits for.
 use Rattle.std.proofs.Common.{◌≡◌, ◌≢◌, ℕ, ◌+◌, Bool, true, false, if◌then◌else◌, List, set, slice_get, Option, Some, None, refl, sym, ap, subst, ◌∙◌, le_refl}
 use Rattle.std.specs.Option.{option_map}
 use Rattle.job_bodies.specs.declared.action.Action.{Action}
@@ -36,7 +36,7 @@ move_seen plan s (parent.Job j) body i i' e =
     let pools = same_pools plan s s' (λ p inside. pool_seen-busy plan s p (busy plan s' p) (busy-moved plan s (parent.Job j) body i i' p e)) in
     same_views (live_view plan s') (move_actor (parent.Job j) i' (live_view plan s)) jobs pools refl refl
 
--- ---- a client begins again
+-- ---- a client starts again
 
 loops_if : (plan : Plan) (s : State) (c : ℕ) (b : Bool) → option_map (seen_after plan) (if b then Some (with_position (parent.Client c) 0 s, Looped) else None) ≡ (if b then Some (move_actor (parent.Client c) 0 (live_view plan s), Looped) else None)
 loops_if plan s c true = refl
@@ -48,7 +48,7 @@ loop_commutes plan s c (Some client) = loops_if plan s c (client_at plan client.
 
 -- ---- an actor gets its job
 
--- the view after the job, which was done, was claimed
+-- the view after a done job was claimed
 claim_seen : (plan : Plan) (s : State) (j : ℕ) → (job_at s j).stage ≡ Done → live_view plan (with_stage j Claimed s) ≡ record (live_view plan s) { jobs = set (live_view plan s).jobs j None }
 claim_seen plan s j done =
     let s' = with_stage j Claimed s in
@@ -58,7 +58,7 @@ claim_seen plan s j done =
     let pools = same_pools plan s s' (λ p within. pool_seen-busy plan s p (busy plan s' p) (same p)) in
     same_views (live_view plan s') (record (live_view plan s) { jobs = set (live_view plan s).jobs j None }) jobs pools refl refl
 
--- the view after the actor moved and claimed it
+-- the view after the actor moved and claimed the job
 claimed_seen : (plan : Plan) (s : State) (a : Parent) (body : List Action) (i j : ℕ) → point plan s a ≡ Some (record { body = body; position = i }) → (job_at s j).stage ≡ Done
     → live_view plan (with_stage j Claimed (with_position a (i + 1) s)) ≡ record (move_actor a (i + 1) (live_view plan s)) { jobs = set (move_actor a (i + 1) (live_view plan s)).jobs j None }
 claimed_seen plan s a body i j stands done =

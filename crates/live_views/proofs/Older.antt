@@ -1,4 +1,4 @@
--- Where a body has a get, only the latest job of its submit can be unclaimed.
+-- If a body has a get for a submit, only the latest job of that submit can be unclaimed.
 use Rattle.std.proofs.Common.{◌≡◌, ◌≢◌, ℕ, ◌+◌, ◌<◌, ◌≤◌, true, ◌⊎◌, inl, inr, ⊎_elim, List, [], ◌∷◌, ◌++◌, length, get_or, slice_get, Some, refl, sym, ap, subst, ◌∙◌, arith}
 use Rattle.std.specs.Option.{option_map}
 use Rattle.std.proofs.lemmas.Bool.{cases_lt, cases_eq, false_from_ne_true}
@@ -20,19 +20,19 @@ use Rattle.written_machine.proofs.Stages.{staged, length-staged, stage-staged, g
 use Rattle.written_machine.proofs.Children.{maker_of, one_maker, child_is, not_at_slot}
 use Rattle.live_views.specs.LiveView.{may_ask}
 
--- the jobs that an actor at position i of its body made
+-- the jobs that an actor at position i of its body created
 pub record Older (jobs : List Made) (a : Parent) (body : List Action) (i : ℕ) : Type 0 where
-  -- where a get names their submit, they are claimed, but for the latest one between the submit and the get
+  -- if a get names their submit, they are claimed, except the latest one while the actor is between the submit and the get
   pub settled : (g t j : ℕ) → slice_get body g ≡ Some (Get t) → j < length jobs → is_made_by a t (get_or jobs j no_job) ≡ true
       → ((get_or jobs j no_job).stage ≡ Claimed) ⊎ ((t < i) × (i ≤ g) × (last_of (places_where (is_made_by a t) jobs) ≡ Some j))
-  -- a get names the submit of a claimed job
+  -- if a job is claimed, a get names its submit
   pub asked : (t j : ℕ) → j < length jobs → is_made_by a t (get_or jobs j no_job) ≡ true → (get_or jobs j no_job).stage ≡ Claimed → (g : ℕ) × (slice_get body g ≡ Some (Get t))
 
--- a job that is queued has made none
+-- a queued job has created no jobs
 abbrev pub QueuedAreChildless : List Made → Type 0
 QueuedAreChildless jobs = (j n : ℕ) → j < length jobs → (get_or jobs j no_job).parent ≡ parent.Job n → (get_or jobs n no_job).stage ≢ Queued
 
--- a client that made a job is one of so many
+-- the client that created a job exists
 abbrev pub HaveMakers : List Made → ℕ → Type 0
 HaveMakers jobs clients = (j c : ℕ) → j < length jobs → (get_or jobs j no_job).parent ≡ parent.Client c → c < clients
 
@@ -41,9 +41,9 @@ pub record Settled (plan : Plan) (s : State) : Type 0 where
   pub childless : QueuedAreChildless s.jobs
   pub makers : HaveMakers s.jobs (length s.clients)
 
--- ---- what it gives
+-- ---- consequences
 
--- as long as one of the jobs is not claimed, neither is the latest
+-- while one of the jobs is unclaimed, the latest one is unclaimed too
 older_latest : (jobs : List Made) (a : Parent) (body : List Action) (i t j m : ℕ) → Older jobs a body i → j < length jobs → is_made_by a t (get_or jobs j no_job) ≡ true → (get_or jobs j no_job).stage ≢ Claimed
     → last_of (places_where (is_made_by a t) jobs) ≡ Some m → (get_or jobs m no_job).stage ≢ Claimed
 older_latest jobs a body i t j m older inside made unclaimed e claimed =
@@ -51,7 +51,7 @@ older_latest jobs a body i t j m older inside made unclaimed e claimed =
     let get = older.asked t m last.0 last.1 claimed in
     ⊎_elim unclaimed (λ latest. unclaimed (ap (λ k. (get_or jobs k no_job).stage) (same_Some j m (sym latest.2 ∙ e)) ∙ claimed)) (older.settled get.0 t j get.1 inside made)
 
--- a job that may ask stands at a position, or is queued and has made none
+-- a job that may ask is at a position, or is queued and has created no jobs
 unfinished_latest : (plan : Plan) (s : State) (n t j m : ℕ) → Settled plan s → (stage : Stage) → (job_at s n).stage ≡ stage → is_unfinished stage ≡ true → j < length s.jobs → is_made_by (parent.Job n) t (job_at s j) ≡ true → (job_at s j).stage ≢ Claimed
     → child s (parent.Job n) t ≡ Some m → (job_at s m).stage ≢ Claimed
 unfinished_latest plan s n t j m settled Queued e asks inside made unclaimed is_child =
@@ -63,7 +63,7 @@ unfinished_latest plan s n t j m settled (At i) e asks inside made unclaimed is_
 unfinished_latest plan s n t j m settled Done e asks inside made unclaimed is_child = absurd cc
 unfinished_latest plan s n t j m settled Claimed e asks inside made unclaimed is_child = absurd cc
 
--- an actor that may ask for a job: as long as one of its jobs is not claimed, neither is the latest
+-- the same for any actor that may ask: while one of its jobs is unclaimed, the latest one is unclaimed too
 pub latest_unclaimed : (plan : Plan) (s : State) (a : Parent) (t j m : ℕ) → Settled plan s → may_ask s a ≡ true → j < length s.jobs → is_made_by a t (job_at s j) ≡ true → (job_at s j).stage ≢ Claimed
     → child s a t ≡ Some m → (job_at s m).stage ≢ Claimed
 latest_unclaimed plan s (parent.Client c) t j m settled asks inside made unclaimed e =
@@ -76,7 +76,7 @@ latest_unclaimed plan s (parent.Job n) t j m settled asks inside made unclaimed 
 
 -- ---- changes that leave an actor's jobs
 
--- a job was there before, of the same maker, and claimed or not as it is
+-- the job existed before, with the same creator, and was claimed exactly if it is claimed now
 pub record WasMade (jobs jobs' : List Made) (a : Parent) (t j : ℕ) : Type 0 where
   pub inside : j < length jobs
   pub made : is_made_by a t (get_or jobs j no_job) ≡ true
@@ -106,7 +106,7 @@ was_staged jobs j stage a t unclaimed inside made =
       was = λ claimed. absurd ((unclaimed before).1 (sym (stage-staged jobs j stage inside) ∙ claimed));
     }
 
--- a job comes to another stage: where the actor made it, it is claimed neither before nor after
+-- a job changes its stage; if the actor created it, it is claimed neither before nor after
 pub same_made-staged : (jobs : List Made) (j : ℕ) (stage : Stage) (a : Parent) → ((t : ℕ) → is_made_by a t (get_or jobs j no_job) ≡ true → ((get_or jobs j no_job).stage ≢ Claimed) × (stage ≢ Claimed)) → SameMade jobs (staged jobs j stage) a
 same_made-staged jobs j stage a unclaimed =
     let long = length-staged jobs j stage in
@@ -126,7 +126,7 @@ same_made-moved plan s (parent.Job j) body i i' stands a =
     let at = (stage_of_standing plan (job_at s j).class (job_at s j).stage body i stands).0 in
     same_made-staged s.jobs j (At i') a (λ t made. (At≢Claimed at, At≢Claimed refl))
 
--- another actor makes a job
+-- another actor creates a job
 pub same_made-pushed : (jobs : List Made) (job : Made) (a : Parent) → job.parent ≢ a → SameMade jobs (jobs ++ job ∷ []) a
 same_made-pushed jobs job a other =
     let long = length_push jobs job in
@@ -138,7 +138,7 @@ same_made-pushed jobs job a other =
       last = λ t. last_where_push_fails (is_made_by a t) jobs job (false_from_ne_true (is_made_by a t job) (λ made. other (sym (maker_of job a t made).0)));
     }
 
--- ---- what an actor keeps of it
+-- ---- changes that keep the property of an actor
 
 pub older_changes : (jobs jobs' : List Made) (a : Parent) (body : List Action) (i i' : ℕ) → SameMade jobs jobs' a → ((g t : ℕ) → slice_get body g ≡ Some (Get t) → t < i → i ≤ g → (t < i') × (i' ≤ g)) → Older jobs a body i → Older jobs' a body i'
 older_changes jobs jobs' a body i i' same passes older = record {
@@ -151,19 +151,19 @@ older_changes jobs jobs' a body i i' same passes older = record {
 pub older_stays : (jobs jobs' : List Made) (a : Parent) (body : List Action) (i : ℕ) → SameMade jobs jobs' a → Older jobs a body i → Older jobs' a body i
 older_stays jobs jobs' a body i same older = older_changes jobs jobs' a body i i same (λ g t e below above. (below, above)) older
 
--- an actor that made no job
+-- an actor that created no job has the property
 pub older_none : (jobs : List Made) (a : Parent) (body : List Action) (i : ℕ) → ((t j : ℕ) → j < length jobs → is_made_by a t (get_or jobs j no_job) ≡ true → ⊥) → Older jobs a body i
 older_none jobs a body i none = record {
   settled = λ g t j e inside made. absurd (none t j inside made);
   asked = λ t j inside made claimed. absurd (none t j inside made);
 }
 
--- a get behind an action that is not this get
+-- a get at or after an action that is not this get is after that action
 pub passes_get : (body : List Action) (i g t : ℕ) (there : Action) → slice_get body i ≡ Some there → there ≢ Get t → slice_get body g ≡ Some (Get t) → i ≤ g → i + 1 ≤ g
 passes_get body i g t there is_there other e above =
     ⊎_elim (λ (same : i ≡ g). absurd (other (same_Some there (Get t) (sym is_there ∙ ap (slice_get body) same ∙ e)))) (λ (apart : i ≢ g). omega arith) (cases_eq i g)
 
--- the actor that submits, at position i
+-- the actor submits a job at position i
 pub older_submits : (plan : Plan) (jobs : List Made) (a : Parent) (body : List Action) (i k : ℕ) (stage : Stage) → IsLawful plan body → slice_get body i ≡ Some (Submit k) → stage ≢ Claimed → Older jobs a body i
     → Older (jobs ++ new_job k a i stage ∷ []) a body (i + 1)
 older_submits plan jobs a body i k stage lawful there unclaimed older =
@@ -195,7 +195,7 @@ older_submits plan jobs a body i k stage lawful there unclaimed older =
           (cases_lt j (length jobs));
     }
 
--- the actor that gets its latest job of position t, at position i
+-- the actor gets, at position i, its latest job of position t
 pub older_gets : (jobs : List Made) (a : Parent) (body : List Action) (i t j : ℕ) → slice_get body i ≡ Some (Get t) → last_of (places_where (is_made_by a t) jobs) ≡ Some j → Older jobs a body i → Older (staged jobs j Claimed) a body (i + 1)
 older_gets jobs a body i t j there latest older =
     let jobs' = staged jobs j Claimed in

@@ -20,7 +20,7 @@ use Rattle.live_views.specs.Laws.{seen_after}
 use Rattle.live_views.proofs.View.{seen, view_at, length-pools, pool_at_view, same_views, pools-put}
 use Rattle.live_views.proofs.Changes.{as_seen, seen_at, jobs-staged}
 
--- ---- a taking
+-- ---- a take
 
 take_seen : (plan : Plan) (s : State) (p j idle : ℕ) (queue : List ℕ) → Kept plan s → p < length plan.pools → (pool_part s p).idle ≡ suc idle → IsHead plan s p j queue
     → live_view plan (with_pool p (record (pool_seen plan s p) { idle = idle; queue = queue }) (with_stage j (At 0) s))
@@ -46,7 +46,7 @@ taken_commutes plan s p kept inside (suc idle) [] is_idle is_queue = refl
 taken_commutes plan s p kept inside (suc idle) (j ∷ queue) is_idle is_queue =
     ap (λ v. Some (v, outcome.Took j)) (take_seen plan s p j idle queue kept inside is_idle (head_of_queue plan s p j queue kept is_queue))
 
--- no pool has this number
+-- a number past the plan's pools has an empty part
 no_pool_there : (plan : Plan) (s : State) (p : ℕ) → Kept plan s → length plan.pools ≤ p → pool_part s p ≡ no_pool_part
 no_pool_there plan s p kept past = get_or_past s.pools p no_pool_part (omega (arith, kept.as_many))
 

@@ -1,4 +1,4 @@
--- What live views keep, in every reached state.
+-- The invariants of live views, in every reachable state.
 use Rattle.std.proofs.Common.{◌≡◌, List, [], ◌∷◌, ◌++◌, Option, Some, None, refl, sym, ap, subst, ◌∙◌, arith}
 use Rattle.std.specs.Option.{option_map}
 use Rattle.std.proofs.lemmas.Option.{some_pair_parts}
@@ -38,7 +38,7 @@ replay_append plan first [] more = refl
 replay_append plan None (e ∷ events) more = sym (replay_none plan more)
 replay_append plan (Some s) (e ∷ events) more = replay_append plan (state_after (step plan s e)) events more
 
--- the state after a further event is reached too
+-- the state after a further event is reachable too
 pub reached_after : (plan : Plan) (s s' : State) (event : Event) (outcome : Outcome) → IsReached plan s → step plan s event ≡ Some (s', outcome) → IsReached plan s'
 reached_after plan s s' event outcome reached happened =
     (reached.0 ++ event ∷ [], replay_append plan (Some (start plan)) reached.0 (event ∷ []) ∙ ap (λ first. replay plan first (event ∷ [])) reached.1 ∙ ap state_after happened)
@@ -64,9 +64,9 @@ stays_dead plan s s' event outcome j well_formed reached happened inside dead =
     let gone = subst (Leaves view) seen (step_leaves plan view event) in
     gone.stays j (let long = length-view plan s in omega arith) dead
 
--- ---- what a world answers
+-- ---- the answers of a world
 
--- the answer to an event of the live view is the answer to it
+-- the outcome in the view is the answer to the event of the state
 answered_as : (plan : Plan) (s : State) (event : Event) (outcome : Outcome) (after : View) (o : Option (State × Outcome)) → step plan s event ≡ o → option_map (seen_after plan) o ≡ Some (after, outcome) → AnswersAs plan s event (Some outcome) after
 answered_as plan s event outcome after None is_step e = absurd cc
 answered_as plan s event outcome after (Some (s', o')) is_step e =

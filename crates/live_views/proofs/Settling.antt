@@ -1,4 +1,4 @@
--- Every event leaves the jobs settled.
+-- Every event keeps the property that only the latest job of a submit with a get can be unclaimed.
 use Rattle.std.proofs.Common.{◌≡◌, ◌≢◌, ℕ, ◌+◌, ◌<◌, ◌≤◌, true, ⊎_elim, List, [], ◌∷◌, ◌++◌, length, get_or, slice_get, Some, None, refl, sym, ap, subst, ◌∙◌, arith, length-set}
 use Rattle.std.proofs.lemmas.Bool.{cases_lt, cases_eq}
 use Rattle.std.proofs.lemmas.List.{length_push, get_or_push, get_or_append_left}
@@ -29,7 +29,7 @@ use Rattle.written_machine.proofs.KeptActors.{is_after}
 use Rattle.live_views.proofs.Changes.{job_standing}
 use Rattle.live_views.proofs.Older.{Older, QueuedAreChildless, HaveMakers, Settled, same_made-staged, same_made-moved, same_made-pushed, older_changes, older_stays, older_none, passes_get, older_submits, older_gets}
 
--- ---- queued jobs, and the makers of jobs
+-- ---- queued jobs, and the creators of jobs
 
 childless_staged : (jobs : List Made) (j : ℕ) (stage : Stage) → j < length jobs → stage ≢ Queued → QueuedAreChildless jobs → QueuedAreChildless (staged jobs j stage)
 childless_staged jobs j stage inside going childless m n within made queued =
@@ -80,7 +80,7 @@ length-clients : (s : State) (a : Parent) (i' : ℕ) → length (moved_clients a
 length-clients s (parent.Client c) i' = length-set s.clients c (record (client_state s c) { position = i' })
 length-clients s (parent.Job j) i' = refl
 
--- an actor that stands somewhere is there, and not queued
+-- an actor at a position exists and is not queued
 moved_going : (plan : Plan) (s : State) (a : Parent) (body : List Action) (i i' : ℕ) → point plan s a ≡ Some (record { body = body; position = i }) → (n : ℕ) → a ≡ parent.Job n → (get_or (moved_jobs a i' s) n no_job).stage ≢ Queued
 moved_going plan s (parent.Client c) body i i' stands n e queued = absurd cc
 moved_going plan s (parent.Job j) body i i' stands n e queued =
@@ -115,7 +115,7 @@ settled_moved plan s b body i i' stands passes settled =
       makers = subst (HaveMakers jobs') (sym (length-clients s b i')) (makers_moved s b i' (length s.clients) settled.makers);
     }
 
--- behind the body's end no get is to come
+-- after the end of the body there is no get
 none_behind : (body : List Action) (i g t : ℕ) → slice_get body i ≡ None → slice_get body g ≡ Some (Get t) → i ≤ g → ⊥
 none_behind body i g t none e above =
     let inside = slice_get_within body g (Get t) e in
@@ -123,7 +123,7 @@ none_behind body i g t none e above =
 
 -- ---- an actor submits
 
--- the new job has made none
+-- the new job has created no jobs
 new_is_childless : (plan : Plan) (s : State) (a : Parent) (body : List Action) (i k : ℕ) (stage : Stage) → Kept plan s → point plan s a ≡ Some (record { body = body; position = i }) → (t j : ℕ)
     → j < length (moved_jobs a (i + 1) s ++ new_job k a i stage ∷ []) → is_made_by (parent.Job (length (moved_jobs a (i + 1) s))) t (get_or (moved_jobs a (i + 1) s ++ new_job k a i stage ∷ []) j no_job) ≡ true → ⊥
 new_is_childless plan s a body i k stage kept stands t j inside made =

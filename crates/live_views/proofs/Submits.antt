@@ -29,7 +29,7 @@ use Rattle.live_views.proofs.Changes.{as_seen, seen_same}
 use Rattle.live_views.proofs.Children.{made_by_itself}
 use Rattle.live_views.proofs.Moves.{move_seen}
 
--- ---- a done job is stale once its parent made another at the same position
+-- ---- a done job is stale once its parent creates another one at the same position
 
 unless_stale-kept : (a : Parent) (t : ℕ) (job : Made) (phase : Phase) → is_done phase ≡ false → unless_stale a t (Some (as_seen job phase)) ≡ Some (as_seen job phase)
 unless_stale-kept a t job phase going = ap (λ b. if b then None else Some (as_seen job phase)) (and_right (is_made_by a t job) (is_done phase) going)
@@ -50,13 +50,13 @@ stale_with a t job asks latest latest' n Done made none =
     ap (λ b. job_with job (if b then Some phase.Done else None)) (and_right asks (is_number latest' n) none) ∙ stale_if a t job (asks && is_number latest n) made
 stale_with a t job asks latest latest' n Claimed made none = refl
 
--- ---- the jobs once a new one was made
+-- ---- the jobs after a new one was created
 
 may_ask-made : (s : State) (job : Made) (a : Parent) → IsLater a (length s.jobs) → may_ask (with_job job s) a ≡ may_ask s a
 may_ask-made s job (parent.Client c) after = refl
 may_ask-made s job (parent.Job m) after = ap (λ (made : Made). is_unfinished made.stage) (get_or_append_left s.jobs (job ∷ []) no_job m after)
 
--- made at the same position by the same actor, seen from the other job
+-- two jobs created by the same submit of the same actor; the relation is symmetric
 same_maker : (job old : Made) → is_made_by job.parent job.slot old ≡ true → is_made_by old.parent old.slot job ≡ true
 same_maker job old e =
     let made = maker_of old job.parent job.slot e in

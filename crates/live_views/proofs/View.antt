@@ -1,4 +1,4 @@
--- The live view of a state, place by place.
+-- The live view of a state, element by element.
 use Rattle.std.proofs.Common.{◌≡◌, ◌≢◌, ℕ, ◌+◌, ◌<◌, Bool, true, false, ◌&&◌, if◌then◌else◌, List, length, get_or, set, Option, Some, None, inl, inr, ⊎_elim, refl, sym, ap, ap₂, ◌∙◌, arith, zero-add, length-set, ext_get_or}
 use Rattle.std.specs.List.{enumerate_from}
 use Rattle.std.proofs.lemmas.Bool.{cases_lt, cases_eq}
@@ -17,11 +17,11 @@ use Rattle.written_machine.specs.Step.{point, point_of_job, with_pool}
 use Rattle.live_views.specs.LiveView.{may_ask, is_number, phase_seen, job_with, job_seen, View, live_view}
 use Rattle.live_views.specs.ViewStep.{live_job, is_unfinished_job, may_ask_for, point_of_live_job, point_in, no_pool_view, pool_in}
 
--- what the view has at number n
+-- the element of the view at number n
 abbrev pub seen : State → ℕ → Option JobView
 seen s n = job_seen s n (job_at s n)
 
--- how far a live job is, where the answers of its parent are known: whether it may ask, and its latest job
+-- the phase of a live job, given whether its parent may ask and the parent's latest job
 abbrev pub phase_with : Bool → Option ℕ → ℕ → Stage → Option Phase
 phase_with asks latest j Queued = Some phase.Queued
 phase_with asks latest j (At i) = Some (phase.At i)
@@ -51,7 +51,7 @@ view_at plan s j = elim (cases_lt j (length s.jobs)) [
       get_or_past (live_view plan s).jobs j None (omega arith) ∙ sym (ap (job_seen s j) (get_or_past s.jobs j no_job past))
 ]
 
--- a list with the live job of each number is the jobs of the view
+-- a list that agrees with each element of the view is the list of jobs of the view
 pub jobs_are : (plan : Plan) (s : State) (jobs : List (Option JobView)) → length jobs ≡ length s.jobs → ((n : ℕ) → n < length s.jobs → seen s n ≡ live_job jobs n) → (live_view plan s).jobs ≡ jobs
 jobs_are plan s jobs long each =
     let seen_long = length-view plan s in
@@ -69,17 +69,17 @@ pool_at_view plan s p inside =
     ∙ ap (λ (entry : ℕ × _). pool_seen plan s entry.0) (get_or-enumerate_from 0 plan.pools p (0, no_pool) inside)
     ∙ ap (pool_seen plan s) (zero-add p)
 
--- a list with each pool is the pools of the view
+-- a list that agrees with each pool of the view is the list of pools of the view
 pub pools_are : (plan : Plan) (s : State) (pools : List PoolView) → length pools ≡ length plan.pools → ((p : ℕ) → p < length plan.pools → pool_seen plan s p ≡ get_or pools p no_pool_view) → (live_view plan s).pools ≡ pools
 pools_are plan s pools long each =
     let seen_long = length-pools plan s in
     ext_get_or no_pool_view (live_view plan s).pools pools (omega arith) (λ p inside. let within : p < length plan.pools = omega arith in pool_at_view plan s p within ∙ each p within)
 
--- no pool changed
+-- the pools of the view stay if no pool changed
 pub same_pools : (plan : Plan) (s s' : State) → ((p : ℕ) → p < length plan.pools → pool_seen plan s' p ≡ pool_seen plan s p) → (live_view plan s').pools ≡ (live_view plan s).pools
 same_pools plan s s' each = pools_are plan s' (live_view plan s).pools (length-pools plan s) (λ p inside. each p inside ∙ sym (pool_at_view plan s p inside))
 
--- one pool changed
+-- only one pool of the view changes if only one pool changed
 pub one_pool : (plan : Plan) (s s' : State) (p : ℕ) (pool : PoolView) → p < length plan.pools → pool_seen plan s' p ≡ pool → ((q : ℕ) → q ≢ p → pool_seen plan s' q ≡ pool_seen plan s q) → (live_view plan s').pools ≡ set (live_view plan s).pools p pool
 one_pool plan s s' p pool inside here other =
     let long = length-pools plan s in
@@ -89,11 +89,11 @@ one_pool plan s s' p pool inside here other =
     (λ (apart : q ≢ p). other q apart ∙ sym (pool_at_view plan s q within) ∙ sym (get_or-set_other (live_view plan s).pools p q pool no_pool_view apart))
     (cases_eq q p))
 
--- as many at work, so the same threads
+-- the view of a pool stays if the number of its running jobs stays
 pub pool_seen-busy : (plan : Plan) (s : State) (p count : ℕ) → count ≡ busy plan s p → pool_view (pool_at plan p) (pool_part s p) ((pool_part s p).idle + count) ≡ pool_seen plan s p
 pool_seen-busy plan s p count e = ap (λ n. pool_view (pool_at plan p) (pool_part s p) ((pool_part s p).idle + n)) e
 
--- the pool of the state that was changed, in the view
+-- a change of one pool of the state changes that pool of the view
 pub pools-put : (plan : Plan) (s s' : State) (p : ℕ) (pool : PoolView) → s'.pools ≡ s.pools → length s.pools ≡ length plan.pools → p < length plan.pools
     → pool_view (pool_at plan p) (part_of pool) (pool.idle + busy plan s' p) ≡ pool → ((q : ℕ) → q ≢ p → busy plan s' q ≡ busy plan s q)
     → (live_view plan (with_pool p pool s')).pools ≡ set (live_view plan s).pools p pool
@@ -112,7 +112,7 @@ same_views v w jobs pools clients refusals =
     ap₂ (λ js ps. record { jobs = js; pools = ps; clients = v.clients; refusals = v.refusals }) jobs pools in
     first ∙ ap₂ (λ cs rs. record { jobs = w.jobs; pools = w.pools; clients = cs; refusals = rs }) clients refusals
 
--- ---- what a live job tells
+-- ---- the fields of a live job
 
 unfinished_if : (job : Made) (b : Bool) → is_unfinished_job (job_with job (if b then Some phase.Done else None)) ≡ false
 unfinished_if job true = refl
@@ -141,7 +141,7 @@ point_with plan job asks latest j (At i) = refl
 point_with plan job asks latest j Done = point_if plan job (asks && is_number latest j)
 point_with plan job asks latest j Claimed = refl
 
--- an actor stands in the view where it stands in the state
+-- an actor is at the same position in the view and in the state
 pub point_seen : (plan : Plan) (s : State) (a : Parent) → point_in plan (live_view plan s) a ≡ point plan s a
 point_seen plan s (parent.Client c) = refl
 point_seen plan s (parent.Job j) =

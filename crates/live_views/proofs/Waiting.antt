@@ -1,4 +1,4 @@
--- What the live view tells of waiting sets, of unfinished jobs and of the start.
+-- The live view determines waiting sets, unfinished jobs and the initial view.
 use Rattle.std.proofs.Common.{◌≡◌, ℕ, ◌+◌, ◌<◌, Bool, true, false, not, ◌&&◌, ◌==◌, if◌then◌else◌, List, [], ◌∷◌, length, map, count_by, slice_get, Option, Some, None, refl, sym, ap, ap₂, ◌∙◌, le_refl, arith}
 use Rattle.std.specs.List.{list_all}
 use Rattle.std.proofs.lemmas.List.{length-map, get_or-map}
@@ -29,7 +29,7 @@ use Rattle.live_views.proofs.View.{seen, phase_with, job_seen-with, length-view,
 use Rattle.live_views.proofs.Changes.{seen_at}
 use Rattle.live_views.proofs.Children.{child_seen}
 
--- ---- jobs at work, and unfinished jobs
+-- ---- running jobs, and unfinished jobs
 
 busy_if : (plan : Plan) (p : ℕ) (job : Made) (b : Bool) → is_busy_job plan p (job_with job (if b then Some phase.Done else None)) ≡ false
 busy_if plan p job true = refl

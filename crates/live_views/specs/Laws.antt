@@ -1,4 +1,4 @@
--- What live views keep of the written machine.
+-- The laws that relate live views to the reference machine.
 use Rattle.std.specs.Prelude.{◌≡◌, ◌<◌, ℕ, [], List, length, map, count_by, Some, None}
 use Rattle.std.specs.List.{flat_map, enumerate_from}
 use Rattle.std.specs.Option.{option_map}
@@ -15,8 +15,8 @@ use Rattle.live_views.specs.LiveView.{View, live_view}
 use Rattle.live_views.specs.ViewStep.{live_job, is_unfinished_job, view_step}
 use Rattle.live_views.specs.Waiting.{is_waiting_set_in}
 
--- no jobs, each pool with core idle workers where it is prestarted, else with no threads, each kind's clients at the
--- start of their body, no refusals
+-- the initial view: no jobs and no refusals, core idle workers in each prestarted pool and no threads in the others, and
+-- each client at the start of its body
 abbrev pub new_view : Plan → View
 new_view plan = record {
   jobs = [];
@@ -25,7 +25,7 @@ new_view plan = record {
   refusals = 0;
 }
 
--- the live view of the start
+-- the live view of the initial state is the initial view
 abbrev pub StartIsSeen : Type 0
 StartIsSeen = (plan : Plan) → live_view plan (start plan) ≡ new_view plan
 
@@ -33,20 +33,20 @@ StartIsSeen = (plan : Plan) → live_view plan (start plan) ≡ new_view plan
 abbrev pub seen_after : Plan → State × Outcome → View × Outcome
 seen_after plan x = (live_view plan x.0, x.1)
 
--- in every state that a list of events reaches: an event of the live view is possible where it is possible in the state,
--- and gives the same outcome and the live view of the state after it
+-- in every reachable state, an event is possible in the live view exactly if it is possible in the state; both give the same
+-- outcome, and the view after the event is the live view of the state after it
 abbrev pub StepsCommute : Type 0
 StepsCommute = (plan : Plan) (s : State) (event : Event) → IsWellFormed plan → IsReached plan s → option_map (seen_after plan) (step plan s event) ≡ view_step plan (live_view plan s) event
 
--- as many live jobs are unfinished as jobs of the state
+-- the view has as many unfinished jobs as the state
 abbrev pub UnfinishedJobsAreLive : Type 0
 UnfinishedJobsAreLive = (plan : Plan) (s : State) → count_by is_unfinished_job (live_view plan s).jobs ≡ count_by (λ job. is_unfinished job.stage) s.jobs
 
--- in every state that a list of events reaches, a set of numbers is a waiting set where it is one of the live view
+-- in every reachable state, a set of numbers is a waiting set exactly if it is one in the live view
 abbrev pub WaitingSetsAreSeen : Type 0
 WaitingSetsAreSeen = (plan : Plan) (s : State) (members : List ℕ) → IsWellFormed plan → IsReached plan s → is_waiting_set plan s members ≡ is_waiting_set_in plan (live_view plan s) members
 
--- a job that is not live in a state that a list of events reaches is not live after a further event
+-- a job that is not live in a reachable state is not live after a further event
 abbrev pub DeadJobsStayDead : Type 0
 DeadJobsStayDead = (plan : Plan) (s s' : State) (event : Event) (outcome : Outcome) (j : ℕ) → IsWellFormed plan → IsReached plan s → step plan s event ≡ Some (s', outcome) → j < length s.jobs
     → live_job (live_view plan s).jobs j ≡ None → live_job (live_view plan s').jobs j ≡ None

@@ -1,4 +1,4 @@
--- What a running world keeps of a state: of the jobs, those that are live.
+-- The live view of a state: the part that a running world stores. Of the jobs, it has only the live ones.
 use Rattle.std.specs.Prelude.{ℕ, ◌==◌, ◌&&◌, Bool, true, false, List, map, Option, Some, None, if◌then◌else◌}
 use Rattle.std.specs.List.{enumerate_from}
 use Rattle.job_bodies.specs.Plan.{Plan}
@@ -12,7 +12,7 @@ use Rattle.live_views.specs.declared.job_view.JobView.{JobView}
 use Rattle.written_machine.specs.State.{Stage, Made, State, job_at, pool_seen, is_unfinished, child}
 use Rattle.written_machine.specs.State.Stage.{Queued, At, Done, Claimed}
 
--- an actor that may still ask for a job of its own: a client, or a job that is not finished
+-- the actor may still request the result of a job that it created: it is a client, or an unfinished job
 abbrev pub may_ask : State → Parent → Bool
 may_ask s (parent.Client c) = true
 may_ask s (parent.Job j) = is_unfinished (job_at s j).stage
@@ -21,7 +21,7 @@ abbrev pub is_number : Option ℕ → ℕ → Bool
 is_number None j = false
 is_number (Some i) j = i == j
 
--- job j of the state, as far as it is seen: a job that is done is live while its parent may ask for it
+-- the phase of job j in the view; a done job is live only while it is the latest of its submit and its parent may ask
 abbrev pub phase_seen : State → ℕ → Made → Stage → Option Phase
 phase_seen s j job Queued = Some phase.Queued
 phase_seen s j job (At i) = Some (phase.At i)
@@ -35,7 +35,7 @@ job_with job (Some phase) = Some (record { class = job.class; parent = job.paren
 abbrev pub job_seen : State → ℕ → Made → Option JobView
 job_seen s j job = job_with job (phase_seen s j job job.stage)
 
--- at each number that was given to a job the live job, or None where it is not live any more; each pool with its sizes
+-- for each job number the live job, or None if the job is not live; the pools with their sizes; clients and refusals
 pub record View : Type 0 where
   pub jobs : List (Option JobView)
   pub pools : List PoolView

@@ -1,5 +1,5 @@
--- One event of a live view. On the live view of a reached state it gives the live view of the state after the event, and
--- the same outcome: a world that keeps only live jobs loses nothing that a later event asks for.
+-- The transition function on live views. From the live view of a reachable state, it gives the same outcome as the machine
+-- and the live view of the state after the event: the jobs that are not live do not influence any later event.
 use Rattle.std.specs.Prelude.{ℕ, ◌+◌, ◌&&◌, ◌==◌, not, Bool, true, false, List, [], ◌∷◌, ◌++◌, length, map, Option, Some, None, slice_get, slice_set, slice_index_or, if◌then◌else◌}
 use Rattle.std.specs.Option.{option_map}
 use Rattle.numbered_lists.specs.Places.{places_where, last_of}
@@ -25,7 +25,7 @@ use Rattle.live_views.specs.LiveView.{View, is_number}
 
 -- ---- the jobs of a view
 
--- the live job of this number, or None
+-- the live job with this number, or None
 abbrev pub live_job : List (Option JobView) → ℕ → Option JobView
 live_job jobs j = slice_index_or jobs j None
 
@@ -33,7 +33,7 @@ abbrev pub is_live_child : Parent → ℕ → Option JobView → Bool
 is_live_child a t None = false
 is_live_child a t (Some job) = same_parent a job.parent && t == job.slot
 
--- the latest live job that the actor made at position t
+-- the latest live job that the actor created at position t
 abbrev pub live_child : List (Option JobView) → Parent → ℕ → Option ℕ
 live_child jobs a t = last_of (places_where (is_live_child a t) jobs)
 
@@ -46,12 +46,12 @@ abbrev pub is_unfinished_job : Option JobView → Bool
 is_unfinished_job None = false
 is_unfinished_job (Some job) = not (is_done job.phase)
 
--- an actor that may still ask for a job of its own
+-- the actor may still request the result of a job that it created
 abbrev pub may_ask_for : List (Option JobView) → Parent → Bool
 may_ask_for jobs (parent.Client c) = true
 may_ask_for jobs (parent.Job j) = is_unfinished_job (live_job jobs j)
 
--- the job in this phase from now on
+-- the job with its phase replaced
 abbrev pub in_phase : Phase → Option JobView → Option JobView
 in_phase phase None = None
 in_phase phase (Some job) = Some (record job { phase = phase })
@@ -64,17 +64,17 @@ abbrev pub unless_stale : Parent → ℕ → Option JobView → Option JobView
 unless_stale a t None = None
 unless_stale a t (Some job) = if is_live_child a t (Some job) && is_done job.phase then None else Some job
 
--- nobody asks any more for a done job whose parent has finished
+-- no actor can request the result of a done job whose parent has finished
 abbrev pub unless_orphan : ℕ → Option JobView → Option JobView
 unless_orphan j None = None
 unless_orphan j (Some job) = if same_parent (parent.Job j) job.parent && is_done job.phase then None else Some job
 
--- a job that finishes is live as long as its parent may ask for it
+-- a job that finishes stays live exactly if its parent may still request its result
 abbrev pub finished_or_gone : List (Option JobView) → ℕ → JobView → Option JobView
 finished_or_gone jobs j job =
     if may_ask_for jobs job.parent && is_number (live_child jobs job.parent job.slot) j then Some (record job { phase = phase.Done }) else None
 
--- ---- where an actor stands
+-- ---- the position of an actor
 
 abbrev pub point_of_phase : Plan → ℕ → Phase → Option Point
 point_of_phase plan k (phase.At i) = Some (record { body = (class_at plan k).body; position = i })
@@ -88,7 +88,7 @@ abbrev pub point_in : Plan → View → Parent → Option Point
 point_in plan view (parent.Client c) = option_map (point_of_client plan) (slice_get view.clients c)
 point_in plan view (parent.Job j) = point_of_live_job plan (live_job view.jobs j)
 
--- ---- the changes of a view
+-- ---- changes of a view
 
 abbrev pub no_pool_view : PoolView
 no_pool_view = record { core = 0; max = 0; capacity = 0; threads = 0; idle = 0; queue = [] }
@@ -118,7 +118,7 @@ with_pool_in p pool view = record view { pools = slice_set view.pools p pool }
 abbrev pub new_live_job : ℕ → Parent → ℕ → Phase → JobView
 new_live_job k a i phase = record { class = k; parent = a; slot = i; phase = phase }
 
--- the view after the actor, at position i, made this job
+-- the view after the actor, at position i, created this job
 abbrev pub made : Parent → ℕ → JobView → View → View
 made a i job view =
     let moved = move_actor a (i + 1) view in
@@ -140,7 +140,7 @@ answered_in plan view a i k offer.Refused = (record view { refusals = view.refus
 abbrev pub submitted_in : Plan → View → Parent → ℕ → ℕ → View × Outcome
 submitted_in plan view a i k = answered_in plan view a i k (answer (pool_in view (pool_of plan k)))
 
--- the get of the live job j by an actor at position i
+-- the view and outcome after an actor at position i gets the live job j; None if the job is not done
 abbrev pub got_in : View → Parent → ℕ → ℕ → Option JobView → Option (View × Outcome)
 got_in view a i j None = None
 got_in view a i j (Some job) =
@@ -184,7 +184,7 @@ abbrev pub let_go_in : View → ℕ → Option PoolView → Option (View × Outc
 let_go_in view p None = None
 let_go_in view p (Some pool) = Some (with_pool_in p pool view, Retired)
 
--- the view and the outcome after the event, or None where the event is not possible
+-- the view and the outcome after the event, or None if the event is not possible
 abbrev pub view_step : Plan → View → Event → Option (View × Outcome)
 view_step plan view (Client c) = step_actor plan view (parent.Client c) (point_in plan view (parent.Client c))
 view_step plan view (Job j) = step_actor plan view (parent.Job j) (point_in plan view (parent.Job j))

@@ -1,4 +1,4 @@
--- Sets of live jobs that wait only for their own members, as a view tells them.
+-- Sets of live jobs that wait only for their own members, computed from a view.
 use Rattle.std.specs.Prelude.{ℕ, ◌==◌, ◌&&◌, not, Bool, true, false, List, Option, Some, None, slice_get}
 use Rattle.std.specs.List.{list_all}
 use Rattle.numbered_lists.specs.Places.{places_where}
@@ -19,17 +19,17 @@ abbrev pub is_at_work : Phase → Bool
 is_at_work (phase.At i) = true
 is_at_work _ = false
 
--- a job at work in this pool
+-- the job runs in this pool
 abbrev pub is_busy_job : Plan → ℕ → Option JobView → Bool
 is_busy_job plan p None = false
 is_busy_job plan p (Some job) = is_at_work job.phase && pool_of plan job.class == p
 
--- an actor with this action before it stands at a get whose job is a member
+-- the next action of the actor is a get whose job is a member
 abbrev pub waits_at_in : View → List ℕ → Parent → Option Action → Bool
 waits_at_in view members a (Some (Get t)) = is_some_member members (live_child view.jobs a t)
 waits_at_in view members a _ = false
 
--- no worker of the pool is idle, and every job at work in it is a member
+-- no worker of the pool is idle, and every job that runs in it is a member
 abbrev pub waits_in_queue_of : Plan → View → List ℕ → ℕ → Bool
 waits_in_queue_of plan view members p = (pool_in view p).idle == 0 && list_all (is_member members) (places_where (is_busy_job plan p) view.jobs)
 
@@ -42,7 +42,7 @@ abbrev pub waits_job : Plan → View → List ℕ → ℕ → Option JobView →
 waits_job plan view members j None = false
 waits_job plan view members j (Some job) = waits_in_phase plan view members j job.class job.phase
 
--- the live job of this number waits for members alone
+-- the live job with this number waits only for members
 abbrev pub waits_in : Plan → View → List ℕ → ℕ → Bool
 waits_in plan view members j = waits_job plan view members j (live_job view.jobs j)
 

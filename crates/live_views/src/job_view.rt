@@ -1,49 +1,52 @@
-//! A live job: one that is queued or at work, or that is done and can still be asked for.
+//! Live jobs: jobs that are queued or running, and finished jobs whose result can still be
+//! requested.
 
 ghost use Rattle.std.specs.Prelude.{◌≡◌, Some};
 ghost use Rattle.live_views.specs.ViewStep.{is_done, is_live_child, unless_stale, unless_orphan};
 
 use written_machine::Parent;
 
-/// How far a live job is.
+/// The phase of a live job.
 #[derive(Clone, Copy, Debug, PartialEq, Eq)]
 pub enum Phase {
-    /// It waits in its pool's queue.
+    /// The job waits in its pool's queue.
     Queued,
-    /// A worker has it, and it stands at this position of its body; the body's length is its end.
+    /// A worker runs the job, which is at this position of its body. The length of the body is its
+    /// end position.
     At(usize),
-    /// It finished, and its result can still be got.
+    /// The job finished, and its result can still be requested.
     Done,
 }
 
 /// A live job.
 #[derive(Clone, Copy, Debug, PartialEq, Eq)]
 pub struct JobView {
-    /// The number of its class.
+    /// The number of the job's class.
     pub class: usize,
     pub parent: Parent,
-    /// The position, in its parent's body, of the submit that made it.
+    /// The position, in its parent's body, of the submit that created the job.
     pub slot: usize,
     pub phase: Phase,
 }
 
 impl JobView {
-    /// Whether it finished.
+    /// Returns `true` if the job finished.
     pub fn is_done(self) -> bool
         ensures { result ≡ is_done self.phase }
     {
         matches!(self.phase, Phase::Done)
     }
 
-    /// Whether the actor made it by the submit at this position of its body.
+    /// Returns `true` if the actor created the job by the submit at this position of its body.
     pub fn is_child_of(self, actor: Parent, submit: usize) -> bool
         ensures { result ≡ is_live_child actor submit (Some self) }
     {
         actor == self.parent && submit == self.slot
     }
 
-    /// What is left of it once the actor makes another job by the submit at this position: a done job of that submit is
-    /// live no more.
+    /// Returns the job as it is after the actor creates another job by the submit at this position,
+    /// or `None` if this job is then no longer live. That is so if the same submit created this job
+    /// and it is done.
     pub fn unless_stale(self, actor: Parent, submit: usize) -> Option<JobView>
         ensures { result ≡ unless_stale actor submit (Some self) }
     {
@@ -54,7 +57,8 @@ impl JobView {
         }
     }
 
-    /// What is left of it once the job of this number finishes: a done job that this one made is live no more.
+    /// Returns the job as it is after the job with this number finishes, or `None` if this job is
+    /// then no longer live. That is so if the finished job created this job and this job is done.
     pub fn unless_orphan(self, parent: usize) -> Option<JobView>
         ensures { result ≡ unless_orphan parent (Some self) }
     {

@@ -1,16 +1,17 @@
-//! Laws of live views, each the contract of a function with nothing to do.
+//! Laws of live views. Each law is the contract of a function with an empty body.
 
 ghost use Rattle.live_views.specs.Laws.{StartIsSeen, StepsCommute, UnfinishedJobsAreLive, WaitingSetsAreSeen, DeadJobsStayDead};
 
-/// The live view of a plan's start has no jobs, each pool with core idle workers where it is prestarted, else with no
-/// threads, each client at the start of its body, and no refusals.
+/// The live view of the initial state has no jobs and no refusals. Each prestarted pool has `core`
+/// idle workers, each other pool has no threads, and each client is at the start of its body.
 pub fn start_is_seen()
     ensures { StartIsSeen }
 {}
 
-/// A world that keeps only live jobs loses nothing. In every state that a well-formed plan reaches, an event is possible
-/// in the live view exactly where it is possible in the written machine; and where it is possible, both give the same
-/// outcome, and the view after it is the live view of the state after it.
+/// A world that stores only live jobs loses nothing. In every reachable state of a well-formed
+/// plan, an event is possible in the live view exactly when it is possible in the reference
+/// machine. If it is possible, both give the same outcome, and the view after it is the live view
+/// of the state after it.
 pub fn steps_commute()
     ensures { StepsCommute }
 {}
@@ -20,14 +21,14 @@ pub fn unfinished_jobs_are_live()
     ensures { UnfinishedJobsAreLive }
 {}
 
-/// In every state that a well-formed plan reaches, a set of job numbers is a waiting set exactly where the live view
-/// says so.
+/// In every reachable state of a well-formed plan, a set of job numbers is a waiting set exactly
+/// when the test on the live view accepts it.
 pub fn waiting_sets_are_seen()
     ensures { WaitingSetsAreSeen }
 {}
 
-/// In every state that a well-formed plan reaches, a job that was made and is not live is not live after any further
-/// event either.
+/// In every reachable state of a well-formed plan, a job that exists and is not live stays so after
+/// any further event.
 pub fn dead_jobs_stay_dead()
     ensures { DeadJobsStayDead }
 {}

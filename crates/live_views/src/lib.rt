@@ -1,5 +1,6 @@
-//! What a running world keeps of a state of the written machine: of the jobs, those that are live. The definitions stand
-//! in `specs/`; nothing here runs, and the functions of `laws` have their contracts alone.
+//! The live view of a state: the part that a running world stores. Of the jobs, the view has only
+//! the live ones. The definitions are in `specs/`; no code of this crate runs except the methods of
+//! [`JobView`].
 #![tactic(auto)]
 
 mod job_view;
