@@ -1,4 +1,4 @@
--- Where the clients stand, of which only those that moved are kept.
+-- The states of the clients, of which only those that moved are stored.
 use Rattle.std.proofs.Common.{◌≡◌, ◌≢◌, ℕ, zero, suc, ◌+◌, ◌-◌, ◌<◌, ◌≤◌, ◌==◌, cond, List, [], ◌∷◌, ◌++◌, length, replicate, set, get_or, slice_get, is_some, true, false, if◌then◌else◌, unwrap_or, nat_le, Option, Some, None, ⊎_elim, refl, sym, ap, subst, ◌∙◌, arith, length-set, ext_get_or}
 use Rattle.std.specs.List.{flat_map, enumerate_from}
 use Rattle.std.specs.Option.{option_map}
@@ -37,7 +37,7 @@ slice_get-replicate_right : {X : Type 0} (m i : ℕ) (x : X) (ys : List X) → s
 slice_get-replicate_right zero i x ys = let same : 0 + i ≡ i = omega arith in ap (slice_get ys) same
 slice_get-replicate_right (suc m) i x ys = let same : suc m + i ≡ suc (m + i) = omega arith in ap (slice_get (replicate (suc m) x ++ ys)) same ∙ slice_get-replicate_right m i x ys
 
--- the client of this number, where the first k ends count no more and the others count it
+-- the client with number c belongs to kind k if c is not below the first k ends and is below all others
 start_at : (kind n : ℕ) (ends : List ℕ) (c k : ℕ) → IsRising n ends → n ≤ c → k ≤ length ends → ((i : ℕ) → i < k → get_or ends i 0 ≤ c) → ((i : ℕ) → k ≤ i → i < length ends → c < get_or ends i 0)
     → slice_get (starting kind n ends) (c - n) ≡ option_map (λ end. record { kind = kind + k; position = 0 }) (slice_get ends k)
 start_at kind n [] c k rising low inside below above = refl
@@ -57,7 +57,7 @@ start_at kind n (end ∷ ends) c (suc k) rising low inside below above =
     ∙ start_at (kind + 1) end ends c k rising.1 past (omega arith) (λ i low. below (suc i) (omega arith)) (λ i high in_list. above (suc i) (omega arith) (omega arith))
     ∙ ap started same
 
--- no end that counts the number comes before one that does not
+-- no end is below n, the number of clients before the first kind
 from_end : (n : ℕ) (ends : List ℕ) (i : ℕ) → IsRising n ends → i < length ends → n ≤ get_or ends i 0
 from_end n [] i rising inside = absurd (omega arith)
 from_end n (end ∷ ends) zero rising inside = rising.0
@@ -93,12 +93,12 @@ replicate_position kind zero i clients others = others i
 replicate_position kind (suc m) zero clients others = refl
 replicate_position kind (suc m) (suc i) clients others = replicate_position kind m i clients others
 
--- each stands at position 0
+-- each client is at position 0
 pub start_position : (kind n : ℕ) (ends : List ℕ) (c : ℕ) → (get_or (starting kind n ends) c (record { kind = 0; position = 0 })).position ≡ 0
 start_position kind n [] c = refl
 start_position kind n (end ∷ ends) c = replicate_position kind (end - n) c (starting (kind + 1) end ends) (start_position (kind + 1) end ends)
 
--- ---- those that moved
+-- ---- clients that moved
 
 pub length-standing : (at : ℕ → Option ClientState) (n : ℕ) (clients : List ClientState) → length (standing at n clients) ≡ length clients
 length-standing at n [] = refl
@@ -111,17 +111,17 @@ get_or-standing at n (client ∷ clients) (suc k) d inside =
     let same : n + 1 + k ≡ n + suc k = omega arith in
     get_or-standing at (n + 1) clients k d (omega arith) ∙ ap (λ m. moved_or (at m) (get_or clients k d)) same
 
--- where none moved
+-- no client moved
 pub standing-none : (at : ℕ → Option ClientState) (n : ℕ) (clients : List ClientState) → ((q : ℕ) → at q ≡ None) → standing at n clients ≡ clients
 standing-none at n [] none = refl
 standing-none at n (client ∷ clients) none = ap (λ o. moved_or o client ∷ standing at (n + 1) clients) (none n) ∙ ap (λ xs. client ∷ xs) (standing-none at (n + 1) clients none)
 
--- where all stay
+-- no client moves
 pub standing-same : (at after : ℕ → Option ClientState) (n : ℕ) (clients : List ClientState) → ((q : ℕ) → after q ≡ at q) → standing after n clients ≡ standing at n clients
 standing-same at after n [] same = refl
 standing-same at after n (client ∷ clients) same = ap (λ o. moved_or o client ∷ standing after (n + 1) clients) (same n) ∙ ap (λ xs. moved_or (at n) client ∷ xs) (standing-same at after (n + 1) clients same)
 
--- where one moves
+-- one client moves
 pub standing-moved : (at after : ℕ → Option ClientState) (clients : List ClientState) (k : ℕ) (x : ClientState) → ((q : ℕ) → after q ≡ cond (k == q) (Some x) (at q)) → standing after 0 clients ≡ set (standing at 0 clients) k x
 standing-moved at after clients k x e =
     let d : ClientState = record { kind = 0; position = 0 } in
@@ -164,9 +164,9 @@ none_there [] k none = omega arith
 none_there (client ∷ clients) zero none = absurd cc
 none_there (client ∷ clients) (suc k) none = let past = none_there clients k none in omega (arith, past)
 
--- the clients, of which those at these numbers moved
+-- the clients, of which those that the function `at` finds have moved
 module _ (at : ℕ → Option ClientState) (clients : List ClientState) (k : ℕ) where
-  -- the client of a number that is kept, and of one that is not
+  -- the client at a number, if it is stored and if it is not
   pub moved_found : (client : ClientState) → at k ≡ Some client → k < length clients → slice_get (standing at 0 clients) k ≡ Some client
   moved_found client moved inside =
       let zero_more : 0 + k ≡ k = omega arith in
@@ -183,12 +183,12 @@ module _ (at : ℕ → Option ClientState) (clients : List ClientState) (k : ℕ
       let d : ClientState = record { kind = 0; position = 0 } in
       sym (unwrap_or-slice_get (standing at 0 clients) k d) ∙ ap (λ o. unwrap_or o d) same ∙ unwrap_or-slice_get clients k d
 
-  -- a client that is not kept stands where it started
+  -- a client that is not stored is where it started
   pub client_at_start : is_some (at k) ≡ false → client_of (standing at 0 clients) k ≡ client_of clients k
   client_at_start none = client_as (start_seen (none_found (at k) none))
 
   module _ (after : ℕ → Option ClientState) (i : ℕ) (e : (q : ℕ) → after q ≡ (if k == q then option_map (at_position i) (at k) else at q)) where
-    -- a client that is kept moves
+    -- a stored client moves
     goes : (client : ClientState) → at k ≡ Some client → k < length clients → standing after 0 clients ≡ set (standing at 0 clients) k (at_position i (client_of (standing at 0 clients) k))
     goes client moved inside =
         let d : ClientState = record { kind = 0; position = 0 } in
@@ -202,7 +202,7 @@ module _ (at : ℕ → Option ClientState) (clients : List ClientState) (k : ℕ
     pub goes_on : is_some (at k) ≡ true → ((client : ClientState) → at k ≡ Some client → k < length clients) → standing after 0 clients ≡ set (standing at 0 clients) k (at_position i (client_of (standing at 0 clients) k))
     goes_on some inside = goes_as (at k) refl some inside
 
-    -- where it is not kept all stay
+    -- all clients stay if this one is not stored
     pub all_stay : is_some (at k) ≡ false → (q : ℕ) → after q ≡ at q
     all_stay none q =
         let nothing = none_found (at k) none in
@@ -211,7 +211,7 @@ module _ (at : ℕ → Option ClientState) (clients : List ClientState) (k : ℕ
         (λ (other : (k == q) ≡ false). ap (λ b. cond b None (at q)) other)
         (cases_Bool (k == q))
 
-    -- and then it is, from its first step on
+    -- a client that is not stored is stored from its first move
     pub goes_out : (later : ℕ → Option ClientState) (client : ClientState) → is_some (at k) ≡ false → slice_get clients k ≡ Some client → ((q : ℕ) → later q ≡ (if k == q then Some (at_position i client) else after q))
         → standing later 0 clients ≡ set (standing at 0 clients) k (at_position i (client_of (standing at 0 clients) k))
     goes_out later client none found out =
@@ -219,7 +219,7 @@ module _ (at : ℕ → Option ClientState) (clients : List ClientState) (k : ℕ
         let was : client_of (standing at 0 clients) k ≡ client = client_at_start none ∙ get_or_from_slice_get clients k client d found in
         standing-moved at later clients k (at_position i client) (λ q. out q ∙ ap (cond (k == q) (Some (at_position i client))) (all_stay none q)) ∙ ap (λ x. set (standing at 0 clients) k (at_position i x)) (sym was)
 
-    -- it is one that there is
+    -- that client exists
     pub out_inside : (later : ℕ → Option ClientState) (client : ClientState) → is_some (at k) ≡ false → slice_get clients k ≡ Some client → ((q : ℕ) → later q ≡ (if k == q then Some (at_position i client) else after q))
         → ((n : ℕ) (x : ClientState) → at n ≡ Some x → n < length clients) → (n : ℕ) (x : ClientState) → later n ≡ Some x → n < length clients
     out_inside later client none found out inside n x moved = ⊎_elim
@@ -227,13 +227,13 @@ module _ (at : ℕ → Option ClientState) (clients : List ClientState) (k : ℕ
         (λ (other : (k == n) ≡ false). inside n x (sym (all_stay none n) ∙ sym (out n ∙ ap (λ b. cond b (Some (at_position i client)) (after n)) other) ∙ moved))
         (cases_Bool (k == n))
 
-    -- or there is no such client
+    -- the number belongs to no client
     pub none_goes : (x : ClientState) → is_some (at k) ≡ false → length clients ≤ k → standing after 0 clients ≡ set (standing at 0 clients) k x
     none_goes x none past =
         let long = length-standing at 0 clients in
         standing-same at after 0 clients (all_stay none) ∙ sym (set_past (standing at 0 clients) k x (omega (arith, long)))
 
-  -- a client that stands at position 0 comes there again
+  -- a client at position 0 moves to position 0
   module _ (after : ℕ → Option ClientState) (e : (q : ℕ) → after q ≡ (if k == q then option_map (at_position 0) (at k) else at q)) (starts : (client_of clients k).position ≡ 0) where
     starts_again : (o : Option ClientState) → at k ≡ o → ((client : ClientState) → at k ≡ Some client → k < length clients) → standing after 0 clients ≡ set (standing at 0 clients) k (at_position 0 (client_of (standing at 0 clients) k))
     starts_again (Some client) moved inside = goes after 0 e client moved (inside client moved)

@@ -1,4 +1,4 @@
--- What is found once a job finished.
+-- The index of latest jobs after a job finished.
 use Rattle.std.proofs.Common.{◌≡◌, ◌≢◌, ℕ, ◌==◌, ◌<◌, ◌≤◌, ◌&&◌, Bool, true, false, if◌then◌else◌, List, length, map, set, Option, Some, None, ⊎_elim, refl, sym, ap, subst, ◌∙◌, arith, length-set}
 use Rattle.std.proofs.lemmas.Bool.{cases_Bool, cases_lt, cases_eq, both_ways, false_from_ne_true, and_from, eq-eqb}
 use Rattle.std.proofs.lemmas.List.{get_or-set_same, get_or-set_other, map-set}
@@ -18,11 +18,11 @@ use Rattle.live_actors.specs.LiveJobs.{DoneAreLatest, IsLatest, AreFound, AreOrp
 use Rattle.live_actors.proofs.MakersStay.{Fades, AreFading, fading_orphans}
 use Rattle.live_actors.proofs.LatestFound.{latest_is, made_if_child, is_call_of, same_call, still_child, sound_fading, asks_before, child_of, child_itself}
 
--- each done job that an unfinished job made is found
+-- the index has each done job that an unfinished job created
 pub orphans_found : (jobs : List (Option JobView)) (latest : LatestList) (j : ℕ) → AreFound jobs latest → DoneAreLatest jobs → may_ask_for jobs (parent.Job j) ≡ true → OrphansAreFound jobs latest j
 orphans_found jobs latest j f done asks = λ t k job e child is_done_job. f.complete (parent.Job j) t k asks (latest_is jobs (parent.Job j) t k (done (parent.Job j) t k job e child is_done_job))
 
--- a job that is not the actor's is no orphan
+-- a job that the actor did not create is not an orphan
 pub not_orphan : (j : ℕ) (job : Option JobView) → ((t : ℕ) → is_live_child (parent.Job j) t job ≡ false) → unless_orphan j job ≡ job
 not_orphan j None none = refl
 not_orphan j (Some job) none =
@@ -30,14 +30,14 @@ not_orphan j (Some job) none =
     let other : same_parent (parent.Job j) job.parent ≡ false = ⊎_elim (λ own. absurd (both_ways _ at (and_from _ _ own (eq-eqb job.slot job.slot refl)))) (λ e. e) (cases_Bool (same_parent (parent.Job j) job.parent)) in
     ap (λ b. if b && is_done job.phase then None else Some job) other
 
--- a job has a latest one where it has any
+-- if an actor has a job at a position, it has a latest one
 latest_of : (jobs : List (Option JobView)) (a : Parent) (t k : ℕ) (o : Option ℕ) → live_child jobs a t ≡ o → is_live_child a t (live_job jobs k) ≡ true → (m : ℕ) × (live_child jobs a t ≡ Some m)
 latest_of jobs a t k None e child =
     let inside = made_if_child jobs a t k child in
     absurd (both_ways (is_live_child a t (live_job jobs k)) (none_where (is_live_child a t) jobs e k None inside) child)
 latest_of jobs a t k (Some m) e child = (m, e)
 
--- the job of this number finishes
+-- the job with number n finishes
 module _ (jobs : List (Option JobView)) (n : ℕ) (job : JobView) (live : live_job jobs n ≡ Some job) (other : job.parent ≢ parent.Job n) where
   abbrev fin : Option JobView
   fin = finished_or_gone jobs n job
@@ -52,7 +52,7 @@ module _ (jobs : List (Option JobView)) (n : ℕ) (job : JobView) (live : live_j
   fin_if true = ap (λ b. if b && true then None else Some (record job { phase = phase.Done })) (false_from_ne_true (same_parent (parent.Job n) job.parent) (λ e. other (sym (same_actor_true (parent.Job n) job.parent e))))
   fin_if false = refl
 
-  -- in the words of what finishes first, and whose children are forgotten then
+  -- the state in which the job finishes first and its children are removed then
   pub after_is : after ≡ map (unless_orphan n) (set jobs n fin)
   after_is = ap (set left n) (sym (fin_if (may_ask_for jobs job.parent && is_number (live_child jobs job.parent job.slot) n))) ∙ sym (map-set (unless_orphan n) jobs n fin)
 

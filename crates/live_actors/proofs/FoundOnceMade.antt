@@ -1,4 +1,4 @@
--- What is found once a job was made.
+-- The index of latest jobs after a job was created.
 use Rattle.std.proofs.Common.{◌≡◌, ◌≢◌, ℕ, ◌+◌, ◌<◌, ◌≤◌, ◌&&◌, Bool, true, false, if◌then◌else◌, List, [], ◌∷◌, ◌++◌, length, map, Option, Some, None, ⊎_elim, refl, sym, ap, subst, ◌∙◌, arith}
 use Rattle.std.proofs.Math.ListN.{get_or-map}
 use Rattle.std.proofs.lemmas.Bool.{cases_lt, cases_eq, cases_Bool, both_ways, false_from_ne_true, and_parts}
@@ -18,7 +18,7 @@ stale_child_if : (a b : Parent) (t u : ℕ) (v : JobView) (stale : Bool) → (st
 stale_child_if a b t u v true of_call other = sym (false_from_ne_true (is_live_child b u (Some v)) (λ e. both_ways (is_call a t b u) other (is_call_of a b t u (Some v) (of_call refl) e)))
 stale_child_if a b t u v false of_call other = refl
 
--- the jobs of another call
+-- the stale job of one call is not a job of another call
 stale_child : (a b : Parent) (t u : ℕ) (x : Option JobView) → is_call a t b u ≡ false → is_live_child b u (unless_stale a t x) ≡ is_live_child b u x
 stale_child a b t u None other = refl
 stale_child a b t u (Some v) other = stale_child_if a b t u v (is_live_child a t (Some v) && is_done v.phase) (λ e. (and_parts (is_live_child a t (Some v)) (is_done v.phase) e).0) other
@@ -47,7 +47,7 @@ module _ (jobs : List (Option JobView)) (job : JobView) where
   none_past : (k : ℕ) → length jobs < k → live_job (with_new jobs job) k ≡ None
   none_past k past = get_or_past (with_new jobs job) k None (omega (arith, length-with_new))
 
-  -- the jobs of another call are as they were
+  -- the jobs of another call are unchanged
   pub other_child : (a : Parent) (t k : ℕ) → is_call job.parent job.slot a t ≡ false → is_live_child a t (live_job (with_new jobs job) k) ≡ is_live_child a t (live_job jobs k)
   other_child a t k other = ⊎_elim
       (λ (inside : k < length jobs). ap (is_live_child a t) (old_job k inside) ∙ stale_child job.parent a job.slot t (live_job jobs k) other)
@@ -67,7 +67,7 @@ module _ (jobs : List (Option JobView)) (job : JobView) where
       subst (λ b. is_live_child b t (live_job (with_new jobs job) (length jobs)) ≡ true) (sym same.0)
       (subst (λ u. is_live_child job.parent u (live_job (with_new jobs job) (length jobs)) ≡ true) (sym same.1) (ap (is_live_child job.parent job.slot) new_job ∙ child_itself job))
 
-  -- who may ask, might before, but for the new job
+  -- an actor that may ask could ask before, unless it is the new job
   asked : (a : Parent) → may_ask_for (with_new jobs job) a ≡ true → a ≢ parent.Job (length jobs) → may_ask_for jobs a ≡ true
   asked (parent.Client c) e other = refl
   asked (parent.Job j) e other = ⊎_elim

@@ -1,4 +1,4 @@
--- What is known of the live jobs once one of them changes.
+-- The invariant of the live jobs holds after one of them changes.
 use Rattle.std.proofs.Common.{◌≡◌, ℕ, ◌+◌, ◌<◌, not, true, false, Bool, cond, ◌&&◌, if◌then◌else◌, List, [], ◌∷◌, ◌++◌, length, map, set, count_by, Option, Some, None, ⊎_elim, refl, sym, ap, subst, ◌∙◌, arith}
 use Rattle.std.proofs.lemmas.Bool.{cases_lt, cases_Bool}
 use Rattle.std.proofs.lemmas.List.{get_or_past, get_or_append_left, length_push, map-append}
@@ -20,7 +20,7 @@ use Rattle.live_actors.proofs.FoundOnceMade.{with_new, other_child, found_made}
 use Rattle.live_actors.proofs.ReachesStay.{stays_set, stays_freed}
 use Rattle.live_actors.proofs.JobsInPlaces.{jobs_set, length-jobs, phased_jobs}
 
--- what is found by other spellings
+-- the invariant depends only on the list of jobs and on what the index finds
 pub indexed_as : (items new : List (Option KeptJob)) (latest later : LatestList) (n : ℕ) → new ≡ items → ((a : Parent) (t : ℕ) → found later a t ≡ found latest a t) → AreIndexed items latest n → AreIndexed new later n
 indexed_as items new latest later n same e x = subst (λ is. AreIndexed is later n) (sym same) (record {
   are_found = record {
@@ -35,7 +35,7 @@ fades_phased : (to : Phase) (x : Option JobView) → Fades x (in_phase to x)
 fades_phased to None = tt
 fades_phased to (Some job) = (refl, refl)
 
--- ---- a job that comes to a position
+-- ---- a job moves to a position
 
 going_unfinished : (to : Phase) (x : Option JobView) → is_done to ≡ false → is_unfinished_job x ≡ true → is_unfinished_job (in_phase to x) ≡ true
 going_unfinished to None going e = absurd cc
@@ -59,7 +59,7 @@ indexed_phased items latest m n place to x there going fresh =
       counted = x.counted ∙ sym all ∙ ap (count_by is_unfinished_job) (sym same);
     }
 
--- ---- a done job that is got
+-- ---- a done job is claimed by its creator
 
 pub indexed_got : (items : List (Option KeptJob)) (latest later : LatestList) (m n : ℕ) (job : JobView) → AreIndexed items latest m → live_job (jobs_in items) n ≡ Some job → is_done job.phase ≡ true → IsAlone (jobs_in items) job.parent job.slot
     → ((b : Parent) (u : ℕ) → found later b u ≡ (if is_call job.parent job.slot b u then None else found latest b u)) → AreIndexed (set items n None) later m
@@ -76,7 +76,7 @@ indexed_got items latest later m n job x live done alone e =
       counted = x.counted ∙ sym all ∙ ap (count_by is_unfinished_job) (sym same);
     }
 
--- ---- a job that is made
+-- ---- a job is created
 
 unless_stale_unfinished : (a : Parent) (t : ℕ) (x : Option JobView) → is_unfinished_job (unless_stale a t x) ≡ is_unfinished_job x
 unless_stale_unfinished a t None = refl

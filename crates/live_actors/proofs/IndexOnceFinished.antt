@@ -1,4 +1,4 @@
--- What is known of the live jobs once a job finished.
+-- The invariant of the live jobs holds after a job finished.
 use Rattle.std.proofs.Common.{◌≡◌, ◌≢◌, ℕ, ◌-◌, ◌<◌, ◌&&◌, Bool, not, true, false, cond, if◌then◌else◌, List, length, map, set, count_by, Option, Some, None, IfSome, refl, sym, ap, subst, ◌∙◌, arith}
 use Rattle.std.proofs.Math.ListN.{get_or-map as get_or-map_at}
 use Rattle.std.proofs.lemmas.List.{length-map}
@@ -28,7 +28,7 @@ unless_orphan_unfinished n (Some v) = by_test (same_parent (parent.Job n) v.pare
     by_test true false e = refl
     by_test false done e = refl
 
--- a job that finished is as it was, but for its phase
+-- a finished job that is still live changed only its phase
 pub phased_finished : (job : JobView) (was : Option JobView) → was ≡ Some job → (b : Bool) (finished : Option JobView) → finished ≡ (if b then Some (record job { phase = phase.Done }) else None) → IfSome finished (λ x. in_phase x.phase was ≡ Some x)
 phased_finished job was e b finished same = subst (λ o. IfSome o (λ x. in_phase x.phase was ≡ Some x)) (sym same) (by_test b)
   where
@@ -36,7 +36,7 @@ phased_finished job was e b finished same = subst (λ o. IfSome o (λ x. in_phas
     by_test true = ap (in_phase phase.Done) e
     by_test false = tt
 
--- a job that is not done is no orphan
+-- a job that is not done is not an orphan
 pub going_stays : (n : ℕ) (job : JobView) → is_done job.phase ≡ false → unless_orphan n (Some job) ≡ Some job
 going_stays n job going = by_test (same_parent (parent.Job n) job.parent) (is_done job.phase) going
   where

@@ -1,4 +1,4 @@
--- The list of what stands in the places.
+-- The list of entries below a number.
 use Rattle.std.proofs.Common.{◌≡◌, ◌≢◌, ℕ, zero, suc, ◌+◌, ◌<◌, ◌≤◌, ◌==◌, cond, [], ◌∷◌, ◌++◌, length, set, Option, None, ⊎_elim, refl, sym, ap, ◌∙◌, arith, length-set, ext_get_or}
 use Rattle.std.proofs.lemmas.Bool.{cases_lt, cases_eq, false_from_ne_true, eqb-true, eq-eqb}
 use Rattle.std.proofs.lemmas.List.{get_or-set_same, get_or-set_other, get_or_append_left, get_or_push, length_push, set_past}
@@ -24,7 +24,7 @@ updated_same at after k w e = e k ∙ ap (λ b. cond b w (at k)) (eq-eqb k k ref
 updated_other : (at after : ℕ → Option KeptJob) (k : ℕ) (w : Option KeptJob) → ((q : ℕ) → after q ≡ cond (k == q) w (at q)) → (q : ℕ) → q ≢ k → after q ≡ at q
 updated_other at after k w e q other = e q ∙ ap (λ b. cond b w (at q)) (false_from_ne_true (k == q) (λ same. other (sym (eqb-true k q same))))
 
--- one of them changes
+-- one of the entries changes
 pub items-updated : (at after : ℕ → Option KeptJob) (n k : ℕ) (w : Option KeptJob) → ((q : ℕ) → after q ≡ cond (k == q) w (at q)) → items_below after n ≡ set (items_below at n) k w
 items-updated at after n k w e =
     let old = items_below at n in
@@ -36,7 +36,7 @@ items-updated at after n k w e =
     (λ (other : q ≢ k). updated_other at after k w e q other ∙ sym (get_or-set_other old k q w None other ∙ item_inside at n q within))
     (cases_eq q k))
 
--- one more comes
+-- one entry is added
 pub items-pushed : (at after : ℕ → Option KeptJob) (n : ℕ) (w : Option KeptJob) → ((q : ℕ) → after q ≡ cond (n == q) w (at q)) → items_below after (suc n) ≡ items_below at n ++ w ∷ []
 items-pushed at after n w e =
     let old = items_below at n in

@@ -1,4 +1,4 @@
--- The live jobs are those that stand in the places.
+-- The live jobs are the jobs of the stored data.
 use Rattle.std.proofs.Common.{◌≡◌, ℕ, true, is_some, List, length, set, count_by, IsSome, Option, Some, None, refl, sym, ap, subst, ◌∙◌}
 use Rattle.std.proofs.Math.ListN.{get_or-map as get_or-map_at}
 use Rattle.std.proofs.lemmas.List.{length-map, map-set}
@@ -12,7 +12,7 @@ use Rattle.live_actors.specs.declared.places.KeptJob.{KeptJob}
 use Rattle.live_actors.specs.KeptJob.{place_at, place_in_phase}
 use Rattle.live_actors.specs.LiveJobs.{jobs_in}
 
--- the live job of a number stands in its place
+-- the live job with a number is the job of its entry
 pub jobs_at : (items : List (Option KeptJob)) (k : ℕ) → live_job (jobs_in items) k ≡ option_map (λ (p : KeptJob). p.job) (place_at items k)
 jobs_at items k = get_or-map_at (option_map (λ (p : KeptJob). p.job)) items k None
 
@@ -34,7 +34,7 @@ pub jobs_phased : (items : List (Option KeptJob)) (n : ℕ) (to : Phase) → job
 jobs_phased items n to =
     jobs_set items n (place_in_phase to (place_at items n)) ∙ ap (set (jobs_in items) n) (in_its_place to (place_at items n) ∙ ap (in_phase to) (sym (jobs_at items n)))
 
--- a live job has a place
+-- a live job has an entry
 pub has_place : (items : List (Option KeptJob)) (n : ℕ) → IsSome (live_job (jobs_in items) n) → (place : KeptJob) × (place_at items n ≡ Some place)
 has_place items n live = by_place (place_at items n) refl (subst IsSome (jobs_at items n) live)
   where
@@ -49,7 +49,7 @@ live_if_asks jobs n asks = by_job (live_job jobs n) asks
     by_job None e = absurd cc
     by_job (Some job) e = refl
 
--- as many stand in places as jobs are live
+-- the number of occupied entries is the number of live jobs
 pub count-jobs : (items : List (Option KeptJob)) → count_by is_some (jobs_in items) ≡ count_by is_some items
 count-jobs items = count_by-map is_some (option_map (λ (p : KeptJob). p.job)) items ∙ count_by-agree (λ o. is_some (option_map (λ (p : KeptJob). p.job) o)) is_some items same
   where

@@ -1,4 +1,4 @@
--- Which of an actor's jobs are found, also after an event.
+-- The jobs of an actor that the index finds, also after an event.
 use Rattle.std.proofs.Common.{◌≡◌, ◌≢◌, ℕ, ◌<◌, ◌==◌, Bool, true, false, if◌then◌else◌, List, length, set, Option, Some, None, ⊎_elim, refl, sym, ap, subst, ◌∙◌, arith, length-set}
 use Rattle.std.proofs.lemmas.Bool.{false_from_ne_true, cases_lt, cases_eq, cases_Bool, both_ways, and_parts, and_from, eqb-true, eq-eqb, false≢true}
 use Rattle.std.proofs.lemmas.List.{get_or_past, get_or_default, get_or-set_same, get_or-set_other}
@@ -26,7 +26,7 @@ latest_is jobs a t k e =
       none_later = λ i later. ⊎_elim (λ inside. last.none_later i None later inside) (λ past. ap (is_live_child a t) (get_or_past jobs i None past)) (cases_lt i (length jobs));
     }
 
--- a live job has a number below the count
+-- a live job has a number below the number of jobs
 pub made_if_child : (jobs : List (Option JobView)) (a : Parent) (t k : ℕ) → is_live_child a t (live_job jobs k) ≡ true → k < length jobs
 made_if_child jobs a t k e = ⊎_elim (λ inside. inside)
     (λ past. absurd (both_ways (is_live_child a t (live_job jobs k)) (ap (is_live_child a t) (get_or_past jobs k None past)) e))
@@ -47,12 +47,12 @@ same_answer None None f g = refl
 same_answer None (Some k) f g = g k refl
 same_answer (Some k) c f g = sym (f k refl)
 
--- an actor that may ask finds the latest
+-- an actor that may ask finds its latest job
 pub found_is_child : (jobs : List (Option JobView)) (latest : LatestList) (a : Parent) (t : ℕ) → AreFound jobs latest → may_ask_for jobs a ≡ true → found latest a t ≡ live_child jobs a t
 found_is_child jobs latest a t f asks =
     same_answer (found latest a t) (live_child jobs a t) (λ k e. is_latest jobs a t k (f.sound a t k e)) (λ k e. f.complete a t k asks (latest_is jobs a t k e))
 
--- ---- who made a live job
+-- ---- the creator of a live job
 
 -- the actor and the position are those of the live job
 pub record IsChild (a : Parent) (t : ℕ) (job : Option JobView) : Type 0 where
@@ -67,7 +67,7 @@ child_of a t (Some view) e =
     let parts = and_parts (same_parent a view.parent) (t == view.slot) e in
     record { view = view; is_live = refl; actor = same_actor_true a view.parent parts.0; slot = eqb-true t view.slot parts.1 }
 
--- the call of which it came
+-- a live job determines the call that created it
 pub is_call_of : (a b : Parent) (t u : ℕ) (job : Option JobView) → is_live_child a t job ≡ true → is_live_child b u job ≡ true → is_call a t b u ≡ true
 is_call_of a b t u None e f = absurd cc
 is_call_of a b t u (Some view) e f =
@@ -78,7 +78,7 @@ is_call_of a b t u (Some view) e f =
     let slots : t ≡ u = one.slot ∙ ap (λ (x : JobView). x.slot) v ∙ sym two.slot in
     and_from (same_parent a b) (t == u) (ap (same_parent a) actors ∙ same_actor_refl a) (eq-eqb t u slots)
 
--- by the same call
+-- equal calls have the same actor and the same position
 pub same_call : (a b : Parent) (t u : ℕ) → is_call a t b u ≡ true → (b ≡ a) × (u ≡ t)
 same_call a b t u e =
     let parts = and_parts (same_parent a b) (t == u) e in
@@ -92,14 +92,14 @@ child_by_call a b t u job call e =
 pub call_of_itself : (a : Parent) (t : ℕ) → is_call a t a t ≡ true
 call_of_itself a t = and_from (same_parent a a) (t == t) (same_actor_refl a) (eq-eqb t t refl)
 
--- ---- jobs that fade
+-- ---- jobs that change their phase or are removed
 
 pub still_child : (jobs after : List (Option JobView)) → AreFading jobs after → (a : Parent) (t k : ℕ) → is_live_child a t (live_job after k) ≡ true → is_live_child a t (live_job jobs k) ≡ true
 still_child jobs after f a t k e = ⊎_elim (λ was. was)
     (λ none. absurd (both_ways (is_live_child a t (live_job after k)) (fades_child a t (live_job jobs k) (live_job after k) (f.each k) none) e))
     (cases_Bool (is_live_child a t (live_job jobs k)))
 
--- what is found is still the latest where it is live as before
+-- a job in the index is still the latest if it is still live
 pub sound_fading : (jobs after : List (Option JobView)) (latest : LatestList) (a : Parent) (t k : ℕ) → AreFound jobs latest → AreFading jobs after → found latest a t ≡ Some k → is_live_child a t (live_job after k) ≡ true → IsLatest after a t k
 sound_fading jobs after latest a t k found fading e still =
     let was = found.sound a t k e in
@@ -113,7 +113,7 @@ reached_fading items after reached stay fading j t k child =
     let was = reached j t k (still_child (jobs_in items) (jobs_in after) fading (parent.Job j) t k child) in
     (omega (arith, was.0, stay.long), λ place e. let old = stay.each j place e in let low = was.1 old.0 old.1 in omega (arith, low, old.2))
 
--- ---- a job that comes to a position
+-- ---- a job moves to a position
 
 in_phase_child : (a : Parent) (t : ℕ) (to : Phase) (job : Option JobView) → is_live_child a t (in_phase to job) ≡ is_live_child a t job
 in_phase_child a t to None = refl
@@ -131,12 +131,12 @@ phased_child jobs n to a t k = ⊎_elim
     (λ (other : k ≢ n). ap (is_live_child a t) (get_or-set_other jobs n k (in_phase to (live_job jobs n)) None other))
     (cases_eq k n)
 
--- an actor that may ask might before, where no job that was not is unfinished
+-- an actor that may ask could ask before if no job became unfinished
 pub asks_before : (jobs after : List (Option JobView)) (a : Parent) → ((k : ℕ) → is_unfinished_job (live_job after k) ≡ true → is_unfinished_job (live_job jobs k) ≡ true) → may_ask_for after a ≡ true → may_ask_for jobs a ≡ true
 asks_before jobs after (parent.Client c) each e = refl
 asks_before jobs after (parent.Job j) each e = each j e
 
--- job n alone changes, and it was unfinished if it is
+-- only job n changes, and if it is unfinished now, it was before
 pub unfinished_before : (jobs : List (Option JobView)) (n : ℕ) (new : Option JobView) → (is_unfinished_job new ≡ true → is_unfinished_job (live_job jobs n) ≡ true)
     → (k : ℕ) → is_unfinished_job (live_job (set jobs n new) k) ≡ true → is_unfinished_job (live_job jobs k) ≡ true
 unfinished_before jobs n new here k e = ⊎_elim
@@ -154,7 +154,7 @@ found_phased jobs latest n to going f = record {
       (record { passes = sym (phased_child jobs n to a t k) ∙ last.passes; none_later = λ i later. sym (phased_child jobs n to a t i) ∙ last.none_later i later });
 }
 
--- ---- a done job that is got
+-- ---- a done job is claimed by its creator
 
 pub child_itself : (job : JobView) → is_live_child job.parent job.slot (Some job) ≡ true
 child_itself job = and_from (same_parent job.parent job.parent) (job.slot == job.slot) (same_actor_refl job.parent) (eq-eqb job.slot job.slot refl)

@@ -1,4 +1,4 @@
--- Jobs that change their phase, or are live no more: no job becomes one of another actor.
+-- A change of a job's phase, and the removal of a job, give no actor a new job.
 use Rattle.std.proofs.Common.{◌≡◌, ◌≢◌, ℕ, ◌==◌, ◌&&◌, Bool, true, false, if◌then◌else◌, List, length, map, set, get_or, Option, Some, None, inl, inr, ⊎_elim, refl, sym, ap, ap₂, subst, ◌∙◌, arith, length-set}
 use Rattle.std.proofs.Math.ListN.{get_or-map}
 use Rattle.std.proofs.lemmas.Bool.{cases_lt, cases_eq}
@@ -9,9 +9,9 @@ use Rattle.written_machine.specs.State.{same_parent}
 use Rattle.live_views.specs.declared.job_view.JobView.{JobView}
 use Rattle.live_views.specs.ViewStep.{live_job, is_live_child, is_done, unless_orphan}
 
--- ---- a job that changes its phase, or is live no more
+-- ---- one job changes its phase or is removed
 
--- the second is gone, or it is the first in some phase
+-- the second job is None, or it is the first one in some phase
 abbrev pub Fades : Option JobView → Option JobView → Type 0
 Fades job None = Unit {0}
 Fades None (Some after) = ⊥
@@ -34,7 +34,7 @@ fades_unless_orphan : (j : ℕ) (job : Option JobView) → Fades job (unless_orp
 fades_unless_orphan j None = tt
 fades_unless_orphan j (Some job) = fades_if (same_parent (parent.Job j) job.parent && is_done job.phase) job
 
--- ---- jobs that fade
+-- ---- a list of jobs
 
 pub record AreFading (jobs after : List (Option JobView)) : Type 0 where
   pub long : length after ≡ length jobs

@@ -1,4 +1,4 @@
--- Jobs that are written anew, where most are left as they are.
+-- A function mapped over a list of jobs, most of which it does not change.
 use Rattle.std.proofs.Common.{◌≡◌, ◌≢◌, ℕ, List, length, map, set, get_or, Option, None, ⊎_elim, refl, sym, ap, ◌∙◌, arith, length-set, ext_get_or}
 use Rattle.std.proofs.Math.ListN.{get_or-map}
 use Rattle.std.proofs.lemmas.Bool.{cases_lt, cases_eq}
@@ -6,18 +6,18 @@ use Rattle.std.proofs.lemmas.List.{length-map, get_or_past, get_or-set_same, get
 use Rattle.live_views.specs.declared.job_view.JobView.{JobView}
 use Rattle.live_views.specs.ViewStep.{live_job}
 
--- a list with the job of each number written anew
+-- a list whose elements are the images of the jobs is the mapped list
 pub all_mapped : (f : Option JobView → Option JobView) (jobs now : List (Option JobView)) → f None ≡ None → length now ≡ length jobs → ((k : ℕ) → live_job now k ≡ f (live_job jobs k)) → now ≡ map f jobs
 all_mapped f jobs now none long each = ext_get_or None now (map f jobs) (long ∙ sym (length-map jobs f)) (λ k inside. each k ∙ sym (at k))
   where
     at : (k : ℕ) → get_or (map f jobs) k None ≡ f (live_job jobs k)
     at k = ap (get_or (map f jobs) k) (sym none) ∙ get_or-map f jobs k None
 
--- where f leaves each job as it is
+-- the function changes no job
 pub none_mapped : (f : Option JobView → Option JobView) (jobs : List (Option JobView)) → f None ≡ None → ((k : ℕ) → f (live_job jobs k) ≡ live_job jobs k) → jobs ≡ map f jobs
 none_mapped f jobs none same = all_mapped f jobs jobs none refl (λ k. sym (same k))
 
--- where f leaves all jobs but one as they are
+-- the function changes only one job
 pub one_mapped : (f : Option JobView → Option JobView) (jobs : List (Option JobView)) (n : ℕ) → f None ≡ None → ((k : ℕ) → k ≢ n → f (live_job jobs k) ≡ live_job jobs k) → set jobs n (f (live_job jobs n)) ≡ map f jobs
 one_mapped f jobs n none same =
     let new = f (live_job jobs n) in

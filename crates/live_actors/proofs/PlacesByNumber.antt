@@ -1,4 +1,4 @@
--- What is known of places by number once one of them changes.
+-- The invariant of a map with an exclusive upper bound of its numbers, after one number changes.
 use Rattle.std.proofs.Common.{◌≡◌, ℕ, ◌+◌, ◌<◌, ◌≤◌, ◌==◌, Bool, true, false, cond, List, [], ◌∷◌, ◌++◌, length, set, count_by, is_some, IsSome, Option, Some, None, ⊎_elim, refl, sym, ap, ◌∙◌, arith}
 use Rattle.std.proofs.lemmas.Bool.{cases_lt, cases_Bool, eqb-true}
 use Rattle.std.proofs.lemmas.List.{get_or_past, set_past}
@@ -11,11 +11,11 @@ none_from_at : (end n : ℕ) (o : Option KeptJob) → ((place : KeptJob) → o �
 none_from_at end n None below past = refl
 none_from_at end n (Some place) below past = let low = below place refl in absurd (omega (arith, low, past))
 
--- nothing stands from a number on that is above all others
+-- the map has no value at or above the bound
 pub none_from : (at : ℕ → Option KeptJob) (end : ℕ) → ((n : ℕ) (place : KeptJob) → at n ≡ Some place → n < end) → (n : ℕ) → end ≤ n → at n ≡ None
 none_from at end below n past = none_from_at end n (at n) (below n) past
 
--- the same once a lower one changes
+-- a change at a lower number keeps the bound
 pub still_below : (at after : ℕ → Option KeptJob) (end n : ℕ) (w : Option KeptJob) → ((k : ℕ) (place : KeptJob) → at k ≡ Some place → k < end) → n < end → ((q : ℕ) → after q ≡ cond (n == q) w (at q)) → (q : ℕ) (place : KeptJob) → after q ≡ Some place → q < end
 still_below at after end n w below low e q place found = ⊎_elim
     (λ same. let here : n ≡ q = eqb-true n q same in omega (arith, low, here))
@@ -35,7 +35,7 @@ is_inside items n some = ⊎_elim
 abbrev one_if : Bool → ℕ
 one_if b = cond b 1 0
 
--- what changes at a number where something stands
+-- the number of occupied entries after a change of an occupied entry
 pub count-set_some : (items : List (Option KeptJob)) (n : ℕ) (w : Option KeptJob) → is_some (place_at items n) ≡ true → count_by is_some (set items n w) + 1 ≡ count_by is_some items + one_if (is_some w)
 count-set_some items n w some =
     let counts = count_by-set is_some items n w None (is_inside items n some) in

@@ -1,13 +1,13 @@
--- What is kept of a live job, in its place.
+-- The stored data of a live job.
 use Rattle.std.specs.Prelude.{ℕ, List, Option, Some, None, slice_index_or}
 use Rattle.live_views.specs.declared.job_view.Phase.{Phase}
 use Rattle.live_actors.specs.declared.places.KeptJob.{KeptJob}
 
--- what is kept of the live job of this number
+-- the stored data of the live job with this number
 abbrev pub place_at : List (Option KeptJob) → ℕ → Option KeptJob
 place_at items j = slice_index_or items j None
 
--- the job in this phase from now on, in its place
+-- the stored data with this phase of the job
 abbrev pub place_in_phase : Phase → Option KeptJob → Option KeptJob
 place_in_phase phase None = None
 place_in_phase phase (Some place) = Some (record place { job = record place.job { phase = phase } })

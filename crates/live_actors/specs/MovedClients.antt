@@ -1,9 +1,9 @@
--- The clients that moved, as the rest of the world sees them.
+-- The abstract view of the clients that moved.
 use Rattle.std.specs.Prelude.{ℕ, List, Option, Some, None, slice_get, nat_eq}
 use Rattle.std.specs.Map.{lookup}
 use Rattle.written_machine.specs.declared.client_state.ClientState.{ClientState}
 
--- the clients that moved: those of the first numbers, and others by number; and for how many more there is room
+-- the clients that moved, in a list from number 0 and in a map for other numbers, and the room for further ones
 pub record Moved : Type 0 where
   pub front : List ClientState
   pub others : List (ℕ × ClientState)
@@ -13,7 +13,7 @@ abbrev pub first_of : Option ClientState → Option ClientState → Option Clien
 first_of None other = other
 first_of (Some client) other = Some client
 
--- the client of this number, if it moved
+-- the client with this number, if it moved
 abbrev pub moved_at : Moved → ℕ → Option ClientState
 moved_at moved q = first_of (slice_get moved.front q) (lookup (nat_eq q) moved.others)
 

@@ -1,4 +1,4 @@
-//! Numbers of jobs, by the calls that made them.
+//! A map from submit calls to job numbers.
 
 ghost use Rattle.std.specs.Prelude.{◌≡◌, ◌≤◌, ◌<◌, ℕ, Option, [], None, Some, OnOk, if◌then◌else◌};
 ghost use Rattle.std.specs.HashMap.{spare};
@@ -9,19 +9,19 @@ use std::alloc::{AllocError, Global};
 use std::collections::HashMap;
 use std::marker::Model;
 
-/// The number of an actor, and the position of a submit in its body.
+/// A submit call: the number of an actor, and the position of the submit in its body.
 pub(crate) type Call = (usize, usize);
 
-// A power of two, so that the place of a call takes no division.
+// A power of two, so that the index of a call needs no division.
 const TABLE_LEN: usize = 4096;
 
-/// Numbers of jobs, by the calls that made them.
+/// A map from submit calls to job numbers.
 ///
-/// An actor's number modulo the table's length is the place of its calls in the table, which is looked at first. A call
-/// that finds another one in its place is in a map.
+/// An actor's number modulo the length of `table` is the index of its calls in `table`. If another
+/// call occupies that entry, the call is in the map `others`. A look-up reads `table` first.
 #[derive(Debug, Drop)]
 pub(crate) struct Calls {
-    // Empty until room is made for a first call.
+    // Empty until `reserve` is first called.
     table: Vec<Option<(Call, usize)>>,
     others: HashMap<Call, usize>,
 }
@@ -36,7 +36,7 @@ impl Model for Calls {
 }
 
 impl Calls {
-    /// No calls so far.
+    /// Creates an empty map.
     pub(crate) fn new(alloc: Global) -> Calls
         ensures { (q : ℕ × ℕ) → number_at result q ≡ None }
     {
@@ -46,7 +46,7 @@ impl Calls {
         }
     }
 
-    /// The number of the job that the call made.
+    /// Returns the number of the job that the call created, if the map contains the call.
     #[inline(always)]
     pub(crate) fn get(&self, call: Call) -> Option<usize>
         ensures { result ≡ number_at self.now call }
@@ -64,7 +64,7 @@ impl Calls {
         get_other(&self.others, call)
     }
 
-    /// Makes room for one call.
+    /// Reserves room for one more call.
     #[inline(always)]
     pub(crate) fn reserve(&mut self) -> Result<(), AllocError>
         ensures numbers { (q : ℕ × ℕ) → number_at self.new q ≡ number_at self.old q }
@@ -76,7 +76,7 @@ impl Calls {
         self.others.reserve(1)
     }
 
-    /// The call made the job of this number. There is room for it.
+    /// Records the number of the job that the call created. Room must have been reserved.
     #[inline(always)]
     pub(crate) fn set(&mut self, call: Call, number: usize)
         requires { 0 < self.old.room }
@@ -92,7 +92,7 @@ impl Calls {
         }
     }
 
-    /// The job that the call made is not asked for any more.
+    /// Removes the call, whose job cannot be requested any more.
     #[inline(always)]
     pub(crate) fn forget(&mut self, call: Call)
         ensures numbers { (q : ℕ × ℕ)
@@ -106,7 +106,7 @@ impl Calls {
     }
 }
 
-// Whether this place of the table is free or the call's.
+// Returns `true` if this entry of the table is free or belongs to the call.
 #[inline(always)]
 fn is_for(entry: &Option<(Call, usize)>, call: Call) -> bool
     ensures { result ≡ is_for call entry.now }
@@ -117,7 +117,7 @@ fn is_for(entry: &Option<(Call, usize)>, call: Call) -> bool
     }
 }
 
-// The call's place is free from now on, where it is no other's.
+// Frees the entry of the call, unless it belongs to another call.
 #[inline(always)]
 fn forget_in_table(table: &mut Vec<Option<(Call, usize)>>, call: Call)
     ensures { (q : ℕ × ℕ) (other : Option ℕ)
@@ -131,7 +131,7 @@ fn forget_in_table(table: &mut Vec<Option<(Call, usize)>>, call: Call)
     }
 }
 
-// The table, which is empty, gets so many places.
+// Allocates `len` free entries for the empty table.
 #[cold]
 #[inline(never)]
 fn lay_out(table: &mut Vec<Option<(Call, usize)>>, len: usize) -> Result<(), AllocError>
@@ -141,7 +141,8 @@ fn lay_out(table: &mut Vec<Option<(Call, usize)>>, len: usize) -> Result<(), All
     table.resize(len, None)
 }
 
-// Look-ups in a map are rare, and a look-up in an empty one would hash all the same.
+// Not inlined: look-ups in the map are rare. The caller checks first whether the map is empty,
+// since a look-up in an empty map would compute the hash as well.
 #[inline(never)]
 fn get_other(others: &HashMap<Call, usize>, call: Call) -> Option<usize>
     ensures { result ≡ lookup (same_pair call) others.now.entries }
@@ -149,7 +150,7 @@ fn get_other(others: &HashMap<Call, usize>, call: Call) -> Option<usize>
     others.get(&call).copied()
 }
 
-// The job of this number is what is found by the call. There is room for it.
+// Records the number of the job that the call created, in the map. Room must have been reserved.
 #[inline(never)]
 fn set_other(others: &mut HashMap<Call, usize>, call: Call, number: usize)
     requires { 0 < spare others.old }

@@ -15,13 +15,13 @@ use std::alloc::{AllocError, Global};
 use std::marker::Model;
 use written_machine::{ClientState, Parent};
 
-/// Where the clients of a world stand.
+/// The states of all clients of a world.
 ///
-/// A client is kept from its first step on. Each other one stands at the start of its body, so that nothing is kept of
-/// it but how many there are of its kind.
+/// Stores only clients that have moved. All others are at the start of their body, so that the
+/// number of clients of each kind describes them.
 #[derive(Debug, Drop)]
 pub struct Clients {
-    // For each kind how many clients there are of it and of the kinds before it.
+    // For each kind, the number of clients of it and of all kinds before it.
     ends: Vec<usize>,
     moved: MovedClients,
 }
@@ -38,11 +38,11 @@ impl Model for Clients {
 }
 
 impl Clients {
-    /// The clients of these kinds, each at the start of its body.
+    /// Creates the clients of these kinds, each at the start of its body.
     ///
     /// # Errors
     ///
-    /// `AllocError` where there is no memory for the kinds.
+    /// Returns `AllocError` if there is not enough memory for the kinds.
     pub fn new(alloc: Global, kinds: &[Client]) -> Result<Clients, AllocError>
         requires few { length kinds.now ≤ MAX_CLIENT_KINDS }
         requires small { All (λ kind. kind.count ≤ MAX_SIZE) kinds.now }
@@ -56,7 +56,7 @@ impl Clients {
         })
     }
 
-    /// The client of this number; None where there is no such client.
+    /// Returns the client with this number, or `None` if there is no such client.
     pub fn get(&self, number: usize) -> Option<ClientState>
         ensures { result ≡ slice_get self.now.items number }
     {
@@ -66,11 +66,12 @@ impl Clients {
         }
     }
 
-    /// Makes room for the actor, which stands at this position of its body, where it is a client at the start of it.
+    /// Reserves room for the actor, which is at this position of its body, if it is a client at the
+    /// start of its body.
     ///
     /// # Errors
     ///
-    /// `AllocError` where there is no memory for it. The clients are then unchanged.
+    /// Returns `AllocError` if there is not enough memory. The clients are then unchanged.
     pub fn reserve_for(&mut self, actor: Parent, position: usize) -> Result<(), AllocError>
         requires { StandsAt self.old.items actor position }
         ensures items { self.new.items ≡ self.old.items }
@@ -83,7 +84,8 @@ impl Clients {
         }
     }
 
-    /// The client of this number comes to this position of its body. There is room for it, if it stands at the start.
+    /// Moves the client with this number to this position of its body. If the client is at the
+    /// start of its body, room must have been reserved.
     pub fn go_to(&mut self, number: usize, position: usize)
         requires { (client_of self.old.items number).position ≡ 0 → 0 < self.old.room }
         ensures { self.new.items
@@ -99,7 +101,7 @@ impl Clients {
         }
     }
 
-    /// The client of this number comes to the start of its body again.
+    /// Moves the client with this number back to the start of its body.
     pub fn begin_again(&mut self, number: usize)
         ensures { self.new.items
             ≡ slice_set self.old.items number (at_position 0 (client_of self.old.items number)) }
@@ -108,7 +110,7 @@ impl Clients {
     }
 }
 
-// For each kind how many clients there are of it and of the kinds before it.
+// Returns, for each kind, the number of clients of it and of all kinds before it.
 fn ends_of(alloc: Global, kinds: &[Client]) -> Result<Vec<usize>, AllocError>
     requires few { length kinds.now ≤ MAX_CLIENT_KINDS }
     requires small { All (λ kind. kind.count ≤ MAX_SIZE) kinds.now }
@@ -123,7 +125,8 @@ fn ends_of(alloc: Global, kinds: &[Client]) -> Result<Vec<usize>, AllocError>
     Ok(ends)
 }
 
-// The client of this number at the start of its body; None where there is no such client.
+// Returns the client with this number at the start of its body, or `None` if there is no such
+// client.
 fn start_of(ends: &[usize], number: usize) -> Option<ClientState>
     requires { IsRising 0 ends.now }
     ensures { result ≡ slice_get (starting 0 0 ends.now) number }

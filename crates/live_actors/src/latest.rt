@@ -1,4 +1,4 @@
-//! The latest jobs that actors made.
+//! The latest jobs that actors created.
 
 ghost use Rattle.std.specs.Prelude.{◌≡◌, ◌≤◌, ◌<◌, None, Some, OnOk, if◌then◌else◌, ℕ};
 ghost use Rattle.written_machine.specs.declared.parent.Parent.{Parent};
@@ -9,7 +9,8 @@ use std::alloc::{AllocError, Global};
 use std::marker::Model;
 use written_machine::Parent;
 
-/// For an actor and the position of a submit in its body the number of the latest job that it made there.
+/// A map from actors and the positions of submits in their bodies to the number of the latest job
+/// that the actor created there.
 #[derive(Debug, Drop)]
 pub(crate) struct Latest {
     of_clients: Calls,
@@ -25,7 +26,7 @@ impl Model for Latest {
 }
 
 impl Latest {
-    /// No jobs so far.
+    /// Creates an empty map.
     pub(crate) fn new(alloc: Global) -> Latest
         ensures { (a : Parent) (t : ℕ) → found result a t ≡ None }
     {
@@ -35,7 +36,7 @@ impl Latest {
         }
     }
 
-    /// The latest job that the actor made by the submit at this position.
+    /// Returns the number of the latest job that the actor created by the submit at this position.
     #[inline(always)]
     pub(crate) fn get(&self, actor: Parent, submit: usize) -> Option<usize>
         ensures { result ≡ found self.now actor submit }
@@ -46,7 +47,7 @@ impl Latest {
         }
     }
 
-    /// Makes room for one job of the actor.
+    /// Reserves room for one job of the actor.
     #[inline(always)]
     pub(crate) fn reserve_for(&mut self, actor: Parent) -> Result<(), AllocError>
         ensures found { (a : Parent) (t : ℕ) → found self.new a t ≡ found self.old a t }
@@ -58,7 +59,8 @@ impl Latest {
         }
     }
 
-    /// The actor made the job of this number by the submit at this position. There is room for it.
+    /// Records the job with this number as the latest one that the actor created by the submit at
+    /// this position. Room must have been reserved.
     #[inline(always)]
     pub(crate) fn set(&mut self, actor: Parent, submit: usize, number: usize)
         requires { 0 < latest_room self.old actor }
@@ -72,7 +74,8 @@ impl Latest {
         }
     }
 
-    /// The latest job that the actor made by the submit at this position is not asked for any more.
+    /// Removes the latest job that the actor created by the submit at this position, since the
+    /// actor cannot request it any more.
     #[inline(always)]
     pub(crate) fn forget(&mut self, actor: Parent, submit: usize)
         ensures found { (a : Parent) (t : ℕ)

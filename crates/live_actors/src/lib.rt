@@ -1,4 +1,4 @@
-//! The actors of a running world: its live jobs, by number and by who made them, and where its clients stand.
+//! The actors of a running world: its live jobs, by number and by creator, and its clients.
 #![tactic(auto)]
 
 mod calls;

@@ -1,4 +1,4 @@
-//! The live jobs of a world: by number, and by who made them.
+//! The live jobs of a world, by number and by creator.
 
 ghost use Rattle.std.specs.Prelude.{◌≡◌, ◌≢◌, ℕ, ◌+◌, ◌<◌, ◌≤◌, ◌^◌, [], ◌∷◌, ◌++◌, length, map, count_by, is_some, slice_set, IsSome, IfSome, true, false, None, Some, OnOk};
 ghost use Rattle.written_machine.specs.declared.parent.Parent.TheVariants.{Job};
@@ -13,12 +13,13 @@ use std::alloc::{AllocError, Global};
 use std::marker::Model;
 use written_machine::Parent;
 
-/// The live jobs of a world, and for each actor that may ask for one of its own the latest that it made at a position.
+/// The live jobs of a world. For each actor that may request a job of its own, and for each
+/// position of a submit, it also stores the latest job that the actor created there.
 #[derive(Debug, Drop)]
 pub struct LiveJobs {
     kept: Places,
     latest: Latest,
-    // How many are queued or at a position.
+    // The number of jobs that are queued or at a position.
     unfinished: usize,
 }
 
@@ -34,7 +35,7 @@ impl Model for LiveJobs {
 }
 
 impl LiveJobs {
-    /// No jobs so far.
+    /// Creates an empty set of jobs.
     pub fn new(alloc: Global) -> LiveJobs
         ensures jobs { result.jobs ≡ [] }
         ensures places { result.places ≡ 0 }
@@ -46,14 +47,14 @@ impl LiveJobs {
         }
     }
 
-    /// How many jobs were ever made.
+    /// Returns the number of jobs ever created.
     pub fn len(&self) -> usize
         ensures { result ≡ length self.now.jobs }
     {
         self.kept.made()
     }
 
-    /// How many places there are for live jobs, free ones included.
+    /// Returns the number of places for live jobs, free ones included.
     pub fn places(&self) -> usize
         ensures value { result ≡ self.now.places }
         ensures enough { count_by is_some self.now.jobs ≤ result }
@@ -61,7 +62,7 @@ impl LiveJobs {
         self.kept.count()
     }
 
-    /// The live job of this number.
+    /// Returns the live job with this number, or `None` if there is no such job or it is not live.
     #[inline(always)]
     pub fn get(&self, number: usize) -> Option<JobView>
         ensures { result ≡ live_job self.now.jobs number }
@@ -69,14 +70,15 @@ impl LiveJobs {
         Some(self.kept.get(number)?.job)
     }
 
-    /// How many jobs are queued or at a position.
+    /// Returns the number of jobs that are queued or at a position.
     pub fn unfinished(&self) -> usize
         ensures { result ≡ count_by is_unfinished_job self.now.jobs }
     {
         self.unfinished
     }
 
-    /// The latest live job that the actor, which may ask for it, made by the submit at this position of its body.
+    /// Returns the number of the latest live job that the actor created by the submit at this
+    /// position of its body. The actor must be a client or an unfinished job.
     pub fn latest(&self, actor: Parent, submit: usize) -> Option<usize>
         requires { may_ask_for self.now.jobs actor ≡ true }
         ensures { result ≡ live_child self.now.jobs actor submit }
@@ -84,7 +86,7 @@ impl LiveJobs {
         self.latest.get(actor, submit)
     }
 
-    /// The job of this number, which is not done, comes to this position of its body.
+    /// Moves the unfinished job with this number to this position of its body.
     pub fn go_to(&mut self, number: usize, position: usize)
         requires { may_ask_for self.old.jobs (Job number) ≡ true }
         ensures jobs { self.new.jobs ≡ with_phase number (At position) self.old.jobs }
@@ -94,7 +96,8 @@ impl LiveJobs {
         self.kept.set_phase(number, Phase::At(position));
     }
 
-    /// The done job of this number is live no more: its maker gets it, and has no other from that position.
+    /// Removes the done job with this number, since its creator gets it. It must be the only live
+    /// job that its creator created at its position.
     pub fn forget(&mut self, number: usize, job: JobView)
         requires live { live_job self.old.jobs number ≡ Some job }
         requires done { is_done job.phase ≡ true }
@@ -106,11 +109,12 @@ impl LiveJobs {
         self.kept.free(number);
     }
 
-    /// Makes room for one job of the actor.
+    /// Reserves room for one job of the actor.
     ///
     /// # Errors
     ///
-    /// `AllocError` where there is no memory, or the count of jobs stands at its greatest value. The jobs are then unchanged.
+    /// Returns `AllocError` if there is not enough memory, or if the number of jobs is at its
+    /// maximum. The jobs are then unchanged.
     pub fn reserve_for(&mut self, actor: Parent) -> Result<(), AllocError>
         ensures jobs { self.new.jobs ≡ self.old.jobs }
         ensures places { self.new.places ≡ self.old.places }
@@ -121,8 +125,8 @@ impl LiveJobs {
         self.kept.reserve()
     }
 
-    /// The job's parent makes it. There is room for it. The parent's done job of the same submit, which can only be its
-    /// latest, is live no more.
+    /// Adds a new job of its parent. Room must have been reserved. Removes the parent's done job of
+    /// the same submit, which can only be the job `latest`.
     pub fn make(&mut self, latest: Option<usize>, job: JobView)
         requires room { 0 < room_for self.old.room job.parent }
         requires parent { WasMade self.old.jobs job.parent }
@@ -142,8 +146,9 @@ impl LiveJobs {
         self.unfinished += 1;
     }
 
-    /// The job of this number finishes: it is live as long as its parent may ask for it, which asks for the latest alone.
-    /// Nobody asks for the done jobs that it made.
+    /// Finishes the job with this number. The job stays live only if its parent may request it and
+    /// it is the latest of its submit. Removes the done jobs that it created, since no actor can
+    /// request them any more.
     pub fn finish(&mut self, number: usize, job: JobView)
         requires live { live_job self.old.jobs number ≡ Some job }
         requires going { is_done job.phase ≡ false }
@@ -174,7 +179,7 @@ impl LiveJobs {
         }
     }
 
-    // Whether the actor may still ask for a job of its own.
+    // Returns `true` if the actor may still request a job that it created.
     fn may_ask(&self, actor: Parent) -> bool
         ensures { result ≡ may_ask_for self.now.jobs actor }
     {
@@ -185,7 +190,7 @@ impl LiveJobs {
     }
 }
 
-// The actor's done job of this submit, which can only be its latest, is live no more.
+// Removes the actor's done job of this submit, which can only be the job `latest`.
 fn free_stale(kept: &mut Places, latest: Option<usize>, actor: Parent, submit: usize)
     requires { NoOtherIsStale (jobs_in kept.old.items) latest actor submit }
     ensures jobs { jobs_in kept.new.items
@@ -199,7 +204,7 @@ fn free_stale(kept: &mut Places, latest: Option<usize>, actor: Parent, submit: u
     }
 }
 
-// The job of this number is live no more, if it is a stale one of this submit.
+// Removes the job with this number if it is a done job of this submit.
 fn free_if_stale(kept: &mut Places, number: usize, actor: Parent, submit: usize)
     ensures jobs { jobs_in kept.new.items
         ≡ slice_set (jobs_in kept.old.items) number
@@ -215,7 +220,7 @@ fn free_if_stale(kept: &mut Places, number: usize, actor: Parent, submit: usize)
     }
 }
 
-// The actor, where it is a live job, made one by a submit below this position.
+// Raises the reach of the actor, if it is a live job, to at least this position.
 fn reach_to(kept: &mut Places, actor: Parent, reach: usize)
     ensures jobs { jobs_in kept.new.items ≡ jobs_in kept.old.items }
     ensures reaches { ReachesStay kept.old.items kept.new.items }
@@ -231,7 +236,7 @@ fn reach_to(kept: &mut Places, actor: Parent, reach: usize)
     }
 }
 
-// The live job of this number is in another phase, or live no more.
+// Replaces the phase of the live job with this number, or removes the job.
 fn finish_in(kept: &mut Places, number: usize, finished: Option<JobView>)
     requires live { IsSome (live_job (jobs_in kept.old.items) number) }
     requires phased { IfSome finished
@@ -246,7 +251,7 @@ fn finish_in(kept: &mut Places, number: usize, finished: Option<JobView>)
     }
 }
 
-// The job of this number, where nothing is left of it, is not found by this submit any more.
+// Removes the index entry of this submit if it has the job with this number and the job is gone.
 fn forget_if_gone(
     latest: &mut Latest,
     finished: Option<JobView>,
@@ -261,7 +266,8 @@ fn forget_if_gone(
     }
 }
 
-// The done jobs of this job are live no more. They are found, and come from below its reach.
+// Removes the done jobs that this job created. The index has all of them, at positions below the
+// reach of the job.
 fn forget_orphans(kept: &mut Places, latest: &mut Latest, parent: usize)
     requires live { IsSome (live_job (jobs_in kept.old.items) parent) }
     requires reached { AreReached kept.old.items }
@@ -280,7 +286,7 @@ fn forget_orphans(kept: &mut Places, latest: &mut Latest, parent: usize)
     }
 }
 
-// The job that this job made by this submit is live no more, if it is done.
+// Removes the job that this job created by this submit, if it is done.
 fn forget_orphan(kept: &mut Places, latest: &mut Latest, parent: usize, submit: usize)
     ensures { ForgetsOrphan parent submit kept.old kept.new latest.old latest.new }
 {

@@ -1,4 +1,4 @@
-//! The clients that moved, by number.
+//! The clients that have moved, by number.
 
 ghost use Rattle.std.specs.Prelude.{◌≡◌, ◌<◌, ℕ, None, Some, false, OnOk, is_some, nat_eq, if◌then◌else◌, ◌==◌};
 ghost use Rattle.std.specs.Option.{option_map};
@@ -10,9 +10,10 @@ use std::collections::HashMap;
 use std::marker::Model;
 use written_machine::ClientState;
 
-/// The clients that moved, by number.
+/// A map from client numbers to the states of the clients that have moved.
 ///
-/// Where clients set out in the order of their numbers, as most do, they stand in a list; each other one is in a map.
+/// Most clients move for the first time in the order of their numbers. Those are in a vector; all
+/// others are in a map.
 #[derive(Debug, Drop)]
 pub(crate) struct MovedClients {
     front: Vec<ClientState>,
@@ -31,7 +32,7 @@ impl Model for MovedClients {
 }
 
 impl MovedClients {
-    /// None so far.
+    /// Creates an empty map.
     pub(crate) fn new(alloc: Global) -> MovedClients
         ensures { (q : ℕ) → moved_at result q ≡ None }
     {
@@ -50,7 +51,7 @@ impl MovedClients {
         }
     }
 
-    /// Makes room for one more.
+    /// Reserves room for one more client.
     pub(crate) fn reserve(&mut self) -> Result<(), AllocError>
         ensures stay { (q : ℕ) → moved_at self.new q ≡ moved_at self.old q }
         ensures room { OnOk result (0 < self.new.room) }
@@ -59,7 +60,8 @@ impl MovedClients {
         self.others.reserve(1)
     }
 
-    /// The client of this number, if it moved before, comes to this position of its body. Whether it did.
+    /// Moves the client with this number to this position of its body if it has moved before.
+    /// Returns `true` if it has.
     pub(crate) fn go_on(&mut self, number: usize, position: usize) -> bool
         ensures is_among { result ≡ is_some (moved_at self.old number) }
         ensures moves { (q : ℕ)
@@ -75,7 +77,7 @@ impl MovedClients {
         go_on(&mut self.others, number, position)
     }
 
-    /// The client of this number moves for the first time. There is room for it.
+    /// Records the first move of the client with this number. Room must have been reserved.
     pub(crate) fn set_out(&mut self, number: usize, client: ClientState)
         requires room { 0 < self.old.room }
         requires stood { is_some (moved_at self.old number) ≡ false }

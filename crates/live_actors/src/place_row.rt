@@ -1,4 +1,4 @@
-//! What is kept of jobs, by number.
+//! The stored data of jobs, by job number.
 
 ghost use Rattle.std.specs.Prelude.{◌≡◌, ◌+◌, ◌<◌, ◌^◌, [], ◌∷◌, ◌++◌, length, is_some, IsSome, slice_set, ◌≤◌, ◌⊎◌, nat_eq, None, Some, OnOk};
 ghost use Rattle.std.specs.HashMap.{get, spare, Updates};
@@ -12,20 +12,21 @@ use std::alloc::{AllocError, Global};
 use std::collections::{HashMap, VecDeque};
 use std::marker::Model;
 
-// The ring may have two numbers for each live job and for each of these.
+// The ring may have two numbers for each live job and two for each of these.
 const SPARE_NUMBERS: usize = 16;
 
-/// What is kept of each job that was made, by number: a row with a gap for each job that is live no more.
+/// A sequence with an entry for each job ever created, by number. The entry of a job that is no
+/// longer live is a gap.
 ///
-/// The row's end is a ring, in which a look-up takes an index alone. Gaps at the ring's front go, and where the ring has
-/// more than some two numbers for each live job, a job at its front moves into a map. So a job that lives long keeps no
-/// more than its own place.
+/// The end of the sequence is a ring buffer, in which a look-up is an index operation. Gaps at the
+/// start of the ring are removed. If the ring has more than about two numbers for each live job,
+/// its first job moves into a map. A long-lived job therefore occupies only its own entry.
 #[derive(Debug, Drop)]
 pub(crate) struct PlaceRow {
     // The first number of the ring.
     base: usize,
     recent: VecDeque<Option<KeptJob>>,
-    // The live jobs of lower numbers.
+    // The live jobs with lower numbers.
     older: HashMap<usize, KeptJob>,
 }
 
@@ -42,7 +43,7 @@ impl Model for PlaceRow {
 }
 
 impl PlaceRow {
-    /// No jobs so far.
+    /// Creates an empty sequence.
     pub(crate) fn new(alloc: Global) -> PlaceRow
         ensures items { result.items ≡ [] }
         ensures span { result.span ≡ 0 }
@@ -54,14 +55,14 @@ impl PlaceRow {
         }
     }
 
-    /// How many jobs were ever made.
+    /// Returns the number of jobs ever created.
     pub(crate) fn len(&self) -> usize
         ensures { result ≡ length self.now.items }
     {
         self.base + self.recent.len()
     }
 
-    /// What is kept of the job of this number.
+    /// Returns the data of the job with this number, or `None` if the job is not live.
     #[inline(always)]
     pub(crate) fn get(&self, number: usize) -> Option<KeptJob>
         ensures { result ≡ place_at self.now.items number }
@@ -72,7 +73,7 @@ impl PlaceRow {
         *self.recent.get(number - self.base)?
     }
 
-    /// What is kept of the job of this number is this, from now on.
+    /// Replaces the data of the job with this number.
     pub(crate) fn set(&mut self, number: usize, place: KeptJob)
         requires { IsSome (place_at self.old.items number) }
         ensures items { self.new.items ≡ slice_set self.old.items number (Some place) }
@@ -86,7 +87,7 @@ impl PlaceRow {
         }
     }
 
-    /// The job of this number is in this phase, from now on.
+    /// Replaces the phase of the job with this number.
     pub(crate) fn set_phase(&mut self, number: usize, phase: Phase)
         requires { IsSome (place_at self.old.items number) }
         ensures items { self.new.items
@@ -102,7 +103,7 @@ impl PlaceRow {
         }
     }
 
-    /// Nothing is kept of the job of this number from now on. Whether something was.
+    /// Clears the entry of the job with this number, and returns whether it was occupied.
     pub(crate) fn free(&mut self, number: usize) -> bool
         ensures value { result ≡ is_some (place_at self.old.items number) }
         ensures items { self.new.items ≡ slice_set self.old.items number None }
@@ -117,7 +118,13 @@ impl PlaceRow {
         was_kept
     }
 
-    /// Makes room for one job. So many are live: where the ring is too long for them, it gives its first number away.
+    /// Reserves room for one job. If the ring is too long for `live` live jobs, its first job moves
+    /// into the map.
+    ///
+    /// # Errors
+    ///
+    /// Returns `AllocError` if there is not enough memory, or if the number of jobs is at its
+    /// maximum.
     pub(crate) fn reserve(&mut self, live: usize) -> Result<(), AllocError>
         ensures items { self.new.items ≡ self.old.items }
         ensures span { self.new.span ≤ self.old.span }
@@ -132,7 +139,7 @@ impl PlaceRow {
         self.recent.reserve(1)
     }
 
-    // Where there are many recent numbers, the first of them is one of the older ones from now on.
+    // Moves the first job of the ring into the map if the ring is too long.
     fn shorten(&mut self, live: usize) -> Result<(), AllocError>
         ensures items { self.new.items ≡ self.old.items }
         ensures span { self.new.span ≤ self.old.span }
@@ -153,7 +160,7 @@ impl PlaceRow {
         Ok(())
     }
 
-    /// Another job is made. There is room for it.
+    /// Appends an entry for a new job. Room must have been reserved.
     pub(crate) fn push(&mut self, place: KeptJob)
         requires { 0 < self.old.room }
         ensures items { self.new.items ≡ self.old.items ++ Some place ∷ [] }
@@ -164,7 +171,7 @@ impl PlaceRow {
     }
 }
 
-// The gaps at the front go. How many they were.
+// Removes the gaps at the start of the ring, and returns their number.
 fn skip_gaps(recent: &mut VecDeque<Option<KeptJob>>) -> usize
     ensures items { recent.old.items ≡ gaps result ++ recent.new.items }
     ensures front { HasNoGapAtFront recent.new.items }
@@ -179,7 +186,7 @@ fn skip_gaps(recent: &mut VecDeque<Option<KeptJob>>) -> usize
     skipped
 }
 
-// Nothing stands at an index from now on. Whether something did.
+// Clears the entry at an index, and returns whether it was occupied.
 fn clear(recent: &mut VecDeque<Option<KeptJob>>, index: usize) -> bool
     ensures value { result ≡ is_some (place_at recent.old.items index) }
     ensures items { recent.new.items ≡ slice_set recent.old.items index None }
@@ -192,7 +199,7 @@ fn clear(recent: &mut VecDeque<Option<KeptJob>>, index: usize) -> bool
     }
 }
 
-// What stands at an index is in another phase.
+// Replaces the phase of the job at an index.
 fn set_phase_at(recent: &mut VecDeque<Option<KeptJob>>, index: usize, phase: Phase)
     ensures items { recent.new.items
         ≡ slice_set recent.old.items index
@@ -205,7 +212,7 @@ fn set_phase_at(recent: &mut VecDeque<Option<KeptJob>>, index: usize, phase: Pha
     }
 }
 
-// What stands in this place is in another phase.
+// Replaces the phase of the job in this entry.
 fn set_phase_in(place: &mut Option<KeptJob>, phase: Phase)
     ensures { place.new ≡ place_in_phase phase place.old }
 {
@@ -214,7 +221,7 @@ fn set_phase_in(place: &mut Option<KeptJob>, phase: Phase)
     }
 }
 
-// What is kept under a number. Few look-ups come here, and they stay out of their callers.
+// Returns the data of the job with this number. Not inlined, since few look-ups get here.
 #[inline(never)]
 fn get_older(older: &HashMap<usize, KeptJob>, number: usize) -> Option<KeptJob>
     ensures { result ≡ get nat_eq older.now number }
@@ -222,7 +229,7 @@ fn get_older(older: &HashMap<usize, KeptJob>, number: usize) -> Option<KeptJob>
     older.get(&number).copied()
 }
 
-// Another value stands at a number where one stood.
+// Replaces the value at a number that has one.
 fn put(older: &mut HashMap<usize, KeptJob>, number: usize, place: KeptJob)
     requires { IsSome (get nat_eq older.old number) }
     ensures { Updates nat_eq older.old older.new number (Some place) }
@@ -232,7 +239,7 @@ fn put(older: &mut HashMap<usize, KeptJob>, number: usize, place: KeptJob)
     }
 }
 
-// What stands at a number is in another phase.
+// Replaces the phase of the job at a number that has one.
 fn put_phase(older: &mut HashMap<usize, KeptJob>, number: usize, phase: Phase)
     requires { IsSome (get nat_eq older.old number) }
     ensures { Updates nat_eq older.old older.new number

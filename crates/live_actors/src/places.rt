@@ -1,4 +1,4 @@
-//! Live jobs by number, in places that are used again.
+//! Live jobs by number, in reusable places.
 
 ghost use Rattle.std.specs.Prelude.{◌≡◌, ◌+◌, ◌<◌, ◌^◌, [], ◌∷◌, ◌++◌, length, count_by, is_some, IsSome, slice_set, ◌≤◌, None, Some, OnOk};
 
@@ -7,24 +7,25 @@ use live_views::{JobView, Phase};
 use std::alloc::{AllocError, Global};
 use std::marker::Model;
 
-/// What is kept of a live job.
+/// The stored data of a live job.
 #[derive(Clone, Copy, Debug)]
 pub(crate) struct KeptJob {
     pub(crate) job: JobView,
-    // The live jobs that it made come from submits at positions below this one.
+    // An exclusive upper bound of the positions of the submits that created the live jobs of this
+    // job.
     pub(crate) reach: usize,
 }
 
 /// The live jobs, by number.
 ///
-/// A job that is live no more leaves its place to the next job that is made. So there are as many places as there were
-/// ever live jobs at a time.
+/// A job that is no longer live leaves its place to a new job. The number of places is therefore
+/// the greatest number of jobs that were live at the same time.
 #[derive(Debug, Drop)]
 pub(crate) struct Places {
     kept: PlaceRow,
-    // How many jobs are live.
+    // The number of live jobs.
     live: usize,
-    // How many places there are, free ones included.
+    // The number of places, free ones included.
     count: usize,
 }
 
@@ -44,7 +45,7 @@ impl Places {
     ghost use Rattle.live_actors.specs.KeptJob.{place_at, place_in_phase};
     ghost use Rattle.live_actors.specs.Places.{places_after};
 
-    /// No jobs so far.
+    /// Creates an empty set of jobs.
     pub(crate) fn new(alloc: Global) -> Places
         ensures items { result.items ≡ [] }
         ensures places { result.places ≡ 0 }
@@ -56,14 +57,14 @@ impl Places {
         }
     }
 
-    /// How many jobs were ever made.
+    /// Returns the number of jobs ever created.
     pub(crate) fn made(&self) -> usize
         ensures { result ≡ length self.now.items }
     {
         self.kept.len()
     }
 
-    /// How many places there are, free ones included.
+    /// Returns the number of places, free ones included.
     pub(crate) fn count(&self) -> usize
         ensures value { result ≡ self.now.places }
         ensures enough { count_by is_some self.now.items ≤ result }
@@ -71,7 +72,7 @@ impl Places {
         self.count
     }
 
-    /// What is kept of the live job of this number.
+    /// Returns the data of the live job with this number, or `None` if the job is not live.
     #[inline(always)]
     pub(crate) fn get(&self, number: usize) -> Option<KeptJob>
         ensures { result ≡ place_at self.now.items number }
@@ -79,7 +80,7 @@ impl Places {
         self.kept.get(number)
     }
 
-    /// What is kept of the live job of this number is this, from now on.
+    /// Replaces the data of the live job with this number.
     pub(crate) fn set(&mut self, number: usize, place: KeptJob)
         requires { IsSome (place_at self.old.items number) }
         ensures items { self.new.items ≡ slice_set self.old.items number (Some place) }
@@ -89,7 +90,7 @@ impl Places {
         self.kept.set(number, place);
     }
 
-    /// The live job of this number is in this phase, from now on.
+    /// Replaces the phase of the live job with this number.
     pub(crate) fn set_phase(&mut self, number: usize, phase: Phase)
         requires { IsSome (place_at self.old.items number) }
         ensures items { self.new.items
@@ -101,7 +102,7 @@ impl Places {
         self.kept.set_phase(number, phase);
     }
 
-    /// The job of this number is live no more, and its place is free.
+    /// Removes the job with this number and frees its place.
     pub(crate) fn free(&mut self, number: usize)
         ensures items { self.new.items ≡ slice_set self.old.items number None }
         ensures places { self.new.places ≡ self.old.places }
@@ -112,7 +113,7 @@ impl Places {
         }
     }
 
-    /// Makes room for one job.
+    /// Reserves room for one job.
     pub(crate) fn reserve(&mut self) -> Result<(), AllocError>
         ensures items { self.new.items ≡ self.old.items }
         ensures places { self.new.places ≡ self.old.places }
@@ -122,7 +123,7 @@ impl Places {
         self.kept.reserve(self.live)
     }
 
-    /// Another job is made. There is room for it, and it takes a free place where there is one.
+    /// Adds a new job. Room must have been reserved. The job takes a free place if there is one.
     pub(crate) fn push(&mut self, place: KeptJob)
         requires { 0 < self.old.room }
         ensures items { self.new.items ≡ self.old.items ++ Some place ∷ [] }

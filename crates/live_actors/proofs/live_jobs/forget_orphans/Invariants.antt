@@ -2,7 +2,7 @@ use Rattle.std.proofs.Common.{◌≡◌}
 use Rattle.live_actors.specs.LiveJobs.{AreOrphaned, ReachesStay, jobs_in}
 use Rattle.live_actors.proofs.live_jobs.forget_orphans.Given as goal
 
--- the done jobs from positions before this one are forgotten
+-- the done jobs from positions before this one are removed
 abbrev pub invariant-loop-submit : goal.invariant-loop-submit
 invariant-loop-submit l = record {
   orphaned : AreOrphaned l.parent l.submit (jobs_in l.fn.kept.items) (jobs_in l.kept.items) l.fn.latest l.latest;
