@@ -1,4 +1,4 @@
--- A live job that is done is the latest that its maker made at its position.
+-- A live job that is done is the latest job that its creator created at its position.
 use Rattle.std.proofs.Common.{◌≡◌, ℕ, ◌&&◌, Bool, true, false, if◌then◌else◌, Option, Some, None, refl, sym, ap, subst, ◌∙◌}
 use Rattle.std.proofs.lemmas.Bool.{and_parts, eqb-true}
 use Rattle.std.proofs.lemmas.Option.{same_Some}
@@ -31,7 +31,7 @@ not_done made phase job e going done =
     let f : false ≡ true = sym going ∙ ap is_done same ∙ done in
     absurd cc
 
--- it is the latest that its maker made at its position, and is seen as done
+-- the job is the latest of its creator at its position, and has the phase done in the view
 record IsSeenDone (s : State) (k : ℕ) (made : Made) (stage : Stage) : Type 0 where
   latest : child s made.parent made.slot ≡ Some k
   seen : phase_seen s k made stage ≡ Some phase.Done

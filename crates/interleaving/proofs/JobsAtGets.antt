@@ -1,4 +1,4 @@
--- Which live jobs of its own an actor has at a submit whose jobs a get asks for, and at that get.
+-- The live jobs of an actor, from a submit whose jobs a get requests: none at the submit, and one at the get.
 use Rattle.std.proofs.Common.{◌≡◌, ◌≢◌, ℕ, suc, ◌&&◌, Bool, true, false, if◌then◌else◌, List, [], ◌∷◌, slice_get, Some, None, ⊎_elim, sym, ap, subst, ◌∙◌, arith}
 use Rattle.std.specs.Option.{option_map}
 use Rattle.std.proofs.lemmas.Bool.{and_parts, eqb-true, false_from_ne_true, or_cases}
@@ -36,7 +36,7 @@ live_unclaimed s a t k made (At i) live = (live, λ f. absurd cc)
 live_unclaimed s a t k made Done live = (made_if a t made (may_ask s made.parent && is_number (child s made.parent made.slot) k) live, λ f. absurd cc)
 live_unclaimed s a t k made Claimed live = absurd cc
 
--- where a get asks for them, none is live as the actor comes to the submit again
+-- if a get requests them, none is live when the actor reaches the submit again
 none_left_at : (plan : Plan) (s : State) (a : Parent) (body : List Action) (i g : ℕ) → IsWellFormed plan → IsReached plan s → point plan s a ≡ Some (record { body = body; position = i }) → slice_get body g ≡ Some (Get i)
     → (k : ℕ) → is_live_child a i (live_job (live_view plan s).jobs k) ≡ false
 none_left_at plan s a body i g w reached stands asks k = false_from_ne_true (is_live_child a i (live_job (live_view plan s).jobs k)) (λ live.
@@ -60,7 +60,7 @@ none_left_in_state plan s a x w reached stands asked =
     let test = is_live_child a x.position in
     last_where_none test jobs (λ i d inside. ap test (get_or_default jobs i d None inside) ∙ none_left_at plan s a x.body x.position get.0 w reached (sym (point_seen plan s a) ∙ stands) get.1 i)
 
--- an actor at a submit whose job a get asks for has no live job from there
+-- an actor at a submit whose job a get requests has no live job from that submit
 pub none_left : (plan : Plan) (view : View) (a : Parent) (next : NextAction) → IsOf plan view → IsWellFormed plan → option_map next_action_at (point_in plan view a) ≡ Some next → next.asked ≡ true → live_child view.jobs a next.position ≡ None
 none_left plan view a next of w e asked =
     let found = point_of_next (point_in plan view a) next e in
@@ -84,7 +84,7 @@ alone_in_state : (plan : Plan) (s : State) (a : Parent) (x : Point) (t : ℕ) �
 alone_in_state plan s a x t reached w stands asks i k one two =
     same_Some i k (sym (latest_at_get plan s a x t reached w stands asks i one) ∙ latest_at_get plan s a x t reached w stands asks k two)
 
--- an actor at a get has one live job from the submit that it names
+-- an actor at a get has at most one live job from the submit that the get names
 pub alone_at_get : (plan : Plan) (view : View) (a : Parent) (next : NextAction) (t : ℕ) → IsOf plan view → IsWellFormed plan → option_map next_action_at (point_in plan view a) ≡ Some next → next.action ≡ Some (Get t) → IsAlone view.jobs a t
 alone_at_get plan view a next t of w e asks =
     let found = point_of_next (point_in plan view a) next e in

@@ -1,4 +1,4 @@
--- The job that a pool's idle worker would take is not done.
+-- The job at the head of a queue is not done, if an idle worker can take it.
 use Rattle.std.proofs.Common.{◌≡◌, ℕ, suc, true, List, [], ◌∷◌, Some, refl, sym, ap, subst, ◌∙◌, arith, zero, ◌==◌, length, inl, inr}
 use Rattle.std.proofs.lemmas.Bool.{and_parts, cases_lt}
 use Rattle.std.proofs.lemmas.List.{get_or_past}

@@ -1,4 +1,4 @@
--- The live jobs once an actor moved on.
+-- The live jobs after an actor moved.
 use Rattle.std.proofs.Common.{◌≡◌, ◌≢◌, ℕ, true, not, List, length, Option, Some, None, refl, sym, ap, subst, ◌∙◌, arith, false, if◌then◌else◌, set, inl, inr, ⊎_elim, length-set}
 use Rattle.std.proofs.lemmas.Bool.{both_ways, cases_lt, cases_eq, and_right}
 use Rattle.std.proofs.lemmas.List.{get_or-set_other, get_or_past, get_or-set_same}
@@ -20,14 +20,14 @@ moved_child (parent.Job j) i view b t k = phased_child view.jobs j (phase.At i) 
 pub alone_moved : (a : Parent) (i : ℕ) (view : View) (b : Parent) (t : ℕ) → IsAlone view.jobs b t → IsAlone (moved_live_jobs a i view) b t
 alone_moved a i view b t alone m k one two = alone m k (sym (moved_child a i view b t m) ∙ one) (sym (moved_child a i view b t k) ∙ two)
 
--- a done job is not the actor that moves
+-- a done job stays, since it is not the actor that moves
 pub done_moved : (a : Parent) (i : ℕ) (view : View) (k : ℕ) (job : JobView) → may_ask_for view.jobs a ≡ true → live_job view.jobs k ≡ Some job → is_done job.phase ≡ true → live_job (moved_live_jobs a i view) k ≡ Some job
 done_moved (parent.Client c) i view k job asks live done = live
 done_moved (parent.Job j) i view k job asks live done =
     let other : k ≢ j = λ same. both_ways (is_unfinished_job (live_job view.jobs k)) (ap is_unfinished_job live ∙ ap not done) (ap (λ m. is_unfinished_job (live_job view.jobs m)) same ∙ asks) in
     get_or-set_other view.jobs j k (in_phase (phase.At i) (live_job view.jobs j)) None other ∙ live
 
--- the latest job of a submit is alone as its maker's
+-- if a submit has at most one live job, the latest job is the only live one of its own creator and position
 pub alone_as_child : (jobs : List (Option JobView)) (a : Parent) (t k : ℕ) (job : JobView) → live_child jobs a t ≡ Some k → live_job jobs k ≡ Some job → IsAlone jobs a t → IsAlone jobs job.parent job.slot
 alone_as_child jobs a t k job e live alone =
     let child = child_of a t (Some job) (ap (is_live_child a t) (sym live) ∙ (latest_is jobs a t k e).passes) in
@@ -53,7 +53,7 @@ phased_stays jobs a t j i =
       | inr past ↦ let e = get_or_past (set jobs j new) j None (omega (arith, length-set jobs j new)) in ap (unless_stale a t) e ∙ sym e
     ]
 
--- nor once an actor moved on
+-- a move of an actor makes no job stale
 pub stale_moved : (a b : Parent) (t i : ℕ) (latest : Option ℕ) (view : View) → NoOtherIsStale view.jobs latest a t → NoOtherIsStale (moved_live_jobs b i view) latest a t
 stale_moved a (parent.Client c) t i latest view none = none
 stale_moved a (parent.Job j) t i latest view none = λ k other. ⊎_elim
@@ -61,7 +61,7 @@ stale_moved a (parent.Job j) t i latest view none = λ k other. ⊎_elim
     (λ (apart : k ≢ j). let e = get_or-set_other view.jobs j k (in_phase (phase.At i) (live_job view.jobs j)) None apart in ap (unless_stale a t) e ∙ none k other ∙ sym e)
     (cases_eq k j)
 
--- as many jobs as before
+-- a move keeps the number of jobs
 pub length-moved : (a : Parent) (i : ℕ) (view : View) → length (moved_live_jobs a i view) ≡ length view.jobs
 length-moved (parent.Client c) i view = refl
 length-moved (parent.Job j) i view = length-set view.jobs j (in_phase (phase.At i) (live_job view.jobs j))

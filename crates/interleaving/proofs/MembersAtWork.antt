@@ -1,4 +1,4 @@
--- What the members of a set do in a pool, and when they are all that work there.
+-- The activity of the members of a set in a pool, and the condition that they are the only jobs that run there.
 use Rattle.std.proofs.Common.{◌≡◌, ◌≢◌, ℕ, zero, suc, ◌+◌, ◌<◌, ◌≤◌, ◌==◌, ◌&&◌, ◌||◌, not, Bool, true, false, cond, List, [], ◌∷◌, ◌++◌, length, count_by, get_or, set, ⊎_elim, Option, Some, None, refl, sym, ap, ap₂, subst, inl, inr, ◌∙◌, arith, eq-eqb}
 use Rattle.std.specs.List.{list_all}
 use Rattle.std.proofs.lemmas.Bool.{cases_Bool, cases_eq, both_ways, false_from_ne_true, eqb-true}
@@ -43,7 +43,7 @@ all_or_fewer true n long rest e low = e ∙ one_up
     ]
 all_or_fewer false n long rest e low = sym (false_from_ne_true (0 + n == 1 + long) (λ same. let is = eqb-true (0 + n) (1 + long) same in omega (arith, is, low)))
 
--- all pass where as many pass as there are
+-- all elements pass exactly if the number of those that pass is the length
 all_by_count : {X : Type 0} (test : X → Bool) (xs : List X) → list_all test xs ≡ (count_by test xs == length xs)
 all_by_count test [] = refl
 all_by_count test (x ∷ xs) =
@@ -51,7 +51,7 @@ all_by_count test (x ∷ xs) =
     let long : suc (length xs) ≡ 1 + length xs = omega arith in
     all_or_fewer (test x) (count_by test xs) (length xs) (list_all test xs) (all_by_count test xs) (count_by-le-length test xs) ∙ ap₂ (λ a b. a == b) (sym counts) (sym long)
 
--- ---- one more member, and those at work
+-- ---- one more member, and the running jobs
 
 module _ (busy : Option JobView → Bool) (members : List ℕ) where
   abbrev among : ℕ → List (Option JobView) → ℕ
@@ -64,7 +64,7 @@ module _ (busy : Option JobView → Bool) (members : List ℕ) where
   head test true n ns = count-cons test n ns
   head test false n ns = omega arith
 
-  -- those behind it stay
+  -- the elements after the new member stay
   others_stay : (m n : ℕ) (jobs : List (Option JobView)) → m < n → among_more m n jobs ≡ among n jobs
   others_stay m n [] below = refl
   others_stay m n (job ∷ jobs) below =
@@ -136,11 +136,11 @@ module _ (plan : Plan) (view : View) (members : List ℕ) (m : ℕ) where
   and_false true c e = e
   and_false false c e = refl
 
-  -- a number of no live job
+  -- a number without a live job leaves the share
   pub share_without : (p : ℕ) → live_job view.jobs m ≡ None → share_of plan view (members ++ m ∷ []) p ≡ share_of plan view members p
   share_without p none = share_pushed p ∙ ap (with_job p) none ∙ share_stays p None refl refl
 
-  -- a job of another pool
+  -- a job of another pool leaves the share
   pub share_elsewhere : (p : ℕ) (job : JobView) → live_job view.jobs m ≡ Some job → pool_of plan job.class ≢ p → share_of plan view (members ++ m ∷ []) p ≡ share_of plan view members p
   share_elsewhere p job live other =
       let no : (pool_of plan job.class == p) ≡ false = false_from_ne_true (pool_of plan job.class == p) (λ same. other (eqb-true (pool_of plan job.class) p same)) in
@@ -152,7 +152,7 @@ module _ (plan : Plan) (view : View) (members : List ℕ) (m : ℕ) where
   by_phase queued n (phase.At i) false = ap₂ (λ (b : Bool) (k : ℕ). record { queued = b; at_work = k }) (or_false queued) (no_more n)
   by_phase queued n phase.Done new = ap₂ (λ (b : Bool) (k : ℕ). record { queued = b; at_work = k }) (or_false queued) (no_more n)
 
-  -- a job of this one
+  -- a job of this pool changes the share by its phase
   pub share_here : (job : JobView) → live_job view.jobs m ≡ Some job → share_of plan view (members ++ m ∷ []) (pool_of plan job.class) ≡ share_with (share_of plan view members (pool_of plan job.class)) job.phase (not (is_member members m))
   share_here job live =
       let p = pool_of plan job.class in
@@ -162,7 +162,7 @@ module _ (plan : Plan) (view : View) (members : List ℕ) (m : ℕ) where
       ∙ ap (λ b. record { queued = queued || (is_in_queue job.phase && b || false); at_work = n + one_if (is_at_work job.phase && b && not (is_member members m)) }) (eq-eqb p p refl)
       ∙ by_phase queued n job.phase (not (is_member members m))
 
--- no members have no share
+-- the empty set has an empty share
 pub nobody : (plan : Plan) (view : View) (p : ℕ) → share_of plan view [] p ≡ no_share
 nobody plan view p = ap (λ (n : ℕ). record { queued = false; at_work = n }) (none (places_where (is_busy_job plan p) view.jobs))
   where
@@ -170,7 +170,7 @@ nobody plan view p = ap (λ (n : ℕ). record { queued = false; at_work = n }) (
     none [] = refl
     none (n ∷ ns) = let counts = count-cons (is_member []) n ns in let rest = none ns in omega (arith, counts, rest)
 
--- the shares of all pools once a live job is a member too
+-- the shares of all pools after a live job was added to the members
 module _ (plan : Plan) (view : View) (members : List ℕ) (m : ℕ) (job : JobView) (live : live_job view.jobs m ≡ Some job) (shares : List Share) (inside : pool_of plan job.class < length shares) where
   abbrev shares_after : List Share
   shares_after = set shares (pool_of plan job.class) (share_with (share_at shares (pool_of plan job.class)) job.phase (not (is_member members m)))
@@ -214,7 +214,7 @@ at_work_in_state plan s p inside =
     let many : length (places_where (is_busy_job plan p) (live_view plan s).jobs) ≡ busy plan s p = ap length (busy_places plan s p) ∙ length-places (is_busy_in plan p) s.jobs in
     omega (arith, threads, idle, many)
 
--- the threads that are not idle have the jobs at work
+-- the number of threads is the number of idle workers plus the number of running jobs
 at_work_in_pool : (plan : Plan) (view : View) (p : ℕ) → IsOf plan view → p < length plan.pools → (pool_in view p).threads ≡ (pool_in view p).idle + length (places_where (is_busy_job plan p) view.jobs)
 at_work_in_pool plan view p of inside = subst (λ (v : View). (pool_in v p).threads ≡ (pool_in v p).idle + length (places_where (is_busy_job plan p) v.jobs)) of.2 (at_work_in_state plan of.0 p inside)
 

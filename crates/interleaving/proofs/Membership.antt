@@ -1,4 +1,4 @@
--- Which numbers are members of a set.
+-- Membership in a set of numbers.
 use Rattle.std.proofs.Common.{◌≡◌, ◌≢◌, ℕ, zero, suc, ◌-◌, ◌<◌, ◌≤◌, nat_lt, ◌==◌, ◌||◌, not, Bool, true, false, List, [], ◌∷◌, ◌++◌, length, take, get_or, Some, Result, Ok, Err, MatchResult, ⊎_elim, refl, sym, ap, ap₂, ◌∙◌, arith, eq-eqb}
 use Rattle.std.specs.Result.{is_ok}
 use Rattle.std.specs.List.{IsAllAdjacentAnswer}
@@ -10,18 +10,18 @@ use Rattle.std.proofs.lemmas.List.{get_or-take, length-take-le}
 use Rattle.std.proofs.lemmas.List.Folds.{list_any_at, list_any-append}
 use Rattle.written_machine.specs.Waiting.{is_member}
 
--- the number at a place
+-- the number at an index is a member
 pub member_at : (members : List ℕ) (i j : ℕ) → i < length members → get_or members i 0 ≡ j → is_member members j ≡ true
 member_at members i j inside e = list_any_at (λ member. member == j) members i 0 inside (eq-eqb (get_or members i 0) j e)
 
--- one that stands nowhere
+-- a number that is at no index is not a member
 pub no_member : (members : List ℕ) (j : ℕ) → ((i : ℕ) → i < length members → get_or members i 0 ≢ j) → is_member members j ≡ false
 no_member [] j none = refl
 no_member (member ∷ members) j none =
     let first : (member == j) ≡ false = false_from_ne_true (member == j) (λ same. none 0 (omega arith) (eqb-true member j same)) in
     ap₂ (λ a b. a || b) first (no_member members j (λ i inside. none (suc i) (omega arith)))
 
--- what a search by halves says
+-- the result of a binary search decides membership
 pub member_found : (members : List ℕ) (j : ℕ) (r : Result ℕ ℕ)
     → MatchResult r (λ i. (i < length members) × (get_or members i 0 ≡ j)) (λ i. (i ≤ length members) × ((k : ℕ) → k < i → get_or members k 0 < j) × ((k : ℕ) → i ≤ k → k < length members → j < get_or members k 0)) → is_ok r ≡ is_member members j
 member_found members j (Ok i) found = sym (member_at members i j found.0 found.1)
@@ -30,7 +30,7 @@ member_found members j (Err i) gap = sym (no_member members j (λ k inside same.
     apart : (k : ℕ) → k < length members → get_or members k 0 ≢ j
     apart k inside same = ⊎_elim (λ (low : k < i). let below = gap.1 k low in omega (arith, below, same)) (λ (high : i ≤ k). let above = gap.2 k high inside in omega (arith, above, same)) (cases_lt k i)
 
--- where the numbers rise, one stands behind its like
+-- in a sorted list, equal numbers are adjacent
 module _ (members : List ℕ) (rises : IsNonDecreasing members) (i : ℕ) (inside : suc i < length members) where
   before : (k : ℕ) → k < suc i → get_or (take (suc i) members) k 0 ≡ get_or members k 0
   before k low = get_or-take (suc i) members k 0 low
@@ -74,7 +74,7 @@ itself_pushed members m = member_pushed members m m ∙ ap (λ b. is_member memb
 pub others_pushed : (members : List ℕ) (m j : ℕ) → m ≢ j → is_member (members ++ m ∷ []) j ≡ is_member members j
 others_pushed members m j other = member_pushed members m j ∙ ap (λ b. is_member members j || (b || false)) (false_from_ne_true (m == j) (λ same. other (eqb-true m j same))) ∙ or_false (is_member members j)
 
--- ---- numbers that rise
+-- ---- sorted numbers
 
 pub rise_if : (members : List ℕ) (answer : Bool) → IsAllAdjacentAnswer (λ x y b. is_some_and is_le (Some (nat_cmp x y)) ≡ b) members answer → answer ≡ true → IsNonDecreasing members
 rise_if members true e sorted = non_decreasing_from_is_sorted members true e

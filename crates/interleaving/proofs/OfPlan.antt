@@ -1,4 +1,4 @@
--- What holds of a view that is of a plan.
+-- Properties of the view of a reachable state of a plan.
 use Rattle.std.proofs.Common.{◌≡◌, ℕ, zero, suc, ◌+◌, ◌<◌, ◌≤◌, Bool, true, cond, List, [], ◌∷◌, length, get_or, count_by, Option, Some, None, slice_get, IfSome, ◌&&◌, ◌==◌, inl, inr, refl, sym, ap, subst, ◌∙◌, arith, eq-eqb}
 use Rattle.std.specs.Option.{option_map}
 use Rattle.std.proofs.lemmas.Bool.{cases_lt}
@@ -28,7 +28,7 @@ use Rattle.interleaving.specs.declared.next_action.NextAction.{NextAction}
 use Rattle.interleaving.specs.NextAction.{next_action_at}
 use Rattle.interleaving.specs.OfPlan.{IsOf, HasWorker, IsAtWork}
 
--- the view has the pools of the plan
+-- the view has as many pools as the plan
 pub as_many_pools : (plan : Plan) (view : View) → IsOf plan view → length view.pools ≡ length plan.pools
 as_many_pools plan view of = subst (λ v. length v.pools ≡ length plan.pools) of.2 (length-pools plan of.0)
 
@@ -47,17 +47,17 @@ lawful_client : (plan : Plan) (found : Option _) (at : Point) → IsOrdered plan
 lawful_client plan None at o e = absurd cc
 lawful_client plan (Some client) at o e = subst (λ (x : Point). IsLawful plan x.body) (same_Some _ at e) (o.clients client.kind)
 
--- an actor's body is lawful
+-- the body of an actor is valid
 lawful_point : (plan : Plan) (view : View) (a : Parent) (at : Point) → IsOrdered plan → point_in plan view a ≡ Some at → IsLawful plan at.body
 lawful_point plan view (parent.Client c) at o e = lawful_client plan (slice_get view.clients c) at o e
 lawful_point plan view (parent.Job j) at o e = lawful_job plan (live_job view.jobs j) at o e
 
--- the point where an actor has this next action
+-- the point at which an actor has this next action
 pub point_of_next : (at : Option Point) (next : NextAction) → option_map next_action_at at ≡ Some next → (x : Point) × (at ≡ Some x) × (next_action_at x ≡ next)
 point_of_next None next e = absurd cc
 point_of_next (Some x) next e = (x, refl, same_Some _ next e)
 
--- the pool of a class that is submitted is one of the view
+-- the pool of a submitted class is a pool of the view
 pub pool_of_submit : (plan : Plan) (view : View) (a : Parent) (next : NextAction) (k : ℕ) → IsOf plan view → IsWellFormed plan → option_map next_action_at (point_in plan view a) ≡ Some next → next.action ≡ Some (Submit k) → pool_of plan k < length view.pools
 pool_of_submit plan view a next k of w e submits =
     let o = ordered plan w in
@@ -77,9 +77,9 @@ past_start plan view a next t w e gets =
     let same = ap (λ (p : NextAction). p.position) found.2 in
     omega (arith, behind, same)
 
--- ---- jobs at work
+-- ---- running jobs
 
--- a job at work is of a class of the plan
+-- a running job has a class of the plan
 pub class_inside : (plan : Plan) (s : State) (j i : ℕ) → IsReached plan s → IsWellFormed plan → (job_at s j).stage ≡ Stage.At i → (job_at s j).class < length plan.classes
 class_inside plan s j i reached w stage = (kept plan s w reached).classes j no_job (job_made s j (At≢Claimed stage))
 
@@ -94,7 +94,7 @@ count_by-some test (x ∷ xs) (suc i) d inside passes =
     let later : 1 ≤ count_by test xs = count_by-some test xs i d (omega arith) passes in
     omega arith
 
--- the pool of a job at work has a busy thread
+-- the pool of a running job has a busy thread
 busy_at : (plan : Plan) (s : State) (j i : ℕ) → (job_at s j).stage ≡ Stage.At i → 1 ≤ busy plan s (pool_of plan (job_at s j).class)
 busy_at plan s j i stage =
     let p = pool_of plan (job_at s j).class in
@@ -121,7 +121,7 @@ job_at_work plan s j at reached w e =
     let inside = (ordered plan w).pools made.class (class_inside plan s j at.position reached w stage) in
     subst (λ (o : Option JobView). IfSome o (HasWorker plan (live_view plan s))) (sym seen) (has_worker plan s j at.position job refl stage inside)
 
--- an actor that stands somewhere is a client, or a job whose pool has a busy worker
+-- an actor with a next action is a client, or a job whose pool has a busy worker
 pub at_work : (plan : Plan) (view : View) (a : Parent) (next : NextAction) → IsOf plan view → IsWellFormed plan → option_map next_action_at (point_in plan view a) ≡ Some next → IsAtWork plan view a
 at_work plan view (parent.Client c) next of w e = tt
 at_work plan view (parent.Job j) next of w e =
@@ -150,7 +150,7 @@ class_of_seen plan s j job reached w e =
     let inside = (ordered plan w).pools job.class known in
     omega (arith, length-pools plan s)
 
--- the pool of a live job is one of the plan
+-- the pool of a live job is a pool of the plan
 pub pool_of_live_job : (plan : Plan) (view : View) (j : ℕ) (job : JobView) → IsOf plan view → IsWellFormed plan → live_job view.jobs j ≡ Some job → pool_of plan job.class < length plan.pools
 pool_of_live_job plan view j job of w found =
     let inside = subst (λ (v : View). live_job v.jobs j ≡ Some job → pool_of plan job.class < length v.pools) of.2 (class_of_seen plan of.0 j job of.1 w) found in

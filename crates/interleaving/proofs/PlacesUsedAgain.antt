@@ -1,4 +1,4 @@
--- When a world gets another place.
+-- The condition under which a world adds a place.
 use Rattle.std.proofs.Common.{◌≡◌, ℕ, ◌+◌, ◌≤◌, ◌==◌, true, cond, if◌then◌else◌, List, [], ◌∷◌, ◌++◌, length, map, get_or, count_by, is_some, Option, Some, None, inl, inr, ⊎_elim, refl, ap, ◌∙◌, arith}
 use Rattle.std.proofs.lemmas.Bool.{cases_lt, cases_Bool, eqb-true}
 use Rattle.std.proofs.lemmas.List.{set_past, length-map, length_push}
@@ -18,7 +18,7 @@ phased_is_some : (phase : Phase) (job : Option JobView) → is_some (in_phase ph
 phased_is_some phase None = refl
 phased_is_some phase (Some job) = refl
 
--- who moves on stays live
+-- a change of a phase keeps the number of live jobs
 count-phased : (jobs : List (Option JobView)) (j : ℕ) (phase : Phase) → count_by is_some (with_phase j phase jobs) ≡ count_by is_some jobs
 count-phased jobs j phase =
     let new = in_phase phase (live_job jobs j) in
@@ -35,14 +35,14 @@ still_live : (a : Parent) (t : ℕ) (job : Option JobView) → is_some (unless_s
 still_live a t None e = e
 still_live a t (Some job) e = refl
 
--- no job comes up where a stale one goes
+-- the removal of a stale job does not increase the number of live jobs
 count-unless_stale : (a : Parent) (t : ℕ) (jobs : List (Option JobView)) → count_by is_some (map (unless_stale a t) jobs) ≤ count_by is_some jobs
 count-unless_stale a t jobs =
     let fewer = count_by-le (λ job. is_some (unless_stale a t job)) is_some jobs None (λ i inside e. still_live a t (get_or jobs i None) e) in
     let mapped = count_by-map is_some (unless_stale a t) jobs in
     omega (arith, fewer, mapped)
 
--- the world behind a job that was made, where each live job has a place before
+-- the number of places after a job was created, if each live job had a place before
 pub used_again : (a b : Parent) (t i : ℕ) (job : JobView) (old new : WorldValue) (moved : JobList) → moved.jobs ≡ moved_live_jobs b i old.view → moved.places ≡ old.places → live_jobs old.view ≤ old.places
     → new.view.jobs ≡ map (unless_stale a t) moved.jobs ++ Some job ∷ [] → new.places ≡ places_made moved (map (unless_stale a t) moved.jobs) → UsesPlacesAgain old new
 used_again a b t i job old new moved jobs places enough made after =

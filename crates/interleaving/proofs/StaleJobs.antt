@@ -1,4 +1,4 @@
--- None of an actor's jobs but its latest can be stale.
+-- Only the latest job of an actor at a position can be stale.
 use Rattle.std.proofs.Common.{◌≡◌, ◌≢◌, ℕ, ◌&&◌, if◌then◌else◌, List, Option, Some, None, ⊎_elim, refl, ap, ◌∙◌}
 use Rattle.std.proofs.lemmas.Bool.{cases_Bool, and_parts}
 use Rattle.written_machine.specs.declared.parent.Parent.{Parent}

@@ -1,4 +1,4 @@
--- What the code does on views is what the written machine says.
+-- The steps of the code on views agree with the reference machine.
 use Rattle.std.proofs.Common.{◌≡◌, ℕ, Bool, List, [], count_by, Option, Some, None, Result, Ok, Err, IfOk, OnErr, IsTrue, ◌↔◌, refl, sym, ap, subst, ◌∙◌}
 use Rattle.job_bodies.specs.Plan.{Plan}
 use Rattle.job_bodies.specs.WellFormed.{IsWellFormed}
@@ -26,7 +26,7 @@ answers_seen plan s event (Some outcome) new w reached a = answers_possible plan
 answers_in : (plan : Plan) (s : State) (event : Event) (answer : Option Outcome) (old new : View) → IsWellFormed plan → IsReached plan s → live_view plan s ≡ old → AnswersIn plan old event answer new → AnswersAs plan s event answer new
 answers_in plan s event answer old new w reached same a = answers_seen plan s event answer new w reached (subst (λ v. AnswersIn plan v event answer new) (sym same) a)
 
--- an answer by the view is one by each state that is seen so
+-- an answer in the view is the answer in each state with this view
 pub raised : {E : Type 0} (plan : Plan) (event : Event) (old new : View) (answered : Result (Option Outcome) E) → IsWellFormed plan → IfOk answered (λ answer. AnswersIn plan old event answer new)
     → IfOk answered (λ answer. (s : State) → IsReached plan s → live_view plan s ≡ old → AnswersAs plan s event answer new)
 raised plan event old new (Ok answer) w a = λ s reached same. answers_in plan s event answer old new w reached same a
@@ -36,13 +36,13 @@ of_plan_after : (plan : Plan) (event : Event) (answer : Option Outcome) (s : Sta
 of_plan_after plan event None s new reached a = (s, reached, sym a.1)
 of_plan_after plan event (Some outcome) s new reached a = (a.0, reached_after plan s a.0 event outcome reached a.1, sym a.2)
 
--- the world is of the plan after the event too
+-- the world is still a world of the plan after the event
 pub still_of_plan : {E : Type 0} (plan : Plan) (event : Event) (old new : WorldValue) (answered : Result (Option Outcome) E) → IsWellFormed plan → IsOf plan old.view → IfOk answered (λ answer. AnswersIn plan old.view event answer new.view) → OnErr answered (new ≡ old)
     → IsOf plan new.view
 still_of_plan plan event old new (Ok answer) w of a unchanged = of_plan_after plan event answer of.0 new.view of.1 (answers_in plan of.0 event answer old.view new.view w of.1 of.2 a)
 still_of_plan plan event old new (Err e) w of a unchanged = subst (λ (world : WorldValue). IsOf plan world.view) (sym unchanged) of
 
--- the world of the start is of the plan
+-- the world at the start is a world of the plan
 pub start_of_plan : (plan : Plan) (view : View) → view ≡ live_view plan (start plan) → IsOf plan view
 start_of_plan plan view e = (start plan, ([], refl), sym e)
 
@@ -54,6 +54,6 @@ unfinished_seen plan s view n e same = e ∙ ap (λ (v : View). count_by is_unfi
 pub set_seen : (plan : Plan) (s : State) (view : View) (members : List ℕ) (answer : Bool) → IsWellFormed plan → IsReached plan s → live_view plan s ≡ view → answer ≡ is_waiting_set_in plan view members → answer ≡ is_waiting_set plan s members
 set_seen plan s view members answer w reached same e = e ∙ ap (λ v. is_waiting_set_in plan v members) (sym same) ∙ sym (sets_seen plan s members w reached)
 
--- an answer that is the test says whether they are a waiting set
+-- if the answer is the value of the test, it agrees with the definition of a waiting set
 pub set_in_words : (plan : Plan) (s : State) (members : List ℕ) (answer : Bool) → answer ≡ is_waiting_set plan s members → IsTrue answer ↔ IsWaitingSet plan s members
 set_in_words plan s members answer e = subst (λ b. IsTrue b ↔ IsWaitingSet plan s members) (sym e) (waiting_set_test plan s members)

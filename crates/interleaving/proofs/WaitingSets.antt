@@ -1,4 +1,4 @@
--- The parts of the test for a waiting set give the whole test.
+-- The parts of the test for a waiting set make up the whole test.
 use Rattle.std.proofs.Common.{◌≡◌, ℕ, ◌==◌, ◌&&◌, not, Bool, true, false, IsTrue, ◌↔◌, List, [], ◌∷◌, length, Option, Some, None, refl, sym, ap, subst, ◌∙◌, eq-eqb}
 use Rattle.std.specs.List.{list_all}
 use Rattle.std.proofs.lemmas.Bool.{both_ways, false_from_ne_true, and_parts, eqb-true}
@@ -39,7 +39,7 @@ queue_of_phase plan view members j k phase.Queued queued e = e
 queue_of_phase plan view members j k (phase.At i) queued e = absurd cc
 queue_of_phase plan view members j k phase.Done queued e = absurd cc
 
--- a queued job that waits tells that its queue does
+-- if a queued job waits only for members, the queue of its pool does
 queue_of_job : (plan : Plan) (view : View) (members : List ℕ) (p j : ℕ) (job : Option JobView) → is_queued_job plan p job ≡ true → waits_job plan view members j job ≡ true → waits_in_queue_of plan view members p ≡ true
 queue_of_job plan view members p j None queued e = absurd cc
 queue_of_job plan view members p j (Some job) queued e =
@@ -74,7 +74,7 @@ others_of_all : (plan : Plan) (view : View) (members : List ℕ) → list_all (w
 others_of_all plan view members e =
     list_all_from_In (λ j. job_waits_unless_queued plan view members j (live_job view.jobs j)) members (λ j i. unless_queued_from_waits plan view members j (live_job view.jobs j) (list_all_at_In (waits_in plan view members) e i))
 
--- where a queue does not wait, neither do the members
+-- if a queue does not wait, the members are not a waiting set
 pub none_without_queues : (plan : Plan) (view : View) (members : List ℕ) (queues : Bool) → (IsTrue queues ↔ QueuesWait plan view members) → queues ≡ false → is_waiting_set_in plan view members ≡ false
 none_without_queues plan view members queues iff e =
     false_from_ne_true _ (λ set. both_ways queues e (iff.1 (queues_of_all plan view members (and_parts (not (is_none members)) _ set).1)))
@@ -83,11 +83,11 @@ waits_as_others : (plan : Plan) (view : View) (members : List ℕ) (others : Boo
 waits_as_others plan view members true of w queues e = all_wait plan view members of w queues e
 waits_as_others plan view members false of w queues e = false_from_ne_true _ (λ all. both_ways _ e (others_of_all plan view members all))
 
--- where the queues wait, the members are a waiting set exactly where the others wait
+-- if the queues wait, the members are a waiting set exactly if the other members wait
 pub set_as_others : (plan : Plan) (view : View) (members : List ℕ) (others : Bool) → IsOf plan view → IsWellFormed plan → is_none members ≡ false → QueuesWait plan view members → others ≡ unqueued_wait plan view members → others ≡ is_waiting_set_in plan view members
 set_as_others plan view members others of w some queues e = sym (ap (λ b. not b && list_all (waits_in plan view members) members) some ∙ waits_as_others plan view members others of w queues (sym e))
 
--- no numbers are no waiting set
+-- the empty list is not a waiting set
 pub some_members : (members : List ℕ) → (length members == 0) ≡ false → is_none members ≡ false
 some_members [] e = e
 some_members (j ∷ js) e = refl

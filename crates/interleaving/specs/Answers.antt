@@ -1,4 +1,4 @@
--- What a world answers to an event.
+-- The answers of a world to events.
 use Rattle.std.specs.Prelude.{◌≡◌, Option, Some, None}
 use Rattle.job_bodies.specs.Plan.{Plan}
 use Rattle.written_machine.specs.declared.event.Event.{Event}
@@ -6,11 +6,11 @@ use Rattle.written_machine.specs.declared.event.Outcome.{Outcome}
 use Rattle.live_views.specs.LiveView.{View}
 use Rattle.live_views.specs.ViewStep.{view_step}
 
--- the answer, and the view after it, are what comes of the old view; where nothing comes of it, it stays
+-- the answer and the new view agree with this result; if the result is None, the view stays
 abbrev pub AreOf : Option (View × Outcome) → View → Option Outcome → View → Type 0
 AreOf what old None new = (what ≡ None) × (new ≡ old)
 AreOf what old (Some outcome) new = what ≡ Some (new, outcome)
 
--- the answer to an event of the old view, and the view after it
+-- the answer to an event in the old view, and the new view
 abbrev pub AnswersIn : Plan → View → Event → Option Outcome → View → Type 0
 AnswersIn plan old event answer new = AreOf (view_step plan old event) old answer new

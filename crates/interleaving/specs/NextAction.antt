@@ -1,4 +1,4 @@
--- Where an actor stands.
+-- The next action of an actor.
 use Rattle.std.specs.Prelude.{◌≡◌, ℕ, ◌<◌, ◌&&◌, ◌⊎◌, List, Some, IsSome, slice_get}
 use Rattle.job_bodies.specs.declared.action.Action.{Action}
 use Rattle.job_bodies.specs.declared.action.Action.TheVariants.{Submit}
@@ -13,12 +13,12 @@ use Rattle.live_views.specs.ViewStep.{point_in}
 use Rattle.interleaving.specs.declared.next_action.NextAction.{NextAction}
 use Rattle.live_actors.specs.Clients.{IsFirst}
 
--- the actor is one of so many clients, or one of so many jobs
+-- the actor's number is below the number of clients, or of jobs
 abbrev pub IsAmong : ℕ → ℕ → Parent → Type 0
 IsAmong clients jobs (parent.Client c) = c < clients
 IsAmong clients jobs (parent.Job j) = j < jobs
 
--- the position in the body, the action there, and whether it is a submit whose job a get of the body asks for
+-- the position in the body, the action there, and whether it is a submit whose job a get of the body requests
 abbrev pub next_action_in : List Action → ℕ → NextAction
 next_action_in body i = record { position = i; action = slice_get body i; asked = submits (slice_get body i) && is_got body i }
 
@@ -39,11 +39,11 @@ pub record IsAtFirst (plan : Plan) (view : View) (actor : Parent) : Type 0 where
   pub first : IsFirst actor at.position
   pub acts : IsSome (slice_get at.body at.position)
 
--- the actor's next action is a submit, or a client's first
+-- the actor's next action is a submit, or a client's first action
 abbrev pub ActorMayGrow : Plan → View → Parent → Type 0
 ActorMayGrow plan view actor = IsAtSubmit plan view actor ⊎ IsAtFirst plan view actor
 
--- the event is of an actor whose next action is a submit, or of a client whose next action is the first of its body
+-- the event belongs to an actor whose next action is a submit, or to a client whose next action is its first
 abbrev pub MayGrow : Plan → View → Event → Type 0
 MayGrow plan view (Client c) = ActorMayGrow plan view (parent.Client c)
 MayGrow plan view (Job j) = ActorMayGrow plan view (parent.Job j)

@@ -1,4 +1,4 @@
--- Views of a plan, and what holds of them.
+-- Views of the reachable states of a plan, and their properties.
 use Rattle.std.specs.Prelude.{◌≡◌, ◌≢◌, ℕ, ◌<◌, true, List, length, Option, Some, IfSome}
 use Rattle.job_bodies.specs.Plan.{Plan}
 use Rattle.pool_machine.specs.PoolState.{PoolView, taken}
@@ -10,7 +10,7 @@ use Rattle.live_views.specs.declared.job_view.JobView.{JobView}
 use Rattle.live_views.specs.LiveView.{View, live_view}
 use Rattle.live_views.specs.ViewStep.{live_job, may_ask_for, pool_in}
 
--- it is the live view of a state that some list of events reaches
+-- the view is the live view of a reachable state
 abbrev pub IsOf : Plan → View → Type 0
 IsOf plan view = (s : State) × IsReached plan s × (live_view plan s ≡ view)
 
@@ -23,12 +23,12 @@ pub record HasWorker (plan : Plan) (view : View) (job : JobView) : Type 0 where
   pub pool : pool_of plan job.class < length view.pools
   pub busy : (pool_in view (pool_of plan job.class)).idle < (pool_in view (pool_of plan job.class)).threads
 
--- where the actor is a live job, a worker of its pool is busy
+-- if the actor is a live job, a worker of its pool is busy
 abbrev pub IsAtWork : Plan → View → Parent → Type 0
 IsAtWork plan view (parent.Client c) = Unit {0}
 IsAtWork plan view (parent.Job j) = IfSome (live_job view.jobs j) (HasWorker plan view)
 
--- where the actor is a live job another one made it
+-- if the actor is a live job, it did not create itself
 abbrev pub MadeByOther : List (Option JobView) → Parent → Type 0
 MadeByOther jobs (parent.Client c) = Unit {0}
 MadeByOther jobs (parent.Job j) = (job : JobView) → live_job jobs j ≡ Some job → job.parent ≢ parent.Job j

@@ -1,4 +1,4 @@
--- What the members of a set do in a pool.
+-- The activity of the members of a set in a pool.
 use Rattle.std.specs.Prelude.{ℕ, ◌+◌, ◌==◌, ◌&&◌, ◌||◌, not, Bool, true, false, List, count_by, slice_index_or, Option}
 use Rattle.numbered_lists.specs.Places.{places_where}
 use Rattle.job_bodies.specs.Plan.{Plan}
@@ -12,7 +12,7 @@ use Rattle.live_views.specs.Waiting.{is_busy_job}
 use Rattle.interleaving.specs.declared.shares.Share.{Share}
 use Rattle.interleaving.specs.Stuck.{has_queued}
 
--- how many jobs at work in the pool are members
+-- the number of members that run in the pool
 abbrev pub members_at_work : Plan → List (Option JobView) → List ℕ → ℕ → ℕ
 members_at_work plan jobs members p = count_by (is_member members) (places_where (is_busy_job plan p) jobs)
 
@@ -25,14 +25,14 @@ no_share = record { queued = false; at_work = 0 }
 abbrev pub share_at : List Share → ℕ → Share
 share_at shares p = slice_index_or shares p no_share
 
--- with one more member of this phase in the pool
+-- the share with one more member of this phase in the pool
 abbrev pub share_with : Share → Phase → Bool → Share
 share_with share phase.Queued new = record share { queued = true }
 share_with share (phase.At i) true = record share { at_work = share.at_work + 1 }
 share_with share (phase.At i) false = share
 share_with share phase.Done new = share
 
--- no member waits in the pool's queue; or no worker of the pool is idle, and as many members are at work in it as it has
--- threads, so that nobody else is
+-- no member waits in the pool's queue, or no worker of the pool is idle and the pool has as many threads as running members,
+-- so that it runs only members
 abbrev pub leaves_none : PoolView → Share → Bool
 leaves_none pool share = not share.queued || (pool.idle == 0 && pool.threads == share.at_work)

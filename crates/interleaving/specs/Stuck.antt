@@ -1,4 +1,4 @@
--- The parts of the test for a waiting set: each pool's queue is looked at once, and not once for each queued member.
+-- The parts of the test for a waiting set. The test checks each pool once, and not once for each queued member.
 use Rattle.std.specs.Prelude.{◌≡◌, ℕ, ◌<◌, ◌==◌, ◌&&◌, Bool, true, false, List, length, Option, Some, None, slice_get}
 use Rattle.std.specs.List.{list_all, list_any}
 use Rattle.job_bodies.specs.Plan.{Plan, class_at}
@@ -38,6 +38,6 @@ job_waits_unless_queued plan view members j (Some job) = waits_unless_queued pla
 abbrev pub unqueued_wait : Plan → View → List ℕ → Bool
 unqueued_wait plan view members = list_all (λ j. job_waits_unless_queued plan view members j (live_job view.jobs j)) members
 
--- where a member waits in a pool's queue, no worker of the pool is idle, and every job at work in it is a member
+-- if a member waits in a pool's queue, no worker of the pool is idle, and every job that runs in it is a member
 abbrev pub QueuesWait : Plan → View → List ℕ → Type 0
 QueuesWait plan view members = (p : ℕ) → p < length plan.pools → has_queued plan view members p ≡ true → waits_in_queue_of plan view members p ≡ true

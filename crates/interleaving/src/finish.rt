@@ -1,4 +1,4 @@
-//! The ends of bodies.
+//! The end of a body.
 
 ghost use Rattle.std.specs.Prelude.{◌≡◌, ◌≢◌, ◌<◌, true, false, length, slice_get, Some};
 ghost use Rattle.written_machine.specs.State.{pool_of};
@@ -16,7 +16,8 @@ impl World {
     ghost use Rattle.interleaving.specs.Answers.{AreOf};
     ghost use Rattle.interleaving.specs.OfPlan.{IsAtWork, MadeByOther};
 
-    /// At the end of its body a job finishes, and a client of a kind that repeats begins again.
+    /// Performs the step of an actor at the end of its body. A job finishes, and a client of a
+    /// repeating kind starts its body again. Returns `None` if the kind does not repeat.
     pub(crate) fn end(&mut self, plan: &Plan, actor: Parent) -> Option<Outcome>
         requires at_work { IsAtWork plan.now self.old.view actor }
         requires asks { may_ask_for self.old.view.jobs actor ≡ true }

@@ -1,4 +1,4 @@
-//! Gets.
+//! The get action.
 
 ghost use Rattle.std.specs.Prelude.{◌≡◌, ◌+◌, ◌<◌, ◌^◌, true};
 ghost use Rattle.live_actors.specs.Clients.{StandsAt};
@@ -12,8 +12,9 @@ use written_machine::{Outcome, Parent};
 impl World {
     ghost use Rattle.interleaving.specs.Answers.{AreOf};
 
-    /// The actor, at this position, which is not the first, gets the latest job that it made by the submit, once that is
-    /// done.
+    /// Gets the latest job that the actor created by the submit, if that job is done, and moves the
+    /// actor to its next position. Returns `None` if the job is not done. `position`, the actor's
+    /// current position, must not be 0.
     pub(crate) fn get(&mut self, actor: Parent, position: usize, submit: usize) -> Option<Outcome>
         requires stands { StandsAt self.old.view.clients actor position }
         requires begun { 0 < position }

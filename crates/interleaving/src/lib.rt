@@ -1,4 +1,5 @@
-//! The running machine of a plan: many bounded thread pools, and the steps of the clients and the jobs that use them.
+//! The state machine of a plan: bounded thread pools, and the steps of the clients and jobs that
+//! use them.
 #![tactic(auto)]
 
 mod finish;

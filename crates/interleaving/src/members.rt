@@ -5,11 +5,12 @@ ghost use Rattle.written_machine.specs.Waiting.{is_member};
 
 use std::marker::Model;
 
-/// The members of a set, as a list that may have a number twice. Where the numbers rise, one is looked for by halves.
+/// A set of job numbers, given as a list that may contain duplicates. If the list is sorted, a
+/// look-up is a binary search.
 #[derive(Drop)]
 pub(crate) struct Members<'a> {
     numbers: &'a [usize],
-    // Whether no number is below the one before it.
+    // Whether the list is sorted in ascending order.
     rise: bool,
 }
 
@@ -50,7 +51,7 @@ impl<'a> Members<'a> {
         }
     }
 
-    /// Whether the number at this place stands at no place before it.
+    /// Returns `true` if the number at this index does not occur at a lower index.
     pub(crate) fn is_first(&self, place: usize) -> bool
         requires { place < length self.now }
         ensures { result ≡ not (is_member (take place self.now) (slice_index self.now place)) }

@@ -1,4 +1,4 @@
-//! Actors that move on.
+//! Moves of actors.
 
 ghost use Rattle.std.specs.Prelude.{◌≡◌, true};
 ghost use Rattle.live_views.specs.LiveView.{View};
@@ -8,7 +8,8 @@ ghost use Rattle.live_views.specs.ViewStep.{may_ask_for, moved_live_jobs, moved_
 use live_actors::{Clients, LiveJobs};
 use written_machine::Parent;
 
-/// The actor, which is not done, comes to this position of its body. There is room for it.
+/// Moves the actor, which is a client or an unfinished job, to this position of its body. Room must
+/// have been reserved.
 pub(crate) fn move_actor(jobs: &mut LiveJobs, clients: &mut Clients, actor: Parent, position: usize)
     requires asks { may_ask_for jobs.old.jobs actor ≡ true }
     requires room { CanMove clients.old actor }

@@ -1,4 +1,4 @@
-//! Where an actor stands.
+//! The next action of an actor.
 
 ghost use Rattle.std.specs.Prelude.{◌≡◌, ◌+◌, ◌<◌, ◌^◌, length, true, IsSome, IfSome, OnSome};
 ghost use Rattle.job_bodies.specs.WellFormed.{IsWellFormed};
@@ -14,12 +14,12 @@ use job_bodies::{Action, Plan, is_got};
 use live_views::Phase;
 use written_machine::Parent;
 
-/// Where an actor stands, and its action there: None at the end of its body.
+/// The position of an actor, and its action there, which is `None` at the end of the body.
 #[derive(Clone, Copy)]
 pub(crate) struct NextAction {
     pub(crate) position: usize,
     pub(crate) action: Option<Action>,
-    // Whether it is a submit whose job a get of the body asks for.
+    // Whether the action is a submit whose job a get of the body requests.
     pub(crate) asked: bool,
 }
 
@@ -40,7 +40,8 @@ impl NextAction {
 impl World {
     ghost use Rattle.interleaving.specs.NextAction.{next_action_at};
 
-    /// Where the actor stands; None for one that there is not, and for a job that is not at work.
+    /// Returns the position and the next action of the actor, or `None` if there is no such actor
+    /// or if it is a job that does not run.
     pub(crate) fn next_action(&self, plan: &Plan, actor: Parent) -> Option<NextAction>
         ensures value { result ≡ option_map next_action_at (point_in plan.now self.now.view actor) }
         ensures can_move_on { IfSome result

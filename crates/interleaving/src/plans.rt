@@ -1,4 +1,4 @@
-//! What a world looks up in its plan.
+//! Look-ups in a plan.
 
 ghost use Rattle.std.specs.Prelude.{◌≡◌, slice_index_or};
 ghost use Rattle.job_bodies.specs.Plan.{no_class, no_client};
@@ -6,14 +6,14 @@ ghost use Rattle.written_machine.specs.State.{pool_of};
 
 use job_bodies::{Action, Class, Client, Plan};
 
-/// The pool of the class of this number; 0 where there is no such class.
+/// Returns the pool of the class with this number, or 0 if there is no such class.
 pub(crate) fn pool_of(plan: &Plan, class: usize) -> usize
     ensures { result ≡ pool_of plan.now class }
 {
     plan.class_at(class).map_or(0, |class| class.pool)
 }
 
-/// The body of the class of this number; empty where there is no such class.
+/// Returns the body of the class with this number, or an empty body if there is no such class.
 pub(crate) fn body_of_class(classes: &[Class], class: usize) -> &[Action]
     ensures { result.now ≡ (slice_index_or classes.now class no_class).body }
 {
@@ -23,7 +23,7 @@ pub(crate) fn body_of_class(classes: &[Class], class: usize) -> &[Action]
     }
 }
 
-/// The body of the kind of clients of this number; empty where there is no such kind.
+/// Returns the body of the client kind with this number, or an empty body if there is no such kind.
 pub(crate) fn body_of_kind(kinds: &[Client], kind: usize) -> &[Action]
     ensures { result.now ≡ (slice_index_or kinds.now kind no_client).body }
 {

@@ -11,7 +11,7 @@ use pool_machine::PoolState;
 use std::alloc::{AllocError, Global};
 use written_machine::Outcome;
 
-/// Each pool, with an empty queue, and with core idle workers where it is prestarted.
+/// Creates the pools. Each has an empty queue; a prestarted pool has `core` idle workers.
 pub(crate) fn new_pools(alloc: Global, pools: &[Pool]) -> Result<Vec<PoolState>, AllocError>
     requires { All (λ pool. IsTrue (has_lawful_sizes pool)) pools.now }
     ensures { IfOk result (λ new. new.items ≡ map new_pool pools.now) }
@@ -27,7 +27,8 @@ impl World {
     ghost use Rattle.interleaving.specs.Answers.{AreOf};
     ghost use Rattle.interleaving.specs.OfPlan.{IsOf};
 
-    /// An idle worker of the pool takes the head of its queue.
+    /// Lets an idle worker of the pool take the head of its queue. Returns `None` if there is no
+    /// such pool, no idle worker or no queued job.
     pub(crate) fn take(&mut self, plan: &Plan, pool: usize) -> Option<Outcome>
         requires pools { length self.old.view.pools ≡ length plan.now.pools }
         requires of_plan { IsOf plan.now self.old.view }
@@ -44,7 +45,7 @@ impl World {
         Some(Outcome::Took(number))
     }
 
-    /// An idle worker of the pool ends.
+    /// Ends an idle worker of the pool. Returns `None` if that is not possible.
     pub(crate) fn retire(&mut self, plan: &Plan, pool: usize) -> Option<Outcome>
         requires { length self.old.view.pools ≡ length plan.now.pools }
         ensures value { AreOf (let_go_in self.old.view pool (retired (pool_in self.old.view pool)))

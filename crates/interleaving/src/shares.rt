@@ -1,4 +1,4 @@
-//! What the members of a set do in each pool.
+//! The activity of the members of a set in each pool.
 
 ghost use Rattle.std.specs.Prelude.{◌≡◌, ◌+◌, ◌<◌, ◌^◌, ℕ};
 ghost use Rattle.job_bodies.specs.WellFormed.{IsWellFormed};
@@ -10,17 +10,18 @@ use crate::plans::pool_of;
 use job_bodies::{MAX_POOLS, Plan};
 use live_views::Phase;
 
-/// What the members of a set do in one pool.
+/// The activity of the members of a set in one pool.
 #[derive(Clone, Copy)]
 pub(crate) struct Share {
-    /// Whether one waits in its queue.
+    /// Whether a member waits in the pool's queue.
     pub(crate) queued: bool,
-    /// How many are at work in it.
+    /// The number of members that run in the pool.
     pub(crate) at_work: usize,
 }
 
 impl Share {
-    /// With one more member of this phase. A number that is a member already is none more at work.
+    /// Returns the share with one more member in this phase. A number that is a member already
+    /// (`is_new` is `false`) does not increase `at_work`.
     fn with(self, phase: Phase, is_new: bool) -> Share
         requires { self.at_work + 1 < 2 ^ 64 }
         ensures { result ≡ share_with self phase is_new }
@@ -42,7 +43,7 @@ impl Share {
 impl World {
     ghost use Rattle.interleaving.specs.OfPlan.{IsOf};
 
-    /// What the members do in each pool. Each of them is looked up once.
+    /// Returns the share of the members in each pool. Looks up each member once.
     pub(crate) fn shares(&self, plan: &Plan, members: &Members<'_>) -> [Share; MAX_POOLS]
         requires of_plan { IsOf plan.now self.now.view }
         requires well_formed { IsWellFormed plan.now }

@@ -21,19 +21,21 @@ impl World {
     ghost use Rattle.interleaving.specs.OfPlan.{IsOf};
     ghost use Rattle.interleaving.specs.World.{UsesPlacesAgain};
 
-    /// Makes the event, if it is possible, and says what came of it: None where it is not possible.
+    /// Performs the event if it is possible, and returns its outcome, or `None` if it is not
+    /// possible.
     ///
-    /// An event is of one actor or of one pool: an actor does its next action, an idle worker takes the head of its
-    /// pool's queue, or an idle worker ends. What is not possible changes nothing.
+    /// An event belongs to one actor or one pool: an actor performs its next action, an idle worker
+    /// takes the head of its pool's queue, or an idle worker ends. An event that is not possible
+    /// changes nothing.
     ///
     /// # Errors
     ///
-    /// `AllocError` where a submit or a client's first action finds no memory, or the count of jobs or of refusals stands
-    /// at its greatest value. The world is then unchanged.
+    /// Returns `AllocError` if a submit or a client's first action finds not enough memory, or if
+    /// the number of jobs or of refusals is at its maximum. The world is then unchanged.
     pub fn step(&mut self, plan: &Plan, event: Event) -> Result<Option<Outcome>, AllocError>
         requires { IsOf plan.now self.old.view }
 
-        // What comes of the event is what the written machine says, in each state that is seen so.
+        // The outcome is that of the reference machine, in each state with this live view.
         ensures answered { IfOk result (λ answer.
             (s : State)
             → IsReached plan.now s
@@ -42,11 +44,11 @@ impl World {
         ensures in_view { IfOk result
             (λ answer. AnswersIn plan.now self.old.view event answer self.new.view) }
 
-        // Whatever came of it, the world is still of this plan.
+        // With every result, the world is still a world of this plan.
         ensures of_plan { IsOf plan.now self.new.view }
         ensures well_formed { IsWellFormed plan.now }
 
-        // A place more only for a job that is made while each place holds a live one.
+        // A new place is added only for a job that is created while each place holds a live job.
         ensures places { UsesPlacesAgain self.old self.new }
         ensures error_unchanged { OnErr result (self.new ≡ self.old) }
         ensures error_only_where_it_grows { OnErr result (MayGrow plan.now self.old.view event) }
@@ -54,7 +56,7 @@ impl World {
         self.act(plan, event)
     }
 
-    // The event, as it is defined on views.
+    // Performs the event, as defined on views.
     fn act(&mut self, plan: &Plan, event: Event) -> Result<Option<Outcome>, AllocError>
         requires { IsOf plan.now self.old.view }
         ensures answered { IfOk result
@@ -97,7 +99,7 @@ impl World {
         }
     }
 
-    // The actor, at this position of its body, comes to the next one.
+    // Moves the actor, which is at this position of its body, to the next position.
     fn move_on(&mut self, actor: Parent, position: usize) -> Result<(), AllocError>
         requires stands { StandsAt self.old.view.clients actor position }
         requires can_move_on { position + 1 < 2 ^ 64 }

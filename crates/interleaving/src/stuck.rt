@@ -23,11 +23,13 @@ use written_machine::Parent;
 impl World {
     ghost use Rattle.interleaving.specs.OfPlan.{IsOf};
 
-    /// Whether the jobs of these numbers, taken as a set, wait only for one another: each of them stands at a get whose
-    /// job is one of them, or is queued in a pool that has no idle worker and no other jobs at work.
+    /// Returns `true` if the jobs with these numbers, taken as a set, wait only for one another.
+    /// Each of them must be at a get whose job is a member, or be queued in a pool that has no idle
+    /// worker and runs only members.
     ///
-    /// False for no numbers, and where a number is not of an unfinished job. Takes no memory. Where the numbers rise, each
-    /// of them is looked up a few times; where they do not, it is looked for among the others.
+    /// Returns `false` for an empty list, and if a number does not belong to an unfinished job.
+    /// Allocates no memory. If the list is sorted, each member is looked up a few times by binary
+    /// search; otherwise each look-up scans the list.
     pub fn stuck(&self, plan: &Plan, members: &[usize]) -> bool
         requires { IsOf plan.now self.now.view }
         ensures in_words { (s : State)
@@ -55,7 +57,7 @@ impl World {
         self.queues_wait(plan, members) && self.unqueued_wait(plan, members)
     }
 
-    // Whether each member that is not queued waits at a get.
+    // Returns `true` if each member that is not queued waits at a get for a member.
     fn unqueued_wait(&self, plan: &Plan, members: &Members<'_>) -> bool
         ensures { result ≡ unqueued_wait plan.now self.now.view members.now }
     {
@@ -95,7 +97,8 @@ impl World {
         }
     }
 
-    // Each pool is looked at once, whatever the number of its queued members.
+    // Returns `true` if the queued members wait only for members. Checks each pool once, however
+    // many of its queued jobs are members.
     fn queues_wait(&self, plan: &Plan, members: &Members<'_>) -> bool
         requires { IsOf plan.now self.now.view }
         ensures value { IsTrue result ↔ QueuesWait plan.now self.now.view members.now }

@@ -1,4 +1,4 @@
-//! Submits.
+//! The submit action.
 
 ghost use Rattle.std.specs.Prelude.{◌≡◌, ◌+◌, ◌<◌, ◌^◌, length, true, None, IfOk, OnErr};
 ghost use Rattle.written_machine.specs.State.{pool_of};
@@ -20,8 +20,9 @@ use written_machine::{Outcome, Parent};
 impl World {
     ghost use Rattle.interleaving.specs.World.{UsesPlacesAgain};
 
-    /// The actor, at a submit, offers a job of the class to the class's pool. Where a get of its body asks for the job, the
-    /// earlier ones of this submit were got. All growths come first.
+    /// Offers a job of the class to the class's pool, for an actor at a submit. If a get of the
+    /// body requests the job, the earlier jobs of this submit must all be claimed. All allocations
+    /// come first, so that an error leaves the world unchanged.
     pub(crate) fn submit(
         &mut self,
         plan: &Plan,
@@ -69,7 +70,8 @@ impl World {
         Ok(outcome)
     }
 
-    // The latest live job that the actor made by this submit so far: none where a get asked for the earlier ones.
+    // Returns the latest live job that the actor created by this submit, or `None` if a get of the
+    // body requested the earlier ones.
     fn latest_before(&self, actor: Parent, next: NextAction) -> Option<usize>
         requires asks { may_ask_for self.now.view.jobs actor ≡ true }
         requires asked { next.asked ≡ true

@@ -1,4 +1,4 @@
-//! A world: the state of a plan's machine as far as it can still be asked for.
+//! The world of a plan: the part of the machine's state that later events depend on.
 
 ghost use Rattle.std.specs.Prelude.{◌≡◌, ◌<◌, ◌≤◌, length, count_by, slice_get, Some, IfOk};
 ghost use Rattle.std.specs.Option.{option_map};
@@ -16,12 +16,12 @@ use pool_machine::PoolState;
 use std::alloc::{AllocError, Global};
 use std::marker::Model;
 
-/// A plan's pools, clients and live jobs, and how many submits were refused.
+/// A plan's pools, clients and live jobs, and the number of rejected submits.
 ///
-/// A job is live while it is queued or at work, and while it is done and its parent may still get it. Of the others nothing
-/// is kept: a job that is live no more leaves its place to another. Nor is anything kept of a client before its first
-/// step. So the memory goes by the pools, the kinds, the live jobs and the clients that moved, and by no number in the
-/// plan.
+/// A job is live while it is queued or running, and while it is done and its parent may still get
+/// it. Other jobs occupy no memory: a new job reuses the place of a job that is no longer live. A
+/// client occupies no memory before its first step. The memory therefore depends on the number of
+/// pools, kinds, live jobs and clients that moved, and not on the sizes in the plan.
 #[derive(Debug, Drop)]
 pub struct World {
     pub(crate) jobs: LiveJobs,
@@ -42,12 +42,13 @@ impl World {
     ghost use Rattle.interleaving.specs.OfPlan.{IsOf};
     ghost use Rattle.interleaving.specs.World.{live_jobs};
 
-    /// The plan's world before its first event: no jobs, core idle workers in each pool that is prestarted and no threads
-    /// in the others, each client at the start of its body.
+    /// Creates the plan's world before its first event. It has no jobs. Each prestarted pool has
+    /// `core` idle workers, each other pool has no threads, and each client is at the start of its
+    /// body.
     ///
     /// # Errors
     ///
-    /// `AllocError` where there is no memory for the pools and the kinds of clients.
+    /// Returns `AllocError` if there is not enough memory for the pools and the client kinds.
     pub fn start(alloc: Global, plan: &Plan) -> Result<World, AllocError>
         ensures value { IfOk result (λ world. world.view ≡ live_view plan.now (start plan.now)) }
         ensures of_plan { IfOk result (λ world. IsOf plan.now world.view) }
@@ -63,14 +64,14 @@ impl World {
         })
     }
 
-    /// How many submits were refused.
+    /// Returns the number of rejected submits.
     pub fn refusals(&self) -> u64
         ensures { result ≡ self.now.view.refusals }
     {
         self.refusals
     }
 
-    /// How many jobs are queued or at work.
+    /// Returns the number of jobs that are queued or running.
     pub fn unfinished(&self) -> u64
         ensures value { (plan : spec.Plan) (s : State)
             → live_view plan s ≡ self.now.view
@@ -80,16 +81,17 @@ impl World {
         self.jobs.unfinished() as u64
     }
 
-    /// How many jobs were ever made.
+    /// Returns the number of jobs ever created.
     pub fn made(&self) -> usize
         ensures { result ≡ length self.now.view.jobs }
     {
         self.jobs.len()
     }
 
-    /// How many places there are for live jobs, free ones included.
+    /// Returns the number of places for live jobs, free ones included.
     ///
-    /// A step raises it by at most 1, and only where it makes a job while every place holds a live one. Otherwise it stays.
+    /// A step increases it by at most 1, and only if it creates a job while each place holds a live
+    /// job. It never decreases.
     pub fn places(&self) -> usize
         ensures value { result ≡ self.now.places }
         ensures enough { live_jobs self.now.view ≤ result }
@@ -97,7 +99,7 @@ impl World {
         self.jobs.places()
     }
 
-    /// The pool of this number.
+    /// Returns the pool with this number.
     pub fn pool(&self, pool: usize) -> &PoolState
         requires { pool < length self.now.view.pools }
         ensures { slice_get self.now.view.pools pool ≡ Some result.now }
@@ -105,7 +107,8 @@ impl World {
         &self.pools[pool]
     }
 
-    /// Where the client of this number stands in its body; None where there is no such client.
+    /// Returns the position of the client with this number in its body, or `None` if there is no
+    /// such client.
     pub fn client(&self, client: usize) -> Option<usize>
         ensures { result
             ≡ option_map (λ client. client.position) (slice_get self.now.view.clients client) }
@@ -113,7 +116,7 @@ impl World {
         Some(self.clients.get(client)?.position)
     }
 
-    /// The live job of this number; None where the number is not of a live job.
+    /// Returns the live job with this number, or `None` if there is no such job or it is not live.
     pub fn job(&self, job: usize) -> Option<JobView>
         ensures { result ≡ live_job self.now.view.jobs job }
     {
