@@ -1,4 +1,4 @@
--- Numbers that are cut off at a greatest one: their sums and products, cut off, are those of the whole numbers.
+-- Capped numbers: a sum or product of capped numbers, when capped, is the capped sum or product of the numbers.
 use Rattle.std.proofs.Common.{◌≡◌, ◌≤◌, ◌<◌, ◌+◌, ◌*◌, ℕ, zero, suc, List, [], ◌∷◌, ◌++◌, length, map, take, get_or, min, slice_get, Some, sum_by, refl, sym, ap, ◌∙◌, inl, inr, arith}
 use Rattle.std.proofs.Math.Nat.{mul-le-mul, min-eq_left, min-eq_right}
 use Rattle.std.proofs.lemmas.Bool.{cases_lt}
@@ -8,7 +8,7 @@ use Rattle.std.proofs.lemmas.List.Sums.{sum_by-cons}
 pub capped_sum : (m a b : ℕ) → min (min a m + min b m) m ≡ min (a + b) m
 capped_sum m a b = omega arith
 
--- a factor from the cap on keeps every product but that of 0 there
+-- a factor at or above the cap gives a product at or above the cap, unless the other factor is 0
 product_past : (m a b : ℕ) → m ≤ b → min (suc a * b) m ≡ m
 product_past m a b past = let more : 1 * b ≤ suc a * b = mul-le-mul (omega arith) (omega arith) in omega arith
 
@@ -19,11 +19,11 @@ capped_product m (suc a) b = elim (cases_lt b m) [
   | inr past ↦ (ap (λ x. min (suc a * x) m) (min-eq_right past) ∙ product_past m a m (omega arith)) ∙ sym (product_past m a b past)
 ]
 
--- a product of three, cut off as it is made
+-- a product of three factors, capped at each step
 pub capped_products : (m a b c : ℕ) → min (a * min (b * min c m) m) m ≡ min (a * (b * c)) m
 capped_products m a b c = ap (λ x. min (a * x) m) (capped_product m b c) ∙ capped_product m a (b * c)
 
--- sums over one list, of what is the same where it is cut off
+-- sums over one list whose capped terms agree
 pub capped_sums : {X : Type 0} (m : ℕ) (f g : X → ℕ) (xs : List X) → ((i : ℕ) (x : X) → slice_get xs i ≡ Some x → min (f x) m ≡ min (g x) m) → min (sum_by f xs) m ≡ min (sum_by g xs) m
 capped_sums m f g [] same = refl
 capped_sums m f g (x ∷ xs) same =
@@ -31,14 +31,14 @@ capped_sums m f g (x ∷ xs) same =
     let rest : min (sum_by f xs) m ≡ min (sum_by g xs) m = capped_sums m f g xs (λ i y e. same (suc i) y e) in
     omega (arith, sum_by-cons f x xs, sum_by-cons g x xs)
 
--- the same, of what steps in a row give
+-- a capped sum of two capped terms
 pub sum_of : (m a b a' b' all : ℕ) → a' ≡ min a m → b' ≡ min b m → all ≡ min (a' + b') m → all ≡ min (a + b) m
 sum_of m a b a' b' all first second is = omega arith
 
 pub product_of : (m a b c a' b' one once all : ℕ) → a' ≡ a → b' ≡ b → one ≡ min c m → once ≡ min (b' * one) m → all ≡ min (a' * once) m → all ≡ min (a * (b * c)) m
 product_of m a b c a' b' one once all first second third fourth fifth = cc (capped_products m a b c)
 
--- the list of what F gives of one more
+-- the mapped list of one more element
 pub pushed : {X : Type 0} (F : X → ℕ) (xs : List X) (i : ℕ) (x : X) (so_far new : List ℕ) (n : ℕ) → i < length xs → x ≡ get_or xs i x → so_far ≡ map F (take i xs) → new ≡ so_far ++ n ∷ [] → n ≡ F x
     → new ≡ map F (take (i + 1) xs)
 pushed F xs i x so_far new n inside at is is-new is-n =

@@ -1,4 +1,4 @@
--- Fronts of legal histories are legal.
+-- Prefixes of legal histories are legal.
 use Rattle.std.proofs.Common.{◌≡◌, ℕ, zero, suc, List, [], ◌∷◌, take, Option, Some, None, refl, sym, ◌∙◌}
 use Rattle.std.proofs.lemmas.Option.{none-some}
 use Rattle.job_bodies.specs.Plan.{Plan}
@@ -9,7 +9,7 @@ use Rattle.written_machine.specs.Reach.{start, state_after, replay, Reaches}
 use Rattle.written_machine.proofs.Reached.{replay_none}
 use Rattle.run_histories.specs.Run.{IsLegal}
 
--- the front of n events leads somewhere
+-- the prefix of n events leads to a state
 abbrev LeadsOn : Plan → Option State → List Event → ℕ → Type 0
 LeadsOn plan x history n = (t : State) × (replay plan x (take n history) ≡ Some t)
 

@@ -1,4 +1,4 @@
--- The numbers of the classes, one generation of jobs more at a time.
+-- The numbers of the classes, with one more generation of jobs at a time.
 use Rattle.std.proofs.Common.{◌≡◌, ◌≤◌, ◌<◌, ◌+◌, ◌-◌, ◌*◌, ◌^◌, ℕ, zero, suc, List, length, map, min, slice_get, slice_index, Some, sum_by, refl, sym, ap, subst, ◌∙◌, arith}
 use Rattle.std.proofs.lemmas.List.{get_or-map}
 use Rattle.std.proofs.lemmas.Option.{get_or_from_slice_get}
@@ -38,7 +38,7 @@ one_more plan own n numbers next formed is are k inside =
     let sums : capped (own class + submitted (slice_index numbers) class.body) ≡ capped (own class + submitted (caused_within plan own n) class.body) = omega arith in
     at ∙ sums
 
--- numbers that one generation more leaves as they are stay so
+-- numbers that one more generation does not change stay the same for all further generations
 after : (plan : Plan) (own : Class → ℕ) (n d : ℕ) (numbers : List ℕ) → AreCaused plan own n numbers → ((m : ℕ) → AreCaused plan own m numbers → AreCaused plan own (suc m) numbers)
     → AreCaused plan own (d + n) numbers
 after plan own n zero numbers are stays =
@@ -54,7 +54,7 @@ settled plan own n m numbers are stays later =
     let same : m - n + n ≡ m = omega arith in
     subst (λ (i : ℕ). AreCaused plan own i numbers) same (after plan own n (m - n) numbers are stays)
 
--- what the clients cause in all their rounds
+-- the sum over the jobs that the clients cause in all their rounds
 pub in_rounds : (plan : Plan) (rounds : ℕ) (f : ℕ → ℕ) (numbers : List ℕ) → IsWellFormed plan → AreCapped plan f numbers
     → capped (sum_by (submitted_by rounds (slice_index numbers)) plan.clients) ≡ capped (sum_by (submitted_by rounds f) plan.clients)
 in_rounds plan rounds f numbers formed are = capped_sums (2 ^ 64 - 1) (submitted_by rounds (slice_index numbers)) (submitted_by rounds f) plan.clients each

@@ -1,4 +1,4 @@
--- The numbers of classes hold all generations of jobs, whichever levels say how many there may be.
+-- The numbers of the classes include all generations of jobs, for each choice of valid levels.
 use Rattle.std.proofs.Common.{◌≡◌, ◌≤◌, ◌<◌, ◌+◌, ◌*◌, ℕ, zero, suc, List, [], ◌∷◌, length, max, fold, slice_get, slice_index, get_or, Some, sum_by, refl, sym, ap, ap₂, ◌∙◌, arith}
 use Rattle.std.proofs.lemmas.List.Sums.{sum_by-cons}
 use Rattle.job_bodies.specs.declared.action.Action.{Action}
@@ -19,7 +19,7 @@ sums_agree f g (x ∷ xs) same =
     let rest = sums_agree f g xs (λ i y e. same (suc i) y e) in
     omega (arith, sum_by-cons f x xs, sum_by-cons g x xs)
 
--- of a body, where the two agree at each class that it submits
+-- the sums over a body, if the two functions agree at each class that it submits
 submitted_agree : (f g : ℕ → ℕ) (body : List Action) → ((i k : ℕ) → slice_get body i ≡ Some (Submit k) → f k ≡ g k) → submitted f body ≡ submitted g body
 submitted_agree f g body same = sums_agree (of_submit f) (of_submit g) body (λ i x e. one i x e)
   where
@@ -28,7 +28,7 @@ submitted_agree f g body same = sums_agree (of_submit f) (of_submit g) body (λ 
     one i (Submit k) e = same i k e
     one i (Get t) e = refl
 
--- enough generations by some ranks, and enough by others, are the same
+-- two numbers of generations that are enough by their ranks give the same numbers
 generations_agree : (plan : Plan) (ranks ranks' : Ranks) (own : Class → ℕ) (n m k : ℕ) → RankLaws plan ranks → RankLaws plan ranks' → level ranks k < n → level ranks' k < m
     → caused_within plan own n k ≡ caused_within plan own m k
 generations_agree plan ranks ranks' own zero m k laws laws' low low' = absurd (omega arith)
@@ -42,7 +42,7 @@ generations_agree plan ranks ranks' own (suc n) (suc m) k laws laws' low low' =
     let sinks' = laws'.sinks k i k' e in
     generations_agree plan ranks ranks' own n m k' laws laws' (omega arith) (omega arith)))
 
--- no number of a list is above its greatest
+-- no number of a list is above its maximum
 below_fold : (numbers : List ℕ) (start k : ℕ) → (start ≤ fold (λ a n. max a n) start numbers) × (slice_index numbers k ≤ fold (λ a n. max a n) start numbers)
 below_fold [] start k = (omega arith, omega arith)
 below_fold (n ∷ numbers) start zero = let rest = below_fold numbers (max start n) 0 in (omega (arith, rest.0), omega (arith, rest.0))
@@ -64,12 +64,12 @@ caused_is_whole plan ranks own k hold =
     let sinks = laws.sinks k i k' e in
     generations_agree plan ranks ranks own top (top + 1) k' laws laws (omega arith) (within_greatest ranks k')))
 
--- of one class
+-- for one class
 caused_agree : (plan : Plan) (ranks ranks' : Ranks) (own : Class → ℕ) (k : ℕ) → RankLaws plan ranks → RankLaws plan ranks' → caused plan ranks own k ≡ caused plan ranks' own k
 caused_agree plan ranks ranks' own k laws laws' =
     generations_agree plan ranks ranks' own (greatest ranks.levels + 1) (greatest ranks'.levels + 1) k laws laws' (within_greatest ranks k) (within_greatest ranks' k)
 
--- of all clients
+-- for all clients
 by_jobs_agree : (plan : Plan) (ranks ranks' : Ranks) (rounds : ℕ) (own : Class → ℕ) → RankLaws plan ranks → RankLaws plan ranks' → by_jobs plan ranks rounds own ≡ by_jobs plan ranks' rounds own
 by_jobs_agree plan ranks ranks' rounds own laws laws' =
     sums_agree (submitted_by rounds (caused plan ranks own)) (submitted_by rounds (caused plan ranks' own)) plan.clients

@@ -1,4 +1,4 @@
--- Receipts of a legal history, by whose each of its events is.
+-- Receipts of a legal history, checked by the owner of each of its events.
 use Rattle.std.proofs.Common.{◌≡◌, ◌↔◌, ℕ, suc, Bool, false, IsTrue, List, [], ◌∷◌, length, slice_get, Option, Some, refl, sym, ap, ◌∙◌}
 use Rattle.std.proofs.lemmas.Option.{same_Some}
 use Rattle.job_bodies.specs.Plan.{Plan}
@@ -10,14 +10,14 @@ use Rattle.run_histories.specs.Receipts.{IsReceiptOf, AreListsOf}
 use Rattle.run_histories.specs.Run.{IsLegal}
 use Rattle.run_histories.proofs.Fronts.{front_is_legal}
 
--- a receipt of an owner's event has it at its number
+-- a receipt of an owner's event has the owner at its number
 owner_at : (plan : Plan) (history : List Event) (pools : List ℕ) (owner : Owner) (r : Receipt Event) (pool : ℕ) → IsLegal plan history → ArePoolsOf plan history pools → slice_get pools r.number ≡ Some pool
     → IsReceiptOf plan history owner r → owner_by r.event pool ≡ Some owner
 owner_at plan history pools owner r pool legal are at receipt =
     let before = front_is_legal plan history legal.0 r.number legal.1 in
     sym (are.each r.number before.0 r.event pool receipt.event at before.1) ∙ receipt.owned before.0 before.1
 
--- with the event at its number a receipt is the owner's whose that event is
+-- if the history has the event of the receipt at its number, the receipt belongs to the owner of that event
 pub owned_where : (plan : Plan) (history : List Event) (pools : List ℕ) (owner : Owner) (r : Receipt Event) (event : Event) (pool : ℕ) (found : Option Owner) (same owned : Bool) → IsLegal plan history → ArePoolsOf plan history pools
     → slice_get history r.number ≡ Some event → slice_get pools r.number ≡ Some pool → found ≡ owner_by event pool → (IsTrue same ↔ (event ≡ r.event)) → IsTrue same → (IsTrue owned ↔ (found ≡ Some owner)) → IsTrue owned ↔ IsReceiptOf plan history owner r
 owned_where plan history pools owner r event pool found same owned legal are event_at pool_at is_found is_same so is_owned =
@@ -29,7 +29,7 @@ owned_where plan history pools owner r event pool found same owned legal are eve
       λ receipt. is_owned.1 (told ∙ owner_at plan history pools owner r pool legal are pool_at receipt),
     )
 
--- with another event it is nobody's
+-- if the history has another event at its number, the receipt belongs to no owner
 pub other_event : (plan : Plan) (history : List Event) (owner : Owner) (r : Receipt Event) (event : Event) (same : Bool) → slice_get history r.number ≡ Some event → (IsTrue same ↔ (event ≡ r.event)) → same ≡ false → IsTrue same ↔ IsReceiptOf plan history owner r
 other_event plan history owner r event same event_at is_same differs = (
   λ so. absurd cc,

@@ -8,7 +8,7 @@ use Rattle.written_machine.specs.State.{State}
 use Rattle.live_views.specs.LiveView.{View, live_view}
 use Rattle.run_histories.specs.Complete.{IsThrough, AreMadeIn}
 
--- of the clients of these kinds, which made so many events, those below n are through
+-- all clients with numbers below n are through
 abbrev pub AreThrough : Plan → List ℕ → ℕ → List ℕ → View → ℕ → Type 0
 AreThrough plan kinds rounds made view n =
     (history : List Event) (s : State) → AreMadeIn history made → live_view plan s ≡ view → (c kind : ℕ) → c < n → slice_get kinds c ≡ Some kind → IsThrough rounds history s c (client_at plan kind)
@@ -23,7 +23,7 @@ through_more plan kinds rounds made view n below here history s are seen c kind 
       subst (λ (i : ℕ). IsThrough rounds history s i (client_at plan kind)) (sym same) (subst (λ (k : ℕ). IsThrough rounds history s n (client_at plan k)) kind_at (here history s are seen))
 ]
 
--- below their number are all
+-- if n is the number of clients, all clients are through
 pub through_all : (plan : Plan) (kinds : List ℕ) (rounds : ℕ) (made : List ℕ) (view : View) (n : ℕ) → length kinds ≡ n → AreThrough plan kinds rounds made view n
     → (history : List Event) (s : State) → AreMadeIn history made → live_view plan s ≡ view → (c kind : ℕ) → slice_get kinds c ≡ Some kind → IsThrough rounds history s c (client_at plan kind)
 through_all plan kinds rounds made view n all below history s are seen c kind at =

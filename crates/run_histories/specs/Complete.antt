@@ -7,11 +7,11 @@ use Rattle.written_machine.specs.declared.event.Event.TheVariants as event
 use Rattle.written_machine.specs.State.{State, is_unfinished}
 use Rattle.run_histories.specs.Owner.{kinds_of}
 
--- how often a client of this kind goes through its body
+-- the number of times a client of this kind performs its body
 abbrev pub rounds_of : ℕ → Client → ℕ
 rounds_of rounds client = if client.repeat then rounds else 1
 
--- the events of its rounds, and a loop between each two of them
+-- the number of events of its rounds, and of the loop events between them
 abbrev pub events_of_client : ℕ → Client → ℕ
 events_of_client rounds client = rounds_of rounds client * length client.body + rounds_of rounds client - 1
 
@@ -19,11 +19,11 @@ abbrev pub is_of_client : ℕ → Event → Bool
 is_of_client c (event.Client d) = c == d
 is_of_client c _ = false
 
--- for each of so many clients how many events of the history are its own
+-- the list has, for each client, the number of its events in the history
 abbrev pub AreMadeIn : List Event → List ℕ → Type 0
 AreMadeIn history made = (c : ℕ) → c < length made → slice_index made c ≡ count_by (is_of_client c) history
 
--- client c has made all events of its rounds, and stands at the end of its body
+-- client c has performed all events of its rounds, and is at the end of its body
 pub record IsThrough (rounds : ℕ) (history : List Event) (s : State) (c : ℕ) (client : Client) : Type 0 where
   pub events : count_by (is_of_client c) history ≡ events_of_client rounds client
   pub at_end : option_map (λ client. client.position) (slice_get s.clients c) ≡ Some (length client.body)

@@ -1,4 +1,4 @@
--- Receipts as the lists of a run keep them.
+-- The compact form of receipts.
 use Rattle.std.specs.Prelude.{ℕ, ◌<◌, ◌^◌}
 use Rattle.written_machine.specs.declared.event.Event.{Event}
 use Rattle.written_machine.specs.declared.event.Event.TheVariants as event
@@ -6,14 +6,14 @@ use Rattle.held_machines.specs.declared.held.Receipt.{Receipt}
 use Rattle.run_histories.specs.declared.kept_receipt.Kind.{Kind}
 use Rattle.run_histories.specs.declared.kept_receipt.Kind.TheVariants as kind
 
--- the event of this kind, of the client, the job or the pool of this number
+-- the event of this kind with this number of a client, job or pool
 abbrev pub event_of : Kind → ℕ → Event
 event_of kind.Client n = event.Client n
 event_of kind.Job n = event.Job n
 event_of kind.Take n = event.Take n
 event_of kind.Retire n = event.Retire n
 
--- the number of the client, the job or the pool
+-- the number of the client, job or pool
 abbrev pub number_in : Event → ℕ
 number_in (event.Client n) = n
 number_in (event.Job n) = n

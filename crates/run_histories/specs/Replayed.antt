@@ -7,18 +7,18 @@ use Rattle.certified_worlds.specs.HeldWorld.{IsReachedBy}
 use Rattle.run_histories.specs.Owner.{ArePoolsOf}
 use Rattle.run_histories.specs.Run.{IsLegal, units_done}
 
--- the number, or None where it is no u64
+-- the number as a u64, or None if it does not fit
 abbrev pub IsCounted : ℕ → Option ℕ → Type 0
 IsCounted n (Some m) = n ≡ m
 IsCounted n None = 2 ^ 64 ≤ n
 
--- the history leads to the world, these are the pools of its events, and so many units of work were done
+-- the history leads to the world, these pools determine the owners of its events, and these are its units of work
 pub record IsReplayedAs (plan : Plan) (history : List Event) (world : View) (pools : List ℕ) (units : Option ℕ) : Type 0 where
   pub reached : IsReachedBy plan history world
   pub owned : ArePoolsOf plan history pools
   pub counted : IsCounted (units_done plan history) units
 
--- true: the history goes on with the event; false: it does not, and is as it was
+-- true: the history with the event is replayed; false: it is not legal, and the history without it is replayed
 abbrev pub GoesOn : Plan → List Event → Event → Bool → View → List ℕ → Option ℕ → Type 0
 GoesOn plan history event true world pools units = IsReplayedAs plan (history ++ event ∷ []) world pools units
 GoesOn plan history event false world pools units = (¬ IsLegal plan (history ++ event ∷ [])) × IsReplayedAs plan history world pools units

@@ -1,4 +1,4 @@
--- Whole runs of a plan, and what else is answered to what threads hand back.
+-- Complete runs of a plan, and the faults for all other results of threads.
 use Rattle.std.specs.Prelude.{◌≡◌, ◌<◌, ◌≤◌, ◌+◌, ◌⊎◌, ℕ, List, length, take, sum_by, Option, Some, None}
 use Rattle.faults.specs.declared.number.TheConstants.{MEMORY, STRANGE, MIXED, GATE}
 use Rattle.job_bodies.specs.Plan.{Plan}
@@ -15,43 +15,43 @@ use Rattle.run_histories.specs.Owner.{lists_of}
 use Rattle.run_histories.specs.Receipts.{AreReceipts, AreListsOf}
 use Rattle.run_histories.specs.Complete.{IsComplete}
 
--- a history is legal where it leads to a state
+-- a history is legal if it leads to a state
 abbrev pub IsLegal : Plan → List Event → Type 0
 IsLegal plan history = (s : State) × Reaches plan history s
 
--- where the history leads so many jobs were made
+-- the number of jobs in the state to which the history leads
 abbrev pub Makes : Plan → List Event → ℕ → Type 0
 Makes plan history jobs = (s : State) → Reaches plan history s → length s.jobs ≡ jobs
 
--- the units of work that were done, of what comes of an event
+-- the units of work of an outcome
 abbrev pub worked : Option Outcome → ℕ
 worked (Some (Worked u)) = u
 worked _ = 0
 
--- the units of work that the events of the history do in all
+-- the total units of work of the events of the history
 abbrev pub units_done : Plan → List Event → ℕ
 units_done plan history = sum_by worked (outcomes plan (Some (start plan)) history)
 
 abbrev pub Works : Plan → List Event → ℕ → Type 0
 Works plan history units = units_done plan history ≡ units
 
--- the history is legal, and complete for so many rounds, and these are its receipts
+-- the history is legal, and complete for this number of rounds, and these are its receipts
 pub record IsRun (plan : Plan) (rounds : ℕ) (history : List Event) (lists : List (List (Receipt Event))) : Type 0 where
   pub last : State
   pub legal : Reaches plan history last
   pub complete : IsComplete plan rounds history last
   pub received : AreReceipts plan history lists
 
--- this is how many events a legal history has
+-- some legal history has this number of events
 abbrev pub IsLengthOfLegal : Plan → ℕ → Type 0
 IsLengthOfLegal plan n = (history : List Event) × IsLegal plan history × (length history ≡ n)
 
--- so many events from the front of the history are legal
+-- the first n events of the history are legal
 pub record IsLegalFront (plan : Plan) (history : List Event) (n : ℕ) : Type 0 where
   pub within : n ≤ length history
   pub legal : IsLegal plan (take n history)
 
--- and no more: the next one, where there is one, is not possible
+-- the same, and the next event, if there is one, is not possible
 pub record IsLegalPart (plan : Plan) (history : List Event) (n : ℕ) : Type 0 where
   pub front : IsLegalFront plan history n
   pub ends : n < length history → ¬ IsLegal plan (take (n + 1) history)
@@ -60,18 +60,18 @@ abbrev pub number_of : ThreadFault → ℕ
 number_of cause.Memory = MEMORY
 number_of cause.Gate = GATE
 
--- 41: in some list not all are receipts of its owner's events, of the legal ones, in rising order
+-- fault 41: for the legal prefix, some list has a receipt that does not belong to its owner or is not in ascending order
 pub record IsStrange (plan : Plan) (history : List Event) (lists : List (List (Receipt Event))) (fault : RunFault) : Type 0 where
   pub number : fault.number ≡ STRANGE
   pub strange : ¬ AreListsOf plan (take fault.events history) (lists_of plan) lists
 
--- 42: in each list all are, and yet it is no run, or one of another number of jobs or of units
+-- fault 42: the lists are those of their owners, and yet the run is not complete or has other numbers of jobs or units
 pub record IsMixed (plan : Plan) (rounds jobs units : ℕ) (history : List Event) (lists : List (List (Receipt Event))) (fault : RunFault) : Type 0 where
   pub number : fault.number ≡ MIXED
   pub theirs : AreListsOf plan (take fault.events history) (lists_of plan) lists
   pub mixed : ¬ (IsRun plan rounds history lists × Makes plan history jobs × Works plan history units)
 
--- what is answered where there is memory: the fault that a thread met, and 41 or 42 only where none did
+-- the fault if there is enough memory: the one that a thread reported, and 41 or 42 only if no thread reported one
 abbrev pub IsAnswerTo : Plan → ℕ → ℕ → ℕ → List Event → List (List (Receipt Event)) → Option ThreadFault → RunFault → Type 0
 IsAnswerTo plan rounds jobs units history lists (Some cause) fault = fault.number ≡ number_of cause
 IsAnswerTo plan rounds jobs units history lists None fault = IsStrange plan history lists fault ⊎ IsMixed plan rounds jobs units history lists fault

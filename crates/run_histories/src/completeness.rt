@@ -1,4 +1,4 @@
-//! Whether a history is complete.
+//! The completeness of a history.
 
 ghost use Rattle.std.specs.Prelude.{◌≡◌, ◌<◌, ◌+◌, ◌-◌, ◌^◌, ◌↔◌, ℕ, List, IsTrue, IfOk, Some, length, min, count_by, slice_get, slice_index, if◌then◌else◌};
 ghost use Rattle.job_bodies.specs.Plan.{Plan, client_at};
@@ -13,11 +13,12 @@ use interleaving::{Event, World};
 use job_bodies::{Client, Plan};
 use std::alloc::{AllocError, Global};
 
-/// Whether each client has made all events of its rounds and stands at its body's end, and no job is unfinished.
+/// Returns `true` if no job is unfinished and each client has performed all events of its rounds
+/// and is at the end of its body.
 ///
 /// # Errors
 ///
-/// `AllocError` where there is no memory for a count of each client's events.
+/// Returns `AllocError` if there is not enough memory for the event count of each client.
 pub(crate) fn is_complete(
     alloc: Global,
     plan: &Plan,
@@ -39,7 +40,8 @@ pub(crate) fn is_complete(
     Ok(clients_are_through(plan, kinds, world, rounds, &made))
 }
 
-/// Whether each client is through, of these kinds, which made so many events.
+/// Returns `true` if each client is through. `kinds` has the kind of each client, and `made` its
+/// number of events.
 fn clients_are_through(
     plan: &Plan,
     kinds: &[usize],
@@ -68,8 +70,8 @@ fn clients_are_through(
     true
 }
 
-/// Whether the client of this number, of this kind, has made all its events, which are so many, and stands at its body's
-/// end.
+/// Returns `true` if the client with this number has performed all its events and is at the end of
+/// its body. `made` is its number of events.
 fn is_through(client: &Client, number: usize, world: &World, rounds: u64, made: u64) -> bool
     ensures { (plan : Plan) (history : List Event) (s : State)
         → made ≡ count_by (spec.is_of_client number) history
@@ -85,11 +87,11 @@ fn is_through(client: &Client, number: usize, world: &World, rounds: u64, made: 
     position == client.body.len() && made == events
 }
 
-/// How many events of the history each of so many clients has made.
+/// Returns, for each client, the number of its events in the history.
 ///
 /// # Errors
 ///
-/// `AllocError` where there is no memory for the list.
+/// Returns `AllocError` if there is not enough memory for the list.
 fn events_made(alloc: Global, clients: usize, history: &[Event]) -> Result<Vec<u64>, AllocError>
     ensures as_many { IfOk result (λ made. length made.items ≡ clients) }
     ensures made { IfOk result (λ made. spec.AreMadeIn history.now made.items) }
@@ -101,7 +103,7 @@ fn events_made(alloc: Global, clients: usize, history: &[Event]) -> Result<Vec<u
     Ok(made)
 }
 
-/// Counts the event for its client.
+/// Counts the event for its client. The counts saturate at `u64::MAX`.
 fn count_event(made: &mut [u64], event: Event)
     ensures as_many { length made.new ≡ length made.old }
     ensures made { (c : ℕ)

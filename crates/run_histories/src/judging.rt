@@ -1,4 +1,4 @@
-//! Whether what came back from a run's threads is a whole run.
+//! The check that the results of a run's threads are a complete run.
 
 ghost use Rattle.std.specs.Prelude.{◌≡◌, ◌≢◌, ◌↔◌, IfOk, IfErr, IfSome, IsTrue, None, false, length, take};
 ghost use Rattle.std.specs.Option.{IfNone};
@@ -20,14 +20,15 @@ use faults::number::{MEMORY, MIXED, STRANGE};
 use job_bodies::Plan;
 use std::alloc::{AllocError, Global};
 
-/// The report of what the threads of a run hand back, where it is a whole run of the plan in so many rounds and with those
-/// numbers of jobs and of units of work, and else why it is not.
+/// Returns the report of a run, given what its threads returned, if it is a complete run of the
+/// plan with this number of rounds and these numbers of jobs and units of work.
 ///
 /// # Errors
 ///
-/// The fault that a thread met; only where none did, 41 where a receipt is strange, and else 42, as [`RunFault`] says. In
-/// place of each, 20 where memory runs out here. Its `events` is how many events of the history could be replayed: with
-/// another fault than 20, all up to the first that is not possible.
+/// Returns the fault that a thread reported. If there is none, returns 41 if a receipt is strange,
+/// and otherwise 42, as described at [`RunFault`]. Returns 20 instead of any of these if memory
+/// runs out here. The field `events` of the fault is the number of events of the history that were
+/// replayed; except with 20, these are all events before the first impossible one.
 pub fn judge(
     alloc: Global,
     certified: &Certified,
@@ -70,7 +71,7 @@ pub fn judge(
     }
 }
 
-/// The report of a run whose history leads to the world.
+/// Returns the report of a run whose history leads to the world.
 fn report(certified: &Certified, numbers: RunNumbers, world: &SeenWorld, met: Met) -> RunReport
     requires { IsReachedBy certified.now.plan met.history world.now }
     ensures { result
@@ -93,11 +94,12 @@ fn report(certified: &Certified, numbers: RunNumbers, world: &SeenWorld, met: Me
     }
 }
 
-/// What is wrong with what came back, of whose history the legal part was replayed.
+/// Returns the fault of a run, or `None` if it is a complete run. `replay` is the replay of the
+/// legal part of its history.
 ///
 /// # Errors
 ///
-/// `AllocError` where memory ran out in the replay or runs out here.
+/// Returns `AllocError` if memory ran out in the replay or runs out here.
 fn fault_of(
     alloc: Global,
     plan: &Plan,
@@ -154,12 +156,13 @@ fn fault_of(
     Ok(None)
 }
 
-/// Whether the history that came back was replayed to its end, made so many jobs, did so many units of work and is
-/// complete, and each of its events stands in one place of the lists; each list has its own client's or pool's receipts.
+/// Returns `true` if the history was replayed to its end, has these numbers of jobs and units of
+/// work, is complete, and has each of its events in one place of the lists. Each list must have
+/// receipts of its own client or pool only.
 ///
 /// # Errors
 ///
-/// `AllocError` where memory runs out.
+/// Returns `AllocError` if memory runs out.
 fn is_run(
     alloc: Global,
     plan: &Plan,

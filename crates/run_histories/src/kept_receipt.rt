@@ -1,4 +1,4 @@
-//! Receipts as the lists of a run keep them.
+//! The compact form of receipts.
 
 ghost use Rattle.std.specs.Prelude.{◌≡◌, ◌<◌, ◌^◌, ◌↔◌, IfSome, IsSome};
 ghost use Rattle.run_histories.specs.KeptReceipt.{IsKeepable, event_of, number_in};
@@ -7,7 +7,8 @@ use held_machines::Receipt;
 use interleaving::Event;
 use std::marker::Model;
 
-/// A receipt as the lists of a run keep it: in 12 bytes, half of what a [`Receipt`] takes, since its numbers have 32 bits.
+/// A receipt in 12 bytes, half the size of a [`Receipt`], since its numbers have 32 bits. The lists
+/// of a run store receipts in this form.
 #[derive(Debug, Drop)]
 pub struct KeptReceipt {
     number: u32,
@@ -16,7 +17,7 @@ pub struct KeptReceipt {
     of: u32,
 }
 
-/// What an event's number is the number of, and what that does.
+/// The kind of an event.
 #[derive(Clone, Copy, Debug, PartialEq, Eq)]
 enum Kind {
     Client,
@@ -36,7 +37,8 @@ impl Model for KeptReceipt {
 }
 
 impl KeptReceipt {
-    /// The receipt, to be kept; None where a number of it has more than 32 bits.
+    /// Creates the compact form of a receipt, or returns `None` if one of its numbers has more than
+    /// 32 bits.
     pub fn new(receipt: Receipt<Event>) -> Option<KeptReceipt>
         ensures same { IfSome result (λ kept. kept ≡ receipt) }
         ensures keepable { IsSome result ↔ IsKeepable receipt }
@@ -49,7 +51,7 @@ impl KeptReceipt {
         })
     }
 
-    /// The receipt that is kept.
+    /// Returns the receipt.
     pub fn receipt(&self) -> Receipt<Event>
         ensures { result ≡ self.now }
     {
@@ -60,7 +62,7 @@ impl KeptReceipt {
     }
 }
 
-/// The event's kind, and the number of its client, its job or its pool.
+/// Returns the event's kind, and the number of its client, job or pool.
 fn parts(event: Event) -> (Kind, usize)
     ensures event { event_of result.0 result.1 ≡ event }
     ensures number { number_in event ≡ result.1 }

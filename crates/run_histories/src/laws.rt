@@ -1,15 +1,15 @@
-//! Laws of the numbers of a run, each the contract of a function with nothing to do.
+//! Laws of the numbers of a run. Each law is the contract of a function with an empty body.
 
 ghost use Rattle.run_histories.specs.RunNumbers.{CausedIsWhole, NumbersAreOfThePlan};
 
-/// Where the rows of the ranks hold, the number of a job and of those that it causes is its own with the numbers of the
-/// jobs that it submits: no generation is left out.
+/// If the rows of the ranks hold, the number of a job class, with all jobs that it causes, is its
+/// own number plus the numbers of the classes that it submits: no generation is missing.
 pub fn caused_is_whole()
     ensures { CausedIsWhole }
 {}
 
-/// All ranks whose rows hold give a run the same numbers of jobs, units and events: they are the plan's, whatever the
-/// certificate.
+/// All ranks whose rows hold give a run the same numbers of jobs, units and events. These numbers
+/// depend on the plan, and not on the certificate.
 pub fn numbers_are_of_the_plan()
     ensures { NumbersAreOfThePlan }
 {}

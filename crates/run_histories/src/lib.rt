@@ -1,9 +1,10 @@
-//! What a run's threads hand back, and whether it is a whole run of the plan: its history, the receipts of each thread,
-//! and how many jobs and units it has.
+//! The results of a run's threads, and the check that they are a complete run of the plan: the
+//! history, the receipts of each thread, and the numbers of jobs and units.
 //!
-//! [`judge`] trusts nothing that came back. It replays the history in a new world of the plan, and answers a report only
-//! where that history is legal and complete and the receipts are its events, each once and each with the thread whose
-//! event it is. [`run_numbers`] computes beforehand what a whole run has.
+//! [`judge`] trusts none of the results. It replays the history in a new world of the plan. It
+//! returns a report only if the history is legal and complete, and the receipts contain each event
+//! once, in a list of the thread that performed it. [`run_numbers`] computes in advance the numbers
+//! of a complete run.
 #![tactic(auto)]
 
 mod completeness;

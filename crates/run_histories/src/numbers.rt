@@ -1,4 +1,4 @@
-//! What a whole run has: its jobs, its units and its events.
+//! The numbers of jobs, units and events of a complete run.
 
 ghost use Rattle.std.specs.Prelude.{◌≡◌, ◌*◌, ℕ, suc, IfOk, slice_index, sum_by};
 ghost use Rattle.run_histories.specs.Complete as complete;
@@ -10,24 +10,25 @@ use job_bodies::{Action, Class, Client, Plan};
 use pool_ranks::Ranks;
 use std::alloc::{AllocError, Global};
 
-/// How many jobs and units of work a whole run has, and how many events it has at most. 2 to the 64 less 1 stands for all
-/// numbers from there on.
+/// The numbers of jobs and units of work of a complete run, and an upper bound of the number of its
+/// events. Each number saturates at `u64::MAX`.
 #[derive(Clone, Copy, Debug, PartialEq, Eq)]
 pub struct RunNumbers {
-    /// The jobs that clients submit, with those that jobs submit.
+    /// The number of jobs that clients and jobs submit.
     pub jobs: u64,
     /// The units of work of clients and jobs.
     pub units: u64,
-    /// A bound on the events: it has a taking for each job, and a job whose submit starts a thread has none.
+    /// An upper bound of the number of events. It counts a take event for each job, although a job
+    /// whose submit starts a thread has none.
     pub events: u64,
 }
 
-/// The numbers of a run of the plan in which each repeating client goes through its body so many times: with 0 rounds it
-/// has none.
+/// Returns the numbers of a run of the plan in which each repeating client performs its body
+/// `rounds` times. With 0 rounds, a repeating client contributes nothing.
 ///
 /// # Errors
 ///
-/// `AllocError` where there is no memory for numbers of the classes.
+/// Returns `AllocError` if there is not enough memory for the numbers of the classes.
 pub fn run_numbers(
     alloc: Global,
     plan: &Plan,
@@ -51,7 +52,7 @@ pub fn run_numbers(
     })
 }
 
-/// What is counted of a run.
+/// A quantity of a run.
 #[derive(Clone, Copy)]
 enum Measure {
     Jobs,
@@ -59,7 +60,8 @@ enum Measure {
     Events,
 }
 
-/// What a job of the class has, without the jobs that it causes: as events its actions, its taking and its end.
+/// Returns the quantity of one job of the class, without the jobs that it causes. Its events are
+/// its actions, a take event and its end.
 fn own(measure: Measure, class: &Class) -> u64
     ensures { result ≡ capped (spec.own measure class.now) }
 {
@@ -70,7 +72,7 @@ fn own(measure: Measure, class: &Class) -> u64
     }
 }
 
-/// What the jobs have that the clients cause in all their rounds.
+/// Returns the quantity of all jobs that the clients cause in all their rounds.
 fn by_jobs(
     alloc: Global,
     plan: &Plan,
@@ -85,7 +87,7 @@ fn by_jobs(
     Ok(submitted_by_all(plan, rounds, &numbers))
 }
 
-/// The numbers of the classes that the clients submit in all their rounds, added up.
+/// Returns the sum of the numbers of the classes that the clients submit in all their rounds.
 fn submitted_by_all(plan: &Plan, rounds: u64, numbers: &[u64]) -> u64
     ensures { (f : ℕ → ℕ)
         → spec.AreCapped plan.now f numbers.now
@@ -104,7 +106,7 @@ fn submitted_by(client: &Client, rounds: u64, numbers: &[u64]) -> u64
     in_all_rounds(client, rounds, submitted(&client.body, numbers))
 }
 
-/// The units of work of the clients themselves.
+/// Returns the units of work of the clients themselves.
 fn units_of_all(plan: &Plan, rounds: u64) -> u64
     ensures { result ≡ capped (sum_by (spec.units_of_clients rounds) plan.now.clients) }
 {
@@ -121,7 +123,7 @@ fn units_of_clients(client: &Client, rounds: u64) -> u64
     in_all_rounds(client, rounds, units_in(&client.body))
 }
 
-/// The events of the clients themselves.
+/// Returns the number of events of the clients themselves.
 fn events_of_all(plan: &Plan, rounds: u64) -> u64
     ensures { result ≡ capped (sum_by (spec.events_of_clients rounds) plan.now.clients) }
 {
@@ -132,7 +134,8 @@ fn events_of_all(plan: &Plan, rounds: u64) -> u64
     total
 }
 
-/// What the clients of a kind have in all their rounds, of what one has in each.
+/// Returns the quantity of all clients of a kind in all their rounds, given that of one client in
+/// one round.
 fn in_all_rounds(client: &Client, rounds: u64, in_one: u64) -> u64
     ensures { (n : ℕ)
         → in_one ≡ capped n
@@ -142,14 +145,14 @@ fn in_all_rounds(client: &Client, rounds: u64, in_one: u64) -> u64
     client.count.saturating_mul(of_one)
 }
 
-/// How many events a client of this kind makes.
+/// Returns the number of events of one client of this kind, which saturates at `u64::MAX`.
 fn events_within(client: &Client, rounds: u64) -> u64
     ensures { result ≡ capped (complete.events_of_client rounds client.now) }
 {
     events_of_client(client, rounds).unwrap_or(u64::MAX)
 }
 
-/// The units of work that the body declares.
+/// Returns the units of work that the body declares.
 fn units_in(body: &[Action]) -> u64
     ensures { result ≡ capped (spec.units_in body.now) }
 {
@@ -162,7 +165,7 @@ fn units_in(body: &[Action]) -> u64
     total
 }
 
-/// The numbers of the classes that the body submits, added up.
+/// Returns the sum of the numbers of the classes that the body submits.
 fn submitted(body: &[Action], numbers: &[u64]) -> u64
     ensures { result ≡ capped (spec.submitted (slice_index numbers.now) body.now) }
 {
@@ -175,7 +178,8 @@ fn submitted(body: &[Action], numbers: &[u64]) -> u64
     total
 }
 
-/// For each class a job's own number with those of the jobs that it causes, of all generations.
+/// Returns, for each class, the quantity of one job with all jobs that it causes, of all
+/// generations.
 fn caused(
     alloc: Global,
     plan: &Plan,
@@ -208,7 +212,7 @@ fn greatest(levels: &[u64]) -> u64
     greatest
 }
 
-/// The numbers with one generation of jobs more: the classes themselves, before the jobs that they submit.
+/// Returns the numbers with one more generation of jobs, which comes before the given generations.
 fn one_more(
     alloc: Global,
     plan: &Plan,

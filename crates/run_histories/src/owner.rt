@@ -1,4 +1,4 @@
-//! Whose an event is, and the lists of receipts that a run has.
+//! The owners of events, and of the lists of receipts of a run.
 
 ghost use Rattle.std.specs.Prelude.{◌≡◌, ◌≢◌, ◌<◌, None, IfOk, map, length};
 ghost use Rattle.job_bodies.specs.WellFormed.{IsWellFormed};
@@ -14,14 +14,16 @@ use interleaving::{Event, World};
 use job_bodies::Plan;
 use std::alloc::{AllocError, Global};
 
-/// Whose an event is: one client's, or one pool's, whose threads take jobs and do what these do.
+/// The owner of an event: a client, or a pool, whose threads take jobs and perform the actions of
+/// jobs.
 #[derive(Clone, Copy, Debug, PartialEq, Eq)]
 pub enum Owner {
     Client(usize),
     Pool(usize),
 }
 
-/// The pool of the event's job, in the world before the event, where it is a job's and is possible there; else 0.
+/// Returns the pool of the event's job in the world before the event, if it is a possible event of
+/// a job; otherwise returns 0.
 pub(crate) fn pool_of(plan: &Plan, world: &World, event: Event) -> u8
     ensures { (s : State)
         → IsReached plan.now s
@@ -38,7 +40,7 @@ pub(crate) fn pool_of(plan: &Plan, world: &World, event: Event) -> u8
     }
 }
 
-/// The pool of the class, of which a plan has at most 64; 0 where there is no such class.
+/// Returns the pool of the class, or 0 if there is no such class. A plan has at most 64 pools.
 fn pool_of_class(plan: &Plan, class: usize) -> u8
     ensures exists { class < length plan.now.classes → result ≡ state.pool_of plan.now class }
     ensures well_formed { IsWellFormed plan.now }
@@ -49,8 +51,8 @@ fn pool_of_class(plan: &Plan, class: usize) -> u8
     }
 }
 
-/// Whose the event is, where this is the pool of its job, if it is a job's. None of a retirement, which no thread of a run
-/// makes.
+/// Returns the owner of the event. `pool` is the pool of its job, if it is an event of a job.
+/// Returns `None` for a retirement, which no thread of a run performs.
 pub(crate) fn owner_by(event: Event, pool: u8) -> Option<Owner>
     ensures { result ≡ spec.owner_by event pool }
 {
@@ -62,11 +64,11 @@ pub(crate) fn owner_by(event: Event, pool: u8) -> Option<Owner>
     }
 }
 
-/// The kind of each client, in their order.
+/// Returns the kind of each client, in the order of the clients.
 ///
 /// # Errors
 ///
-/// `AllocError` where there is no memory for the list.
+/// Returns `AllocError` if there is not enough memory for the list.
 pub fn kinds_of(alloc: Global, plan: &Plan) -> Result<Vec<usize>, AllocError>
     ensures { IfOk result (λ kinds. kinds.items ≡ spec.kinds_of plan.now) }
 {
@@ -78,11 +80,11 @@ pub fn kinds_of(alloc: Global, plan: &Plan) -> Result<Vec<usize>, AllocError>
     Ok(kinds)
 }
 
-/// Whose each list of receipts is: each client's in their order, and then as many of each pool as it has threads at most.
+/// Returns the owner of each list of receipts: first each client, then each pool `max` times.
 ///
 /// # Errors
 ///
-/// `AllocError` where there is no memory for the list.
+/// Returns `AllocError` if there is not enough memory for the list.
 pub fn lists_of(alloc: Global, plan: &Plan, kinds: &[usize]) -> Result<Vec<Owner>, AllocError>
     requires { kinds.now ≡ spec.kinds_of plan.now }
     ensures { IfOk result (λ lists. lists.items ≡ spec.lists_of plan.now) }

@@ -1,4 +1,5 @@
-//! Whether the receipts of all threads are the events of a history, each once and each where it belongs.
+//! The check that the receipts of all threads are the events of a history, each once and each with
+//! its owner.
 
 ghost use Rattle.std.specs.Prelude.{◌≡◌, ◌<◌, ◌+◌, ◌==◌, ◌↔◌, ℕ, IsTrue, IfOk, Some, length, map, min, slice_index, count_by, if◌then◌else◌};
 ghost use Rattle.run_histories.specs.Owner.{ArePoolsOf};
@@ -12,7 +13,8 @@ use interleaving::Event;
 use job_bodies::Plan;
 use std::alloc::{AllocError, Global};
 
-/// Whether each list has events of its owner alone, each the history's event at its number, in rising order.
+/// Returns `true` if the receipts of each list are in ascending order, and each is the history's
+/// event at its number and belongs to the owner of the list.
 pub(crate) fn lists_fit(
     plan: &Plan,
     history: &[Event],
@@ -58,7 +60,7 @@ fn list_fits(
     true
 }
 
-/// Whether the history has the event at this number, and it is this owner's.
+/// Returns `true` if the history has this event at this number, and the event belongs to the owner.
 fn receipt_fits(
     _plan: &Plan,
     history: &[Event],
@@ -93,7 +95,7 @@ fn is_same_event(a: Event, b: Event) -> bool
     }
 }
 
-/// Whether what has this owner, where it has one, is this owner's.
+/// Returns `true` if `found` is this owner.
 fn is_owned_by(found: Option<Owner>, owner: Owner) -> bool
     ensures { IsTrue result ↔ (found ≡ Some owner) }
 {
@@ -104,11 +106,11 @@ fn is_owned_by(found: Option<Owner>, owner: Owner) -> bool
     }
 }
 
-/// Whether each number below the length stands in just one place of the lists.
+/// Returns `true` if each number below `length` is in exactly one place of the lists.
 ///
 /// # Errors
 ///
-/// `AllocError` where there is no memory for a mark at each number.
+/// Returns `AllocError` if there is not enough memory for a mark for each number.
 pub(crate) fn each_once(
     alloc: Global,
     length: usize,
@@ -125,7 +127,7 @@ pub(crate) fn each_once(
     Ok(all_are_one(&marks))
 }
 
-/// Raises the mark at each receipt's number. A mark of 255 stands for all numbers from there on.
+/// Increases the mark at each receipt's number. The marks saturate at 255.
 fn mark_all(marks: &mut [u8], list: &[KeptReceipt])
     ensures len { length marks.new ≡ length marks.old }
     ensures marks { (k : ℕ)

@@ -12,25 +12,26 @@ use interleaving::{Event, Outcome};
 use job_bodies::Plan;
 use std::alloc::{AllocError, Global};
 
-/// A history as far as it was replayed. It keeps no copy of the events.
+/// The replayed part of a history, without a copy of its events.
 #[derive(Drop)]
 pub(crate) struct Replay {
-    /// The world after the events that were replayed.
+    /// The world after the replayed events.
     pub(crate) world: SeenWorld,
-    /// For each of them the pool of its job, where it is a job's, so that it is told whose it is.
+    /// For each replayed event the pool of its job, if it is an event of a job. The pool determines
+    /// the owner of the event.
     pub(crate) pools: Vec<u8>,
-    /// How many units of work they do; None where that is no u64.
+    /// The units of work of the replayed events, or `None` if they exceed `u64::MAX`.
     pub(crate) units: Option<u64>,
     /// Whether memory ran out before the next event.
     pub(crate) ended_for_memory: bool,
 }
 
-/// Replays the history in a new world of the plan, up to its first event that is not possible, or for which there is no
-/// memory.
+/// Replays the history in a new world of the plan, up to its first event that is not possible or
+/// for which there is not enough memory.
 ///
 /// # Errors
 ///
-/// `AllocError` where there is no memory for the world before its first event.
+/// Returns `AllocError` if there is not enough memory for the world before its first event.
 pub(crate) fn replay_history(
     alloc: Global,
     plan: &Plan,
@@ -54,18 +55,19 @@ pub(crate) fn replay_history(
 }
 
 impl Replay {
-    /// How many events were replayed.
+    /// Returns the number of replayed events.
     pub(crate) fn events(&self) -> usize
         ensures { result ≡ length self.now.pools.items }
     {
         self.pools.len()
     }
 
-    /// Makes the events, up to the first that is not possible.
+    /// Replays the events, up to the first that is not possible.
     ///
     /// # Errors
     ///
-    /// `AllocError` where there is no memory for an event. Those before it are made.
+    /// Returns `AllocError` if there is not enough memory for an event. The events before it are
+    /// replayed.
     fn follow_all(&mut self, plan: &Plan, history: &[Event]) -> Result<(), AllocError>
         requires at_start { IsReplayedAs plan.now [] self.old.world self.old.pools.items
             self.old.units }
@@ -83,11 +85,11 @@ impl Replay {
         Ok(())
     }
 
-    /// Makes the event, and says whether it was possible.
+    /// Replays the event, and returns whether it was possible.
     ///
     /// # Errors
     ///
-    /// `AllocError` where there is no memory for it. It is not made then.
+    /// Returns `AllocError` if there is not enough memory for the event. It is then not replayed.
     fn follow(&mut self, plan: &Plan, event: Event) -> Result<bool, AllocError>
         requires { IsOf plan.now self.old.world }
         ensures made { IfOk result (λ made.
@@ -111,7 +113,7 @@ impl Replay {
     }
 }
 
-/// So many units with those of the outcome; None where they are no u64.
+/// Returns the units plus those of the outcome, or `None` if the sum exceeds `u64::MAX`.
 fn with_work(units: Option<u64>, outcome: Outcome) -> Option<u64>
     ensures { (n : ℕ) → IsCounted n units → IsCounted (n + worked (Some outcome)) result }
 {
@@ -121,7 +123,7 @@ fn with_work(units: Option<u64>, outcome: Outcome) -> Option<u64>
     }
 }
 
-/// Whether so many are wanted.
+/// Returns `true` if the units are equal to `wanted`.
 pub(crate) fn are_as_many(units: Option<u64>, wanted: u64) -> bool
     ensures { (n : ℕ) → IsCounted n units → (IsTrue result ↔ (n ≡ wanted)) }
 {

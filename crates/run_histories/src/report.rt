@@ -1,4 +1,4 @@
-//! What a run answers.
+//! The result of a run.
 
 ghost use Rattle.std.specs.Prelude.{◌≡◌};
 ghost use Rattle.job_bodies.specs.Plan as spec;
@@ -9,19 +9,19 @@ use faults::number::{GATE, MEMORY};
 use interleaving::Event;
 use std::marker::Model;
 
-/// A run that was made and judged.
+/// The report of a run that was performed and checked.
 #[derive(Debug, Drop)]
 pub struct RunReport {
-    /// How many jobs were made.
+    /// The number of jobs created.
     pub jobs: u64,
-    /// How many units of work were done, by the clients and by the jobs.
+    /// The units of work done by clients and jobs.
     pub units: u64,
-    /// How many submits were refused: none.
+    /// The number of rejected submits, which is 0.
     pub refused: u64,
-    /// Every event, in the order in which they were made.
+    /// Every event, in the order in which the events happened.
     pub history: Vec<Event>,
-    /// The receipts of each thread in rising order: a list for each client, then for each pool as many lists as its
-    /// maximum.
+    /// The receipts of each thread in ascending order: one list for each client, then `max` lists
+    /// for each pool.
     pub receipts: Vec<Vec<KeptReceipt>>,
 }
 
@@ -34,12 +34,16 @@ impl Model for RunReport {
     ghost view = { λ r. record { jobs = r.jobs; units = r.units; refused = r.refused; history = r.history.items; receipts = map (λ list. list.items) r.receipts.items } };
 }
 
-/// Why a run is no run: a number of `faults`, and the length of a legal history, of the events that were made.
+/// The reason why a run is not complete: a number of `faults`, and the length of a legal prefix of
+/// the history.
 ///
-/// 40: a limit of a run is passed, and nothing was started. 41: a receipt is strange: the history has no such event at its
-/// number, or it is not of its thread, or the numbers of a list do not rise. 42: the receipts are not those of the
-/// history, each once, or the history is not complete or has another number of jobs or of units than was computed. 43: the
-/// gate failed. 20: memory ran out.
+/// - 20: memory ran out.
+/// - 40: the run exceeds a limit, and nothing was started.
+/// - 41: a receipt is strange. The history has no such event at its number, or the event belongs to
+///   another thread, or the numbers of a list do not rise.
+/// - 42: the receipts are not the events of the history, each once, or the history is not complete,
+///   or its number of jobs or units differs from the computed one.
+/// - 43: the gate failed.
 #[derive(Clone, Copy, Debug, PartialEq, Eq)]
 pub struct RunFault {
     pub number: u8,
@@ -47,7 +51,7 @@ pub struct RunFault {
 }
 
 impl RunFault {
-    /// A fault before the first event.
+    /// Creates a fault before the first event.
     #[tactic(auto, using(crate::proofs::Histories::nothing_is_legal))]
     pub fn at_start(number: u8) -> RunFault
         ensures value { result ≡ record { number = number; events = 0 } }
@@ -57,7 +61,7 @@ impl RunFault {
     }
 }
 
-/// Why the threads of a run end before all is done.
+/// The reason why the threads of a run end early.
 #[derive(Clone, Copy, Debug, PartialEq, Eq)]
 pub enum ThreadFault {
     /// Memory ran out, or a thread could not be started.
@@ -67,7 +71,7 @@ pub enum ThreadFault {
 }
 
 impl ThreadFault {
-    /// Its number of `faults`.
+    /// Returns its number of `faults`.
     pub fn number(self) -> u8
         ensures { result ≡ number_of self }
     {
@@ -78,8 +82,8 @@ impl ThreadFault {
     }
 }
 
-/// What the threads of a run hand back: its history, the receipts of each thread, and the fault that a thread met, of
-/// several the one with the least number.
+/// The results of the threads of a run: the history, the receipts of each thread, and the fault
+/// that a thread reported. If several did, it is the fault with the lowest number.
 #[derive(Debug, Drop)]
 pub struct Met {
     pub history: Vec<Event>,

@@ -1,4 +1,4 @@
-//! How often a client goes through its body, and how many events that makes.
+//! The numbers of rounds and events of a client.
 
 ghost use Rattle.std.specs.Prelude.{◌≡◌, ◌≤◌, ◌^◌, IfSome};
 ghost use Rattle.std.specs.Option.{IfNone};
@@ -6,15 +6,16 @@ ghost use Rattle.run_histories.specs.Complete as spec;
 
 use job_bodies::Client;
 
-/// How often a client of this kind goes through its body in a run of so many rounds.
+/// Returns how many times a client of this kind performs its body in a run with this number of
+/// rounds.
 pub fn rounds_of_client(client: &Client, rounds: u64) -> u64
     ensures { result ≡ spec.rounds_of rounds client.now }
 {
     if client.repeat { rounds } else { 1 }
 }
 
-/// How many events a client of this kind makes: those of its rounds, and a loop between each two of them. None where that
-/// is no u64.
+/// Returns the number of events of a client of this kind: those of its rounds, and a loop event
+/// between consecutive rounds. Returns `None` if the number exceeds `u64::MAX`.
 pub(crate) fn events_of_client(client: &Client, rounds: u64) -> Option<u64>
     ensures value { IfSome result (λ events. events ≡ spec.events_of_client rounds client.now) }
     ensures too_many { IfNone result (2 ^ 64 ≤ spec.events_of_client rounds client.now) }

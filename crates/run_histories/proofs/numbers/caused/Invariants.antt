@@ -1,4 +1,4 @@
--- The numbers of so many generations, and one.
+-- The numbers for this many generations and one more.
 use Rattle.std.proofs.Common.{suc}
 use Rattle.run_histories.specs.RunNumbers.{AreCaused, own}
 use Rattle.run_histories.proofs.numbers.caused.Given as goal

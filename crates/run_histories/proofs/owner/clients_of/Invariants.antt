@@ -1,4 +1,4 @@
--- The clients so far and those that are left are all.
+-- The clients so far, followed by the remaining ones, are all clients.
 use Rattle.std.proofs.Common.{◌≡◌, ◌++◌, map, drop}
 use Rattle.std.specs.List.{enumerate_from}
 use Rattle.run_histories.specs.Owner.{client_list}

@@ -1,4 +1,4 @@
--- The kinds so far and those of the entries that are left are all.
+-- The kinds so far, followed by those of the remaining entries, are all kinds.
 use Rattle.std.proofs.Common.{◌≡◌, ◌++◌, drop}
 use Rattle.std.specs.List.{flat_map, enumerate_from}
 use Rattle.run_histories.specs.Owner.{kinds_of_entry}

@@ -1,4 +1,4 @@
--- The lists so far and those of the pools that are left are all.
+-- The lists so far, followed by those of the remaining pools, are all lists.
 use Rattle.std.proofs.Common.{◌≡◌, ◌++◌, drop}
 use Rattle.std.specs.List.{flat_map, enumerate_from}
 use Rattle.run_histories.specs.Owner.{pool_lists, lists_of}

@@ -1,4 +1,4 @@
--- All receipts fit where those that are left do.
+-- All receipts fit if the remaining ones fit.
 use Rattle.std.proofs.Common.{◌↔◌, drop}
 use Rattle.run_histories.specs.Receipts.{AreReceiptsOf}
 use Rattle.run_histories.proofs.receipts.list_fits.Given as goal

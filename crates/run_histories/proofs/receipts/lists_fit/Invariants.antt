@@ -1,4 +1,4 @@
--- All lists fit where those that are left do.
+-- All lists fit if the remaining ones fit.
 use Rattle.std.proofs.Common.{◌↔◌, drop, map}
 use Rattle.run_histories.specs.Receipts.{AreListsOf}
 use Rattle.run_histories.proofs.receipts.lists_fit.Given as goal
