@@ -1,4 +1,4 @@
--- Whether a limit is passed is told by the number of events, cut off where a u64 ends.
+-- The number of events, capped at the greatest u64, is enough to test the limits.
 use Rattle.std.proofs.Common.{◌≡◌, ◌≤◌, ◌∙◌, ℕ, Bool, false, ◌||◌, nat_lt, inl, inr, sym, ap, arith}
 use Rattle.std.proofs.lemmas.Bool.{or_parts, ltb-false, lt-ltb, le-ltb, cases_lt}
 use Rattle.job_bodies.specs.Plan.{Plan}
@@ -12,7 +12,7 @@ more_capped n = elim (cases_lt 1000000 n) [
   | inr within ↦ le-ltb 1000000 (capped n) (omega arith) ∙ sym (le-ltb 1000000 n within)
 ]
 
--- what the test of a limit says
+-- the result of the test of the limits
 pub passed : (plan : Plan) (ranks : Ranks) (rounds events : ℕ) (answer found : Bool) → events ≡ capped (most_events plan ranks rounds) → found ≡ is_beyond plan events → found ≡ answer → is_too_large plan ranks rounds ≡ answer
 passed plan ranks rounds events answer found is tested says =
     sym (ap (λ (b : Bool). nat_lt 64 (clients plan) || nat_lt 64 (carriers plan) || b) (more_capped (most_events plan ranks rounds)))

@@ -1,4 +1,4 @@
--- What is answered to what threads hand back.
+-- The fault that the check of the results returns is a fault of the run.
 use Rattle.std.proofs.Common.{◌≡◌, ◌≢◌, ℕ, Bool, List, Option, Some, None, inl, inr, refl, subst, sym, true, false}
 use Rattle.std.proofs.lemmas.Bool.{cases_eq}
 use Rattle.faults.specs.declared.number.TheConstants.{MEMORY, RUN_TOO_LARGE}
@@ -23,6 +23,6 @@ answered plan rounds jobs units history lists met fault is = elim (cases_eq faul
   | inr other ↦ answer_of plan rounds jobs units history lists met fault (is other)
 ]
 
--- what is answered where nothing was started
+-- the fault of a run that exceeds a limit
 pub too_large : (large : Bool) (fault : RunFault) → large ≡ true → fault ≡ record { number = RUN_TOO_LARGE; events = 0 } → IsFaultOf large fault
 too_large large fault is same = subst (λ (x : Bool). IsFaultOf x fault) (sym is) (subst (IsFaultOf true) (sym same) (inl refl, refl))

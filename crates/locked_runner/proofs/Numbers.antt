@@ -1,4 +1,4 @@
--- Where the bound on a run's events is within the limit, its numbers of jobs and of units are small, so neither is cut off.
+-- If the bound on a run's events is within its limit, the numbers of jobs and units are small enough not to be capped.
 use Rattle.std.proofs.Common.{◌≡◌, ◌≤◌, ◌+◌, ◌-◌, ◌*◌, ℕ, zero, suc, List, [], ◌∷◌, length, slice_get, Some, sum_by, refl, subst, arith}
 use Rattle.std.proofs.Math.Nat.{mul-add, mul_left_comm, mul-le-mul_left}
 use Rattle.std.proofs.lemmas.List.Sums.{sum_by-cons}
@@ -14,7 +14,7 @@ use Rattle.run_histories.specs.Complete.{rounds_of, events_of_client}
 use Rattle.starvation_laws.specs.Drain.{of_submit}
 use Rattle.run_histories.specs.RunNumbers.{units_of, units_in, submitted, caused_within, caused, greatest, submitted_by, by_jobs, units_of_clients, events_of_clients, jobs, units, most_events, capped}
 
--- at most c times as much, so many times
+-- a factor n keeps a bound by c times the other number
 scaled : (c n x y : ℕ) → x ≤ c * y → n * x ≤ c * (n * y)
 scaled c n x y most = subst (λ (z : ℕ). n * x ≤ z) (mul_left_comm n c y) (mul-le-mul_left n most)
 
@@ -36,7 +36,7 @@ submitted_within c f g body each = sums_within c (of_submit f) (of_submit g) bod
     at i (Submit k) e = each k
     at i (Get t) e = omega arith
 
--- what jobs of each class have alone bounds what they have with those that they cause
+-- a bound on the quantity of one job of each class holds for the quantities with the jobs that it causes
 caused_in : (plan : Plan) (c : ℕ) (a b : Class → ℕ) → ((k : ℕ) → a (class_at plan k) ≤ c * b (class_at plan k)) → (n k : ℕ) → caused_within plan a n k ≤ c * caused_within plan b n k
 caused_in plan c a b each zero k = omega arith
 caused_in plan c a b each (suc n) k =
@@ -80,7 +80,7 @@ clients_in plan rounds formed = sums_within 1000000 (units_of_clients rounds) (e
         let in_events : r * units_in client.body ≤ 1000000 * events_of_client rounds client = let more = rounds_are_events r (length client.body) in omega arith in
         scaled 1000000 client.count _ _ in_events
 
--- what a job has alone: a unit for each of its work, and as events its actions, its taking and its end
+-- the quantities of one job: one job, its units of work, and as events its actions, its take and its end
 abbrev one_job : Class → ℕ
 one_job class = 1
 

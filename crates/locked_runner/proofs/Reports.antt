@@ -1,15 +1,15 @@
--- What is promised of a report that is known whole.
+-- Properties of a report whose value is known.
 use Rattle.std.proofs.Common.{◌≡◌, sym, subst, Result, Ok, Err}
 use Rattle.std.specs.Prelude.{IfOk}
 use Rattle.run_histories.specs.Report.{RunReport}
 use Rattle.run_histories.specs.declared.report.RunFault.{RunFault}
 
--- it is this one, of which it holds
+-- a property that holds for the value of every success holds for the report
 pub told : (P : RunReport → Type 0) (r : Result RunReport RunFault) (whole : RunReport) → IfOk r (λ report. report ≡ whole) → IfOk r (λ _. P whole) → IfOk r P
 told P (Ok report) whole is holds = subst P (sym is) holds
 told P (Err fault) whole is holds = tt
 
--- where nothing more is known
+-- a property of the value holds for the report
 pub told_of_all : (P : RunReport → Type 0) (r : Result RunReport RunFault) (whole : RunReport) → IfOk r (λ report. report ≡ whole) → P whole → IfOk r P
 told_of_all P (Ok report) whole is holds = subst P (sym is) holds
 told_of_all P (Err fault) whole is holds = tt

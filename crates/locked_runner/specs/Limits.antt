@@ -5,15 +5,15 @@ use Rattle.pool_ranks.specs.Ranks.{Ranks}
 use Rattle.run_histories.specs.RunNumbers.{most_events}
 use Rattle.job_bodies.specs.declared.limits.TheConstants.{MAX_RUN_CLIENTS, MAX_RUN_CARRIERS, MAX_RUN_EVENTS}
 
--- the clients of all kinds
+-- the number of clients of all kinds
 abbrev pub clients : Plan → ℕ
 clients plan = sum_by (λ client. client.count) plan.clients
 
--- the threads that the pools may have together
+-- the maximum number of threads of all pools together
 abbrev pub carriers : Plan → ℕ
 carriers plan = sum_by (λ pool. pool.max) plan.pools
 
--- a limit is passed, where a run has so many events at most
+-- a run with at most this many events exceeds a limit
 abbrev pub is_beyond : Plan → ℕ → Bool
 is_beyond plan events = nat_lt MAX_RUN_CLIENTS (clients plan) || nat_lt MAX_RUN_CARRIERS (carriers plan) || nat_lt MAX_RUN_EVENTS events
 

@@ -1,4 +1,4 @@
-//! Who does declared work.
+//! The interface to the code that does the declared work of a run.
 
 /// A client or a job of a run.
 #[derive(Clone, Copy, Debug, PartialEq, Eq)]
@@ -7,18 +7,18 @@ pub enum Actor {
     Job(usize),
 }
 
-/// That a gate failed.
+/// The error of a gate that failed.
 #[derive(Clone, Copy, Debug, PartialEq, Eq)]
 pub struct GateFault;
 
-/// What stands for the declared work of a run. Its calls come from many threads at once, and a thread that calls it does
-/// not have the lock of the machine.
+/// A gate does the declared work of a run. Many threads call it concurrently. A thread that calls
+/// it does not hold the lock of the machine.
 pub trait Gate: Sync {
-    /// Does so many units of work of the actor.
+    /// Does this many units of work of the actor.
     ///
     /// # Errors
     ///
-    /// `GateFault` where the work failed. The run then ends with fault 43, or with 20 where memory runs out too. Other
-    /// threads may each still do the work that they are about to do.
+    /// Returns `GateFault` if the work failed. The run then ends with fault 43, or with 20 if
+    /// memory runs out as well. Each other thread may still do the work that it is about to start.
     fn work(&self, actor: Actor, units: u32) -> Result<(), GateFault>;
 }

@@ -1,7 +1,9 @@
-//! Runs of certified plans on threads: a machine, kept with its history under one lock, and who makes its events.
+//! Runs of certified plans on threads: a machine with its history under one lock, and the threads
+//! that perform its events.
 //!
-//! [`run`] starts a thread for each client and as many for each pool as its maximum. Each of their steps is one event of
-//! the machine, made under its lock. What they hand back is judged by `run_histories`, which trusts nothing of it.
+//! [`run`] starts a thread for each client and `max` threads for each pool. Each of their steps is
+//! one event of the machine, performed under its lock. The crate `run_histories` checks the results
+//! of the threads and trusts none of them.
 #![tactic(auto)]
 
 mod gate;

@@ -1,4 +1,4 @@
-//! Whether a run is within its limits.
+//! The limits of a run.
 
 ghost use Rattle.std.specs.Prelude.{◌≡◌, ◌-◌, ◌^◌, min};
 ghost use Rattle.job_bodies.specs.WellFormed.{IsWellFormed};
@@ -6,7 +6,7 @@ ghost use Rattle.locked_runner.specs.Limits as spec;
 
 use job_bodies::{MAX_RUN_CARRIERS, MAX_RUN_CLIENTS, MAX_RUN_EVENTS, Plan};
 
-/// Whether a limit of a run is passed, where it has so many events at most.
+/// Returns `true` if a run with at most this many events exceeds a limit.
 pub(crate) fn is_beyond(plan: &Plan, events: u64) -> bool
     ensures value { result ≡ spec.is_beyond plan.now events }
     ensures well_formed { IsWellFormed plan.now }
@@ -16,7 +16,7 @@ pub(crate) fn is_beyond(plan: &Plan, events: u64) -> bool
         || events > MAX_RUN_EVENTS
 }
 
-/// How many clients there are, of all kinds.
+/// Returns the number of clients of all kinds.
 fn clients_of(plan: &Plan) -> u64
     ensures value { result ≡ min (spec.clients plan.now) (2 ^ 64 - 1) }
     ensures well_formed { IsWellFormed plan.now }
@@ -28,7 +28,7 @@ fn clients_of(plan: &Plan) -> u64
     total
 }
 
-/// How many threads the pools may have together.
+/// Returns the maximum number of threads of all pools together.
 fn carriers_of(plan: &Plan) -> u64
     ensures { result ≡ min (spec.carriers plan.now) (2 ^ 64 - 1) }
 {

@@ -1,20 +1,20 @@
-//! How far a run is.
+//! The progress of a run.
 
 use run_histories::ThreadFault;
 
-/// How far a run is.
+/// The progress of a run.
 #[derive(Drop)]
 pub(crate) struct Progress {
-    /// How many clients have an event left.
+    /// The number of clients that have an event left.
     clients_left: usize,
-    /// Whether no thread is to make another event, before all is done.
+    /// Whether the threads must stop before the run is complete.
     is_over: bool,
-    /// The fault that a thread has met, of several the one with the least number.
+    /// The fault that a thread reported. If several did, it is the one with the lowest number.
     fault: Option<ThreadFault>,
 }
 
 impl Progress {
-    /// Before the first event of so many clients.
+    /// Creates the progress before the first event of `clients` clients.
     pub(crate) fn new(clients: usize) -> Progress {
         Progress {
             clients_left: clients,
@@ -23,27 +23,29 @@ impl Progress {
         }
     }
 
-    /// Whether no client has an event left.
+    /// Returns `true` if no client has an event left.
     pub(crate) fn clients_are_through(&self) -> bool {
         self.clients_left == 0
     }
 
-    /// Whether no thread is to make another event, before all is done.
+    /// Returns `true` if the threads must stop before the run is complete.
     pub(crate) fn is_over(&self) -> bool {
         self.is_over
     }
 
-    /// Notes that a client has no event left.
+    /// Records that a client has no event left.
     pub(crate) fn count_off(&mut self) {
         self.clients_left = self.clients_left.saturating_sub(1);
     }
 
-    /// Ends the run before all is done. What it hands back is then not complete, which is found afterwards.
+    /// Stops the run before it is complete. The later check then finds that the history is not
+    /// complete.
     pub(crate) fn end(&mut self) {
         self.is_over = true;
     }
 
-    /// Ends the run for a fault. Of several the one with the least number is kept, which is that of memory.
+    /// Stops the run because of a fault. If there are several, keeps the one with the lowest
+    /// number, which is that of memory.
     pub(crate) fn note(&mut self, cause: ThreadFault) {
         self.end();
         if self.fault != Some(ThreadFault::Memory) {
@@ -51,7 +53,7 @@ impl Progress {
         }
     }
 
-    /// The fault that was met.
+    /// Returns the fault that a thread reported.
     pub(crate) fn fault(&self) -> Option<ThreadFault> {
         self.fault
     }

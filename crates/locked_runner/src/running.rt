@@ -18,18 +18,20 @@ use std::alloc::Global;
 use std::sync::Wait;
 use std::thread::Threads;
 
-/// Runs a certified plan: a thread for each client, and as many for each pool as its maximum, make the events of its
-/// machine, and the gate stands for the declared work.
+/// Runs a certified plan. A thread for each client, and `max` threads for each pool, perform the
+/// events of its machine. The gate does the declared work.
 ///
-/// A client of a kind that repeats goes through its body `rounds` times, and another once. `rounds` is at least 1: with 0 a
-/// client that repeats makes no event, and where its body has an action it does not stand at its end, so that the run is not
-/// complete and the answer is 42.
+/// A client of a repeating kind performs its body `rounds` times, any other client once. `rounds`
+/// must be at least 1. With 0, a repeating client performs no event. If its body has an action, the
+/// client is then not at the end of its body, so that the run is not complete and the result is
+/// fault 42.
 ///
 /// # Errors
 ///
-/// 40 where a limit is passed: more than 64 clients, more than 64 threads of all pools together, or a bound on the events
-/// above 1,000,000; nothing is started then. 43 where the gate failed, 20 where there is no memory or no thread; 41 and 42
-/// where what the threads hand back is no whole run.
+/// Returns fault 40 if the run exceeds a limit: more than 64 clients, more than 64 threads of all
+/// pools together, or an event bound above 1,000,000. Nothing is started in this case. Returns 43
+/// if the gate failed, 20 if memory ran out or a thread could not be started, and 41 or 42 if the
+/// results of the threads are not a complete run.
 pub fn run<R: Threads + Wait + Sync, G: Gate>(
     rt: &R,
     alloc: Global,
@@ -59,11 +61,11 @@ pub fn run<R: Threads + Wait + Sync, G: Gate>(
     judge(alloc, certified, rounds, numbers, met)
 }
 
-/// The numbers of a run that passes no limit.
+/// Returns the numbers of a run that exceeds no limit.
 ///
 /// # Errors
 ///
-/// 40 where a limit is passed, and 20 where there is no memory.
+/// Returns fault 40 if the run exceeds a limit, and 20 if there is not enough memory.
 fn numbers_within(
     alloc: Global,
     plan: &Plan,

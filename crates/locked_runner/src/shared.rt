@@ -1,4 +1,4 @@
-//! What the threads of a run share.
+//! The state that the threads of a run share.
 
 use crate::progress::Progress;
 use certified_worlds::CertifiedWorld;
@@ -10,12 +10,12 @@ use std::alloc::{AllocError, Global};
 use std::collections::VecDeque;
 use std::sync::{Condvar, Mutex, MutexGuard, Wait};
 
-/// What the threads of a run share: the machine under its lock, and beside it, touched only while that lock is held, the
-/// desks and the run's progress.
+/// The state that the threads of a run share: the machine under its lock, the hand-off queues and
+/// the progress of the run. The last two are accessed only while the machine's lock is held.
 ///
-/// A thread whose actor stands at a get waits on the machine's own condition variable, and a carrier without a job at its
-/// pool's desk. Only a finish lets a get go on, and only a submit brings a carrier a job, so nobody is woken by other
-/// events.
+/// A thread whose actor is at a get waits on the machine's own condition variable. A worker thread
+/// without a job waits on the one of its pool's hand-off queue. Only the end of a job can unblock a
+/// get, and only a submit brings a worker thread a job, so that other events wake no thread.
 #[derive(Drop)]
 pub(crate) struct Shared<'a> {
     pub(crate) plan: &'a Plan,
@@ -24,28 +24,30 @@ pub(crate) struct Shared<'a> {
     progress: Mutex<Progress>,
 }
 
-/// Where the carriers of one pool are given the jobs that a submit has started, and where they wait for jobs.
+/// The hand-off queue of one pool, with the jobs that a submit has started and that no worker
+/// thread has taken yet. The worker threads wait here for jobs.
 #[derive(Drop)]
 struct Desk {
     started: Mutex<VecDeque<usize>>,
     called: Condvar,
 }
 
-/// What a thread of a run has while it alone may change the machine.
+/// The lock guard of the machine, whose holder may change it.
 type Turn<'a, 'b> = MutexGuard<'b, Held<CertifiedWorld<'a>>>;
 
-/// Who may go on after an event.
+/// The threads to wake after an event.
 #[derive(Drop)]
 enum Whom {
     Nobody,
-    /// The actors that stand at a get.
+    /// The threads whose actors are at a get.
     AtGets,
-    /// One carrier of the pool.
+    /// One worker thread of the pool.
     Carrier(usize),
     All,
 }
 
-/// A job that a carrier is to carry out, and the receipt of its taking where it was taken from the queue.
+/// A job for a worker thread. If the job was taken from the queue, `taken` is the receipt of the
+/// take event.
 #[derive(Drop)]
 pub(crate) struct Work {
     pub(crate) job: usize,
@@ -54,11 +56,11 @@ pub(crate) struct Work {
 }
 
 impl<'a> Shared<'a> {
-    /// What the threads of a run with so many clients share, before its first event.
+    /// Creates the shared state before the first event of a run with `clients` clients.
     ///
     /// # Errors
     ///
-    /// `AllocError` where there is no memory for it.
+    /// Returns `AllocError` if there is not enough memory.
     pub(crate) fn new(
         alloc: Global,
         plan: &'a Plan,
@@ -80,7 +82,7 @@ impl<'a> Shared<'a> {
         })
     }
 
-    /// The history that was made, and the least fault that a thread met.
+    /// Returns the history, and the fault with the lowest number that a thread reported.
     pub(crate) fn into_history(self) -> (Vec<Event>, Option<ThreadFault>) {
         let Shared {
             machine,
@@ -93,7 +95,7 @@ impl<'a> Shared<'a> {
         )
     }
 
-    /// Makes the event, once it is possible. None where the run is to end.
+    /// Waits until the event is possible, and performs it. Returns `None` if the run is to stop.
     pub(crate) fn act<R: Wait>(&self, rt: &R, event: Event) -> Option<Receipt<Event>> {
         let mut turn = self.machine.lock(rt);
         for _ in rt.forever() {
@@ -118,8 +120,8 @@ impl<'a> Shared<'a> {
         None
     }
 
-    /// The next job of the pool to be carried out: one that a submit has started, else the head of the queue. Waits until
-    /// there is one. None where the run is to end.
+    /// Waits for the next job of the pool, and returns it. Jobs that a submit has started come
+    /// before the head of the queue. Returns `None` if the run is to stop or is complete.
     pub(crate) fn next_job<R: Wait>(&self, rt: &R, pool: usize) -> Option<Work> {
         let Some(desk) = self.desks.get(pool) else {
             self.end(rt);
@@ -151,7 +153,7 @@ impl<'a> Shared<'a> {
         None
     }
 
-    /// The work of a carrier. Where its job is not found the run ends.
+    /// Returns the work of a worker thread. If its job was not found, stops the run.
     fn found<R: Wait>(&self, rt: &R, turn: Turn<'a, '_>, work: Option<Work>) -> Option<Work> {
         drop(turn);
         if work.is_none() {
@@ -160,7 +162,7 @@ impl<'a> Shared<'a> {
         work
     }
 
-    /// Notes that a client has no event left.
+    /// Records that a client has no event left.
     pub(crate) fn leave<R: Wait>(&self, rt: &R) {
         let turn = self.machine.lock(rt);
         self.progress.lock(rt).count_off();
@@ -171,7 +173,7 @@ impl<'a> Shared<'a> {
         }
     }
 
-    /// Notes a fault, and lets every thread end.
+    /// Records a fault, and makes every thread stop.
     pub(crate) fn fail<R: Wait>(&self, rt: &R, cause: ThreadFault) {
         let turn = self.machine.lock(rt);
         self.progress.lock(rt).note(cause);
@@ -179,7 +181,8 @@ impl<'a> Shared<'a> {
         self.wake_all();
     }
 
-    /// Lets every thread end before all is done, where what a thread needs is not found.
+    /// Makes every thread stop before the run is complete, because something that a thread needs
+    /// was not found.
     pub(crate) fn end<R: Wait>(&self, rt: &R) {
         let turn = self.machine.lock(rt);
         self.progress.lock(rt).end();
@@ -187,17 +190,18 @@ impl<'a> Shared<'a> {
         self.wake_all();
     }
 
-    /// Whether no thread is to make another event, before all is done.
+    /// Returns `true` if the threads must stop before the run is complete.
     fn is_over<R: Wait>(&self, rt: &R) -> bool {
         self.progress.lock(rt).is_over()
     }
 
-    /// Whether no client has an event left, and no job is unfinished.
+    /// Returns `true` if no client has an event left and no job is unfinished.
     fn is_at_end<R: Wait>(&self, rt: &R, turn: &Turn<'a, '_>) -> bool {
         self.progress.lock(rt).clients_are_through() && turn.state().world.world().unfinished() == 0
     }
 
-    /// Whom the last event lets on. A job that it has started lies on its pool's desk from now on.
+    /// Returns the threads to wake after the last event. If the event started a job, puts the job
+    /// into its pool's hand-off queue.
     fn let_on<R: Wait>(&self, rt: &R, turn: &Turn<'a, '_>) -> Whom {
         match turn.state().outcome {
             Some(Outcome::Started(job)) => self.give_out(rt, turn, job),
@@ -216,7 +220,7 @@ impl<'a> Shared<'a> {
         }
     }
 
-    /// Lays the job that was started on its pool's desk.
+    /// Puts the started job into its pool's hand-off queue.
     fn give_out<R: Wait>(&self, rt: &R, turn: &Turn<'a, '_>, job: usize) -> Whom {
         let Some(pool) = self.pool_of(turn, job) else {
             return self.nobody_known(rt);
@@ -224,7 +228,7 @@ impl<'a> Shared<'a> {
         let Some(desk) = self.desks.get(pool) else {
             return self.nobody_known(rt);
         };
-        // A desk has room for as many jobs as its pool may have threads, so none is lost.
+        // A hand-off queue has room for `max` jobs of its pool, so that no job is lost.
         if desk.started.lock(rt).push_back(job).is_err() {
             self.progress.lock(rt).note(ThreadFault::Memory);
             return Whom::All;
@@ -232,7 +236,7 @@ impl<'a> Shared<'a> {
         Whom::Carrier(pool)
     }
 
-    /// Ends the run, where nobody is known who may carry the job out.
+    /// Stops the run, because no worker thread for the job was found.
     fn nobody_known<R: Wait>(&self, rt: &R) -> Whom {
         self.progress.lock(rt).end();
         Whom::All
@@ -264,7 +268,7 @@ impl<'a> Shared<'a> {
     }
 }
 
-/// The job that the last event has taken from a queue.
+/// Returns the job that the last event took from a queue.
 fn work_taken(turn: &Turn<'_, '_>, receipt: Receipt<Event>) -> Option<Work> {
     match turn.state().outcome {
         Some(Outcome::Took(job)) => work_on(turn, job, Some(receipt)),

@@ -13,12 +13,12 @@ use std::sync::Wait;
 use std::thread;
 use std::thread::Threads;
 
-/// Starts a thread for each list of receipts, and hands back what they met once all of them have ended. A start that is
-/// refused ends the run.
+/// Starts a thread for each list of receipts, and returns the results of the threads after all of
+/// them have ended. If a thread cannot be started, the run stops.
 ///
 /// # Errors
 ///
-/// `AllocError` where there is no memory before the first thread is started.
+/// Returns `AllocError` if there is not enough memory before the first thread is started.
 pub(crate) fn on_threads<R: Threads + Wait + Sync, G: Gate>(
     rt: &R,
     alloc: Global,
@@ -70,7 +70,7 @@ pub(crate) fn on_threads<R: Threads + Wait + Sync, G: Gate>(
     })
 }
 
-/// What one thread does, a client's or a pool's.
+/// Runs one thread, of a client or of a pool, and returns its receipts.
 fn run_one<R: Wait, G: Gate>(
     rt: &R,
     alloc: Global,
@@ -96,7 +96,7 @@ fn run_one<R: Wait, G: Gate>(
     }
 }
 
-/// The kind of the client of this number.
+/// Returns the kind of the client with this number.
 fn client_of<'p>(plan: &'p Plan, kinds: &[usize], number: usize) -> Option<&'p Client> {
     plan.client_at(*kinds.get(number)?)
 }

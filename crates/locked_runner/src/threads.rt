@@ -1,4 +1,4 @@
-//! What each thread of a run does.
+//! The work of each thread of a run.
 
 use crate::shared::Shared;
 use crate::{Actor, Gate};
@@ -9,11 +9,12 @@ use run_histories::{KeptReceipt, ThreadFault};
 use std::alloc::{AllocError, Global};
 use std::sync::Wait;
 
-/// How many receipts a list has room for from the start: 192 KiB, which the C library's heap takes in memory of its own
-/// kind, page by page as it is written. So a list that stays below is never moved, and leaves no gaps in the heap.
+/// The initial capacity of a list of receipts: 192 KiB. The C library allocates blocks of this size
+/// with `mmap`, so that the pages are taken only as they are written. A list within this capacity
+/// is never moved and leaves no gaps in the heap.
 const FIRST_ROOM: usize = 16_384;
 
-/// One thread of a run, with the receipts of its events.
+/// A thread of a run, with the receipts of its events.
 #[derive(Drop)]
 pub(crate) struct Runner<'a, 'b, R, G> {
     pub(crate) rt: &'b R,
@@ -23,11 +24,11 @@ pub(crate) struct Runner<'a, 'b, R, G> {
 }
 
 impl<'a, 'b, R: Wait, G: Gate> Runner<'a, 'b, R, G> {
-    /// A thread before its first event.
+    /// Creates a thread before its first event.
     ///
     /// # Errors
     ///
-    /// `AllocError` where there is no memory for its first receipts.
+    /// Returns `AllocError` if there is not enough memory for its first receipts.
     pub(crate) fn new(
         alloc: Global,
         rt: &'b R,
@@ -42,7 +43,7 @@ impl<'a, 'b, R: Wait, G: Gate> Runner<'a, 'b, R, G> {
         })
     }
 
-    /// A client's thread: it goes through its body so many times, and leaves.
+    /// Runs the thread of a client: performs its body `rounds` times, and leaves the run.
     pub(crate) fn run_client(
         mut self,
         client: &Client,
@@ -61,7 +62,8 @@ impl<'a, 'b, R: Wait, G: Gate> Runner<'a, 'b, R, G> {
         self.receipts
     }
 
-    /// A carrier's thread: it carries out one job of its pool after another, until the run is at its end.
+    /// Runs a worker thread of a pool: performs one job of the pool after the other, until the run
+    /// is complete or stops.
     pub(crate) fn run_carrier(mut self, pool: usize) -> Vec<KeptReceipt> {
         for _ in self.rt.forever() {
             let Some(work) = self.shared.next_job(self.rt, pool) else {
@@ -79,7 +81,7 @@ impl<'a, 'b, R: Wait, G: Gate> Runner<'a, 'b, R, G> {
         self.receipts
     }
 
-    /// Carries one job out to its finish. False where the run is to end.
+    /// Performs a job to its end. Returns `false` if the run is to stop.
     fn carry_out(&mut self, job: usize, class: usize) -> bool {
         let Some(class) = self.shared.plan.class_at(class) else {
             self.shared.end(self.rt);
@@ -88,7 +90,7 @@ impl<'a, 'b, R: Wait, G: Gate> Runner<'a, 'b, R, G> {
         self.follow(&class.body, Actor::Job(job)) && self.act(Event::Job(job))
     }
 
-    /// Makes the events of a body's actions. False where the run is to end.
+    /// Performs the actions of a body. Returns `false` if the run is to stop.
     fn follow(&mut self, body: &[Action], actor: Actor) -> bool {
         for action in body {
             if let Action::Work(units) = action {
@@ -104,7 +106,8 @@ impl<'a, 'b, R: Wait, G: Gate> Runner<'a, 'b, R, G> {
         true
     }
 
-    /// Makes one event, once it is possible. False where the run is to end.
+    /// Waits until the event is possible, performs it and records its receipt. Returns `false` if
+    /// the run is to stop.
     fn act(&mut self, event: Event) -> bool {
         match self.shared.act(self.rt, event) {
             Some(receipt) => self.note(receipt),
@@ -112,7 +115,7 @@ impl<'a, 'b, R: Wait, G: Gate> Runner<'a, 'b, R, G> {
         }
     }
 
-    /// Keeps the receipt. False where the run is to end.
+    /// Records the receipt. Returns `false` if the run is to stop.
     fn note(&mut self, receipt: Receipt<Event>) -> bool {
         let Some(kept) = KeptReceipt::new(receipt) else {
             self.shared.end(self.rt);
@@ -126,7 +129,7 @@ impl<'a, 'b, R: Wait, G: Gate> Runner<'a, 'b, R, G> {
     }
 }
 
-/// The actor's next step.
+/// Returns the event of the actor's next action.
 fn event_of(actor: Actor) -> Event {
     match actor {
         Actor::Client(number) => Event::Client(number),
