@@ -30,11 +30,12 @@ impl<'a> CertifiedWorld<'a> {
     }
 }
 
-/// A world, and what came of its last event: so who made the event knows which job it started, queued or took.
+/// A world with the outcome of its last event. The outcome tells the caller which job the event
+/// started, queued or took.
 #[derive(Debug, Drop)]
 pub struct TracedWorld {
     pub world: SeenWorld,
-    /// None before the first event.
+    /// `None` before the first event.
     pub outcome: Option<Outcome>,
 }
 

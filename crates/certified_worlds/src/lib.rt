@@ -1,4 +1,4 @@
-//! The world of a certified plan as a machine, which refuses nothing.
+//! The world of a certified plan as a machine that rejects no submit.
 #![tactic(auto)]
 
 mod certified_world;

@@ -1,4 +1,4 @@
-//! A world by its view.
+//! A world, represented by its live view.
 
 ghost use Rattle.std.specs.Prelude.{◌≡◌, IfOk, OnErr};
 ghost use Rattle.job_bodies.specs.WellFormed.{IsWellFormed};
@@ -12,7 +12,8 @@ use job_bodies::Plan;
 use std::alloc::{AllocError, Global};
 use std::marker::Model;
 
-/// A world, of which contracts see its view alone: the number of its places goes by no state of the written machine.
+/// A world whose contracts mention only its live view. The number of its places is left out, since
+/// no state of the reference machine determines it.
 #[derive(Debug, Drop)]
 pub struct SeenWorld {
     world: World,
@@ -30,11 +31,11 @@ impl SeenWorld {
     ghost use Rattle.interleaving.specs.OfPlan.{IsOf};
     ghost use Rattle.interleaving.specs.Answers.{AnswersIn};
 
-    /// The plan's world before its first event.
+    /// Creates the plan's world before its first event.
     ///
     /// # Errors
     ///
-    /// `AllocError` where there is no memory for it.
+    /// Returns `AllocError` if there is not enough memory.
     pub fn start(alloc: Global, plan: &Plan) -> Result<SeenWorld, AllocError>
         ensures { IfOk result (λ world. world ≡ live_view plan.now (start plan.now)) }
     {
@@ -43,18 +44,18 @@ impl SeenWorld {
         })
     }
 
-    /// The world with all that it says of itself.
+    /// Returns the world itself.
     pub fn world(&self) -> &World
         ensures { result.now.view ≡ self.now }
     {
         &self.world
     }
 
-    /// Makes the event, as [`World::step`] does.
+    /// Performs the event, like [`World::step`].
     ///
     /// # Errors
     ///
-    /// `AllocError` where [`World::step`] finds no memory. The world is then unchanged.
+    /// Returns `AllocError` if [`World::step`] does. The world is then unchanged.
     pub fn step(&mut self, plan: &Plan, event: Event) -> Result<Option<Outcome>, AllocError>
         requires { IsOf plan.now self.old }
         ensures answered { IfOk result (λ answer.
