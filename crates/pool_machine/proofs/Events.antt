@@ -1,4 +1,4 @@
--- What each event of a pool tells of the pool before it and the pool after it.
+-- The relations between the pools before and after each operation.
 use Rattle.std.proofs.Common.{◌≡◌, ℕ, suc, ◌<◌, ◌≤◌, ◌⊎◌, ◌∷◌, length, Some, arith}
 use Rattle.std.proofs.lemmas.Grind.{common_steps}
 use Rattle.pool_machine.specs.declared.offer.Offer.TheVariants.{Started, Queued, Refused}
@@ -8,15 +8,15 @@ use Rattle.pool_machine.specs.PoolState.{PoolView, answer, taken, retired}
 pub started_below : (pool : PoolView) → answer pool ≡ Started → (pool.threads < pool.core) ⊎ (pool.threads < pool.max)
 started_below pool e = grind (arith, common_steps)
 
--- a pool that queues a job has its core threads, and room in the queue
+-- a pool that queues a job has at least core threads, and room in the queue
 pub queued_at_core : (pool : PoolView) → answer pool ≡ Queued → (pool.core ≤ pool.threads) × (length pool.queue < pool.capacity)
 queued_at_core pool e = grind (arith, common_steps)
 
--- a pool that refuses a job has a full queue, and no room for a thread
+-- a pool that rejects a job has a full queue, and no room for a thread
 pub refused_when_full : (pool : PoolView) → answer pool ≡ Refused → (pool.capacity ≤ length pool.queue) × (pool.max ≤ pool.threads)
 refused_when_full pool e = grind (arith, common_steps)
 
--- an idle worker goes to the queue's head, and nothing else changes
+-- an idle worker takes the head of the queue, and nothing else changes
 pub record Takes (pool after : PoolView) (job : ℕ) : Type 0 where
   pub idle : pool.idle ≡ suc after.idle
   pub queue : pool.queue ≡ job ∷ after.queue

@@ -1,4 +1,4 @@
--- The laws of one pool as lemmas, for the crates above: what every event keeps.
+-- The laws of a single pool as lemmas, for the crates that depend on this one.
 use Rattle.std.proofs.Common.{arith, rules}
 use Rattle.std.proofs.lemmas.Grind.{common_steps}
 use Rattle.std.specs.Prelude.{IsTrue}

@@ -1,12 +1,12 @@
--- One pool by itself: what it shows, and the four things that can happen to it. The rules are those of
--- ThreadPoolExecutor: core and maximum sizes, queuing, rejected tasks.
+-- The state of a single pool, and the four operations on it. The rules are those of the Javadoc of ThreadPoolExecutor: core
+-- and maximum pool sizes, queuing, rejected tasks.
 use Rattle.std.specs.Prelude.{ℕ, zero, suc, ◌+◌, ◌-◌, ◌≤◌, nat_lt, if◌then◌else◌, List, [], ◌∷◌, ◌++◌, length, Option, None, Some}
 use Rattle.job_bodies.specs.declared.limits.TheConstants.{MAX_SIZE}
 use Rattle.job_bodies.specs.Plan.{Pool, first_workers}
 use Rattle.pool_machine.specs.declared.offer.Offer.{Offer}
 use Rattle.pool_machine.specs.declared.offer.Offer.TheVariants.{Started, Queued, Refused}
 
--- a pool's sizes, its threads, how many of them are idle, and the numbers of the jobs in its queue, the head first
+-- the sizes of a pool, its threads, how many of them are idle, and the numbers of the jobs in its queue, the head first
 pub record PoolView : Type 0 where
   pub core : ℕ
   pub max : ℕ
@@ -15,12 +15,12 @@ pub record PoolView : Type 0 where
   pub idle : ℕ
   pub queue : List ℕ
 
--- how a pool begins: its first workers are idle, and its queue is empty
+-- the initial pool: its first workers are idle, and its queue is empty
 abbrev pub new_pool : Pool → PoolView
 new_pool pool = record { core = pool.core; max = pool.max; capacity = pool.queue; threads = first_workers pool; idle = first_workers pool; queue = [] }
 
--- what the pool answers to a job that is offered to it: below core a new thread starts it, else it is queued, else
--- below the maximum a new thread starts it, else it is refused
+-- the answer of the pool to an offered job: below core threads, a new thread starts it; otherwise it is queued if the queue
+-- has room; otherwise, below the maximum, a new thread starts it; otherwise it is rejected
 abbrev pub answer : PoolView → Offer
 answer pool =
     if nat_lt pool.threads pool.core then Started
@@ -42,11 +42,12 @@ abbrev pub taken_from : PoolView → ℕ → List ℕ → Option (ℕ × PoolVie
 taken_from pool (suc idle) (job ∷ queue) = Some (job, record pool { idle = idle; queue = queue })
 taken_from pool _ _ = None
 
--- an idle worker takes the queue's head: the job, and the pool after that; None where no worker is idle or the queue is empty
+-- the job that an idle worker takes from the head of the queue, and the pool afterwards; None if no worker is idle or the
+-- queue is empty
 abbrev pub taken : PoolView → Option (ℕ × PoolView)
 taken pool = taken_from pool pool.idle pool.queue
 
--- a busy worker is idle from now on
+-- the pool after a busy worker became idle
 abbrev pub finished : PoolView → PoolView
 finished pool = record pool { idle = pool.idle + 1 }
 
@@ -54,11 +55,11 @@ abbrev pub retired_of : PoolView → ℕ → Option PoolView
 retired_of pool zero = None
 retired_of pool (suc idle) = if nat_lt pool.core pool.threads then Some (record pool { threads = pool.threads - 1; idle = idle }) else None
 
--- an idle worker ends: the pool after that; None where no worker is idle or threads are not above core
+-- the pool after an idle worker ended; None if no worker is idle or there are at most core threads
 abbrev pub retired : PoolView → Option PoolView
 retired pool = retired_of pool pool.idle
 
--- what holds of every pool: its sizes are lawful, and neither its threads nor its queue grow past them
+-- the invariant of a pool: its sizes are valid, and its threads and its queue are within them
 pub record IsSound (pool : PoolView) : Type 0 where
   pub some_core : 1 ≤ pool.core
   pub core_within_max : pool.core ≤ pool.max

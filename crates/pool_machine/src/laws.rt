@@ -1,4 +1,4 @@
-//! Laws of one pool, each the contract of a function with nothing to do.
+//! Laws of a single pool. Each law is the contract of a function with an empty body.
 
 ghost use Rattle.std.specs.Prelude.{IsTrue};
 ghost use Rattle.job_bodies.specs.Plan.{Pool};
@@ -6,35 +6,36 @@ ghost use Rattle.job_bodies.specs.WellFormed.{has_lawful_sizes};
 ghost use Rattle.pool_machine.specs.PoolState.{PoolView, IsSound, new_pool};
 ghost use Rattle.pool_machine.specs.Laws.{IsKept, HasSizesOf, QueuesOnlyAtCore, LoadIsOffered, SaysNo};
 
-/// Whatever happens to a pool, its core, its maximum and its capacity stay the same.
+/// No event changes a pool's core, maximum or capacity.
 pub fn sizes_stay()
     ensures { (first : PoolView) → IsKept (HasSizesOf first) }
 {}
 
-/// A pool of lawful sizes never has more threads than its maximum, more idle workers than threads
-/// or more queued jobs than its capacity.
+/// A pool of valid sizes never has more threads than its maximum, more idle workers than threads or
+/// more queued jobs than its capacity.
 pub fn pools_stay_sound()
     ensures start { (pool : Pool) → IsTrue (has_lawful_sizes pool) → IsSound (new_pool pool) }
     ensures kept { IsKept IsSound }
 {}
 
-/// Where a job waits in a pool's queue, the pool has at least core threads: jobs are queued from
-/// core on alone, and core threads never end.
+/// A pool with a queued job has at least `core` threads: a pool queues a job only at `core` threads
+/// or more, and core threads never end.
 pub fn queues_only_at_core()
     ensures start { (pool : Pool) → QueuesOnlyAtCore (new_pool pool) }
     ensures kept { IsKept QueuesOnlyAtCore }
 {}
 
-/// A pool's load, its threads and the jobs in its queue, begins with the first workers. Only an offer raises it, by 1 at
-/// most, so that a pool that refuses was offered, but for its first workers, as many jobs as its queue and its maximum
-/// hold.
+/// A pool's load is the number of its threads and queued jobs. It begins with the number of first
+/// workers. Only an offer increases it, by at most 1. A pool that rejects a job was therefore
+/// offered at least as many jobs as its capacity and its maximum together, less its first workers.
 pub fn load_is_offered()
     ensures { LoadIsOffered }
 {}
 
-/// When a pool says no: it refuses a job exactly where its queue is full and its threads are the maximum, an idle worker
-/// takes none exactly where no worker is idle or the queue is empty, and no worker ends exactly where none is idle or the
-/// threads are not above core.
+/// The conditions under which an operation of a pool fails. The pool rejects a job exactly when its
+/// queue is full and it has `max` threads. A take returns nothing exactly when no worker is idle or
+/// the queue is empty. No worker ends exactly when no worker is idle or there are at most `core`
+/// threads.
 pub fn pools_say_no()
     ensures { (pool : PoolView) → IsSound pool → SaysNo pool }
 {}

@@ -1,12 +1,12 @@
-//! What a pool answers to a job that is offered to it.
+//! The answer of a pool to an offered job.
 
-/// What a pool answers to a job that is offered to it.
+/// The answer of a pool to an offered job.
 #[derive(Clone, Copy, Debug, PartialEq, Eq)]
 pub enum Offer {
     /// A new thread starts the job.
     Started,
-    /// The job goes last in the queue.
+    /// The job is appended to the queue.
     Queued,
-    /// The queue is full and the threads are the maximum: `AbortPolicy` refuses the job.
+    /// The queue is full and the pool has `max` threads: `AbortPolicy` rejects the job.
     Refused,
 }

@@ -1,4 +1,4 @@
-//! One pool: its threads, which of them are idle, and its queue.
+//! The state of a pool: its threads, its idle workers, and its queue.
 
 ghost use Rattle.std.specs.Prelude.{◌≡◌, ◌-◌, ◌<◌, ◌≤◌, ◌⊎◌, ◌↔◌, [], length, slice_get};
 ghost use Rattle.std.specs.Prelude.{IsTrue, IsNone, IfSome, IfNone, IfOk, OnOk, OnErr};
@@ -12,12 +12,12 @@ use std::alloc::{AllocError, Global};
 use std::collections::VecDeque;
 use std::marker::Model;
 
-/// One bounded thread pool: its sizes, its threads, how many of them are idle, and the jobs in
-/// its queue, which it knows by their numbers alone.
+/// A bounded thread pool: its sizes, the number of its threads, how many of them are idle, and the
+/// numbers of the jobs in its queue.
 ///
-/// A worker that finished a job is idle until it takes the queue's head, so the queue can be full
-/// while workers are idle. The rules are those of Java's `ThreadPoolExecutor` with an
-/// `ArrayBlockingQueue`.
+/// A worker that finished a job is idle until it takes the head of the queue. The queue can
+/// therefore be full while workers are idle. The rules are those of Java's `ThreadPoolExecutor`
+/// with an `ArrayBlockingQueue`.
 #[derive(Debug, Drop)]
 pub struct PoolState {
     core: u64,
@@ -53,11 +53,11 @@ impl Model for PoolState {
 }
 
 impl PoolState {
-    /// The pool of these sizes, with an empty queue. A pool that is prestarted has core idle workers; another has no
-    /// threads, which are made as jobs come.
+    /// Creates a pool of these sizes, with an empty queue. A prestarted pool has `core` idle
+    /// workers. Any other pool has no threads; it starts them as jobs arrive.
     ///
-    /// The sizes are lawful: core from 1, the maximum from core and the queue from 1, each up to
-    /// `MAX_SIZE`. Takes no memory.
+    /// The sizes must be valid: `core` at least 1, the maximum at least `core` and the queue
+    /// capacity at least 1, each at most `MAX_SIZE`. Allocates no memory.
     pub fn new(alloc: Global, pool: &Pool) -> PoolState
         requires { IsTrue (has_lawful_sizes pool.now) }
         ensures { result ≡ new_pool pool.now }
@@ -73,16 +73,17 @@ impl PoolState {
         }
     }
 
-    /// Offers the job of this number to the pool, as Java's `execute` does. Below core a new thread
-    /// starts it, even if workers are idle. From core on it goes last in the queue. Where the queue
-    /// is full a new thread starts it, and where the threads are the maximum too it is refused.
+    /// Offers the job with this number to the pool, like Java's `execute`. If the pool has fewer
+    /// than `core` threads, a new thread starts the job, even if workers are idle. Otherwise the
+    /// job is appended to the queue. If the queue is full, a new thread starts the job, and if the
+    /// pool has `max` threads as well, it rejects the job.
     ///
     /// A new thread is busy with its job from the start. After `Refused` the pool is unchanged.
     ///
     /// # Errors
     ///
-    /// `AllocError` where the job would be queued and there is no memory for it. The pool is then
-    /// unchanged.
+    /// Returns `AllocError` if the job would be queued and there is not enough memory for it. The
+    /// pool is then unchanged.
     pub fn offer(&mut self, job: usize) -> Result<Offer, AllocError>
         ensures answered { IfOk result (λ offer. offer ≡ answer self.old) }
         ensures after { OnOk result (self.new ≡ offered self.old job) }
@@ -98,7 +99,7 @@ impl PoolState {
         Ok(answer)
     }
 
-    // What the pool answers to the next job that is offered.
+    // Returns the answer of the pool to the next offered job.
     fn answer(&self) -> Offer
         ensures { result ≡ answer self.now }
     {
@@ -113,10 +114,10 @@ impl PoolState {
         }
     }
 
-    /// An idle worker takes the queue's head: the number of that job.
+    /// Lets an idle worker take the head of the queue, and returns the number of that job.
     ///
-    /// `None` where no worker is idle or the queue is empty. The pool is then unchanged. Takes no
-    /// memory.
+    /// Returns `None` if no worker is idle or the queue is empty. The pool is then unchanged.
+    /// Allocates no memory.
     pub fn take(&mut self) -> Option<usize>
         ensures head { IfSome result (λ job. taken self.old ≡ Some (job, self.new)) }
         ensures nothing { IfNone result (taken self.old ≡ None) }
@@ -130,7 +131,7 @@ impl PoolState {
         Some(job)
     }
 
-    /// A busy worker is done with its job, and idle from now on. Takes no memory.
+    /// Makes a busy worker idle, since its job is done. Allocates no memory.
     pub fn finish(&mut self)
         requires { self.old.idle < self.old.threads }
         ensures { self.new ≡ finished self.old }
@@ -138,9 +139,9 @@ impl PoolState {
         self.idle += 1;
     }
 
-    /// An idle worker ends, whatever the queue holds: one above core may, and a core thread never
-    /// does. False where no worker is idle or the threads are not above core. The pool is then
-    /// unchanged. Takes no memory.
+    /// Ends an idle worker if there are more than `core` threads, whatever the queue holds. Core
+    /// threads never end. Returns `false` if no worker is idle or there are at most `core` threads.
+    /// The pool is then unchanged. Allocates no memory.
     pub fn retire(&mut self) -> bool
         ensures ended { OnTrue result (retired self.old ≡ Some self.new) }
         ensures nothing { OnFalse result (retired self.old ≡ None) }
@@ -154,28 +155,28 @@ impl PoolState {
         ends
     }
 
-    /// Up to how many threads a job gets a new thread at once: 1 to the maximum.
+    /// Returns the number of threads below which each job gets a new thread: 1 to the maximum.
     pub fn core(&self) -> u64
         ensures { result ≡ self.now.core }
     {
         self.core
     }
 
-    /// How many threads there can be: core to `MAX_SIZE`.
+    /// Returns the maximum number of threads: `core` to `MAX_SIZE`.
     pub fn max(&self) -> u64
         ensures { result ≡ self.now.max }
     {
         self.max
     }
 
-    /// How many jobs the queue can hold: 1 to `MAX_SIZE`.
+    /// Returns the capacity of the queue: 1 to `MAX_SIZE`.
     pub fn capacity(&self) -> u64
         ensures { result ≡ self.now.capacity }
     {
         self.capacity
     }
 
-    /// How many threads there are, busy and idle: 0 to the maximum.
+    /// Returns the number of threads, busy and idle: 0 to the maximum.
     pub fn threads(&self) -> u64
         ensures value { result ≡ self.now.threads }
         ensures sound { IsSound self.now }
@@ -183,7 +184,7 @@ impl PoolState {
         self.threads
     }
 
-    /// How many workers are idle: 0 to all threads.
+    /// Returns the number of idle workers: 0 to the number of threads.
     pub fn idle(&self) -> u64
         ensures value { result ≡ self.now.idle }
         ensures sound { IsSound self.now }
@@ -191,7 +192,7 @@ impl PoolState {
         self.idle
     }
 
-    /// How many workers have a job: the threads that are not idle.
+    /// Returns the number of busy workers, which are the threads that are not idle.
     pub fn busy(&self) -> u64
         ensures value { result ≡ self.now.threads - self.now.idle }
         ensures sound { IsSound self.now }
@@ -199,7 +200,7 @@ impl PoolState {
         self.threads - self.idle
     }
 
-    /// How many jobs wait in the queue: 0 to the capacity.
+    /// Returns the number of jobs in the queue: 0 to the capacity.
     pub fn queued(&self) -> usize
         ensures value { result ≡ length self.now.queue }
         ensures sound { IsSound self.now }
@@ -207,7 +208,7 @@ impl PoolState {
         self.queue.len()
     }
 
-    /// The job that waits longest, if one waits.
+    /// Returns the job that has waited longest, or `None` if the queue is empty.
     pub fn head(&self) -> Option<usize>
         ensures { result ≡ slice_get self.now.queue 0 }
     {
