@@ -1,32 +1,32 @@
--- Where a history leads that has grown.
+-- Replays of a history with one more event.
 use Rattle.std.proofs.Common.{◌≡◌, List, [], ◌∷◌, ◌++◌, Some, None, Option, Bool, true, refl, ap, sym, ◌∙◌, subst}
 use Rattle.std.proofs.lemmas.Option.{same_Some}
 use Rattle.held_machines.specs.Content.{IsReplayOf, Answers, Steps}
 use Rattle.held_machines.specs.Replay.{replay, Leads}
 
--- where one event is not possible, nothing follows
+-- after an impossible event there is no state
 pub replay_none : {I E : Type 0} (next : I → E → Option I) (events : List E) → replay next None events ≡ None
 replay_none next [] = refl
 replay_none next (e ∷ events) = refl
 
--- events one after another
+-- the replay of two lists in sequence
 pub replay_append : {I E : Type 0} (next : I → E → Option I) (s : Option I) (events later : List E) → replay next s (events ++ later) ≡ replay next (replay next s events) later
 replay_append next s [] later = refl
 replay_append next None (e ∷ events) later = sym (replay_none next later)
 replay_append next (Some s) (e ∷ events) later = replay_append next (next s e) events later
 
--- one event more
+-- the replay with one more event
 pub replay_snoc : {I E : Type 0} (next : I → E → Option I) (first i : I) (events : List E) (e : E) → Leads next first events i → replay next (Some first) (events ++ e ∷ []) ≡ next i e
 replay_snoc next first i events e leads = rw (replay_append next (Some first) events (e ∷ []), leads) refl
 
--- what the event that was made leads to is the replay of the history with it
+-- after an event was performed, the new content is the replay of the history with the event
 pub grown : {I E S : Type 0} (next : I → E → Option I) (first : I) (content : I → S) (events : List E) (e : E) (before after : S) (done : Bool) → done ≡ true
     → IsReplayOf next first content events before → Steps next first content before e done after → IsReplayOf next first content (events ++ e ∷ []) after
 grown next first content events e before after done is held made =
     let answer = subst (λ d. Answers next content held.0 e d after) is (made held.0 (events, held.1) held.2) in
     (answer.0, rw (replay_snoc next first held.0 events e held.1) answer.1, answer.2)
 
--- and no other
+-- the new content belongs to every state to which the longer history leads
 pub settled : {I E S : Type 0} (next : I → E → Option I) (first : I) (content : I → S) (events : List E) (e : E) (before after : S) (done : Bool) (i : I) → done ≡ true
     → IsReplayOf next first content events before → Steps next first content before e done after → Leads next first (events ++ e ∷ []) i → after ≡ content i
 settled next first content events e before after done i is held made leads =

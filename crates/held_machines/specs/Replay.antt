@@ -1,8 +1,8 @@
--- Where lists of events lead, for any machine: next gives the state after an event, or None where the event is not
+-- Replays of lists of events, for any machine. The function next gives the state after an event, or None if the event is not
 -- possible.
 use Rattle.std.specs.Prelude.{◌≡◌, List, [], ◌∷◌, Option, Some, None}
 
--- the state after the events, or None where one of them is not possible
+-- the state after the events, or None if one of them is not possible
 abbrev pub replay : {I E : Type 0} → (I → E → Option I) → Option I → List E → Option I
 replay next s [] = s
 replay next None (e ∷ events) = None

@@ -10,16 +10,16 @@ use crate::Machine;
 use std::alloc::{AllocError, Global};
 use std::marker::Model;
 
-/// What stands for one event in a history: its number, counted from 0, and the event.
+/// A receipt for one event of a history: the event, and its number, counted from 0.
 #[derive(Clone, Copy, Debug, PartialEq, Eq)]
 pub struct Receipt<E> {
     pub number: u64,
     pub event: E,
 }
 
-/// A machine with its state and its history, the list of the events that it made.
+/// A machine with its state and its history, which is the list of the events that it performed.
 ///
-/// The state is what the history leads to from the machine's start.
+/// The state is always the one to which the history leads from the machine's start.
 #[derive(Drop)]
 pub struct Held<M: Machine + Drop> {
     machine: M,
@@ -39,11 +39,12 @@ impl<M: Machine + Drop> Model for Held<M> {
 }
 
 impl<M: Machine + Drop> Held<M> {
-    /// The machine at its start, with no history.
+    /// Creates the machine at its start, with an empty history.
     ///
     /// # Errors
     ///
-    /// `AllocError` where there is no memory for its state. The machine is then dropped.
+    /// Returns `AllocError` if there is not enough memory for its state. The machine is then
+    /// dropped.
     pub fn new(alloc: Global, machine: M) -> Result<Held<M>, AllocError>
         ensures machine { IfOk result (λ held. held.machine ≡ machine) }
         ensures state { IfOk result (λ held. held.state ≡ M.content machine (M.first machine)) }
@@ -57,7 +58,7 @@ impl<M: Machine + Drop> Held<M> {
         })
     }
 
-    /// The machine's state.
+    /// Returns the machine's state.
     pub fn state(&self) -> &M::State
         ensures value { result.now ≡ self.now.state }
         ensures replayed { IsReplayOf (M.next self.now.machine) (M.first self.now.machine)
@@ -66,7 +67,7 @@ impl<M: Machine + Drop> Held<M> {
         &self.state
     }
 
-    /// The events that were made, in their order.
+    /// Returns the performed events, in order.
     pub fn history(&self) -> &[M::Event]
         ensures value { result.now ≡ self.now.history }
         ensures replayed { IsReplayOf (M.next self.now.machine) (M.first self.now.machine)
@@ -75,7 +76,7 @@ impl<M: Machine + Drop> Held<M> {
         self.history.as_slice()
     }
 
-    /// The events that were made, in their order. It takes no memory.
+    /// Returns the performed events, in order. Allocates no memory.
     pub fn into_history(self) -> Vec<M::Event>
         ensures value { result.items ≡ self.history }
         ensures replayed { IsReplayOf (M.next self.machine) (M.first self.machine)
@@ -84,13 +85,15 @@ impl<M: Machine + Drop> Held<M> {
         self.history
     }
 
-    /// Makes the event, if it is possible, and hands out a receipt of it; None where it is not possible.
+    /// Performs the event if it is possible, and returns a receipt for it, or `None` if it is not
+    /// possible.
     ///
     /// # Errors
     ///
-    /// `AllocError` where there is no memory for the event or for its place in the history. Nothing has changed then.
+    /// Returns `AllocError` if there is not enough memory for the event or for its entry in the
+    /// history. The machine is then unchanged.
     pub fn act(&mut self, event: M::Event) -> Result<Option<Receipt<M::Event>>, AllocError>
-        // The event is made exactly where it is possible after the history so far.
+        // The event is performed exactly when it is possible after the current history.
         ensures made { IfOk result (λ receipt.
             (i : M.Ideal)
             → Leads (M.next self.old.machine) (M.first self.old.machine) self.old.history i

@@ -1,8 +1,9 @@
-//! A machine whose state is kept with the history that led to it, alone or under one lock.
+//! A machine whose state is stored with the history that led to it, without or with a lock.
 //!
-//! A [`Machine`] is written down by a first state and a next state for each event. [`Held`] has such a machine running
-//! and keeps each event that it made, so that its state is always the replay of its history; [`Locked`] puts it under a
-//! lock, for threads that make events of one machine.
+//! A [`Machine`] is specified by an initial state and a next state for each event. [`Held`] runs
+//! such a machine and records each event that it performed, so that its state is always the replay
+//! of its history. [`Locked`] protects it by a lock, for threads that perform events of the same
+//! machine.
 #![tactic(auto)]
 
 mod held;

@@ -1,9 +1,10 @@
-//! A held machine under one lock.
+//! A machine with its history, under one lock.
 
 use crate::{Held, Machine};
 use std::sync::{Condvar, Mutex, MutexGuard, Wait};
 
-/// A held machine that threads share: one of them at a time has it, and the others may wait until it was changed.
+/// A machine with its history that threads share. One thread at a time holds its lock; other
+/// threads can wait until it was changed.
 #[derive(Drop)]
 pub struct Locked<M: Machine + Drop> {
     held: Mutex<Held<M>>,
@@ -11,7 +12,7 @@ pub struct Locked<M: Machine + Drop> {
 }
 
 impl<M: Machine + Drop> Locked<M> {
-    /// The held machine under a lock that nobody has.
+    /// Creates the lock, in the unlocked state.
     pub fn new(held: Held<M>) -> Locked<M> {
         Locked {
             held: Mutex::new(held),
@@ -19,12 +20,13 @@ impl<M: Machine + Drop> Locked<M> {
         }
     }
 
-    /// Waits until no other thread has the held machine, and takes it.
+    /// Waits until no other thread holds the lock, and acquires it.
     pub fn lock<R: Wait>(&self, rt: &R) -> MutexGuard<'_, Held<M>> {
         self.held.lock(rt)
     }
 
-    /// Lets the held machine go, waits until it is told of a change, and takes it again. It may return with no change.
+    /// Releases the lock, waits until [`Locked::notify_all`] is called, and acquires the lock
+    /// again. It may also return without such a call.
     pub fn wait<'a, R: Wait>(
         &'a self,
         rt: &R,
@@ -33,12 +35,12 @@ impl<M: Machine + Drop> Locked<M> {
         self.changed.wait(rt, held)
     }
 
-    /// Wakes each thread that waits.
+    /// Wakes all waiting threads.
     pub fn notify_all(&self) {
         self.changed.notify_all();
     }
 
-    /// The held machine, once no thread shares it any more.
+    /// Returns the machine with its history.
     pub fn into_inner(self) -> Held<M> {
         self.held.into_inner()
     }

@@ -1,44 +1,47 @@
-//! What a machine is.
+//! The interface of a machine.
 
 ghost use Rattle.std.specs.Prelude.{◌≡◌, Option, IfOk, OnErr, IsTrue, true, false};
 ghost use Rattle.held_machines.specs.Content.{IsReached, Steps};
 
 use std::alloc::{AllocError, Global};
 
-/// A machine that makes one event at a time: a plain value, which does not change while its state does.
+/// A machine that performs one event at a time. The machine itself is a constant value, separate
+/// from its state.
 ///
-/// It is written down by a first state and by the next state for each event that is possible in a state (`first`,
-/// `next`). What runs keeps the content of such a state.
+/// Its specification is an initial state (`first`), and the next state for each event that is
+/// possible in a state (`next`). The running machine stores the content of such a state.
 pub trait Machine {
-    /// What the running machine keeps of its state.
+    /// The state that the running machine stores.
     type State: Drop;
 
-    /// What may happen.
+    /// The events.
     type Event: Copy;
 
-    // The states as they are written down, the one at the start, and the one after an event, where the event is possible.
+    // The specification states, the initial one, and the state after an event if the event is
+    // possible.
     ghost Ideal: { Type 0 };
 
     ghost first: { Self → Ideal };
 
     ghost next: { Self → Ideal → Self.Event → Option Ideal };
 
-    // What the running machine keeps of a state.
+    // The stored state that belongs to a specification state.
     ghost content: { Self → Ideal → Self.State };
 
-    /// The state at the start.
+    /// Returns the initial state.
     ///
     /// # Errors
     ///
-    /// `AllocError` where there is no memory for it.
+    /// Returns `AllocError` if there is not enough memory.
     fn start(&self, alloc: Global) -> Result<Self::State, AllocError>
         ensures { IfOk result (λ state. state ≡ content self.now (first self.now)) };
 
-    /// Makes the event, if it is possible, and says whether it was.
+    /// Performs the event if it is possible, and returns whether it was.
     ///
     /// # Errors
     ///
-    /// `AllocError` where there is no memory for the event. The state is then unchanged.
+    /// Returns `AllocError` if there is not enough memory for the event. The state is then
+    /// unchanged.
     fn step(&self, state: &mut Self::State, event: Self::Event) -> Result<bool, AllocError>
         requires { IsReached (next self.now) (first self.now) (content self.now) state.old }
         ensures answered { IfOk result (λ done.
