@@ -1,4 +1,5 @@
-//! A search that goes on from the most promising of the states that it has come to, by several measures in turn.
+//! A best-first search, which continues from the most promising open state by several measures in
+//! turn.
 
 use crate::branches::Branch;
 use crate::kinds::Choices;
@@ -10,38 +11,39 @@ use std::alloc::{AllocError, Global};
 use std::collections::{BinaryHeap, HashSet};
 use std::hash::{BuildHasherDefault, FoldHasher};
 
-/// For how many vectors that miss their bounds there is a measure of its own.
+/// The maximum number of vectors that each get a measure of their own.
 const MAX_VECTORS: usize = 2;
 
-/// A state that was come to.
+/// A state that the search reached.
 #[derive(Clone, Copy)]
 struct Node {
-    /// The state before it, by number, and the branch from there. The start stands before itself.
+    /// The number of the state before it, from which `branch` leads to this one. The start is its
+    /// own predecessor.
     before: usize,
     branch: Branch,
     is_open: bool,
 }
 
-/// A state on the way, and what the way there has lost of each vector.
+/// A reached state, with the amount lost of each vector on the way to it.
 #[derive(Drop)]
 struct Reached<'a> {
     walk: Walk<'a>,
     lost: Vec<u64>,
 }
 
-/// What the search comes to.
+/// The result of a best-first search.
 #[derive(Drop)]
 pub(crate) struct Best {
-    /// What it finds that stays.
+    /// A permanent violation, if one was found.
     pub(crate) found: Option<(Script, Bad)>,
-    /// A way to jobs that wait only for each other now.
+    /// Events that lead to jobs that wait only for each other at this moment.
     pub(crate) stuck_now: Option<Script>,
-    /// How many states it might still come to.
+    /// The number of states that the search may still visit.
     pub(crate) left: usize,
 }
 
-/// Searches from the plan's start until something is found that stays, and comes to so many states at most, that one among
-/// them.
+/// Searches from the plan's start until it finds a permanent violation or has visited `states`
+/// states, the found one included.
 pub(crate) fn best_first(
     alloc: Global,
     plan: &Plan,
@@ -54,7 +56,7 @@ pub(crate) fn best_first(
     Ok(search.ended(found))
 }
 
-/// The states so far, by number. Each takes some 100 bytes.
+/// The state of a search: all reached states, by number. Each takes about 100 bytes.
 #[derive(Drop)]
 struct BestFirst<'a> {
     alloc: Global,
@@ -63,18 +65,18 @@ struct BestFirst<'a> {
     scales: &'a [Scale],
     nodes: Vec<Node>,
     seen: HashSet<u64, BuildHasherDefault<FoldHasher>, Global>,
-    /// For each measure the states that are open, and with each the greater number the more it promises.
+    /// For each measure, a heap of the open states. A greater number is more promising.
     opens: Vec<BinaryHeap<(u64, usize), Global>>,
-    /// Before this one no state is open.
+    /// All states with lower numbers are closed.
     oldest: usize,
-    /// How many states it may still come to.
+    /// The number of states that the search may still visit.
     left: usize,
-    /// A way to jobs that wait only for each other now.
+    /// Events that lead to jobs that wait only for each other at this moment.
     stuck_now: Option<Script>,
 }
 
 impl<'a> BestFirst<'a> {
-    /// A search from the plan's start, which may come to so many states, that one among them.
+    /// Creates a search from the plan's start, which may visit `states` states, the start included.
     fn start(
         alloc: Global,
         plan: &'a Plan,
@@ -115,7 +117,7 @@ impl<'a> BestFirst<'a> {
         }
     }
 
-    /// What it finds that stays, before it has come to as many states as it may or to all that it can.
+    /// Returns a permanent violation, or `None` if the limit was reached or no open state is left.
     fn find(&mut self) -> Result<Option<(Script, Bad)>, AllocError> {
         for turn in 0..usize::MAX {
             if self.left == 0 {
@@ -141,7 +143,7 @@ impl<'a> BestFirst<'a> {
         Ok(number)
     }
 
-    /// The open state that promises most by the measure whose turn it is, which is open no longer.
+    /// Closes the most promising open state, and returns it. The measures take turns by `turn`.
     fn next_open(&mut self, turn: usize) -> Option<usize> {
         let measures = self.opens.len().saturating_add(1);
         let measure = turn.checked_rem(measures)?;
@@ -176,7 +178,7 @@ impl<'a> BestFirst<'a> {
         None
     }
 
-    /// Comes to each state behind this one.
+    /// Visits each successor of this state.
     fn go_on_from(&mut self, number: usize) -> Result<Option<(Script, Bad)>, AllocError> {
         let reached = self.reached(number)?;
         for branch in &reached.walk.branches(self.alloc)? {
@@ -195,7 +197,7 @@ impl<'a> BestFirst<'a> {
         Ok(None)
     }
 
-    /// Comes to the state behind this branch, and answers what is bad there.
+    /// Visits the state after this branch, and returns its violation, if there is one.
     fn come_to(
         &mut self,
         reached: &Reached<'a>,
@@ -220,7 +222,7 @@ impl<'a> BestFirst<'a> {
         Ok(None)
     }
 
-    /// The state of this number is open by each measure.
+    /// Adds the state with this number to the heap of each measure.
     fn add_open(
         &mut self,
         reached: &Reached<'a>,
@@ -240,7 +242,7 @@ impl<'a> BestFirst<'a> {
         Ok(())
     }
 
-    /// The branches from the start to the state of this number.
+    /// Returns the branches from the start to the state with this number.
     fn way_to(&self, number: usize) -> Result<Vec<Branch>, AllocError> {
         let mut way = Vec::new(self.alloc);
         let mut number = number;
@@ -258,7 +260,7 @@ impl<'a> BestFirst<'a> {
         Ok(way)
     }
 
-    /// The state of this number.
+    /// Returns the state with this number, by a replay of its branches.
     fn reached(&self, number: usize) -> Result<Reached<'a>, AllocError> {
         let mut walk = Walk::start(self.alloc, self.plan, self.choices)?;
         let mut lost = vec![in self.alloc; 0u64; self.scales.len()]?;
@@ -271,7 +273,7 @@ impl<'a> BestFirst<'a> {
         Ok(Reached { walk, lost })
     }
 
-    /// The events that lead to what is behind this branch.
+    /// Returns the events that lead to the state after this branch.
     fn script_of(&self, number: usize, branch: Branch) -> Result<Script, AllocError> {
         let mut reached = self.reached(number)?;
         reached.walk.choose(branch.place, branch.behind)?;

@@ -1,4 +1,4 @@
-//! The ways on from a state.
+//! The branches from a state.
 
 use crate::fingerprints::fingerprint;
 use crate::kinds::Choice;
@@ -10,10 +10,11 @@ use crate::walks::Walk;
 use std::alloc::{AllocError, Global};
 use written_machine::Parent;
 
-/// How many of the actors that stand at one choice are tried.
+/// The maximum number of actors that are tried for one choice.
 const MAX_ACTORS: usize = 8;
 
-/// A choice, and how many of the actors that stand there came behind the one that makes it.
+/// A branch: a choice, and an actor that makes it. `behind` is the number of actors that became
+/// ready for this choice after that actor.
 #[derive(Clone, Copy, PartialEq, Eq)]
 pub(crate) struct Branch {
     pub(crate) place: usize,
@@ -21,7 +22,7 @@ pub(crate) struct Branch {
 }
 
 impl<'a> Walk<'a> {
-    /// Another walk in the same state, which does not know how it came there.
+    /// Returns a copy of the walk in the same state, with an empty script.
     pub(crate) fn copied(&self, alloc: Global) -> Result<Walk<'a>, AllocError> {
         let mut ready = Vec::with_capacity(alloc, self.ready.len())?;
         for actors in &self.ready {
@@ -37,7 +38,8 @@ impl<'a> Walk<'a> {
         })
     }
 
-    /// What may happen next. A client that stands where it began stands for each that has not moved.
+    /// Returns the branches from this state. A client that is again at its first submit represents
+    /// all clients of its kind that have not moved.
     pub(crate) fn branches(&self, alloc: Global) -> Result<Vec<Branch>, AllocError> {
         let mut branches = Vec::new(alloc);
         for (place, (choice, ready)) in self.choices.all.iter().zip(&self.ready).enumerate() {
@@ -54,14 +56,14 @@ impl<'a> Walk<'a> {
         Ok(branches)
     }
 
-    /// Whether a client of the kind stands again where it began.
+    /// Returns `true` if a client of the kind is again at its first submit.
     fn has_old(&self, kind: usize) -> bool {
         self.choices.all.iter().zip(&self.ready).any(|(choice, ready)| *choice
             == Choice::First(kind)
             && !ready.is_empty())
     }
 
-    /// What the branch loses of a vector.
+    /// Returns the amount of a vector that the branch loses.
     pub(crate) fn loss(&self, branch: Branch, scale: &Scale) -> u64 {
         let Some(choice) = self.choices.all.get(branch.place).copied() else {
             return 0;
@@ -75,7 +77,8 @@ impl<'a> Walk<'a> {
         ready.get(at).copied()
     }
 
-    /// How many threads there are, or are to come, that do not wait at a get.
+    /// Returns the number of threads that do not wait at a get. A pool below `core` counts as
+    /// `core` threads.
     pub(crate) fn moving_threads(&self) -> u64 {
         let mut threads = 0u64;
         for pool in &self.machine.pools {
@@ -92,7 +95,7 @@ impl<'a> Walk<'a> {
         threads.saturating_sub(waiting)
     }
 
-    /// How many jobs the pool takes at least that has the least room.
+    /// Returns the least room of all pools, in jobs.
     pub(crate) fn least_room(&self) -> u64 {
         let mut least = u64::MAX;
         for pool in &self.machine.pools {
@@ -101,7 +104,7 @@ impl<'a> Walk<'a> {
         least
     }
 
-    /// Whether a pool has no idle thread and jobs in its queue.
+    /// Returns `true` if a pool has no idle thread and a queued job.
     pub(crate) fn has_closed(&self) -> bool {
         self.machine
             .pools
@@ -109,7 +112,7 @@ impl<'a> Walk<'a> {
             .any(|pool| pool.is_closed(false) && !pool.queued().is_empty())
     }
 
-    /// The state's fingerprint.
+    /// Returns the state's fingerprint.
     pub(crate) fn fingerprint(&self, alloc: Global) -> Result<u64, AllocError> {
         fingerprint(alloc, &self.machine, self.choices)
     }

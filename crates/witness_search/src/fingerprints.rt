@@ -1,28 +1,28 @@
-//! Fingerprints of states, by which a search knows those that it has come to.
+//! Fingerprints of states, by which a search recognises the states that it has reached.
 //!
-//! Two states have the same one where they differ in the numbers of jobs and clients alone, in jobs that are done and that
-//! nobody will get, or in clients that stand again where they began. By chance others may too: then the search goes on from
-//! one of them only.
+//! Two states have the same fingerprint if they differ only in the numbers of jobs and clients, in
+//! finished jobs that no actor will get, or in clients that are again at their first submit. Other
+//! states may collide by chance. The search then continues from only one of them.
 
 use crate::kinds::{Choice, Choices};
 use crate::machine::{Job, Machine, Phase};
 use std::alloc::{AllocError, Global};
 use written_machine::Parent;
 
-/// What mixes the numbers.
+/// A factor of the hash function.
 const FACTOR: u64 = 0x9e37_79b9_7f4a_7c15;
-/// What a job's phase is mixed as. Other numbers are positions.
+/// The hash input for a phase. Lower numbers stand for positions.
 const DONE: u64 = 1_000_001;
 
 const QUEUED: u64 = 1_000_002;
-/// What tells apart what stands by itself.
+/// Tags for the independent parts of a state.
 const ROOT: u64 = 3;
 
 const CLIENT: u64 = 5;
 
 const POOL: u64 = 7;
 
-/// The fingerprint of a state.
+/// Returns the fingerprint of a state.
 pub(crate) fn fingerprint(
     alloc: Global,
     machine: &Machine,
@@ -47,7 +47,7 @@ pub(crate) fn fingerprint(
     Ok(prints.whole)
 }
 
-/// One number of two.
+/// Combines two numbers into one hash.
 fn mixed(first: u64, second: u64) -> u64 {
     let mixed = (first ^ second.wrapping_mul(FACTOR))
         .wrapping_add(second.rotate_left(17))
@@ -55,15 +55,15 @@ fn mixed(first: u64, second: u64) -> u64 {
     mixed ^ (mixed >> 31)
 }
 
-/// The fingerprints of a state's parts.
+/// The fingerprints of the parts of a state.
 #[derive(Drop)]
 struct Prints<'a> {
     machine: &'a Machine<'a>,
-    /// Of the jobs that each job will get.
+    /// For each job, the fingerprint of the jobs that it will get.
     of_jobs: Vec<u64>,
-    /// Of the jobs that each client will get.
+    /// For each client, the fingerprint of the jobs that it will get.
     of_movers: Vec<u64>,
-    /// For each job its place in a queue, counted from 1.
+    /// For each job, its place in a queue, counted from 1, or 0.
     places: Vec<u64>,
     whole: u64,
 }
@@ -86,7 +86,8 @@ impl Prints<'_> {
         }
     }
 
-    /// Adds a job whose own jobs were added: to who will get it, or by itself.
+    /// Adds a job whose own jobs were added before. Adds it to the actor that will get it, or to
+    /// the whole.
     fn add_job(&mut self, number: usize, job: &Job) {
         let of_jobs = self.of_jobs.get(number).copied().unwrap_or(0);
         let phase = match job.phase {
@@ -102,7 +103,7 @@ impl Prints<'_> {
         }
     }
 
-    /// Adds a job to who will get it.
+    /// Adds a job to the actor that will get it.
     fn add_to_parent(&mut self, parent: Parent, print: u64) {
         match parent {
             Parent::Client(client) => {
@@ -118,13 +119,13 @@ impl Prints<'_> {
         }
     }
 
-    /// Whether the job's parent has still to get it.
+    /// Returns `true` if the job's parent has yet to get it.
     fn will_get(&self, job: &Job, number: usize) -> bool {
         self.machine.is_to_get(job.parent, job.submit)
             && self.machine.child(job.parent, job.submit) == Some(number)
     }
 
-    /// Adds a client that does not stand where it began.
+    /// Adds a client, unless it is at its first submit.
     fn add_client(&mut self, choices: &Choices, number: usize) {
         let actor = Parent::Client(number);
         let Some((position, _)) = self.machine.point(actor) else {

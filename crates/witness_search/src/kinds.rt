@@ -1,29 +1,29 @@
-//! The kinds of choices that a walk has.
+//! The choices of a walk.
 
 use crate::machine::Machine;
 use job_bodies::{Action, Plan};
 use std::alloc::{AllocError, Global};
 use written_machine::Parent;
 
-/// What stands where a position is no submit.
+/// The entry for a position that is not a submit.
 const NO_CHOICE: usize = usize::MAX;
 
-/// What happens next.
+/// A kind of next step.
 #[derive(Clone, Copy, PartialEq, Eq)]
 pub(crate) enum Choice {
-    /// A new client of the kind goes to its first submit.
+    /// A new client of the kind moves to its first submit and makes it.
     Begin(usize),
-    /// A client of a kind makes the first submit of its body.
+    /// A client of the kind makes the first submit of its body.
     First(usize),
     /// A client of the kind makes another submit of its body.
     Later(usize),
     /// A job of the class makes a submit.
     Inner(usize),
-    /// A job of the class is taken from its pool's queue.
+    /// A thread takes a job of the class from its pool's queue.
     Take(usize),
 }
 
-/// All choices of a plan, and which one each submit is.
+/// All choices of a plan, and the choice of each submit.
 #[derive(Drop)]
 pub(crate) struct Choices {
     pub(crate) all: Vec<Choice>,
@@ -32,7 +32,7 @@ pub(crate) struct Choices {
 }
 
 impl Choices {
-    /// The choices of the plan.
+    /// Returns the choices of the plan.
     pub(crate) fn of(alloc: Global, plan: &Plan) -> Result<Choices, AllocError> {
         let mut choices = Choices {
             all: Vec::new(alloc),
@@ -77,7 +77,7 @@ impl Choices {
         }
     }
 
-    /// The place of the choice that the actor at this position of its body is.
+    /// Returns the index of the choice for an actor at this position of its body.
     pub(crate) fn place_of(
         &self,
         machine: &Machine,

@@ -1,8 +1,9 @@
-//! A search for a witness against a plan: events that end in a refused submit, or in jobs that wait only for each other.
+//! A search for a witness against a plan: events that end in a rejected submit, or in jobs that
+//! wait only for each other.
 //!
-//! Nothing is promised of what is found: whoever wants to rest on it replays it, as by the machine of `written_machine`.
-//! What is proved is that each function is safe and ends, and that no more states are told as gone through than were asked for.
-//! The same plan gives the same answer.
+//! A result is not proved to be a witness. A caller that relies on it must replay it, for example
+//! with `plan_witnesses::confirmed`. It is proved that each function is safe and terminates, and
+//! that the reported number of states is at most the requested one. The search is deterministic.
 #![tactic(auto)]
 
 mod best_first;

@@ -1,5 +1,5 @@
-//! What choices lose of a vector: the sum of its weights never rises, and where a bound is missed, a walk to what is bad
-//! has little of it to lose.
+//! The losses of choices, measured by a vector. The total weight of a state never rises. If a
+//! vector misses its bound, a walk to a violation can lose only little of it.
 
 use crate::kinds::Choice;
 use crate::machine::Machine;
@@ -8,19 +8,20 @@ use crate::pools::Offered;
 use job_bodies::{Action, MAX_ACTIONS};
 use written_machine::Parent;
 
-/// The most that a loss is told as.
+/// The maximum of a reported loss.
 const MAX_LOST: u64 = 1_000_000;
-/// How many parents are followed that go on when a job is done.
+/// The maximum number of parents that are followed when a finished job unblocks them.
 const MAX_PARENTS: usize = 16;
 
-/// A state, and the vector whose weights are looked at.
+/// A state, and the vector whose weights are used.
 #[derive(Clone, Copy)]
 pub(crate) struct Losses<'a> {
     machine: &'a Machine<'a>,
     scale: &'a Scale,
 }
 
-/// A body, what an actor weighs at each position of it, and what it leaves behind at its end.
+/// A body, the weight of an actor at each position of it, and the weight that remains after its
+/// end.
 #[derive(Clone, Copy)]
 struct Way<'a> {
     body: &'a [Action],
@@ -33,7 +34,8 @@ impl Way<'_> {
         self.row.get(position).copied().unwrap_or(0)
     }
 
-    /// What the actor weighs once it has done the work from this position on, and whether it is then at its end.
+    /// Returns the weight of the actor after the work from this position, and whether the actor is
+    /// then at the end of its body.
     fn settled(&self, position: usize) -> (u64, bool) {
         let mut position = position;
         for _ in 0..MAX_ACTIONS {
@@ -52,7 +54,7 @@ impl<'a> Losses<'a> {
         Losses { machine, scale }
     }
 
-    /// What the choice loses, which is possible; this actor makes it.
+    /// Returns the loss of a possible choice that this actor makes.
     pub(crate) fn of(&self, choice: Choice, actor: Option<Parent>) -> u64 {
         let lost = match choice {
             Choice::Begin(kind) => self.of_begin(kind),
@@ -98,7 +100,7 @@ impl<'a> Losses<'a> {
         }
     }
 
-    /// What a done job of the class weighs.
+    /// Returns the weight of a finished job of the class.
     fn done(&self, class: usize) -> u64 {
         match self.scale.classes.get(class) {
             Some(row) => row.last().copied().unwrap_or(0),
@@ -106,7 +108,7 @@ impl<'a> Losses<'a> {
         }
     }
 
-    /// What a queued job of the class weighs.
+    /// Returns the weight of a queued job of the class.
     fn queued(&self, class: usize) -> u64 {
         match self.scale.classes.get(class) {
             Some(row) => row.first().copied().unwrap_or(0),
@@ -114,7 +116,7 @@ impl<'a> Losses<'a> {
         }
     }
 
-    /// What a worker of the class's pool weighs.
+    /// Returns the weight of a worker of the class's pool.
     fn worker(&self, class: usize) -> u64 {
         match self.machine.plan.class_at(class) {
             Some(class) => self.scale.workers.get(class.pool).copied().unwrap_or(0),
@@ -136,7 +138,8 @@ impl<'a> Losses<'a> {
         self.of_submit(&self.way_of(actor)?, position, position)
     }
 
-    /// An actor, which weighs what it does at `from`, makes the submit at `at`.
+    /// Returns the loss of a submit at position `at` by an actor that now has the weight of
+    /// position `from`.
     fn of_submit(&self, way: &Way, from: usize, at: usize) -> Option<u64> {
         let Action::Submit(class) = *way.body.get(at)? else {
             return None;
@@ -158,7 +161,8 @@ impl<'a> Losses<'a> {
         }
     }
 
-    /// A job of the class is taken, and where it only works, those go on that wait for it.
+    /// Returns the loss when a job of the class is taken. If the job only works, includes the
+    /// actors that it unblocks.
     fn of_take(&self, class: usize) -> Option<u64> {
         let pool = self.machine.plan.class_at(class)?.pool;
         let mut job = self.machine.pools.get(pool)?.next_to_take()?;

@@ -1,11 +1,12 @@
-//! A light machine of a plan: of clients only those that have moved, and nothing of the past but the jobs.
+//! A lightweight machine for searches. It stores only the clients that have moved, and no history
+//! except the jobs.
 
 use crate::pools::{Offered, PoolNow};
 use job_bodies::{Action, MAX_ACTIONS, Plan};
 use std::alloc::{AllocError, Global};
 use written_machine::Parent;
 
-/// How far a job is.
+/// The phase of a job.
 #[derive(Clone, Copy, PartialEq, Eq)]
 pub(crate) enum Phase {
     Queued,
@@ -13,7 +14,7 @@ pub(crate) enum Phase {
     Done,
 }
 
-/// A job that was made.
+/// A job.
 #[derive(Clone, Copy, PartialEq, Eq)]
 pub(crate) struct Job {
     pub(crate) class: usize,
@@ -22,13 +23,13 @@ pub(crate) struct Job {
     pub(crate) phase: Phase,
     /// The position of the submit in the parent's body.
     pub(crate) submit: usize,
-    /// The latest job that it made itself.
+    /// The latest job that this job created.
     newest: Option<usize>,
-    /// The job that its parent made before it.
+    /// The previous job of the same parent.
     before: Option<usize>,
 }
 
-/// A client that has moved. Its number here is its place among those.
+/// A client that has moved. Its number in this machine is its index in the list of such clients.
 #[derive(Clone, Copy, PartialEq, Eq)]
 pub(crate) struct Mover {
     kind: usize,
@@ -36,22 +37,22 @@ pub(crate) struct Mover {
     newest: Option<usize>,
 }
 
-/// What comes of a step.
+/// The outcome of a step.
 #[derive(Clone, Copy, PartialEq, Eq)]
 pub(crate) enum Came {
-    /// It was not possible, and nothing has changed.
+    /// The step was not possible, and nothing has changed.
     Nothing,
-    /// The actor has worked, got a job or begun again.
+    /// The actor worked, got a job or started its body again.
     Moved,
-    /// The job of this number was made, and whether a thread starts it.
+    /// The job with this number was created. `started` tells whether a thread runs it.
     Made { job: usize, started: bool },
-    /// A pool refused a job.
+    /// A pool rejected a job.
     Refused,
-    /// The job is done, which this actor made.
+    /// The job is done. This actor created it.
     Finished(Parent),
 }
 
-/// The pools, the jobs that were made, and the clients that have moved.
+/// The pools, the jobs, and the clients that have moved.
 #[derive(Drop)]
 pub(crate) struct Machine<'a> {
     pub(crate) plan: &'a Plan,
@@ -61,7 +62,7 @@ pub(crate) struct Machine<'a> {
 }
 
 impl<'a> Machine<'a> {
-    /// The start of the plan.
+    /// Creates the machine at the start of the plan.
     pub(crate) fn start(alloc: Global, plan: &'a Plan) -> Result<Machine<'a>, AllocError> {
         let pools = plan
             .pools()
@@ -76,7 +77,7 @@ impl<'a> Machine<'a> {
         })
     }
 
-    /// Another machine in the same state.
+    /// Returns a copy of the machine.
     pub(crate) fn copied(&self, alloc: Global) -> Result<Machine<'a>, AllocError> {
         let mut pools = Vec::with_capacity(alloc, self.pools.len())?;
         for pool in &self.pools {
@@ -90,12 +91,12 @@ impl<'a> Machine<'a> {
         })
     }
 
-    /// How many clients have moved.
+    /// Returns the number of clients that have moved.
     pub(crate) fn movers(&self) -> usize {
         self.movers.len()
     }
 
-    /// One more client, of this kind, is among those that move.
+    /// Adds a client of this kind to the clients that have moved, and returns it.
     pub(crate) fn begin(&mut self, kind: usize) -> Result<Parent, AllocError> {
         let number = self.movers.len();
         self.movers.push(Mover {
@@ -106,7 +107,7 @@ impl<'a> Machine<'a> {
         Ok(Parent::Client(number))
     }
 
-    /// The number of the client's kind, or of the job's class.
+    /// Returns the number of the client's kind, or of the job's class.
     pub(crate) fn kind_of(&self, actor: Parent) -> Option<usize> {
         match actor {
             Parent::Client(number) => self.movers.get(number).map(|mover| mover.kind),
@@ -114,7 +115,8 @@ impl<'a> Machine<'a> {
         }
     }
 
-    /// The position of an actor that can be at an action, and the action there or, at its end, None.
+    /// Returns the position of the actor and the action there, which is `None` at the end of the
+    /// body. Returns `None` if the actor is not at a position.
     pub(crate) fn point(&self, actor: Parent) -> Option<(usize, Option<Action>)> {
         match actor {
             Parent::Client(number) => {
@@ -133,7 +135,7 @@ impl<'a> Machine<'a> {
         }
     }
 
-    /// The latest job that the actor made at this submit.
+    /// Returns the latest job that the actor created at this submit.
     pub(crate) fn child(&self, actor: Parent, submit: usize) -> Option<usize> {
         let mut next = self.newest(actor);
         for _ in 0..MAX_ACTIONS {
@@ -147,7 +149,7 @@ impl<'a> Machine<'a> {
         None
     }
 
-    /// The job that the actor stands at a get of.
+    /// Returns the job that the actor waits for, if the actor is at a get.
     pub(crate) fn waits_for(&self, actor: Parent) -> Option<usize> {
         match self.point(actor)? {
             (_, Some(Action::Get(submit))) => self.child(actor, submit),
@@ -155,7 +157,7 @@ impl<'a> Machine<'a> {
         }
     }
 
-    /// Whether the actor has a get of this submit still before it.
+    /// Returns `true` if the actor has yet to perform a get of this submit.
     pub(crate) fn is_to_get(&self, actor: Parent, submit: usize) -> bool {
         let Some((position, _)) = self.point(actor) else {
             return false;
@@ -174,14 +176,14 @@ impl<'a> Machine<'a> {
         }
     }
 
-    /// Whether the job is done.
+    /// Returns `true` if the job is done.
     pub(crate) fn is_done(&self, job: usize) -> bool {
         self.jobs
             .get(job)
             .is_some_and(|job| job.phase == Phase::Done)
     }
 
-    /// The actor's next step.
+    /// Performs the actor's next step, and returns its outcome.
     pub(crate) fn act(&mut self, actor: Parent) -> Result<Came, AllocError> {
         let Some((position, action)) = self.point(actor) else {
             return Ok(Came::Nothing);
@@ -204,7 +206,7 @@ impl<'a> Machine<'a> {
         }
     }
 
-    /// An idle thread of the pool takes the head of its queue.
+    /// Lets an idle thread of the pool take the head of its queue, and returns that job.
     pub(crate) fn take(&mut self, pool: usize) -> Option<usize> {
         let job = self.pools.get_mut(pool)?.take()?;
         self.go_to(Parent::Job(job), 0);

@@ -1,4 +1,4 @@
-//! The vectors that miss their bounds in a plan.
+//! The vectors of a plan that miss their bounds.
 
 use job_bodies::Plan;
 use least_vectors::{Growing, Kind, Levels, reach};
@@ -13,7 +13,7 @@ pub(crate) struct Scale {
     pub(crate) clients: Vec<Vec<u64>>,
 }
 
-/// The least vectors of the plan that are heavier than its sizes allow.
+/// Returns the lightest vectors of the plan that are heavier than its sizes allow.
 pub(crate) fn missed_vectors(alloc: Global, plan: &Plan) -> Result<Vec<Scale>, AllocError> {
     let mut missed = Missed {
         alloc,
@@ -40,7 +40,7 @@ pub(crate) fn missed_vectors(alloc: Global, plan: &Plan) -> Result<Vec<Scale>, A
     Ok(missed.scales)
 }
 
-/// What is found so far.
+/// The vectors found so far.
 #[derive(Drop)]
 struct Missed {
     alloc: Global,
@@ -48,7 +48,8 @@ struct Missed {
 }
 
 impl Missed {
-    /// Whether the pool's vector of this kind weighs so much at most; else it is kept.
+    /// Returns `true` if the pool's vector of this kind weighs at most `limit`. Otherwise records
+    /// the vector.
     fn holds(
         &mut self,
         growing: &Growing,
@@ -77,8 +78,8 @@ impl Missed {
         Ok(false)
     }
 
-    /// Gives this rank to the pools whose blocked vectors hold, and keeps the others where it is given to nobody. Whether a
-    /// pool got it.
+    /// Assigns this rank to each pool whose blocked vector holds, and returns whether a pool got
+    /// it. If no pool got it, keeps the vectors of the other pools.
     fn rank_pools(
         &mut self,
         growing: &Growing,

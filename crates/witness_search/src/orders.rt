@@ -1,15 +1,15 @@
-//! Orders of the kinds of choices.
+//! Orders of the choices.
 
 use crate::kinds::Choice;
 use std::alloc::{AllocError, Global};
 
-/// How many orders there are that no chance makes.
+/// The number of fixed orders, which use no random numbers.
 pub(crate) const FIXED_ORDERS: usize = 48;
 
-/// The first number of the generator.
+/// The seed of the generator.
 const FIRST: u64 = 0x9e37_79b9_7f4a_7c15;
 
-/// A fixed generator of numbers.
+/// A deterministic pseudo-random number generator.
 #[derive(Clone, Copy)]
 pub(crate) struct Chance {
     state: u64,
@@ -20,7 +20,7 @@ impl Chance {
         Chance { state: FIRST }
     }
 
-    /// The next number.
+    /// Returns the next number.
     pub(crate) fn next_number(&mut self) -> u64 {
         self.state = self
             .state
@@ -30,7 +30,7 @@ impl Chance {
     }
 }
 
-/// For each choice a key: of those that are possible the one with the least key is made.
+/// Returns a key for each choice. A walk makes the possible choice with the least key.
 pub(crate) fn fixed_order(
     alloc: Global,
     choices: &[Choice],
@@ -49,14 +49,14 @@ pub(crate) fn fixed_order(
         .collect(alloc)
 }
 
-/// Keys by chance.
+/// Replaces the keys by pseudo-random numbers.
 pub(crate) fn shuffle(keys: &mut [u64], chance: &mut Chance) {
     for key in keys.iter_mut() {
         *key = chance.next_number();
     }
 }
 
-/// One of the fixed orders.
+/// The parameters of a fixed order.
 #[derive(Clone, Copy)]
 struct Turn {
     groups: usize,
@@ -77,7 +77,7 @@ impl Turn {
             Choice::First(_) => !self.old_first,
             _ => false,
         };
-        // A kind's two choices of the first group stand beside each other.
+        // Both choices of a kind in the first group get the same number, so that they are adjacent.
         let number = match choice {
             Choice::Begin(kind) | Choice::First(kind) => kind as u64,
             _ => place,
@@ -93,7 +93,7 @@ impl Turn {
             .saturating_add(u64::from(late))
     }
 
-    /// Where the group stands: 0, 1 or 2.
+    /// Returns the rank of the group in the order: 0, 1 or 2.
     fn rank(&self, group: usize) -> u64 {
         let ranks = match self.groups {
             0 => [0, 1, 2],

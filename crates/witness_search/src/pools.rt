@@ -1,10 +1,10 @@
-//! One pool of the light machine.
+//! A pool of the lightweight machine.
 
 use job_bodies::Pool;
 use std::alloc::{AllocError, Global};
 use std::collections::VecDeque;
 
-/// What a pool does with a job that comes.
+/// The answer of a pool to an offered job.
 #[derive(Clone, Copy, PartialEq, Eq)]
 pub(crate) enum Offered {
     Started,
@@ -24,7 +24,7 @@ pub(crate) struct PoolNow {
 }
 
 impl PoolNow {
-    /// The pool as a plan begins with it.
+    /// Creates the pool in its initial state.
     pub(crate) fn new(alloc: Global, pool: &Pool) -> PoolNow {
         let first = pool.first_workers();
         PoolNow {
@@ -37,7 +37,7 @@ impl PoolNow {
         }
     }
 
-    /// Another pool in the same state.
+    /// Returns a copy of the pool.
     pub(crate) fn copied(&self) -> Result<PoolNow, AllocError> {
         Ok(PoolNow {
             core: self.core,
@@ -49,7 +49,7 @@ impl PoolNow {
         })
     }
 
-    /// What the pool does with a job that comes now.
+    /// Returns the answer of the pool to a job that is offered now.
     pub(crate) fn answer(&self) -> Offered {
         if self.threads < self.core {
             Offered::Started
@@ -62,7 +62,7 @@ impl PoolNow {
         }
     }
 
-    /// The pool is offered the job of this number.
+    /// Offers the job with this number to the pool.
     pub(crate) fn offer(&mut self, job: usize) -> Result<Offered, AllocError> {
         let answer = self.answer();
         match answer {
@@ -73,7 +73,7 @@ impl PoolNow {
         Ok(answer)
     }
 
-    /// The job that an idle thread would take.
+    /// Returns the job that an idle thread would take.
     pub(crate) fn next_to_take(&self) -> Option<usize> {
         if self.idle == 0 {
             return None;
@@ -81,7 +81,7 @@ impl PoolNow {
         self.queue.front().copied()
     }
 
-    /// An idle thread takes the head of the queue.
+    /// Lets an idle thread take the head of the queue, and returns that job.
     pub(crate) fn take(&mut self) -> Option<usize> {
         let job = self.next_to_take()?;
         self.idle = self.idle.saturating_sub(1);
@@ -89,38 +89,40 @@ impl PoolNow {
         Some(job)
     }
 
-    /// A thread has finished its job.
+    /// Makes a busy thread idle.
     pub(crate) fn finish(&mut self) {
         self.idle = self.idle.saturating_add(1);
     }
 
-    /// How many threads the pool has.
+    /// Returns the number of threads.
     pub(crate) fn threads(&self) -> u64 {
         self.threads
     }
 
-    /// How many of them run no job.
+    /// Returns the number of idle threads.
     pub(crate) fn idle(&self) -> u64 {
         self.idle
     }
 
-    /// How many threads it has, or has at least once enough jobs have come.
+    /// Returns the number of threads, or `core` if there are fewer.
     pub(crate) fn threads_to_come(&self) -> u64 {
         self.threads.max(self.core)
     }
 
-    /// How many jobs may come, while none goes, before one is refused.
+    /// Returns the number of jobs that can be submitted before one is rejected, if no job ends
+    /// meanwhile.
     pub(crate) fn room(&self) -> u64 {
         let places = self.capacity.saturating_sub(self.queue.len() as u64);
         places.saturating_add(self.max.saturating_sub(self.threads))
     }
 
-    /// The jobs in its queue, by number.
+    /// Returns the numbers of the queued jobs.
     pub(crate) fn queued(&self) -> &VecDeque<usize> {
         &self.queue
     }
 
-    /// Whether a job in the queue waits for running ones alone, now or, where `for_ever` is said, from now on.
+    /// Returns `true` if a queued job waits only for running ones. With `for_ever`, no further
+    /// thread may start either.
     pub(crate) fn is_closed(&self, for_ever: bool) -> bool {
         self.idle == 0 && (!for_ever || self.threads == self.max)
     }

@@ -1,4 +1,4 @@
-//! Replays of some events of a script, in which those that are not possible any more are left out.
+//! Replays of selected events of a script. Events that are no longer possible are skipped.
 
 use crate::machine::{Came, Machine};
 use crate::scripts::Script;
@@ -8,19 +8,20 @@ use job_bodies::Plan;
 use std::alloc::{AllocError, Global};
 use written_machine::{Event, Parent};
 
-/// A replay so far.
+/// The state of a replay.
 #[derive(Drop)]
 pub(crate) struct Replay<'a> {
     pub(crate) machine: Machine<'a>,
     pub(crate) script: Script,
     pub(crate) is_refused: bool,
-    /// Who stands here for each client and each job of the script that is replayed.
+    /// The actor of the replay for each client and each job of the script.
     clients: Vec<Option<Parent>>,
     jobs: Vec<Option<Parent>>,
 }
 
 impl<'a> Replay<'a> {
-    /// Replays the acts of the script that are kept.
+    /// Replays the events of the script whose entry in `kept` is `true`, up to the first rejected
+    /// submit.
     pub(crate) fn of(
         alloc: Global,
         plan: &'a Plan,
@@ -45,7 +46,7 @@ impl<'a> Replay<'a> {
         Ok(replay)
     }
 
-    /// Whether what is wanted came of it.
+    /// Returns `true` if the replay ended in this violation.
     pub(crate) fn is_bad(&self, alloc: Global, wanted: Bad) -> Result<bool, AllocError> {
         if self.is_refused {
             return Ok(true);
@@ -81,7 +82,7 @@ impl<'a> Replay<'a> {
         }
     }
 
-    /// Who stands for the client, which begins if it has not moved.
+    /// Returns the actor for the client. Adds the client if it has not moved yet.
     fn client(&mut self, script: &Script, client: usize) -> Result<Option<Parent>, AllocError> {
         if let Some(actor) = self.clients.get(client).copied().unwrap_or(None) {
             return Ok(Some(actor));

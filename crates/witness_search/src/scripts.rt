@@ -1,27 +1,28 @@
-//! Lists of events that name clients by the order in which they begin.
+//! Lists of events in which clients are numbered in the order of their first moves.
 
 use crate::machine::{Came, Machine};
 use job_bodies::Plan;
 use std::alloc::{AllocError, Global};
 use written_machine::{Event, Parent};
 
-/// An event, and the job that it made. Its client is a mover of a light machine.
+/// An event, and the job that it created. A client is identified by its number in the lightweight
+/// machine.
 #[derive(Clone, Copy, PartialEq, Eq)]
 pub(crate) struct Act {
     pub(crate) event: Event,
     pub(crate) made: Option<usize>,
 }
 
-/// Events from a plan's start.
+/// A list of events from a plan's start.
 #[derive(Drop)]
 pub(crate) struct Script {
     pub(crate) acts: Vec<Act>,
-    /// The kind of each client that moves, in the order in which they begin.
+    /// The kind of each client that moves, in the order of their first moves.
     pub(crate) kinds: Vec<usize>,
 }
 
 impl Script {
-    /// Nothing happens.
+    /// Creates an empty script.
     pub(crate) fn nothing(alloc: Global) -> Script {
         Script {
             acts: Vec::new(alloc),
@@ -29,7 +30,7 @@ impl Script {
         }
     }
 
-    /// The actor makes this step, of which this came.
+    /// Appends a step of the actor with this outcome.
     pub(crate) fn add(&mut self, actor: Parent, came: Came) -> Result<(), AllocError> {
         let made = match came {
             Came::Made { job, .. } => Some(job),
@@ -43,14 +44,15 @@ impl Script {
         Ok(())
     }
 
-    /// The head of the pool's queue is taken.
+    /// Appends a take from the pool's queue.
     pub(crate) fn add_take(&mut self, pool: usize) -> Result<(), AllocError> {
         let event = Event::Take(pool);
         self.acts.push(Act { event, made: None })?;
         Ok(())
     }
 
-    /// The events of the plan's machine: of each kind the first clients move.
+    /// Returns the events with the client numbers of the plan. Of each kind, the clients with the
+    /// lowest numbers move.
     pub(crate) fn events(&self, alloc: Global, plan: &Plan) -> Result<Vec<Event>, AllocError> {
         let numbers = self.numbers(alloc, plan)?;
         self.acts
@@ -64,7 +66,7 @@ impl Script {
             .collect(alloc)
     }
 
-    /// The number of each client that moves.
+    /// Returns the plan's number for each client that moves.
     fn numbers(&self, alloc: Global, plan: &Plan) -> Result<Vec<usize>, AllocError> {
         let mut next = Vec::with_capacity(alloc, plan.clients().len())?;
         let mut clients = 0usize;
@@ -87,7 +89,7 @@ impl Script {
         Ok(numbers)
     }
 
-    /// One more client, of this kind, moves.
+    /// Adds a client of this kind to the script and to the machine.
     pub(crate) fn begin(
         &mut self,
         machine: &mut Machine,

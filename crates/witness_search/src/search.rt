@@ -1,4 +1,4 @@
-//! The search.
+//! The search for a witness.
 
 ghost use Rattle.std.specs.Prelude.{◌≤◌, IfOk};
 
@@ -15,37 +15,38 @@ use job_bodies::Plan;
 use std::alloc::{AllocError, Global};
 use written_machine::Event;
 
-/// How many walks are made for each vector that misses its bound.
+/// The number of walks for each vector that misses its bound.
 const GUIDED_WALKS: usize = 256;
-/// How many walks are made in orders by chance.
+/// The number of walks in random orders.
 const CHANCE_WALKS: usize = 1500;
 
-/// Events that are thought to be a witness.
+/// Events that are probably a witness.
 #[derive(Debug, Drop)]
 pub struct SupposedWitness {
     /// The events, from the plan's start.
     pub events: Vec<Event>,
-    /// The jobs that wait only for each other behind them, by number; nobody where the last event is a submit that is
-    /// refused.
+    /// The numbers of the jobs that wait only for each other after the events. Empty if the last
+    /// event is a rejected submit.
     pub members: Vec<usize>,
 }
 
-/// What a search came to.
+/// The result of a search.
 #[derive(Debug, Drop)]
 pub struct Searched {
-    /// A witness, as is thought, where one was found.
+    /// A probable witness, if one was found.
     pub found: Option<SupposedWitness>,
-    /// How many states the search came to: the start of each walk and of each search, and each state behind a choice. A state
-    /// counts as often as the search came to it.
+    /// The number of visited states: the start of each walk and of each search, and the state after
+    /// each choice. A state counts each time it is visited.
     pub states: usize,
 }
 
-/// Looks for a witness against the plan: events that end in a refused submit, or in jobs that wait only for each other,
-/// if need be for now alone. It comes to so many states at most. That none is found says nothing of the plan.
+/// Searches for a witness against the plan: events that end in a rejected submit, or in jobs that
+/// wait only for each other, possibly not permanently. Visits at most `states` states. If no
+/// witness is found, the plan may still have one.
 ///
 /// # Errors
 ///
-/// [`AllocError`] where memory runs out.
+/// Returns [`AllocError`] if memory runs out.
 pub fn search_witness(alloc: Global, plan: &Plan, states: usize) -> Result<Searched, AllocError>
     ensures { IfOk result (λ searched. searched.states ≤ states) }
 {
@@ -66,23 +67,23 @@ pub fn search_witness(alloc: Global, plan: &Plan, states: usize) -> Result<Searc
     })
 }
 
-/// A search so far.
+/// The state of a search.
 #[derive(Drop)]
 struct Search<'a> {
     alloc: Global,
     plan: &'a Plan,
     choices: Choices,
     chance: Chance,
-    /// How many states it may still come to.
+    /// The number of states that the search may still visit.
     left: usize,
-    /// How many of them are left to what comes behind.
+    /// The number of further states that are reserved for the later stages.
     aside: usize,
-    /// What is answered where nothing is found that stays.
+    /// The result if no permanent violation is found.
     stuck_now: Option<Script>,
 }
 
 impl Search<'_> {
-    /// What the walks find, and then the search that goes on from the most promising states.
+    /// Performs the walks, and then the best-first search.
     fn found(&mut self) -> Result<Option<SupposedWitness>, AllocError> {
         if let Some(found) = self.in_fixed_orders()? {
             return Ok(Some(found));
@@ -100,7 +101,7 @@ impl Search<'_> {
         self.given_up()
     }
 
-    /// Leaves half of the states to what comes behind.
+    /// Reserves half of the remaining states for the later stages.
     fn set_half_aside(&mut self) {
         self.aside = self.left / 2;
         self.left = self.left.saturating_sub(self.aside);
@@ -111,7 +112,7 @@ impl Search<'_> {
         self.aside = 0;
     }
 
-    /// What the walks in fixed orders find. The first of them may go through all that are left.
+    /// Performs the walks in fixed orders. The first of them may use all remaining states.
     fn in_fixed_orders(&mut self) -> Result<Option<SupposedWitness>, AllocError> {
         let first = self.fixed_rules(0)?;
         if let Some(found) = self.look(first, None)? {
@@ -128,7 +129,7 @@ impl Search<'_> {
         Ok(None)
     }
 
-    /// What the walks find that lose little of a vector that misses its bound.
+    /// Performs the walks that lose little of a vector that misses its bound.
     fn guided(&mut self, scales: &[Scale]) -> Result<Option<SupposedWitness>, AllocError> {
         self.set_half_aside();
         for scale in scales {
@@ -143,7 +144,7 @@ impl Search<'_> {
         Ok(None)
     }
 
-    /// What the walks in orders by chance find.
+    /// Performs the walks in random orders.
     fn by_chance(&mut self) -> Result<Option<SupposedWitness>, AllocError> {
         self.set_half_aside();
         for number in 0..CHANCE_WALKS {
@@ -156,7 +157,7 @@ impl Search<'_> {
         Ok(None)
     }
 
-    /// What the search finds that goes on from the most promising of the states that it has come to.
+    /// Performs the best-first search.
     fn best_first(&mut self, scales: &[Scale]) -> Result<Option<SupposedWitness>, AllocError> {
         if self.left == 0 {
             return Ok(None);
@@ -177,7 +178,7 @@ impl Search<'_> {
         }
     }
 
-    /// Makes a walk, and answers what it finds that stays.
+    /// Performs a walk, and returns a permanent violation if the walk finds one.
     fn look(
         &mut self,
         rules: Rules,
@@ -209,7 +210,7 @@ impl Search<'_> {
         }
     }
 
-    /// What is answered where nothing was found that stays.
+    /// Returns the result if no permanent violation was found.
     fn given_up(&mut self) -> Result<Option<SupposedWitness>, AllocError> {
         match self.stuck_now.take() {
             Some(script) => {
@@ -220,7 +221,7 @@ impl Search<'_> {
         }
     }
 
-    /// One of the fixed orders.
+    /// Returns the rules of a walk in one of the fixed orders.
     fn fixed_rules(&self, number: usize) -> Result<Rules, AllocError> {
         Ok(Rules {
             keys: fixed_order(self.alloc, &self.choices.all, number)?,
@@ -230,7 +231,7 @@ impl Search<'_> {
         })
     }
 
-    /// First the fixed orders, then orders by chance.
+    /// Returns the rules of a guided walk: first in the fixed orders, then in random orders.
     fn guided_rules(&mut self, number: usize) -> Result<Rules, AllocError> {
         let mut rules = self.fixed_rules(number)?;
         if number >= FIXED_ORDERS {
@@ -240,7 +241,7 @@ impl Search<'_> {
         Ok(rules)
     }
 
-    /// An order by chance, mostly with few clients.
+    /// Returns the rules of a walk in a random order, mostly with few clients.
     fn chance_rules(&mut self, number: usize) -> Result<Rules, AllocError> {
         let mut rules = self.fixed_rules(number)?;
         shuffle(&mut rules.keys, &mut self.chance);
@@ -253,7 +254,7 @@ impl Search<'_> {
     }
 }
 
-/// How many states a walk comes to at most.
+/// Returns the maximum number of states of a walk.
 fn longest_walk(plan: &Plan) -> usize {
     let mut room = 0u64;
     for pool in plan.pools() {
@@ -262,7 +263,7 @@ fn longest_walk(plan: &Plan) -> usize {
     room.saturating_mul(12).saturating_add(128) as usize
 }
 
-/// What is answered of this script.
+/// Returns the result for this script.
 fn answer_of(
     alloc: Global,
     plan: &Plan,

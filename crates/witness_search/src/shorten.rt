@@ -1,4 +1,4 @@
-//! Scripts made shorter, as long as what they show stays.
+//! Reduction of scripts that keeps their violation.
 
 use crate::replays::Replay;
 use crate::scripts::Script;
@@ -7,16 +7,17 @@ use job_bodies::Plan;
 use std::alloc::{AllocError, Global};
 use written_machine::Event;
 
-/// The most events that are replayed to make one script shorter, beside a few whole replays.
+/// The maximum number of events that are replayed to shorten one script, in addition to the whole
+/// replays.
 const MAX_REPLAYED: u64 = 6_000_000;
-/// How many whole replays there are at least.
+/// The minimum number of whole replays.
 const WHOLE_REPLAYS: u64 = 24;
-/// How often all ways are tried.
+/// The maximum number of rounds.
 const MAX_ROUNDS: usize = 8;
-/// More than how often a length can be halved.
+/// An upper bound of the number of times a length can be halved.
 const MAX_HALVES: usize = 40;
 
-/// A script that is made shorter, and how many events may still be replayed for it.
+/// The state of a reduction: the script, and the number of events that may still be replayed.
 #[derive(Drop)]
 struct Shorter<'a> {
     alloc: Global,
@@ -26,7 +27,7 @@ struct Shorter<'a> {
     left: u64,
 }
 
-/// A shorter script that shows the same.
+/// Returns a script with the same violation that is at most as long.
 pub(crate) fn shortened(
     alloc: Global,
     plan: &Plan,
@@ -55,13 +56,13 @@ pub(crate) fn shortened(
 }
 
 impl Shorter<'_> {
-    /// Leaves out all steps of jobs, and all that is taken.
+    /// Tries to remove all steps of jobs, and then all takes.
     fn without_kinds(&mut self) -> Result<(), AllocError> {
         self.try_without(|_, event| matches!(event, Event::Job(_)))?;
         self.try_without(|_, event| matches!(event, Event::Take(_)))
     }
 
-    /// Leaves out many clients, and then fewer ones.
+    /// Tries to remove groups of clients, in groups of decreasing size.
     fn without_clients(&mut self) -> Result<(), AllocError> {
         let mut size = self.script.kinds.len();
         for _ in 0..MAX_HALVES {
@@ -82,7 +83,7 @@ impl Shorter<'_> {
         Ok(())
     }
 
-    /// Leaves out many events that follow each other, and then fewer ones.
+    /// Tries to remove runs of consecutive events, in runs of decreasing length.
     fn without_chunks(&mut self) -> Result<(), AllocError> {
         let mut size = self.script.acts.len() / 2;
         for _ in 0..MAX_HALVES {
@@ -100,7 +101,7 @@ impl Shorter<'_> {
         Ok(())
     }
 
-    /// Lets an actor stand still from an event on.
+    /// Tries to remove all events of an actor from some event of that actor on.
     fn with_actors_still(&mut self) -> Result<(), AllocError> {
         for from in (0..self.script.acts.len()).rev() {
             if let Some(act) = self.script.acts.get(from).copied() {
@@ -110,7 +111,8 @@ impl Shorter<'_> {
         Ok(())
     }
 
-    /// Leaves out these events, if what is left shows the same and is shorter.
+    /// Removes the events for which `is_out` returns `true`, if the remaining script has the same
+    /// violation and is shorter.
     fn try_without<F: Fn(usize, Event) -> bool>(&mut self, is_out: F) -> Result<(), AllocError>
         requires { F.IsAlwaysCallable is_out }
     {
@@ -139,7 +141,7 @@ impl Shorter<'_> {
     }
 }
 
-/// How many parts of this size there are, the last one perhaps smaller.
+/// Returns an upper bound of the number of parts of this size. The last part may be smaller.
 fn parts(length: usize, size: usize) -> usize {
     length.checked_div(size).unwrap_or(0).saturating_add(1)
 }

@@ -5,18 +5,18 @@ use job_bodies::MAX_POOLS;
 use std::alloc::{AllocError, Global};
 use written_machine::Parent;
 
-/// The most jobs that are looked at to make one set smaller.
+/// The maximum number of jobs that are checked to reduce one set.
 const MAX_LOOKS: usize = 4_000_000;
 
-/// Some jobs of a machine, by number.
+/// A set of jobs of a machine, by number.
 #[derive(Drop)]
 pub(crate) struct JobSet {
     is_member: Vec<bool>,
 }
 
 impl JobSet {
-    /// The greatest set of jobs that wait only for each other, which may be empty; of those that do so for ever, where
-    /// `for_ever` is said.
+    /// Returns the greatest set of jobs that wait only for each other, which may be empty. With
+    /// `for_ever`, the jobs must wait permanently.
     pub(crate) fn greatest(
         alloc: Global,
         machine: &Machine,
@@ -32,7 +32,8 @@ impl JobSet {
         Ok(members)
     }
 
-    /// A set of such jobs in this one of which none can be left out.
+    /// Removes members until no further one can be removed, and returns the remaining set of such
+    /// jobs. Stops early if the limit of checks is reached.
     pub(crate) fn made_least(
         self,
         alloc: Global,
@@ -62,12 +63,12 @@ impl JobSet {
         Ok(best)
     }
 
-    /// Whether there is no member.
+    /// Returns `true` if there is no member.
     pub(crate) fn is_empty(&self) -> bool {
         !self.is_member.iter().any(|is_member| *is_member)
     }
 
-    /// The members' numbers, in rising order.
+    /// Returns the members' numbers in ascending order.
     pub(crate) fn numbers(&self, alloc: Global) -> Result<Vec<usize>, AllocError> {
         let mut numbers = Vec::new(alloc);
         for (number, is_member) in self.is_member.iter().enumerate() {
@@ -88,9 +89,10 @@ impl JobSet {
         }
     }
 
-    /// Leaves out who waits for others too, until there is nobody.
+    /// Shrinks the set to the greatest fixpoint: removes members that also wait for other jobs,
+    /// until there are none.
     ///
-    /// Each round but the last finds one pool less whose running jobs are all members.
+    /// Each round except the last reduces the number of pools whose running jobs are all members.
     fn shrink(
         &mut self,
         alloc: Global,
@@ -106,7 +108,7 @@ impl JobSet {
         Ok(())
     }
 
-    /// For each pool, whether a job in its queue waits for members alone.
+    /// Returns, for each pool, whether a job in its queue would wait only for members.
     fn closed_pools(
         &self,
         alloc: Global,
@@ -130,8 +132,8 @@ impl JobSet {
         Ok(closed)
     }
 
-    /// Leaves out each member that waits for another one, the latest first: a child is made after its parent. Whether one was
-    /// left out.
+    /// Removes each member that does not wait only for members, and returns whether it removed one.
+    /// Visits the jobs from the latest to the first, since a child is created after its parent.
     fn shrink_once(&mut self, machine: &Machine, closed: &[bool]) -> bool {
         let mut changed = false;
         for number in (0..machine.jobs.len()).rev() {
@@ -147,7 +149,7 @@ impl JobSet {
         changed
     }
 
-    /// Whether the job of this number waits for members alone.
+    /// Returns `true` if the job with this number waits only for members.
     fn waits(&self, machine: &Machine, closed: &[bool], number: usize, job: &Job) -> bool {
         match job.phase {
             Phase::Queued => closed.get(job.pool).copied().unwrap_or(false),

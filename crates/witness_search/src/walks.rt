@@ -1,5 +1,5 @@
-//! Walks: of the choices that are possible the first one of an order is made, again and again, or of those that lose least of a
-//! vector.
+//! Walks. A walk repeatedly makes the first possible choice of an order, or the possible choice
+//! that loses least of a vector.
 
 use crate::kinds::{Choice, Choices};
 use crate::losses::Losses;
@@ -12,43 +12,44 @@ use job_bodies::{Action, Plan};
 use std::alloc::{AllocError, Global};
 use written_machine::Parent;
 
-/// More than each key: a choice that loses less of a vector comes first.
+/// A factor greater than every key: a choice that loses less of a vector comes first.
 const FOR_A_LOSS: u64 = 10_000_000_000_000;
 
-/// What is bad at the end of some events.
+/// A violation at the end of some events.
 #[derive(Clone, Copy, PartialEq, Eq)]
 pub(crate) enum Bad {
-    /// The last one is a submit that is refused.
+    /// The last event is a rejected submit.
     Refused,
-    /// Some jobs wait for each other, with all threads of their pools.
+    /// Some jobs wait for each other, and the pools in whose queues they wait have all their
+    /// threads.
     StuckForEver,
     /// Some jobs wait for each other.
     StuckNow,
 }
 
-/// How a walk goes.
+/// The rules of a walk.
 #[derive(Drop)]
 pub(crate) struct Rules {
-    /// For each choice its key: the least one first.
+    /// The key of each choice. The least key comes first.
     pub(crate) keys: Vec<u64>,
-    /// The most clients that move.
+    /// The maximum number of clients that move.
     pub(crate) most_movers: usize,
-    /// The most states that the walk comes to, its start among them.
+    /// The maximum number of states that the walk visits, its start included.
     pub(crate) most_states: usize,
-    /// Whether the keys change on the way.
+    /// Whether the keys change during the walk.
     pub(crate) changing: bool,
 }
 
-/// What a walk came to.
+/// The result of a walk.
 #[derive(Drop)]
 pub(crate) struct Walked {
     pub(crate) script: Script,
     pub(crate) bad: Option<Bad>,
-    /// How many states it came to, its start among them.
+    /// The number of visited states, the start included.
     pub(crate) states: usize,
 }
 
-/// What comes of a step.
+/// The outcome of a choice.
 #[derive(Clone, Copy, PartialEq, Eq)]
 pub(crate) enum Stepped {
     Went,
@@ -56,22 +57,22 @@ pub(crate) enum Stepped {
     Nothing,
 }
 
-/// A walk so far.
+/// The state of a walk.
 #[derive(Drop)]
 pub(crate) struct Walk<'a> {
     pub(crate) machine: Machine<'a>,
     pub(crate) choices: &'a Choices,
     pub(crate) script: Script,
-    /// For each choice the actors that stand there.
+    /// For each choice, the actors that are ready for it.
     pub(crate) ready: Vec<Vec<Parent>>,
-    /// For each kind how many clients of it have moved.
+    /// For each kind, the number of its clients that have moved.
     pub(crate) begun: Vec<u64>,
-    /// Whether a job has come to a get of a job that is not done, since this was last asked.
+    /// Whether an actor has been blocked at a get since the flag was last cleared.
     pub(crate) has_blocked: bool,
 }
 
-/// Walks by these rules, from one state to the next: a choice that is possible is made, and behind it at once all work, gets of
-/// done jobs, ends and loops that follow.
+/// Performs a walk by these rules. Each step makes a possible choice, and then performs all work,
+/// gets of finished jobs, ends and loops that follow.
 pub(crate) fn walk_by<'a>(
     alloc: Global,
     plan: &'a Plan,
@@ -143,7 +144,8 @@ impl<'a> Walk<'a> {
         }
     }
 
-    /// Whether jobs wait for each other, and how long; only for ever, where `now` is not said.
+    /// Returns the violation if jobs wait for each other. Without `now`, returns only permanent
+    /// ones.
     pub(crate) fn stuck(&self, alloc: Global, now: bool) -> Result<Option<Bad>, AllocError> {
         let members = JobSet::greatest(alloc, &self.machine, false)?;
         if members.is_empty() {
@@ -156,7 +158,7 @@ impl<'a> Walk<'a> {
         Ok(if now { Some(Bad::StuckNow) } else { None })
     }
 
-    /// Makes the first choice that is possible.
+    /// Makes the first possible choice.
     fn step(&mut self, rules: &Rules, scale: Option<&Scale>) -> Result<Stepped, AllocError> {
         match self.first_possible(rules, scale) {
             Some(place) => self.choose(place, 0),
@@ -164,7 +166,8 @@ impl<'a> Walk<'a> {
         }
     }
 
-    /// Makes the choice at this place; of the actors that stand there the one with so many behind it does.
+    /// Makes the choice with this index. `behind` selects the actor: the number of actors that
+    /// became ready after it.
     pub(crate) fn choose(&mut self, place: usize, behind: usize) -> Result<Stepped, AllocError> {
         match self.choices.all.get(place).copied() {
             Some(Choice::Begin(kind)) => {
@@ -184,7 +187,8 @@ impl<'a> Walk<'a> {
         }
     }
 
-    /// The actor at this place with so many behind it, which stands there no longer.
+    /// Removes and returns the actor that `behind` selects from those that are ready for this
+    /// choice.
     fn called(&mut self, place: usize, behind: usize) -> Option<Parent> {
         let ready = self.ready.get_mut(place)?;
         let at = ready.len().checked_sub(1)?.checked_sub(behind)?;
@@ -195,7 +199,8 @@ impl<'a> Walk<'a> {
         }
     }
 
-    /// The choice that is possible and loses least of the vector, and of several the first one.
+    /// Returns the possible choice that loses least of the vector. If there are several, returns
+    /// the one with the least key.
     fn first_possible(&self, rules: &Rules, scale: Option<&Scale>) -> Option<usize> {
         let mut best = None;
         let mut least = u64::MAX;
@@ -227,7 +232,7 @@ impl<'a> Walk<'a> {
         }
     }
 
-    /// Whether a client of the kind has not moved, and would submit something.
+    /// Returns `true` if a client of the kind has not moved and its body has a submit.
     pub(crate) fn has_more(&self, kind: usize) -> bool {
         let Some(client) = self.machine.plan.client_at(kind) else {
             return false;
@@ -240,7 +245,7 @@ impl<'a> Walk<'a> {
                 .any(|action| matches!(action, Action::Submit(_)))
     }
 
-    /// Whether an idle thread would take a job of the class.
+    /// Returns `true` if an idle thread would take a job of the class.
     pub(crate) fn would_take(&self, class: usize) -> bool {
         let Some(pool) = self.pool_of(class) else {
             return false;
@@ -273,7 +278,7 @@ impl<'a> Walk<'a> {
         Ok(Stepped::Went)
     }
 
-    /// A new client makes its first submit, before which it stands.
+    /// Makes the first submit of a new client, which is at that submit.
     fn submit_of(&mut self, client: Parent) -> Result<Stepped, AllocError> {
         let place = match self.machine.point(client) {
             Some((position, _)) => self.choices.place_of(&self.machine, client, position),
@@ -301,7 +306,8 @@ impl<'a> Walk<'a> {
         Ok(Stepped::Went)
     }
 
-    /// Makes all steps of the actor that are no submits, and of who waits for it.
+    /// Performs all steps of the actor up to its next submit, and then those of an actor that
+    /// waited for it.
     fn settle(&mut self, actor: Parent) -> Result<(), AllocError> {
         let mut actor = actor;
         for _ in 0..u64::MAX {
@@ -331,7 +337,7 @@ impl<'a> Walk<'a> {
         Ok(())
     }
 
-    /// The actor stands at a submit.
+    /// Adds the actor, which is at a submit, to those that are ready for that submit.
     fn stand(&mut self, actor: Parent, position: usize) -> Result<(), AllocError> {
         let place = self.choices.place_of(&self.machine, actor, position);
         if let Some(ready) = place.and_then(|place| self.ready.get_mut(place)) {
