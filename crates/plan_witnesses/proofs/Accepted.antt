@@ -25,7 +25,7 @@ no_refusal plan events p safe ends =
     let counts = refusal_counts plan ends.before ends.after p (happens plan ends.before ends.last ends.after (outcome.Refused p) ends.refused) in
     omega arith
 
--- a safe plan has none
+-- a safe plan has no witness
 no_witness : (plan : Plan) (events : List Event) (ending : Ending) → Safe plan → IsWitness plan events ending → ⊥
 no_witness plan events (Refused p) safe ends = no_refusal plan events p safe ends
 no_witness plan events (StuckForEver members PoolsAreFull) safe led = (safe events led.1.0 led.1.1).none_waits members.items led.1.2.waits

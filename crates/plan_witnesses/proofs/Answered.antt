@@ -1,4 +1,4 @@
--- What is confirmed, and that it is a witness.
+-- The result of the confirmation is a witness and meets its contract.
 use Rattle.std.proofs.Common.{◌≡◌, ℕ, inl, inr, ⊎_elim, ◌↔◌, Bool, IsTrue, List, take, drop, Option, Some, None, sym, subst}
 use Rattle.std.proofs.lemmas.List.{take-append-drop}
 use Rattle.job_bodies.specs.Plan.{Plan}
@@ -18,7 +18,7 @@ use Rattle.plan_witnesses.specs.Witness.{LeadsTo, EndsRefused, StaysFor, WaitsFo
 use Rattle.plan_witnesses.specs.Replayed.{ComesTo}
 use Rattle.plan_witnesses.specs.Confirmed.{GivenStanding, IsReason, IsStuck, BeginsWith, EndsSo}
 
--- ---- it is a witness
+-- ---- the result is a witness
 
 stays_for : (plan : Plan) (s : State) (members : List ℕ) (standing : List Vector) (reason : Reason) → IsWaitingSet plan s members → IsReason plan members standing s (Some reason) → StaysFor plan members reason s
 stays_for plan s members standing PoolsAreFull waits shown = record { waits = waits; full = shown }
@@ -27,7 +27,7 @@ stays_for plan s members standing PoolsStayAtCore waits shown = record {
   lasting = λ p j member queued. ⊎_elim (λ (full : IsFull plan s p). inl full) (λ (given : GivenStanding plan standing p). inr (record { vector = given.vector; hold = given.hold })) (shown.1 p j member queued);
 }
 
--- where it is not shown that it is for ever, the set is not full
+-- if no reason for a permanent wait is proved, the set is not full
 waits_for_now : (plan : Plan) (s : State) (members : List ℕ) (standing : List Vector) → IsWaitingSet plan s members → IsReason plan members standing s None → WaitsForNow plan members s
 waits_for_now plan s members standing waits shown = record {
   waits = waits;
@@ -52,7 +52,7 @@ is_witness plan events members standing front (StuckNow stuck) ends =
 
 -- ---- the cases
 
--- a refusal behind the first events
+-- a rejection after the first n events
 pub ends_refused : (plan : Plan) (events : List Event) (members : List ℕ) (standing : List Vector) (front : List Event) (n p : ℕ) → front ≡ take n events → EndsRefused plan (take n events) p → EndsSo plan events members standing front (Refused p)
 ends_refused plan events members standing front n p is_front ends =
     subst (λ (list : List Event). BeginsWith events list × EndsRefused plan list p) (sym is_front) ((drop n events, sym (take-append-drop n events)), ends)
@@ -62,7 +62,7 @@ pub is_stuck : (plan : Plan) (events : List Event) (members : List ℕ) (standin
     → IsStuck plan events members standing reason
 is_stuck plan events members standing view reason comes rising waits shown = record { rising = rising; none_refused = comes.none_refused; leads = (comes.state, comes.reaches, (waits, shown)) }
 
--- what a world says of the state that the events come to
+-- the answer of a world about the state that the events reach
 pub in_words_at : (plan : Plan) (events : List Event) (members : List ℕ) (view : View) (stuck : Bool) → (comes : ComesTo plan events view)
     → ((s : State) → IsReached plan s → live_view plan s ≡ view → IsTrue stuck ↔ IsWaitingSet plan s members) → IsTrue stuck ↔ IsWaitingSet plan comes.state members
 in_words_at plan events members view stuck comes in_words = in_words comes.state (events, comes.reaches) comes.seen

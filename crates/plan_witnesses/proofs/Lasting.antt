@@ -1,4 +1,5 @@
--- Lasting waiting sets stay: with the threads that such a pool has for its maximum the set is full, and the steps are the same.
+-- Permanent waiting sets stay. In the plan where the current threads of such a pool are its maximum, the set is full and the
+-- steps are the same.
 use Rattle.std.proofs.Common.{◌≡◌, ℕ, Bool, true, false, cond, eqb, ◌<◌, ◌≤◌, ◌⊎◌, inl, inr, ⊎_elim, List, length, refl, sym, ap, subst, ◌∙◌, arith}
 use Rattle.std.specs.List.{list_any}
 use Rattle.std.proofs.lemmas.Bool.{and_parts, eqb-true}
@@ -29,11 +30,11 @@ use Rattle.plan_witnesses.proofs.Standing.{StaysThroughSteps, steps_keep, starts
 abbrev queues_member : Plan → State → List ℕ → ℕ → Bool
 queues_member plan s members q = list_any (λ j. is_queued_in plan q (job_at s j)) members
 
--- of such a pool the threads that it has
+-- the current number of threads for a pool with a queued member, and the maximum for the others
 abbrev threads_for_max : Plan → State → List ℕ → ℕ → ℕ
 threads_for_max plan s members q = cond (queues_member plan s members q) (threads plan s q) (pool_at plan q).max
 
--- a pool in whose queue a job waits has at least core threads
+-- a pool with a queued job has at least core threads
 queued_at_core : (plan : Plan) (s : State) (j q : ℕ) → IsOrdered plan → Kept plan s → is_queued_in plan q (job_at s j) ≡ true → (q < length plan.pools) × ((pool_at plan q).core ≤ threads plan s q)
 queued_at_core plan s j q ordered kept is_in =
     let own = pool_of plan (job_at s j).class in
@@ -62,7 +63,7 @@ module _ (plan : Plan) (s : State) (members : List ℕ) (well_formed : IsWellFor
   abbrev low : Plan
   low = lowered plan most
 
-  -- what is known of a pool in whose queue a member waits
+  -- if the test holds for a pool, some member waits in its queue
   known : (q : ℕ) → queues_member plan s members q ≡ true → (j : ℕ) × IsMember members j × (is_queued_in plan q (job_at s j) ≡ true)
   known q queues =
       let found = In-from_list_any (λ (j : ℕ). is_queued_in plan q (job_at s j)) members queues in
@@ -83,7 +84,7 @@ module _ (plan : Plan) (s : State) (members : List ℕ) (well_formed : IsWellFor
   low_ordered : IsOrdered low
   low_ordered = ordered-lowered plan most (ordered plan well_formed) between
 
-  -- the maximum of a pool in whose queue a member waits
+  -- the maximum of a pool with a queued member
   max_is : (q j : ℕ) → IsMember members j → is_queued_in plan q (job_at s j) ≡ true → (pool_at low q).max ≡ threads plan s q
   max_is q j member queued =
       max-lowered plan most q (queued_at_core plan s j q (ordered plan well_formed) has_kept queued).0
@@ -96,7 +97,7 @@ module _ (plan : Plan) (s : State) (members : List ℕ) (well_formed : IsWellFor
     full = λ q j member queued. sym (max_is q j member queued);
   }
 
-  -- where a pool starts a thread later on, it is below that maximum, or below core
+  -- if a pool starts a thread later, it is below that maximum, or below core
   starts_below : (now : State) → IsReached plan now → StartsBelow plan most now
   starts_below now reached_now a body i k at starts =
       let q = pool_of plan k in
@@ -106,7 +107,7 @@ module _ (plan : Plan) (s : State) (members : List ℕ) (well_formed : IsWellFor
       ⊎_elim (λ (full : threads plan s q ≡ (pool_at plan q).max). inl full) (λ (standing : HasStanding plan q). inr (starts_below_core plan now a body i k well_formed reached_now standing at starts)) (set.lasting q found.0 found.1 found.2))
       (started_below (pool_seen plan now q) starts)
 
-  -- what stays
+  -- the induction hypothesis for a list of events
   record BothStay (now : State) : Type 0 where
     reached_now : IsReached plan now
     stayed : Stayed low members s now
@@ -127,7 +128,7 @@ module _ (plan : Plan) (s : State) (members : List ℕ) (well_formed : IsWellFor
     };
   }
 
-  -- the set of the plan itself
+  -- the result for the original plan
   lasts : (s' : State) → HasStayed low s s' members → LastsUnmoved plan s s' members
   lasts s' stayed = record {
     still = record {

@@ -1,4 +1,4 @@
--- A plan with lower maximums: where no thread is started above them, it makes the same steps.
+-- A plan with lower maximums has the same steps, as long as no thread is started above them.
 use Rattle.std.proofs.Common.{◌≡◌, ℕ, zero, suc, ◌+◌, ◌<◌, ◌≤◌, ◌⊎◌, List, [], ◌∷◌, length, map, get_or, Option, Some, None, inl, inr, ⊎_elim, refl, sym, ap, ◌∙◌, arith}
 use Rattle.std.specs.List.{enumerate_from}
 use Rattle.std.proofs.lemmas.Option.{same_Some}
@@ -28,11 +28,11 @@ use Rattle.written_machine.proofs.KeptSubmits.{class_exists}
 abbrev pub with_most : (ℕ → ℕ) → ℕ × Pool → Pool
 with_most most entry = record entry.1 { max = most entry.0 }
 
--- with this maximum for each pool
+-- the plan with this maximum for each pool
 abbrev pub lowered : Plan → (ℕ → ℕ) → Plan
 lowered plan most = record plan { pools = map (with_most most) (enumerate_from 0 plan.pools) }
 
--- it is from core to the maximum
+-- each maximum is between core and the maximum of the plan
 abbrev pub IsBetween : Plan → (ℕ → ℕ) → Type 0
 IsBetween plan most = (p : ℕ) → p < length plan.pools → ((pool_at plan p).core ≤ most p) × (most p ≤ (pool_at plan p).max)
 
@@ -71,7 +71,7 @@ queue-lowered plan most p = queue_from most 0 plan.pools p
 pub max-lowered : (plan : Plan) (most : ℕ → ℕ) (p : ℕ) → p < length plan.pools → (pool_at (lowered plan most) p).max ≡ most p
 max-lowered plan most p inside = max_from most 0 plan.pools p inside ∙ ap most (let same : 0 + p ≡ p = omega arith in same)
 
--- it starts as the plan does
+-- the plan has the same initial state
 pub start-lowered : (plan : Plan) (most : ℕ → ℕ) → start (lowered plan most) ≡ start plan
 start-lowered plan most = ap (λ (parts : List PoolPart). record (start plan) { pools = parts }) (parts_from most 0 plan.pools)
 
@@ -98,7 +98,7 @@ ordered-lowered plan most ordered between = record {
     there : (p : ℕ) → p < length (lowered plan most).pools → p < length plan.pools
     there p inside = omega (arith, length-lowered plan most)
 
--- what a state keeps of the plan, it keeps of this one, if no pool has more threads
+-- the invariant holds for the lowered plan as well, if no pool has more threads than its lowered maximum
 pub kept-lowered : (plan : Plan) (most : ℕ → ℕ) (s : State) → Kept plan s → ((p : ℕ) → p < length plan.pools → threads plan s p ≤ most p) → Kept (lowered plan most) s
 kept-lowered plan most s kept within = record {
   classes = kept.classes;
@@ -136,7 +136,7 @@ started_answer : (plan : Plan) (s s' : State) (a : Parent) (body : List Action) 
 started_answer plan s s' a body i k n at is_step =
     started_given plan s s' a i k n (answer (pool_seen plan s (pool_of plan k))) (same_Some (submitted plan s a i k) (s', outcome.Started n) (sym (step_of plan s a body i k at) ∙ is_step))
 
--- where a pool starts a thread, it is below this maximum too
+-- each pool that starts a thread is below the lowered maximum
 abbrev pub StartsBelow : Plan → (ℕ → ℕ) → State → Type 0
 StartsBelow plan most s = (a : Parent) (body : List Action) (i k : ℕ) → StandsAt plan s a body i (Some (action.Submit k)) → answer (pool_seen plan s (pool_of plan k)) ≡ offer.Started
     → (threads plan s (pool_of plan k) < most (pool_of plan k)) ⊎ (threads plan s (pool_of plan k) < (pool_at plan (pool_of plan k)).core)

@@ -1,4 +1,4 @@
--- Events one after another, and what comes of each.
+-- Replays of lists of events, and their outcomes.
 use Rattle.std.proofs.Common.{◌≡◌, ◌≢◌, ℕ, ◌+◌, ◌<◌, List, [], ◌∷◌, ◌++◌, length, get_or, take, drop, Option, Some, None, refl, sym, ap, subst, ◌∙◌, ⊎_elim, add-one}
 use Rattle.std.proofs.Math.Seq.{drop-cons}
 use Rattle.std.proofs.lemmas.List.{take-append-drop, take_more}
@@ -21,7 +21,7 @@ use Rattle.plan_witnesses.specs.Replayed.{ComesTo, StopsShort}
 
 -- ---- lists of events
 
--- one list after another
+-- the replay of two lists in sequence
 pub replay-append : (plan : Plan) (s : Option State) (front rest : List Event) → replay plan s (front ++ rest) ≡ replay plan (replay plan s front) rest
 replay-append plan s [] rest = refl
 replay-append plan None (e ∷ front) rest = sym (replay_none plan rest)
@@ -33,16 +33,16 @@ outcomes-append plan None (e ∷ front) rest =
     ap (λ (xs : List (Option Outcome)). None ∷ xs) (outcomes-append plan None front rest ∙ ap (λ (s : Option State). outcomes plan None front ++ outcomes plan s rest) (replay_none plan front))
 outcomes-append plan (Some s) (e ∷ front) rest = ap (λ (xs : List (Option Outcome)). outcome_of (step plan s e) ∷ xs) (outcomes-append plan (state_after (step plan s e)) front rest)
 
--- behind an impossible event nothing comes
+-- after an impossible event there are no outcomes
 none_of_none : (plan : Plan) (events : List Event) (o : Outcome) → In (Some o) (outcomes plan None events) → ⊥
 none_of_none plan [] o i = not_In_nil i
 none_of_none plan (e ∷ events) o i = ⊎_elim (λ (same : Some o ≡ None). absurd cc) (λ later. none_of_none plan events o later) (In-cons_cases i)
 
--- one event behind events that reach a state
+-- the replay with one more event
 pub reaches_more : (plan : Plan) (front : List Event) (e : Event) (s : State) → Reaches plan front s → replay plan (Some (start plan)) (front ++ e ∷ []) ≡ state_after (step plan s e)
 reaches_more plan front e s reached = replay-append plan (Some (start plan)) front (e ∷ []) ∙ ap (λ (x : Option State). replay plan x (e ∷ [])) reached
 
--- what comes of it
+-- the outcomes with one more event
 outcomes_more : (plan : Plan) (front rest : List Event) (e : Event) (s : State) (found : Option (State × Outcome)) → Reaches plan front s → step plan s e ≡ found
     → outcomes plan (Some (start plan)) (front ++ e ∷ rest) ≡ outcomes plan (Some (start plan)) front ++ outcome_of found ∷ outcomes plan (state_after found) rest
 outcomes_more plan front rest e s found reached is_step =
@@ -50,19 +50,19 @@ outcomes_more plan front rest e s found reached is_step =
     ∙ ap (λ (x : Option State). outcomes plan (Some (start plan)) front ++ outcomes plan x (e ∷ rest)) reached
     ∙ ap (λ (x : Option (State × Outcome)). outcomes plan (Some (start plan)) front ++ outcome_of x ∷ outcomes plan (state_after x) rest) is_step
 
--- the events up to the one at this place, that one, and those behind it
+-- a list is the events before an index, the event at it, and the events after it
 pub split_at : (events : List Event) (i : ℕ) (d : Event) → i < length events → take i events ++ get_or events i d ∷ drop (i + 1) events ≡ events
 split_at events i d inside =
     let tail : drop i events ≡ get_or events i d ∷ drop (i + 1) events = drop-cons events i d inside ∙ ap (λ (n : ℕ). get_or events i d ∷ drop n events) (sym (add-one i)) in
     ap (λ (xs : List Event). take i events ++ xs) (sym tail) ∙ take-append-drop i events
 
--- ---- what a replay has found
+-- ---- the result of a replay
 
--- at the start
+-- the result at the start
 pub comes_to_start : (plan : Plan) (view : View) → view ≡ live_view plan (start plan) → ComesTo plan [] view
 comes_to_start plan view seen = record { state = start plan; reaches = refl; seen = sym seen; none_refused = λ p i. not_In_nil i }
 
--- an event more, which is no refusal
+-- one more event, which is not a rejection
 pub comes_further : (plan : Plan) (front : List Event) (view after : View) (e : Event) (o : Outcome) (s s' : State) → NoneRefused plan front → Reaches plan front s → step plan s e ≡ Some (s', o) → after ≡ live_view plan s' → ((p : ℕ) → o ≢ outcome.Refused p)
     → ComesTo plan (front ++ e ∷ []) after
 comes_further plan front view after e o s s' none reached is_step seen no_refusal = record {
@@ -93,7 +93,7 @@ stops_short plan front rest e s none reached is_step = record {
       ∙ reaches);
 }
 
--- ---- what a world answers to the event at this place
+-- ---- the answer of a world to the event at this index
 
 abbrev pub AnswersAt : Plan → List Event → ℕ → View → Option Outcome → View → Type 0
 AnswersAt plan events i view answer after = (s : State) → IsReached plan s → live_view plan s ≡ view → AnswersAs plan s (get_or events i (event.Client 0)) answer after

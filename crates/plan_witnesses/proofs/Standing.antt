@@ -29,7 +29,7 @@ use Rattle.live_views.proofs.Reached.{reached_after}
 use Rattle.plan_witnesses.specs.Lasting.{HasStanding, StandingPoolsStayAtCore}
 use Rattle.plan_witnesses.proofs.Lowered.{lowered, IsBetween, length-lowered, max-lowered, start-lowered, ordered-lowered, started_when, StartsBelow, happens-lowered}
 
--- ---- what stays through every step
+-- ---- the invariant of every step
 
 abbrev pub StaysThroughSteps : Plan → (State → Type 0) → Type 0
 StaysThroughSteps plan holds = (s : State) (e : Event) (s' : State) (o : Outcome) → holds s → step plan s e ≡ Some (s', o) → holds s'
@@ -48,7 +48,7 @@ steps_keep plan holds stays (e ∷ events) s s' held replayed =
 
 -- ---- the pool
 
--- it starts a thread only below core, since a submit never finds its queue full
+-- the pool starts a thread only below core, since a submit never finds its queue full
 pub starts_below_core : (plan : Plan) (s : State) (a : Parent) (body : List Action) (i k : ℕ) → IsWellFormed plan → IsReached plan s → HasStanding plan (pool_of plan k) → StandsAt plan s a body i (Some (action.Submit k))
     → answer (pool_seen plan s (pool_of plan k)) ≡ offer.Started → threads plan s (pool_of plan k) < (pool_at plan (pool_of plan k)).core
 starts_below_core plan s a body i k well_formed reached standing at starts =
@@ -57,7 +57,7 @@ starts_below_core plan s a body i k well_formed reached standing at starts =
     (λ full. absurd (standing_refuses_nothing plan standing.vector s a body i k (ordered plan well_formed) laws (kept plan s well_formed reached) (balanced GivesBack plan standing.vector s well_formed laws.laws reached) at full))
     (started_when (pool_seen plan s (pool_of plan k)) starts)
 
--- the plan with its core for its maximum
+-- the maximums of the plan in which the maximum of the pool is its core
 abbrev core_for_max : Plan → ℕ → ℕ → ℕ
 core_for_max plan p q = cond (eqb q p) (pool_at plan q).core (pool_at plan q).max
 
@@ -79,7 +79,7 @@ below_core plan p s well_formed standing reached a body i k at starts =
     (λ same. starts_below_core plan s a body i k well_formed reached (subst (HasStanding plan) (sym (eqb-true q p same)) standing) at starts)
     (started_below (pool_seen plan s q) starts)
 
--- what is kept of that plan too
+-- the invariants of both plans
 record BothKeep (plan : Plan) (p : ℕ) (s : State) : Type 0 where
   reached : IsReached plan s
   kept_low : Kept (lowered plan (core_for_max plan p)) s
@@ -95,7 +95,7 @@ both_keep plan p well_formed standing s e s' o both is_step =
           (happens-lowered plan most s s' e o is_ordered between (below_core plan p s well_formed standing both.reached) (happens plan s e s' o is_step) is_step);
     }
 
--- so it has no more than core threads
+-- therefore the pool never has more than core threads
 pub stays_at_core : StandingPoolsStayAtCore
 stays_at_core plan p s well_formed inside standing reached =
     let most = core_for_max plan p in

@@ -1,4 +1,4 @@
--- Waiting sets that nothing ends: where members wait in queues, the pools have all their threads or never start another.
+-- Permanent waiting sets: each pool with a queued member has all its threads or never starts another one.
 use Rattle.std.specs.Prelude.{◌≡◌, ◌≤◌, ◌<◌, ◌⊎◌, ℕ, List, length, Some}
 use Rattle.job_bodies.specs.Plan.{Plan, pool_at}
 use Rattle.job_bodies.specs.WellFormed.{IsWellFormed}
@@ -11,7 +11,7 @@ use Rattle.weights.specs.Row.{AllHold}
 use Rattle.weights.specs.Vector.{Vector}
 use Rattle.weights.specs.Standing.{standing_rows}
 
--- a standing vector of the pool, whose conditions hold
+-- the pool has a standing vector whose conditions hold
 pub record HasStanding (plan : Plan) (p : ℕ) : Type 0 where
   pub vector : Vector
   pub hold : AllHold (standing_rows plan p vector)
@@ -20,8 +20,8 @@ pub record HasStanding (plan : Plan) (p : ℕ) : Type 0 where
 abbrev pub StandingPoolsStayAtCore : Type 0
 StandingPoolsStayAtCore = (plan : Plan) (p : ℕ) (s : State) → IsWellFormed plan → p < length plan.pools → HasStanding plan p → IsReached plan s → threads plan s p ≤ (pool_at plan p).core
 
--- the pool starts no thread while a job waits in its queue: it has all its threads, or it has its core threads, since a job
--- is queued, and never more
+-- the pool starts no thread while a job is queued: it has all its threads, or it never has more than core threads and has
+-- them already, since a job is queued
 abbrev pub StartsNone : Plan → State → ℕ → Type 0
 StartsNone plan s p = IsFull plan s p ⊎ HasStanding plan p
 
@@ -35,7 +35,7 @@ pub record LastsUnmoved (plan : Plan) (s s' : State) (members : List ℕ) : Type
   pub still : IsLastingWaitingSet plan s' members
   pub unmoved : (j : ℕ) → IsMember members j → job_at s' j ≡ job_at s j
 
--- a lasting waiting set stays, whatever events follow
+-- a permanent waiting set stays one after any list of events
 abbrev pub LastingWaitingSetsStay : Type 0
 LastingWaitingSetsStay = (plan : Plan) (s s' : State) (events : List Event) (members : List ℕ) → IsWellFormed plan → IsReached plan s → IsLastingWaitingSet plan s members
     → replay plan (Some s) events ≡ Some s' → LastsUnmoved plan s s' members

@@ -1,4 +1,4 @@
--- What a replay of a list of events finds.
+-- The results of the replay of a list of events.
 use Rattle.std.specs.Prelude.{◌≡◌, List, take}
 use Rattle.job_bodies.specs.Plan.{Plan}
 use Rattle.written_machine.specs.declared.event.Event.{Event}
@@ -9,14 +9,14 @@ use Rattle.plan_witnesses.specs.declared.replaying.Replayed.{Replayed}
 use Rattle.plan_witnesses.specs.declared.replaying.Replayed.TheVariants.{Refused, NotPossible, Whole}
 use Rattle.plan_witnesses.specs.Witness.{NoneRefused, EndsRefused}
 
--- each event is possible, none is refused, and this is the live view behind the last
+-- each event is possible, none is rejected, and this is the live view after the last one
 pub record ComesTo (plan : Plan) (events : List Event) (view : View) : Type 0 where
   pub state : State
   pub reaches : Reaches plan events state
   pub seen : live_view plan state ≡ view
   pub none_refused : NoneRefused plan events
 
--- some event is not possible, and none before it is refused
+-- some event is not possible, and no earlier one is rejected
 pub record StopsShort (plan : Plan) (events : List Event) : Type 0 where
   pub none_refused : NoneRefused plan events
   pub reaches_none : (s : State) → ¬ Reaches plan events s

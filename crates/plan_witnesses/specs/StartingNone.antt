@@ -1,4 +1,4 @@
--- The test of whether pools in whose queues jobs wait start no thread any more, on the live view of a state.
+-- The test that the pools with queued members start no further thread, on the live view of a state.
 use Rattle.std.specs.Prelude.{ℕ, ◌==◌, ◌&&◌, ◌||◌, not, nat_lt, Bool, true, false, List, length, Option, Some, None, is_some, slice_get}
 use Rattle.std.specs.List.{list_all}
 use Rattle.job_bodies.specs.Plan.{Plan, Class}
@@ -15,7 +15,7 @@ use Rattle.weights.specs.Standing.{standing_rows}
 abbrev pub is_full : View → ℕ → Bool
 is_full view p = (pool_in view p).threads == (pool_in view p).max
 
--- this is a standing vector of the pool, of which each condition holds
+-- this is a standing vector of the pool whose conditions all hold
 abbrev pub has_standing : Plan → ℕ → Option Vector → Bool
 has_standing plan p None = false
 has_standing plan p (Some v) = vector_fits plan v && not (is_some (first_failing (standing_rows plan p v)))
@@ -31,11 +31,11 @@ abbrev pub phase_starts_none : Plan → View → List Vector → ℕ → Phase �
 phase_starts_none plan view standing k phase.Queued = class_starts_none plan view standing (slice_get plan.classes k)
 phase_starts_none plan view standing k _ = true
 
--- the job is not queued, or its pool starts no thread any more
+-- the job is not queued, or its pool starts no further thread
 abbrev pub job_starts_none : Plan → View → List Vector → Option JobView → Bool
 job_starts_none plan view standing None = true
 job_starts_none plan view standing (Some job) = phase_starts_none plan view standing job.class job.phase
 
--- each of the jobs
+-- this holds for each of the jobs
 abbrev pub all_start_none : Plan → View → List Vector → List ℕ → Bool
 all_start_none plan view standing members = list_all (λ j. job_starts_none plan view standing (live_job view.jobs j)) members

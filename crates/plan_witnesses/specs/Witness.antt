@@ -1,4 +1,4 @@
--- Lists of events that show that a plan is wrong.
+-- Lists of events that prove that a plan is unsafe.
 use Rattle.std.specs.Prelude.{◌≡◌, ℕ, List, [], ◌∷◌, ◌++◌, Some, IsTrue, IsFalse}
 use Rattle.numbered_lists.specs.In.{In}
 use Rattle.job_bodies.specs.Plan.{Plan}
@@ -20,15 +20,15 @@ use Rattle.plan_witnesses.specs.declared.ending.Reason.TheVariants.{PoolsAreFull
 use Rattle.plan_witnesses.specs.Rising.{are_rising}
 use Rattle.plan_witnesses.specs.Lasting.{IsLastingWaitingSet}
 
--- the events, each of them possible, lead from the plan's start to a state of which this holds
+-- the events are possible in sequence from the plan's start, and the property holds in the last state
 abbrev pub LeadsTo : Plan → List Event → (State → Type 0) → Type 0
 LeadsTo plan events holds = (s : State) × Reaches plan events s × holds s
 
--- what comes of the events is never a refusal
+-- no outcome of the events is a rejection
 abbrev pub NoneRefused : Plan → List Event → Type 0
 NoneRefused plan events = (p : ℕ) → ¬ In (Some (outcome.Refused p)) (outcomes plan (Some (start plan)) events)
 
--- the last event is a submit that pool p refuses; those before it are possible, and none of them is refused
+-- the last event is a submit that pool p rejects; the earlier ones are possible, and none of them is rejected
 pub record EndsRefused (plan : Plan) (events : List Event) (p : ℕ) : Type 0 where
   pub front : List Event
   pub last : Event
@@ -39,17 +39,17 @@ pub record EndsRefused (plan : Plan) (events : List Event) (p : ℕ) : Type 0 wh
   pub after : State
   pub refused : step plan before last ≡ Some (after, outcome.Refused p)
 
--- the members are a waiting set for this reason
+-- the members are a permanent waiting set for this reason
 abbrev pub StaysFor : Plan → List ℕ → Reason → State → Type 0
 StaysFor plan members PoolsAreFull s = IsFullWaitingSet plan s members
 StaysFor plan members PoolsStayAtCore s = IsLastingWaitingSet plan s members
 
--- the members are a waiting set, and one of them waits in the queue of a pool that may have more threads
+-- the members are a waiting set, and one of them waits in the queue of a pool that may start another thread
 pub record WaitsForNow (plan : Plan) (members : List ℕ) (s : State) : Type 0 where
   pub waits : IsWaitingSet plan s members
   pub not_full : ¬ IsFullWaitingSet plan s members
 
--- the events end so, and the members are named in rising order
+-- the events have this ending, and the members are in ascending order
 abbrev pub IsWitness : Plan → List Event → Ending → Type 0
 IsWitness plan events (Refused p) = EndsRefused plan events p
 IsWitness plan events (StuckForEver members reason) = IsTrue (are_rising members.items) × LeadsTo plan events (StaysFor plan members.items reason)

@@ -1,4 +1,4 @@
-//! Whether a list of events is a witness.
+//! The check that a list of events is a witness.
 
 ghost use Rattle.std.specs.Prelude.{◌≡◌, IfOk, IfSome, take};
 ghost use Rattle.written_machine.specs.State.{State};
@@ -19,19 +19,22 @@ use job_bodies::Plan;
 use std::alloc::{AllocError, Global};
 use weights::Vector;
 
-/// The witness that this list of events is, with these jobs where it ends in jobs that wait only for each other, and with
-/// these vectors, one for each pool, to show of a pool that it never has more than core threads.
+/// Checks whether a list of events is a witness, and returns the witness if it is. `members` are
+/// the jobs that wait only for each other after the events. `standing` has one vector for each
+/// pool, which may prove that the pool never has more than `core` threads.
 ///
-/// The jobs are given by their numbers in rising order, so none of them twice; jobs in another order are no witness.
+/// The numbers in `members` must be in ascending order, without duplicates; otherwise they are not
+/// a witness.
 ///
-/// Nothing is assumed of the events, the jobs and the vectors: a vector that is no standing vector of its pool, or that fails
-/// one of the conditions, shows nothing, and none need be given. A witness ends at the first submit that is refused: events
-/// behind that one are left out. None where no submit is refused and the jobs do not wait only for each other behind the last
-/// event, as where an event is not possible.
+/// The arguments are not trusted. A vector that is not a standing vector of its pool, or that fails
+/// one of the conditions, proves nothing, and `standing` may be empty. A witness ends at the first
+/// rejected submit, and later events are removed. Returns `None` if no submit is rejected and the
+/// members do not wait only for each other after the last event. An event that is not possible also
+/// gives `None`.
 ///
 /// # Errors
 ///
-/// `AllocError` where there is no memory for the replay.
+/// Returns `AllocError` if there is not enough memory for the replay.
 pub fn confirmed(
     alloc: Global,
     plan: &Plan,
@@ -51,7 +54,7 @@ pub fn confirmed(
     }
 }
 
-/// The witness of so many events, of which the last is refused by the pool.
+/// Returns the witness of the first `length` events, the last of which the pool rejects.
 fn refused(mut events: Vec<Event>, length: usize, pool: usize) -> Witness
     ensures events { result.events.items ≡ take length events.items }
     ensures ending { result.ending ≡ Refused pool }
@@ -63,7 +66,8 @@ fn refused(mut events: Vec<Event>, length: usize, pool: usize) -> Witness
     }
 }
 
-/// The witness of the events that lead to this world, where the members wait only for each other in it.
+/// Returns the witness of the events that lead to this world, if the members wait only for each
+/// other in it.
 fn stuck(
     plan: &Plan,
     world: &World,
@@ -89,7 +93,8 @@ fn stuck(
     Some(Witness { events, ending })
 }
 
-/// Why members that wait only for each other do so for ever; None where that is not shown.
+/// Returns the reason why members that wait only for each other do so permanently, or `None` if no
+/// reason is proved.
 fn reason(plan: &Plan, world: &World, members: &[usize], standing: &[Vector]) -> Option<Reason>
     requires { IsOf plan.now world.now.view }
     ensures { (s : State)
@@ -97,7 +102,7 @@ fn reason(plan: &Plan, world: &World, members: &[usize], standing: &[Vector]) ->
         → live_view plan.now s ≡ world.now.view
         → IsReason plan.now members.now standing.now s result }
 {
-    // A plan is well formed, which the contract of this call says.
+    // The contract of this call states that a plan is well-formed.
     let _pools = plan.pools();
     if all_start_none(plan, world, members, &[]) {
         Some(Reason::PoolsAreFull)

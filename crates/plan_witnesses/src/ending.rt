@@ -1,21 +1,24 @@
-//! How a witness ends.
+//! The ending of a witness.
 
-/// How a witness ends.
+/// The ending of a witness.
 #[derive(Debug, Drop)]
 pub enum Ending {
-    /// The last event is a submit that the pool of this number refuses.
+    /// The last event is a submit that the pool with this number rejects.
     Refused(usize),
-    /// Behind the last event the jobs of these numbers wait only for each other, and they do for ever, for this reason.
+    /// After the last event, the jobs with these numbers wait only for each other. They do so
+    /// permanently, for this reason.
     StuckForEver(Vec<usize>, Reason),
-    /// Behind the last event the jobs of these numbers wait only for each other. An event may end that.
+    /// After the last event, the jobs with these numbers wait only for each other. A later event
+    /// may end that.
     StuckNow(Vec<usize>),
 }
 
-/// Why jobs that wait only for each other do so for ever, whatever happens.
+/// The reason why jobs wait only for each other permanently.
 #[derive(Clone, Copy, Debug, PartialEq, Eq)]
 pub enum Reason {
-    /// Each pool in whose queue one of them waits has all the threads that it may have.
+    /// Each pool in whose queue one of them waits has all its threads.
     PoolsAreFull,
-    /// Each of these pools has, or it never has more than core threads, as a standing vector shows.
+    /// Each of these pools has all its threads or never has more than `core` threads, as a standing
+    /// vector proves.
     PoolsStayAtCore,
 }

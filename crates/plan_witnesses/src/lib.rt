@@ -1,8 +1,9 @@
-//! Witnesses: lists of events that show that a plan is wrong.
+//! Witnesses: lists of events that prove that a plan is unsafe.
 //!
-//! [`confirmed`] trusts nothing of whoever made the list. It replays the events in a new world of the plan, and answers a
-//! witness only where the last of them is a submit that is refused, or where they lead to jobs that wait only for each
-//! other. The laws say what a witness means: no certificate accepts the plan, and when such jobs wait for ever.
+//! [`confirmed`] does not trust the list. It replays the events in a new world of the plan. It
+//! returns a witness only if the last event is a rejected submit, or if the events lead to jobs
+//! that wait only for each other. The laws state the meaning of a witness: no certificate accepts
+//! the plan, and under which conditions such jobs wait permanently.
 #![tactic(auto)]
 
 mod confirming;

@@ -9,21 +9,22 @@ use interleaving::{Event, Outcome, World};
 use job_bodies::Plan;
 use std::alloc::AllocError;
 
-/// What a replay of a list finds.
+/// The result of the replay of a list.
 pub(crate) enum Replayed {
-    /// The last of so many events is refused by the pool of this number, and none before it.
+    /// The last of this many events is rejected by the pool with this number, and no earlier one
+    /// is.
     Refused(usize, usize),
-    /// An event is not possible, and none before it is refused.
+    /// An event is not possible, and no earlier one is a rejected submit.
     NotPossible,
-    /// Each event is possible, and none is refused.
+    /// Each event is possible, and none is a rejected submit.
     Whole,
 }
 
-/// Replays the events in a new world of the plan, up to the first that is refused or not possible.
+/// Replays the events in a new world of the plan, up to the first that is rejected or not possible.
 ///
 /// # Errors
 ///
-/// `AllocError` where the world finds no memory for an event.
+/// Returns `AllocError` if there is not enough memory for an event.
 pub(crate) fn replay(
     plan: &Plan,
     world: &mut World,

@@ -1,9 +1,9 @@
-//! Numbers in rising order.
+//! Numbers in ascending order.
 
 ghost use Rattle.std.specs.Prelude.{◌≡◌};
 ghost use Rattle.plan_witnesses.specs.Rising.{are_rising, rise_above};
 
-/// Whether each number is above the one before it.
+/// Returns `true` if each number is greater than the one before it.
 pub(crate) fn are_rising(numbers: &[usize]) -> bool
     ensures { result ≡ are_rising numbers.now }
 {
@@ -13,7 +13,8 @@ pub(crate) fn are_rising(numbers: &[usize]) -> bool
     }
 }
 
-/// Whether the first number is above `last`, and each other one above the one before it.
+/// Returns `true` if the first number is greater than `last`, and each other one greater than the
+/// one before it.
 fn rise_above(mut last: usize, mut numbers: &[usize]) -> bool
     ensures { result ≡ rise_above last numbers.now }
 {

@@ -1,4 +1,4 @@
-//! Whether pools in whose queues jobs wait start no thread any more.
+//! The check that the pools with queued jobs start no further thread.
 
 ghost use Rattle.std.specs.Prelude.{◌≡◌, ◌<◌, length, slice_get};
 ghost use Rattle.live_views.specs.ViewStep.{live_job};
@@ -9,8 +9,9 @@ use interleaving::{Phase, World};
 use job_bodies::Plan;
 use weights::Vector;
 
-/// Whether each of the jobs that waits in a queue does so in a pool that starts no thread while a job is queued: one with
-/// all its threads, or one that never has more than core threads, as its vector among these shows. It takes no memory.
+/// Returns `true` if each queued member is in a pool that starts no thread while a job is queued.
+/// Such a pool has all its threads, or it never has more than `core` threads, as its vector in
+/// `standing` proves. Allocates no memory.
 pub(crate) fn all_start_none(
     plan: &Plan,
     world: &World,
@@ -59,7 +60,7 @@ fn pool_starts_none(plan: &Plan, world: &World, pool: usize, standing: &[Vector]
     pool < plan.pools().len() && (is_full(world, pool) || has_standing(plan, pool, standing))
 }
 
-/// Whether the pool has all its threads.
+/// Returns `true` if the pool has all its threads.
 fn is_full(world: &World, pool: usize) -> bool
     requires { pool < length world.now.view.pools }
     ensures { result ≡ spec.is_full world.now.view pool }
@@ -68,7 +69,7 @@ fn is_full(world: &World, pool: usize) -> bool
     state.threads() == state.max()
 }
 
-/// Whether the pool's vector is a standing one of which each condition holds.
+/// Returns `true` if the pool's vector is a standing vector whose conditions all hold.
 fn has_standing(plan: &Plan, pool: usize, standing: &[Vector]) -> bool
     requires { pool < length plan.now.pools }
     ensures { result ≡ spec.has_standing plan.now pool (slice_get standing.now pool) }

@@ -3,7 +3,7 @@
 use crate::Ending;
 use interleaving::Event;
 
-/// Events that are possible one after another from a plan's start, and how they end.
+/// A list of events that are possible in sequence from a plan's start, and the ending of the list.
 #[derive(Debug, Drop)]
 pub struct Witness {
     pub events: Vec<Event>,

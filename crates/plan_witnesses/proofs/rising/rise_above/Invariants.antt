@@ -2,7 +2,7 @@ use Rattle.std.proofs.Common.{◌≡◌, length}
 use Rattle.plan_witnesses.specs.Rising.{rise_above}
 use Rattle.plan_witnesses.proofs.rising.rise_above.Given as goal
 
--- what is left tells whether all rise
+-- the remaining numbers rise exactly if all of them do
 abbrev pub invariant-loop-first : goal.invariant-loop-first
 invariant-loop-first l = rise_above l.last l.numbers ≡ rise_above l.fn.last l.fn.numbers
 
