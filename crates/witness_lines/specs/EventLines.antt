@@ -1,4 +1,4 @@
--- The lines of events of a witness, as `replay` reads them.
+-- The event lines of a witness, as `replay` reads them.
 use Rattle.std.specs.Prelude.{ℕ, List, [], ◌∷◌, ◌++◌, map}
 use Rattle.job_bodies.specs.Plan.{Plan}
 use Rattle.written_machine.specs.declared.event.Event.{Event}
@@ -7,18 +7,18 @@ use Rattle.plan_witnesses.specs.declared.ending.Ending.{Ending}
 use Rattle.plan_witnesses.specs.declared.ending.Ending.TheVariants.{Refused, StuckForEver, StuckNow}
 use Rattle.plan_witnesses.specs.declared.witness.Witness.{Witness}
 
--- the question whether these jobs wait for each other alone; of none there is no question
+-- the question whether these jobs wait only for each other; without jobs there is no question
 abbrev pub question : List ℕ → List Line
 question [] = []
 question (j ∷ js) = Stuck (j ∷ js) ∷ []
 
--- the jobs that wait only for each other behind the events
+-- the jobs that wait only for each other after the events
 abbrev pub stuck_members : Ending → List ℕ
 stuck_members (Refused p) = []
 stuck_members (StuckForEver members reason) = members.items
 stuck_members (StuckNow members) = members.items
 
--- each event, and behind them the question whether those jobs are stuck
+-- the events, and after them the question whether those jobs are stuck
 abbrev pub lines_of : List Event → List ℕ → List Line
 lines_of events members = map (λ event. Happens event) events ++ question members
 

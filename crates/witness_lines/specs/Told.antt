@@ -1,4 +1,4 @@
--- What is told of a witness.
+-- The description of a witness.
 use Rattle.std.specs.Prelude.{◌≡◌, ◌↔◌, ◌==◌, ℕ, if◌then◌else◌, List, [], ◌∷◌, ◌++◌, length, flat_map, codes, decimal, Contains}
 use Rattle.std.specs.List.Sorted.{IsStrictlyIncreasing}
 use Rattle.job_bodies.specs.Plan.{Plan, pool_at}
@@ -9,28 +9,28 @@ use Rattle.plan_witnesses.specs.declared.ending.Ending.TheVariants.{Refused, Stu
 use Rattle.plan_witnesses.specs.declared.ending.Reason.TheVariants.{PoolsAreFull, PoolsStayAtCore}
 use Rattle.plan_witnesses.specs.declared.witness.Witness.{Witness}
 
--- so many jobs wait only for each other
+-- the number of jobs that wait only for each other, in words
 abbrev pub jobs_wait : List ℕ → List ℕ
 jobs_wait members = decimal (length members) ++ codes " jobs wait only for each other"
 
--- how the witness ends
+-- the ending of the witness
 abbrev pub ending_text : Plan → Ending → List ℕ
 ending_text plan (Refused p) = codes "refused by " ++ (pool_at plan p).name
 ending_text plan (StuckForEver members reason) = codes "stuck for ever: " ++ jobs_wait members.items
 ending_text plan (StuckNow members) = codes "stuck now: " ++ jobs_wait members.items
 
--- the client whose step the event is, if it is one's
+-- the client whose step the event is, or an empty list
 abbrev pub mover_of : Event → List ℕ
 mover_of (Client client) = client ∷ []
 mover_of (Job job) = []
 mover_of (Take pool) = []
 mover_of (Retire pool) = []
 
--- the clients that move in the events, each as often as it does
+-- the client of each event of a client, with duplicates
 abbrev pub movers : List Event → List ℕ
 movers = flat_map mover_of
 
--- so many clients move in the events: these, each of which is there once
+-- count is the number of different clients that act in the events
 pub record IsMoverCount (events : List Event) (count : ℕ) : Type 0 where
   pub clients : List ℕ
   pub each_once : IsStrictlyIncreasing clients
@@ -40,18 +40,18 @@ pub record IsMoverCount (events : List Event) (count : ℕ) : Type 0 where
 abbrev pub of_clients : ℕ → List ℕ
 of_clients count = if count == 1 then codes " of 1 client" else codes " of " ++ decimal count ++ codes " clients"
 
--- the first line: how the witness ends, how many events lead to it, and how many clients move in them
+-- the first line: the ending of the witness, the number of its events, and the number of clients that act in them
 abbrev pub head : Plan → Witness → ℕ → List ℕ
 head plan witness clients = (ending_text plan witness.ending ++ codes ", after " ++ decimal (length witness.events.items) ++ codes " events") ++ (of_clients clients ++ 10 ∷ [])
 
--- the last line: why jobs wait only for each other for ever, or what may end it
+-- the last line: the reason why jobs wait only for each other permanently, or what may end the wait
 abbrev pub why_text : Ending → List ℕ
 why_text (Refused p) = []
 why_text (StuckForEver members PoolsAreFull) = codes "for ever: each pool in whose queue one waits has all its threads" ++ 10 ∷ []
 why_text (StuckForEver members PoolsStayAtCore) = codes "for ever: each pool in whose queue one waits has all its threads, or never has more than core" ++ 10 ∷ []
 why_text (StuckNow members) = codes "until a pool in whose queue one waits starts a thread above core" ++ 10 ∷ []
 
--- the first line, a story of which nothing is said, and the last line
+-- the text is the first line, a story that is not specified, and the last line
 pub record IsTold (plan : Plan) (witness : Witness) (text : List ℕ) : Type 0 where
   pub clients : ℕ
   pub clients_are : IsMoverCount witness.events.items clients

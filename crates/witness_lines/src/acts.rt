@@ -1,4 +1,4 @@
-//! What one event is told as: who acts, and what is done.
+//! The description of one event: the actor, and its action.
 
 ghost use Rattle.interleaving.specs.OfPlan.{IsOf};
 
@@ -6,7 +6,8 @@ use interleaving::{Event, Outcome, Phase, World};
 use job_bodies::{Action, Client, Plan};
 use std::alloc::{AllocError, Global};
 
-/// Makes the event, and tells what it was as `client web` and `submits page (queued)`. None where it is not possible.
+/// Performs the event, and returns its description in two parts, such as `client web` and `submits
+/// page (queued)`. Returns `None` if the event is not possible.
 pub(crate) fn told_step(
     alloc: Global,
     world: &mut World,
@@ -33,7 +34,7 @@ pub(crate) fn told_step(
     Ok(Some((who, act)))
 }
 
-/// Who acts, as `client web`, `job page` or `pool db`: a job by its class.
+/// Returns the actor, such as `client web`, `job page` or `pool db`. A job is named by its class.
 fn actor(alloc: Global, world: &World, plan: &Plan, event: Event) -> Result<String, AllocError> {
     let mut text = String::new(alloc);
     match event {
@@ -53,7 +54,8 @@ fn actor(alloc: Global, world: &World, plan: &Plan, event: Event) -> Result<Stri
     Ok(text)
 }
 
-/// The kind of the client of this number: the kinds in plan order, each as often as its count says.
+/// Returns the kind of the client with this number. Clients are numbered kind by kind in plan
+/// order, and a kind has as many clients as its count.
 pub(crate) fn kind_of(plan: &Plan, client: usize) -> Option<&Client> {
     let mut before = 0u64;
     for kind in plan.clients() {
@@ -65,12 +67,12 @@ pub(crate) fn kind_of(plan: &Plan, client: usize) -> Option<&Client> {
     None
 }
 
-/// The class of a live job; a number that no class has where it is none.
+/// Returns the class of a live job, or a number without a class if the job is not live.
 pub(crate) fn class_of(world: &World, job: usize) -> usize {
     world.job(job).map_or(usize::MAX, |job| job.class)
 }
 
-/// The action before which the actor stands.
+/// Returns the next action of the actor.
 fn next_action(world: &World, plan: &Plan, event: Event) -> Option<Action> {
     match event {
         Event::Client(client) => {
@@ -88,7 +90,7 @@ fn next_action(world: &World, plan: &Plan, event: Event) -> Option<Action> {
     }
 }
 
-/// What an actor did that stood before this action.
+/// Returns the description of a step whose next action was `action`.
 fn act(
     alloc: Global,
     plan: &Plan,
@@ -113,7 +115,7 @@ fn act(
     Ok(text)
 }
 
-/// What the pool answers to a submit.
+/// Appends the answer of the pool to a submit.
 fn push_answer(text: &mut String, plan: &Plan, outcome: Outcome) -> Result<(), AllocError> {
     match outcome {
         Outcome::Started(_) => text.push_str(" (a new thread starts it)"),
@@ -127,7 +129,7 @@ fn push_answer(text: &mut String, plan: &Plan, outcome: Outcome) -> Result<(), A
     }
 }
 
-/// What a pool's thread took.
+/// Returns the description of a take by a thread of a pool.
 fn taken(
     alloc: Global,
     world: &World,

@@ -1,4 +1,4 @@
-//! The lines of events of a witness.
+//! The event lines of a witness.
 
 ghost use Rattle.std.specs.Prelude.{◌≡◌, ◌++◌, ◌∷◌, [], flat_map, decimal};
 ghost use Rattle.decimals.specs.Pushed.{Pushes};
@@ -11,12 +11,12 @@ use job_bodies::Plan;
 use plan_witnesses::{Ending, Witness};
 use std::alloc::AllocError;
 
-/// Writes each event of the witness on a line of its own, as `replay` reads them, and, where jobs wait only for each other
-/// behind them, the question whether they are stuck.
+/// Appends each event of the witness on a line of its own, in the format that `replay` reads. If
+/// jobs wait only for each other after the events, appends the question whether they are stuck.
 ///
 /// # Errors
 ///
-/// [`AllocError`] where memory runs out.
+/// Returns [`AllocError`] if memory runs out.
 pub fn push_event_lines(text: &mut String, plan: &Plan, witness: &Witness) -> Result<(), AllocError>
     ensures { Pushes result text.old text.new
         (lines_text plan.now (spec.witness_lines witness.now)) }
@@ -24,7 +24,7 @@ pub fn push_event_lines(text: &mut String, plan: &Plan, witness: &Witness) -> Re
     push_lines(text, plan, &witness.events, stuck_members(&witness.ending))
 }
 
-/// The jobs that wait only for each other behind the events.
+/// Returns the jobs that wait only for each other after the events.
 pub(crate) fn stuck_members(ending: &Ending) -> &[usize]
     ensures { result.now ≡ spec.stuck_members ending.now }
 {
@@ -51,7 +51,7 @@ fn push_lines(
     push_question(text, plan, members)
 }
 
-/// The line of an event.
+/// Appends the line of an event.
 fn push_event(text: &mut String, plan: &Plan, event: Event) -> Result<(), AllocError>
     ensures { Pushes result text.old text.new (event_text plan.now event ++ 10 ∷ []) }
 {
@@ -84,7 +84,7 @@ fn push_named(text: &mut String, words: &str, name: &str) -> Result<(), AllocErr
     text.push_str(name)
 }
 
-/// The question whether the jobs are stuck, if there are any.
+/// Appends the question whether the jobs are stuck, if there are any.
 fn push_question(text: &mut String, _plan: &Plan, members: &[usize]) -> Result<(), AllocError>
     ensures { Pushes result text.old text.new (lines_text _plan.now (spec.question members.now)) }
 {
@@ -96,7 +96,7 @@ fn push_question(text: &mut String, _plan: &Plan, members: &[usize]) -> Result<(
     text.push('\n')
 }
 
-/// Each number, with a space before it.
+/// Appends each number, with a space before it.
 fn push_numbers(text: &mut String, mut numbers: &[usize]) -> Result<(), AllocError>
     ensures { Pushes result text.old text.new (flat_map (λ n. 32 ∷ decimal n) numbers.now) }
 {

@@ -1,7 +1,9 @@
-//! The texts of a witness: for a person, how it ends and the story that leads there, equal turns told once, how the pools
-//! stand at its end and which jobs wait for which; and its events as lines that `replay` reads.
+//! The texts of a witness. One is for readers: the ending, the story with equal turns grouped, the
+//! pools at the end, and the jobs with what they wait for. The other one has the events as lines
+//! that `replay` reads.
 //!
-//! Of the story nothing is promised: that the events happen, and what they end in, is promised where a witness is made.
+//! No contract describes the story. The contract of a witness guarantees that the events are
+//! possible and have this ending.
 #![tactic(auto)]
 
 mod acts;

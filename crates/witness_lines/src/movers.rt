@@ -1,4 +1,4 @@
-//! The clients that move in a list of events.
+//! The clients that act in a list of events.
 
 ghost use Rattle.std.specs.Prelude.{◌≡◌, IfOk};
 ghost use Rattle.witness_lines.specs.Told as spec;
@@ -6,11 +6,11 @@ ghost use Rattle.witness_lines.specs.Told as spec;
 use interleaving::Event;
 use std::alloc::{AllocError, Global};
 
-/// How many clients move in the events.
+/// Returns the number of clients that act in the events.
 ///
 /// # Errors
 ///
-/// [`AllocError`] where memory runs out.
+/// Returns [`AllocError`] if memory runs out.
 pub(crate) fn mover_count(alloc: Global, events: &[Event]) -> Result<usize, AllocError>
     ensures { IfOk result (spec.IsMoverCount events.now) }
 {
@@ -20,7 +20,7 @@ pub(crate) fn mover_count(alloc: Global, events: &[Event]) -> Result<usize, Allo
     Ok(clients.len())
 }
 
-/// The clients that move, each as often as it does.
+/// Returns the client of each event of a client, with duplicates.
 fn movers(alloc: Global, mut events: &[Event]) -> Result<Vec<usize>, AllocError>
     ensures { IfOk result (λ clients. clients.items ≡ spec.movers events.now) }
 {

@@ -1,4 +1,4 @@
-//! How the pools stand.
+//! The state of the pools.
 
 ghost use Rattle.interleaving.specs.OfPlan.{IsOf};
 
@@ -7,7 +7,7 @@ use job_bodies::{Plan, Pool};
 use pool_machine::PoolState;
 use std::alloc::AllocError;
 
-/// A line for each pool, as `pool db: threads 10 of 10, idle 0, queued 190 of 190`.
+/// Appends a line for each pool, such as `pool db: threads 10 of 10, idle 0, queued 190 of 190`.
 pub(crate) fn push_pools(text: &mut String, plan: &Plan, world: &World) -> Result<(), AllocError>
     requires { IsOf plan.now world.now.view }
 {

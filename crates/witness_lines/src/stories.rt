@@ -10,21 +10,23 @@ use interleaving::{Event, World};
 use job_bodies::Plan;
 use std::alloc::{AllocError, Global};
 
-/// How many lines tell what happens, at most: of more, the first and the last.
+/// The maximum number of lines for the events. If there are more, only the first and the last are
+/// listed.
 const MAX_LINES: usize = 20;
 
-/// How many of the first lines are told where there are more.
+/// The number of first lines that are listed if there are too many.
 const FIRST_LINES: usize = 9;
 
-/// How many of the last lines are told where there are more: with a line between them they are the most.
+/// The number of last lines that are listed if there are too many. The first lines, one line
+/// between them and the last lines together have the maximum number.
 const LAST_LINES: usize = 10;
 
-/// Tells what happens in the events, from the plan's start, and how the pools stand behind them; of members, which of them
-/// waits for which. An event that is not possible is passed over.
+/// Returns the story of the events from the plan's start: the events, the pools after them, and
+/// what each member waits for. An event that is not possible is skipped.
 ///
 /// # Errors
 ///
-/// [`AllocError`] where memory runs out.
+/// Returns [`AllocError`] if memory runs out.
 pub(crate) fn story(
     alloc: Global,
     plan: &Plan,
@@ -40,7 +42,7 @@ pub(crate) fn story(
     Ok(text)
 }
 
-/// Makes the events, and says what they were.
+/// Performs the events, and returns their descriptions.
 fn runs_of(
     alloc: Global,
     world: &mut World,

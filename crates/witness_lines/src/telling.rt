@@ -1,4 +1,4 @@
-//! What is told of a witness.
+//! The description of a witness.
 
 ghost use Rattle.std.specs.Prelude.{◌++◌, IfOk, codes, string_bytes};
 ghost use Rattle.decimals.specs.Pushed.{Pushes};
@@ -11,12 +11,13 @@ use job_bodies::Plan;
 use plan_witnesses::{Ending, Reason, Witness};
 use std::alloc::{AllocError, Global};
 
-/// Tells a witness: `refused by db, after 7 events of 2 clients`, and after that line what happens in them, how the pools
-/// stand, who waits for whom, and on a last line why they do so for ever, or what may end it.
+/// Returns the description of a witness. Its first line is like `refused by db, after 7 events of 2
+/// clients`. Then come the events, the pools, and what each job waits for. The last line says why
+/// the jobs wait permanently, or what may end the wait.
 ///
 /// # Errors
 ///
-/// [`AllocError`] where memory runs out.
+/// Returns [`AllocError`] if memory runs out.
 pub fn told(alloc: Global, plan: &Plan, witness: &Witness) -> Result<String, AllocError>
     ensures { IfOk result (λ text. spec.IsTold plan.now witness.now (string_bytes text)) }
 {
@@ -29,7 +30,7 @@ pub fn told(alloc: Global, plan: &Plan, witness: &Witness) -> Result<String, All
     Ok(text)
 }
 
-/// The first line.
+/// Appends the first line.
 fn push_head(
     text: &mut String,
     plan: &Plan,
@@ -79,7 +80,7 @@ fn push_stuck(text: &mut String, how: &str, members: &[usize]) -> Result<(), All
     write!(text, "{how}{jobs} jobs wait only for each other")
 }
 
-/// Why it stays so, or what may end it.
+/// Appends the reason for a permanent wait, or what may end the wait.
 fn push_why(text: &mut String, ending: &Ending) -> Result<(), AllocError>
     ensures { Pushes result text.old text.new (spec.why_text ending.now) }
 {

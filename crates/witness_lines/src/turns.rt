@@ -1,9 +1,9 @@
-//! Turns of actors, and runs of equal ones.
+//! Turns of actors, and runs of equal turns.
 
 use interleaving::Event;
 use std::alloc::{AllocError, Global};
 
-/// What one actor does until another one acts, as `client web: works, submits page (queued)`.
+/// The consecutive steps of one actor, such as `client web: works, submits page (queued)`.
 #[derive(Drop)]
 struct Turn {
     actor: Event,
@@ -11,7 +11,7 @@ struct Turn {
     events: u64,
 }
 
-/// Equal turns, one after another.
+/// A sequence of equal turns.
 #[derive(Drop)]
 pub(crate) struct Run {
     pub(crate) text: String,
@@ -19,7 +19,7 @@ pub(crate) struct Run {
     pub(crate) events: u64,
 }
 
-/// The runs so far, and the turn that is not over.
+/// The completed runs, and the current turn.
 #[derive(Drop)]
 pub(crate) struct Turns {
     runs: Vec<Run>,
@@ -34,7 +34,7 @@ impl Turns {
         }
     }
 
-    /// Adds an event: what its actor does, behind what it did right before.
+    /// Adds an event. If its actor also performed the previous event, extends the current turn.
     pub(crate) fn push(
         &mut self,
         actor: Event,
@@ -78,7 +78,7 @@ impl Turns {
         Ok(())
     }
 
-    /// All runs.
+    /// Returns all runs.
     pub(crate) fn into_runs(mut self) -> Result<Vec<Run>, AllocError> {
         if let Some(last) = self.current.take() {
             self.end(last)?;

@@ -1,13 +1,14 @@
-//! Who waits for whom.
+//! The jobs, and what each of them waits for.
 
 use interleaving::{JobView, Parent, Phase, World};
 use job_bodies::{Action, Plan};
 use std::alloc::AllocError;
 
-/// How many of the jobs that wait are told, at most.
+/// The maximum number of waiting jobs that are listed.
 const MAX_LINES: usize = 20;
 
-/// A line for each of the jobs, as `job 0 (report) waits for job 1 (section)` and `job 1 (section) waits in the queue of p`.
+/// Appends a line for each of the jobs, such as `job 0 (report) waits for job 1 (section)` or `job
+/// 1 (section) waits in the queue of p, ..`.
 pub(crate) fn push_waits(
     text: &mut String,
     plan: &Plan,
@@ -57,7 +58,8 @@ fn push_wait(
     }
 }
 
-/// The job that the job of this number waits for at its position, and its class.
+/// Returns the member that the job with this number waits for at its position, and that member's
+/// class.
 fn child_at(
     plan: &Plan,
     world: &World,

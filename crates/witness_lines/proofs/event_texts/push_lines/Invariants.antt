@@ -1,4 +1,4 @@
--- The text so far and the lines that are left are all lines.
+-- The text so far, followed by the remaining lines, is the whole text.
 use Rattle.std.proofs.Common.{◌≡◌, ◌++◌, length}
 use Rattle.std.specs.Prelude.{string_bytes}
 use Rattle.event_lines.specs.LineText.{lines_text}

@@ -1,4 +1,4 @@
--- The text so far and the numbers that are left are all numbers.
+-- The text so far, followed by the remaining numbers, is the whole text.
 use Rattle.std.proofs.Common.{◌≡◌, ◌++◌, ◌∷◌, length}
 use Rattle.std.specs.Prelude.{string_bytes, flat_map, decimal}
 use Rattle.witness_lines.proofs.event_texts.push_numbers.Given as goal

@@ -1,4 +1,4 @@
--- The clients so far and those that are left are all that move.
+-- The clients so far, followed by those of the remaining events, are all clients that act.
 use Rattle.std.proofs.Common.{◌≡◌, ◌++◌, length}
 use Rattle.witness_lines.specs.Told.{movers}
 use Rattle.witness_lines.proofs.movers.movers.Given as goal

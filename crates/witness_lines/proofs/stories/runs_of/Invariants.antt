@@ -1,4 +1,4 @@
--- The world is of the plan.
+-- The world is a world of the plan.
 use Rattle.interleaving.specs.OfPlan.{IsOf}
 use Rattle.witness_lines.proofs.stories.runs_of.Given as goal
 
