@@ -1,4 +1,4 @@
--- Numbers that a loop reads word by word.
+-- Numbers that a loop parses word by word.
 use Rattle.std.proofs.Common.{◌≡◌, ℕ, true, false, List, [], ◌∷◌, ◌++◌, Option, Some, None, is_some, option_map, refl, sym, ap, ◌∙◌, append_assoc}
 use Rattle.std.proofs.lemmas.Bool.{true≢false}
 use Rattle.std.proofs.lemmas.Option.{none-some, same_Some}
@@ -21,7 +21,7 @@ members_last_bad : (text : List ℕ) → None ≡ split_space text → None ≡ 
 members_last_bad text read none = ap (all_of number_of) (words_end text read) ∙ rw (← none) refl
 
 -- ---- whether all words are numbers
--- the rest of the words are numbers just where all are
+-- the remaining words are numbers exactly if all words are
 abbrev pub SameReading : List ℕ → List ℕ → Type 0
 SameReading rest words = is_some (members_in rest) ≡ is_some (members_in words)
 
@@ -53,7 +53,7 @@ pub whole_members : (words : List ℕ) → is_some (members_in words) ≡ true �
 whole_members words all = some_there (members_in words) all
 
 -- ---- the list of the numbers
--- these numbers and those of the rest of the words are all
+-- these numbers, followed by those of the remaining words, are all numbers
 abbrev pub Front : List ℕ → List ℕ → List ℕ → Type 0
 Front front rest all = option_map (λ ns. front ++ ns) (members_in rest) ≡ Some all
 

@@ -1,4 +1,4 @@
--- The line that a text writes is the one whose text it is.
+-- A line parses as exactly the content whose canonical text it is.
 use Rattle.std.proofs.Common.{◌≡◌, ℕ, zero, suc, ◌<◌, ◌⊎◌, inl, inr, ⊎_elim, Bool, true, false, cond, not, nat_lt, nat_le, List, [], ◌∷◌, ◌++◌, length, drop, map, flat_map, slice_index_or, codes, decimal, bytes_eq, Option, Some, None, option_map, option_and_then, refl, sym, ap, ap₂, subst, ◌∙◌, arith}
 use Rattle.std.specs.List.{list_all, list_any, position_or_len, join_with_byte}
 use Rattle.std.proofs.lemmas.Bool.{and_parts, and_from, lt-ltb, ltb-true, le-leb, cond-true, not-true, or_parts}
@@ -20,7 +20,7 @@ use Rattle.line_words.proofs.FirstSpace.{splits, split_parts}
 use Rattle.line_words.proofs.Partial.{map_some}
 use Rattle.line_words.proofs.WrittenNumbers.{number_read, number_written, decimal_has_no}
 
--- one branch or the other
+-- a conditional has the value of one of its branches
 choose : {Y : Type 0} (b : Bool) (x y : Option Y) (z : Y) → cond b x y ≡ Some z → ((b ≡ true) × (x ≡ Some z)) ⊎ (y ≡ Some z)
 choose true x y z e = inl (refl, e)
 choose false x y z e = inr e
@@ -34,7 +34,7 @@ name_read plan name p read =
     let same : (pool_at plan (position_or_len test plan.pools)).name ≡ name = (bytes_eq-Decides _ name).0 (passes_at_first test plan.pools no_pool (ltb-true _ _ place.0)) in
     (subst (λ (q : ℕ). nat_lt q (length plan.pools) ≡ true) place.1 place.0, sym same ∙ ap (λ q. (pool_at plan q).name) place.1)
 
--- no name in the list is this one
+-- no name in the list is equal to this one
 others_differ : (name : List ℕ) (pools : List Pool) (p : ℕ) → list_any (bytes_eq name) (map (λ (pool : Pool). pool.name) pools) ≡ false → p < length pools → bytes_eq name (slice_index_or pools p no_pool).name ≡ false
 others_differ name [] p none within = absurd (omega arith)
 others_differ name (pool ∷ pools) zero none within = (or_parts (bytes_eq name pool.name) _ none).0
@@ -58,7 +58,7 @@ name_written plan p distinct within =
     cond-true _ _ _ inside ∙ ap (λ (q : ℕ). Some q) place
 
 -- ---- members
--- the words are the digits of lawful numbers
+-- the words are the digits of valid numbers
 abbrev AreMembers : List (List ℕ) → List ℕ → Type 0
 AreMembers words members = (list_all is_lawful_number members ≡ true) × (words ≡ map decimal members)
 
@@ -78,11 +78,11 @@ members_written (n ∷ members) lawful =
     let parts = and_parts (is_lawful_number n) (list_all is_lawful_number members) lawful in
     rw (number_written n parts.0, members_written members parts.1) refl
 
--- the words behind `stuck`
+-- the text after `stuck`
 behind_stuck : (n : ℕ) (members : List ℕ) → 32 ∷ join_with_byte 32 (map decimal (n ∷ members)) ≡ flat_map (λ m. 32 ∷ decimal m) (n ∷ members)
 behind_stuck n members = joined_behind 32 (decimal n) (map decimal members) ∙ flat_map-map (λ x. 32 ∷ x) decimal (n ∷ members)
 
--- the words of a text are those of a question
+-- words that are the digits of members make up the text of the question
 words_read : (rest : List ℕ) (members : List ℕ) → words_of rest ≡ map decimal members → (nat_le 1 (length members) ≡ true) × (32 ∷ rest ≡ flat_map (λ m. 32 ∷ decimal m) members)
 unfolding words_of
 words_read rest [] same = absurd (omega (arith, length-slice_split is_space rest, ap (λ (ws : List (List ℕ)). length ws) same))
@@ -102,11 +102,11 @@ words_written n members lawful =
     ap (cut_at 32) (sym same) ∙ cut_joined 32 (decimal n) (map decimal members) (digits_without_space (n ∷ members) lawful)
 
 -- ---- a verb and the rest
--- the verb and the rest are the lawful event's text
+-- the verb and the rest are the text of the valid event
 abbrev IsEventText : Plan → List ℕ → List ℕ → Event → Type 0
 IsEventText plan verb rest event = (is_lawful_event plan event ≡ true) × (verb ++ 32 ∷ rest ≡ event_text plan event)
 
--- the verb and the rest are the lawful line's text
+-- the verb and the rest are the text of the valid line
 abbrev IsLineText : Plan → List ℕ → List ℕ → Line → Type 0
 IsLineText plan verb rest line = (is_lawful_line plan line ≡ true) × (verb ++ 32 ∷ rest ≡ line_text plan line)
 
@@ -167,7 +167,7 @@ verb_read plan verb rest line read =
     (choose (bytes_eq verb (codes "stuck")) _ _ line read)
 
 -- ---- lines
--- a text that writes a line is the line's text, and the line is lawful
+-- if a text parses as a line, it is the line's text, and the line is valid
 pub read_line_is_text : (plan : Plan) (text : List ℕ) (line : Line) → line_of plan text ≡ Some line → (is_lawful_line plan line ≡ true) × (text ≡ line_text plan line)
 unfolding line_of
 read_line_is_text plan text line read =
@@ -179,7 +179,7 @@ pub by_verb : (plan : Plan) (verb rest : List ℕ) → has_no 32 verb ≡ true �
 unfolding line_of
 by_verb plan verb rest none = ap (λ o. option_and_then (λ words. line_of_verb plan words.0 words.1) o) (splits verb rest none)
 
--- the text of a lawful line writes that line, among distinct names
+-- if the pool names are distinct, the text of a valid line parses as that line
 pub text_reads_as_line : (plan : Plan) (line : Line) → are_distinct (pool_names plan) ≡ true → is_lawful_line plan line ≡ true → line_of plan (line_text plan line) ≡ Some line
 unfolding line_of_verb event_of stuck_of
 text_reads_as_line plan (Happens (Client c)) distinct lawful = by_verb plan (codes "client") (decimal c) refl ∙ ap (λ o. option_map Happens (option_map (λ n. Client n) o)) (number_written c lawful)
@@ -207,7 +207,7 @@ has_plain_name pool = has_no 10 pool.name
 name_on_one_line : (plan : Plan) (p : ℕ) → list_all has_plain_name plan.pools ≡ true → nat_lt p (length plan.pools) ≡ true → has_no 10 (pool_at plan p).name ≡ true
 name_on_one_line plan p names within = AllPass-from_list_all has_plain_name plan.pools names p no_pool (ltb-true _ _ within)
 
--- the text of a lawful line is not empty, and has no newline
+-- the text of a valid line is not empty and has no newline
 pub line_on_one_line : (plan : Plan) (line : Line) → list_all has_plain_name plan.pools ≡ true → is_lawful_line plan line ≡ true → is_piece 10 (line_text plan line) ≡ true
 line_on_one_line plan (Happens (Client c)) names lawful = and_from _ _ (lt-ltb 0 _ (omega arith)) (decimal_has_no 10 c (omega arith) lawful)
 line_on_one_line plan (Happens (Job j)) names lawful = and_from _ _ (lt-ltb 0 _ (omega arith)) (decimal_has_no 10 j (omega arith) lawful)

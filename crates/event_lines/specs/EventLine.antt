@@ -1,4 +1,4 @@
--- What a line of events says: an event, or a question whether some jobs wait for each other alone.
+-- The content of an event line: an event, or the question whether some jobs wait only for each other.
 use Rattle.std.specs.Prelude.{ℕ, ◌+◌, if◌then◌else◌, List, map, position, codes, Option, Some, None, Result, Ok, Err, option_map, option_and_then}
 use Rattle.std.specs.Str.{bytes_eq}
 use Rattle.readings.specs.Reading.{some_or, read_each}
@@ -16,16 +16,16 @@ pub data Line : Type 0 where
   Happens : Event → Line
   Stuck : List ℕ → Line
 
--- a line as the program keeps it
+-- the abstract view of a parsed line
 abbrev pub line_seen : EventLine → Line
 line_seen (code.Happens e) = Happens e
 line_seen (code.Stuck members) = Stuck members
 
--- the number of the pool of this name
+-- the number of the pool with this name
 unfoldable pub pool_named : Plan → List ℕ → Option ℕ
 pool_named plan name = position (λ pool. bytes_eq pool.name name) plan.pools
 
--- the event of a line's verb, and of what stands after the space behind it
+-- the event of a verb, given the text after the space that follows it
 unfoldable pub event_of : Plan → List ℕ → List ℕ → Option Event
 event_of plan verb rest =
     if bytes_eq verb (codes "client") then option_map (λ n. event.Client n) (number_of rest)
@@ -34,42 +34,42 @@ event_of plan verb rest =
     else (if bytes_eq verb (codes "retire") then option_map (λ p. event.Retire p) (pool_named plan rest)
     else None)))
 
--- a question of jobs, which are named by their numbers
+-- the question about jobs, which are given by their numbers
 unfoldable pub stuck_of : List ℕ → Option Line
 stuck_of rest = option_map Stuck (members_in rest)
 
--- the line of a verb, and of what stands after the space behind it
+-- the line of a verb, given the text after the space that follows it
 unfoldable pub line_of_verb : Plan → List ℕ → List ℕ → Option Line
 line_of_verb plan verb rest =
     if bytes_eq verb (codes "stuck") then stuck_of rest else option_map Happens (event_of plan verb rest)
 
--- the line that a text writes, on this plan
+-- the content of a line, for this plan
 unfoldable pub line_of : Plan → List ℕ → Option Line
 line_of plan text = option_and_then (λ words. line_of_verb plan words.0 words.1) (split_space text)
 
--- the line that the first line of a text writes, and what stands behind it
+-- the content of the first line, and the text after it
 abbrev pub split_event_line : Plan → List ℕ → Option (Line × List ℕ)
 split_event_line plan text = option_map (λ line. (line, behind_line text)) (line_of plan (first_line text))
 
--- the line at a place of a text, or its number, counted from 1
+-- the content of the line at an index of a text, or its number, counted from 1
 abbrev pub line_at : Plan → ℕ → List ℕ → Result Line ℕ
 line_at plan place text = some_or (line_of plan text) (place + 1)
 
--- the lines of a text, or the number of the first bad line, counted from 1
+-- the lines of a text, or the number of the first malformed line, counted from 1
 unfoldable pub event_lines : Plan → List ℕ → Result (List Line) ℕ
 event_lines plan text = read_each (line_at plan) 0 (lines_of text)
 
--- ---- one line after another
+-- ---- the lines one at a time
 
--- what a line says, as the program reads it
+-- the content of a line, or None for an error
 abbrev pub line_read : Result EventLine BadEventLine → Option Line
 line_read (Ok line) = Some (line_seen line)
 line_read (Err bad) = None
 
--- what each line of a text says, None where it is a bad one
+-- the content of each line of a text, None for a malformed line
 abbrev pub lines_read : Plan → List ℕ → List (Option Line)
 lines_read plan text = map (line_of plan) (lines_of text)
 
--- what lines say, or the number of the first bad one, counted from 1, the first line's place being i
+-- the lines, or the number of the first malformed one, counted from 1, if the first line has index i
 abbrev pub all_from : ℕ → List (Option Line) → Result (List Line) ℕ
 all_from i lines = read_each (λ place line. some_or line (place + 1)) i lines

@@ -1,4 +1,4 @@
--- What the reading of events keeps.
+-- The law of the parser of event lines.
 use Rattle.std.specs.Prelude.{◌≡◌, ◌⊎◌, ◌↔◌, ℕ, IsTrue, List, [], ◌∷◌, ◌++◌, Ok}
 use Rattle.std.specs.List.{list_all}
 use Rattle.job_bodies.specs.Plan.{Plan}
@@ -6,11 +6,11 @@ use Rattle.job_bodies.specs.WellFormed.{IsWellFormed}
 use Rattle.event_lines.specs.EventLine.{Line, event_lines}
 use Rattle.event_lines.specs.LineText.{lines_text, is_lawful_line}
 
--- the text is those lines as they are written, or is so once it has the newline behind its last line
+-- the text is the canonical text of those lines, with or without the last newline
 abbrev pub Writes : Plan → List ℕ → List Line → Type 0
 Writes plan text lines = (text ≡ lines_text plan lines) ⊎ (text ++ 10 ∷ [] ≡ lines_text plan lines)
 
--- a text is read as those lines just where it writes them, and they are lawful
+-- a text parses as those lines exactly if it is their canonical text and the lines are valid
 abbrev pub EventLinesAreCanonical : Type 0
 EventLinesAreCanonical = (plan : Plan) (text : List ℕ) (lines : List Line) → IsWellFormed plan
     → event_lines plan text ≡ Ok lines ↔ IsTrue (list_all (is_lawful_line plan) lines) × Writes plan text lines

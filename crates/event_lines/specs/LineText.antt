@@ -1,4 +1,4 @@
--- The lines of events as they are written, and which lines there can be.
+-- The canonical text of event lines, and the valid lines.
 use Rattle.std.specs.Prelude.{ℕ, Bool, ◌&&◌, nat_lt, nat_le, List, [], ◌∷◌, ◌++◌, length, codes, decimal, flat_map}
 use Rattle.std.specs.List.{list_all}
 use Rattle.line_words.specs.Number.{is_lawful_number}
@@ -7,30 +7,30 @@ use Rattle.written_machine.specs.declared.event.Event.{Event}
 use Rattle.written_machine.specs.declared.event.Event.TheVariants.{Client, Job, Take, Retire}
 use Rattle.event_lines.specs.EventLine.{Line, Happens, Stuck}
 
--- an event
+-- the text of an event
 abbrev pub event_text : Plan → Event → List ℕ
 event_text plan (Client c) = codes "client " ++ decimal c
 event_text plan (Job j) = codes "job " ++ decimal j
 event_text plan (Take p) = codes "take " ++ (pool_at plan p).name
 event_text plan (Retire p) = codes "retire " ++ (pool_at plan p).name
 
--- a line, without its newline
+-- the text of a line, without its newline
 abbrev pub line_text : Plan → Line → List ℕ
 line_text plan (Happens event) = event_text plan event
 line_text plan (Stuck members) = codes "stuck" ++ flat_map (λ n. 32 ∷ decimal n) members
 
--- lines, each with its newline
+-- the text of lines, each with its newline
 abbrev pub lines_text : Plan → List Line → List ℕ
 lines_text plan lines = flat_map (λ line. line_text plan line ++ 10 ∷ []) lines
 
--- an event of a number within the limit, or of a pool that there is
+-- the number of the event is within the limit, or the pool of the event exists
 abbrev pub is_lawful_event : Plan → Event → Bool
 is_lawful_event plan (Client c) = is_lawful_number c
 is_lawful_event plan (Job j) = is_lawful_number j
 is_lawful_event plan (Take p) = nat_lt p (length plan.pools)
 is_lawful_event plan (Retire p) = nat_lt p (length plan.pools)
 
--- a lawful event, or a question of one job or more
+-- a valid event, or a question with at least one job, whose numbers are valid
 abbrev pub is_lawful_line : Plan → Line → Bool
 is_lawful_line plan (Happens event) = is_lawful_event plan event
 is_lawful_line plan (Stuck members) = nat_le 1 (length members) && list_all is_lawful_number members

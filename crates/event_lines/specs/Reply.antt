@@ -1,4 +1,4 @@
--- The lines that answer lines of events, and the last line of a replay.
+-- The lines that reply to event lines, and the last line of a replay.
 use Rattle.std.specs.Prelude.{ℕ, true, false, List, [], ◌∷◌, ◌++◌, codes}
 use Rattle.std.specs.Fmt.{decimal}
 use Rattle.job_bodies.specs.Plan.{Plan, pool_at}
@@ -7,7 +7,7 @@ use Rattle.written_machine.specs.declared.event.Outcome.TheVariants.{Started, Qu
 use Rattle.event_lines.specs.declared.reply.Reply.{Reply}
 use Rattle.event_lines.specs.declared.reply.Reply.TheVariants.{Happened, NotPossible, Stuck}
 
--- what came of an event
+-- the text of an outcome
 abbrev pub outcome_text : Plan → Outcome → List ℕ
 outcome_text plan (Started j) = codes "started job " ++ decimal j
 outcome_text plan (Queued j) = codes "queued job " ++ decimal j
@@ -19,14 +19,14 @@ outcome_text plan (Finished j) = codes "finished job " ++ decimal j
 outcome_text plan (Took j) = codes "took job " ++ decimal j
 outcome_text plan Retired = codes "retired"
 
--- what a line of events is answered
+-- the text of a reply
 abbrev pub reply_text : Plan → Reply → List ℕ
 reply_text plan (Happened outcome) = outcome_text plan outcome
 reply_text plan NotPossible = codes "not possible"
 reply_text plan (Stuck true) = codes "stuck yes"
 reply_text plan (Stuck false) = codes "stuck no"
 
--- a numbered line
+-- a line with its number
 abbrev pub numbered : ℕ → List ℕ → List ℕ
 numbered number text = decimal number ++ codes ": " ++ text ++ 10 ∷ []
 

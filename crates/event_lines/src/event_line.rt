@@ -1,4 +1,4 @@
-//! What a line of events says.
+//! The content of an event line.
 
 ghost use Rattle.std.specs.Prelude.{◌≡◌, ◌≢◌, ◌++◌, ℕ, List, codes, option_map, MatchOption};
 ghost use Rattle.line_words.specs.Number.{split_number_line};
@@ -10,18 +10,20 @@ use job_bodies::Plan;
 use line_words::{leading_number, split_line};
 use written_machine::Event;
 
-/// What a line of events says.
+/// The content of an event line.
 #[derive(Debug, Drop)]
 pub enum EventLine<'a> {
-    /// This event is to happen.
+    /// The event to perform.
     Happens(Event),
-    /// Do these jobs wait for each other alone?
+    /// The question whether these jobs wait only for each other.
     Stuck(NamedJobs<'a>),
 }
 
-/// What the first line of a text says, and what stands behind that line; None where it says nothing.
+/// Parses the first line of a text, and returns its content and the text after it. Returns `None`
+/// if the line is not well-formed.
 ///
-/// Most lines are of a job or a client. They end where their number does, so no newline is looked for.
+/// Most lines name a job or a client. Such a line is parsed up to the end of its number, without a
+/// search for the newline.
 #[inline(always)]
 pub(crate) fn split_event_line<'a>(plan: &Plan, text: &'a [u8]) -> Option<(EventLine<'a>, &'a [u8])>
     ensures { option_map (λ read. (line_seen read.0, read.1.now)) result
@@ -39,7 +41,8 @@ pub(crate) fn split_event_line<'a>(plan: &Plan, text: &'a [u8]) -> Option<(Event
     Some((line_of_others(plan, line)?, behind))
 }
 
-/// What stands behind `client `. Of seven bytes at once the compiler makes vector instructions, at twice the cost.
+/// Returns the text after `client `. A comparison of seven bytes at once compiles to vector
+/// instructions, which cost twice as much.
 #[inline(always)]
 fn behind_client(text: &[u8]) -> Option<&[u8]>
     ensures { MatchOption result ((rest : List ℕ) → text.now ≢ codes "client " ++ rest)
@@ -48,7 +51,7 @@ fn behind_client(text: &[u8]) -> Option<&[u8]>
     text.strip_prefix(b"clie")?.strip_prefix(b"nt ")
 }
 
-/// The number that the first line of a text writes, and what stands behind that line.
+/// Parses the number on the first line of a text, and returns it and the text after that line.
 fn split_number_line(text: &[u8]) -> Option<(usize, &[u8])>
     ensures { option_map (λ read. (read.0, read.1.now)) result ≡ split_number_line text.now }
 {
@@ -59,7 +62,7 @@ fn split_number_line(text: &[u8]) -> Option<(usize, &[u8])>
     Some((number, behind.strip_prefix(b"\n")?))
 }
 
-/// What a line says that names no single client or job.
+/// Parses a line that does not begin with `client ` or `job `.
 fn line_of_others<'a>(plan: &Plan, line: &'a [u8]) -> Option<EventLine<'a>>
     requires no_client { (number : List ℕ) → line.now ≢ codes "client " ++ number }
     requires no_job { (number : List ℕ) → line.now ≢ codes "job " ++ number }

@@ -1,8 +1,8 @@
-//! The lines of a replay: those that say what happens (`client 0`, `take p`, `stuck 0 1`), and those that answer what came
-//! of it (`1: started job 0`).
+//! The lines of a replay: its input, with events and questions (`client 0`, `take p`, `stuck 0 1`),
+//! and its output, with their outcomes (`1: started job 0`).
 //!
-//! [`EventLines`] reads them one after another. The answers are put one after another behind a text, each with the number
-//! of the line that it answers.
+//! [`EventLines`] parses the input line by line. The functions for the output append one line at a
+//! time, each with the number of the input line that it answers.
 #![tactic(auto)]
 
 mod event_line;

@@ -1,4 +1,4 @@
-//! The lines of a text of events.
+//! The lines of an input text.
 
 ghost use Rattle.std.specs.Prelude.{◌≡◌, ◌≤◌, ◌∷◌, [], length, MatchOption};
 ghost use Rattle.event_lines.specs.EventLine.{line_read, lines_read};
@@ -8,15 +8,15 @@ use job_bodies::Plan;
 use line_words::split_line;
 use std::marker::Model;
 
-/// Lines of events. [`next`](EventLines::next) reads them one after another, each once, so that they need no room beside
-/// their text.
+/// A parser of the lines of an input text. [`next`](EventLines::next) parses each line once, on
+/// demand, so that the parser allocates no memory.
 #[derive(Debug, Drop)]
 pub struct EventLines<'a> {
     plan: &'a Plan,
     rest: &'a [u8],
 }
 
-/// A line that is none of the forms of a line of events.
+/// The error for a line that is not well-formed.
 #[derive(Clone, Copy, Debug, PartialEq, Eq)]
 pub struct BadEventLine;
 
@@ -30,9 +30,10 @@ impl<'a> Model for EventLines<'a> {
 }
 
 impl<'a> EventLines<'a> {
-    /// The lines of a text, each `client N`, `job N`, `take POOL`, `retire POOL` or `stuck N N ..`. A number is at most
-    /// [`MAX_LINE_NUMBER`](job_bodies::MAX_LINE_NUMBER), and has no leading zero; a pool is one of the plan's, by its name. The last
-    /// newline may be missing.
+    /// Creates a parser of the lines of a text. Each line must have the form `client N`, `job N`,
+    /// `take POOL`, `retire POOL` or `stuck N N ..`. A number is at most
+    /// [`MAX_LINE_NUMBER`](job_bodies::MAX_LINE_NUMBER) and has no leading zero. `POOL` is the name
+    /// of a pool of the plan. The last newline may be missing.
     pub fn new(plan: &'a Plan, text: &'a [u8]) -> EventLines<'a>
         ensures lines { result ≡ lines_read plan.now text.now }
         ensures few { length result ≤ length text.now }
@@ -40,11 +41,12 @@ impl<'a> EventLines<'a> {
         EventLines { plan, rest: text }
     }
 
-    /// The next line; None behind the last one.
+    /// Returns the next line, or `None` after the last one.
     ///
     /// # Errors
     ///
-    /// [`BadEventLine`] in the place of a line that is none of the forms. The lines behind it can be read.
+    /// Returns [`BadEventLine`] for a line that is not well-formed. The next call returns the line
+    /// after it.
     #[inline(always)]
     pub fn next(&mut self) -> Option<Result<EventLine<'a>, BadEventLine>>
         ensures { MatchOption result ((self.old ≡ []) × (self.new ≡ []))

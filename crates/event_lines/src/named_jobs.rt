@@ -1,4 +1,4 @@
-//! The jobs that a line `stuck` names.
+//! The jobs that a `stuck` line names.
 
 ghost use Rattle.std.specs.Prelude.{◌≡◌, IfOk};
 ghost use Rattle.event_lines.specs.Words.{members_in};
@@ -7,10 +7,10 @@ use line_words::{number_of, split_space};
 use std::alloc::{AllocError, Global};
 use std::marker::Model;
 
-/// The numbers of some jobs.
+/// A list of job numbers.
 #[derive(Debug, Drop)]
 pub struct NamedJobs<'a> {
-    // A number each, with a space between each two.
+    // The numbers as text, separated by single spaces.
     words: &'a [u8],
 }
 
@@ -26,7 +26,8 @@ impl<'a> Model for NamedJobs<'a> {
 }
 
 impl<'a> NamedJobs<'a> {
-    /// The numbers that the words of a text write, with a space between each two; None where one writes no number.
+    /// Parses job numbers that are separated by single spaces. Returns `None` if a word is not a
+    /// number.
     pub(crate) fn read(words: &'a [u8]) -> Option<NamedJobs<'a>>
         ensures { result ≡ members_in words.now }
     {
@@ -39,11 +40,11 @@ impl<'a> NamedJobs<'a> {
         Some(NamedJobs { words })
     }
 
-    /// The numbers in a list.
+    /// Returns the numbers as a vector.
     ///
     /// # Errors
     ///
-    /// [`AllocError`] where memory runs out.
+    /// Returns [`AllocError`] if memory runs out.
     pub fn to_vec(&self, alloc: Global) -> Result<Vec<usize>, AllocError>
         ensures { IfOk result (λ numbers. numbers.items ≡ self.now) }
     {

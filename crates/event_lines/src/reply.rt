@@ -1,4 +1,4 @@
-//! What lines of events are answered.
+//! The replies to event lines.
 
 ghost use Rattle.std.specs.Prelude.{◌++◌, codes, decimal};
 ghost use Rattle.decimals.specs.Pushed.{Pushes};
@@ -9,23 +9,23 @@ use job_bodies::Plan;
 use std::alloc::AllocError;
 use written_machine::Outcome;
 
-/// What a line of events is answered.
+/// The reply to an event line.
 #[derive(Clone, Copy, Debug, PartialEq, Eq)]
 pub enum Reply {
-    /// The event happened, and this came of it.
+    /// The event was performed, with this outcome.
     Happened(Outcome),
     /// The event was not possible.
     NotPossible,
-    /// Whether the jobs wait for each other alone.
+    /// Whether the jobs wait only for each other.
     Stuck(bool),
 }
 
-/// Answers the line of this number, counted from 1, as `7: queued job 2`, `7: not possible` or `7: stuck yes`. The plan has the
-/// names of the pools.
+/// Appends the reply to the line with this number, counted from 1, such as `7: queued job 2`, `7:
+/// not possible` or `7: stuck yes`. The names of the pools come from the plan.
 ///
 /// # Errors
 ///
-/// [`AllocError`] where memory runs out.
+/// Returns [`AllocError`] if memory runs out.
 pub fn push_reply(
     text: &mut String,
     plan: &Plan,
@@ -39,7 +39,8 @@ pub fn push_reply(
     text.push('\n')
 }
 
-/// What stands behind the number of a line, with the colon: a piece for each number and name, and no more.
+/// Appends the reply after the line number, beginning with the colon. Appends one piece for each
+/// number and name, to keep the number of calls low.
 fn push_reply_text(text: &mut String, plan: &Plan, reply: Reply) -> Result<(), AllocError>
     ensures { Pushes result text.old text.new (codes ": " ++ reply_text plan.now reply) }
 {
@@ -67,7 +68,7 @@ fn push_outcome(text: &mut String, plan: &Plan, outcome: Outcome) -> Result<(), 
     }
 }
 
-/// Words, and a number behind them.
+/// Appends words and a number.
 fn push_counted(text: &mut String, words: &str, number: u64) -> Result<(), AllocError>
     ensures { Pushes result text.old text.new (words.now ++ decimal number) }
 {
@@ -75,7 +76,7 @@ fn push_counted(text: &mut String, words: &str, number: u64) -> Result<(), Alloc
     push_number(text, number)
 }
 
-/// Words, and a name behind them.
+/// Appends words and a name.
 fn push_named(text: &mut String, words: &str, name: &str) -> Result<(), AllocError>
     ensures { Pushes result text.old text.new (words.now ++ name.now) }
 {
@@ -83,11 +84,12 @@ fn push_named(text: &mut String, words: &str, name: &str) -> Result<(), AllocErr
     text.push_str(name)
 }
 
-/// Ends a replay: how many jobs were refused, and how many were not finished, as `refusals 0, unfinished 2`.
+/// Appends the last line of a replay, with the numbers of rejected and unfinished jobs, such as
+/// `refusals 0, unfinished 2`.
 ///
 /// # Errors
 ///
-/// [`AllocError`] where memory runs out.
+/// Returns [`AllocError`] if memory runs out.
 pub fn push_summary(text: &mut String, refusals: u64, unfinished: u64) -> Result<(), AllocError>
     ensures { Pushes result text.old text.new (summary refusals unfinished) }
 {
