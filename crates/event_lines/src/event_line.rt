@@ -41,8 +41,8 @@ pub(crate) fn split_event_line<'a>(plan: &Plan, text: &'a [u8]) -> Option<(Event
     Some((line_of_others(plan, line)?, behind))
 }
 
-/// Returns the text after `client `. A comparison of seven bytes at once compiles to vector
-/// instructions, which cost twice as much.
+/// Returns the text after `client `. Compares the prefix in two parts: a comparison of seven bytes
+/// compiles to vector instructions, at twice the cost.
 #[inline(always)]
 fn behind_client(text: &[u8]) -> Option<&[u8]>
     ensures { MatchOption result ((rest : List ℕ) → text.now ≢ codes "client " ++ rest)

@@ -20,8 +20,8 @@ pub enum Reply {
     Stuck(bool),
 }
 
-/// Appends the reply to the line with this number, counted from 1, such as `7: queued job 2`, `7:
-/// not possible` or `7: stuck yes`. The names of the pools come from the plan.
+/// Appends the reply to the line with this number, counted from 1, such as `7: queued job 2`,
+/// `7: not possible` or `7: stuck yes`. The names of the pools come from the plan.
 ///
 /// # Errors
 ///

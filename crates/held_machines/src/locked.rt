@@ -3,8 +3,8 @@
 use crate::{Held, Machine};
 use std::sync::{Condvar, Mutex, MutexGuard, Wait};
 
-/// A machine with its history that threads share. One thread at a time holds its lock; other
-/// threads can wait until it was changed.
+/// A machine with its history, shared by threads. One thread at a time holds its lock; other
+/// threads can wait until the machine changes.
 #[derive(Drop)]
 pub struct Locked<M: Machine + Drop> {
     held: Mutex<Held<M>>,

@@ -141,8 +141,9 @@ fn lay_out(table: &mut Vec<Option<(Call, usize)>>, len: usize) -> Result<(), All
     table.resize(len, None)
 }
 
-// Not inlined: look-ups in the map are rare. The caller checks first whether the map is empty,
-// since a look-up in an empty map would compute the hash as well.
+// Returns the number of the job that the call created, if the map has it. Not inlined, since
+// look-ups in the map are rare. The caller checks first whether the map is empty, since a look-up
+// in an empty map would compute the hash as well.
 #[inline(never)]
 fn get_other(others: &HashMap<Call, usize>, call: Call) -> Option<usize>
     ensures { result ≡ lookup (same_pair call) others.now.entries }

@@ -6,36 +6,36 @@ ghost use Rattle.job_bodies.specs.WellFormed.{has_lawful_sizes};
 ghost use Rattle.pool_machine.specs.PoolState.{PoolView, IsSound, new_pool};
 ghost use Rattle.pool_machine.specs.Laws.{IsKept, HasSizesOf, QueuesOnlyAtCore, LoadIsOffered, SaysNo};
 
-/// No event changes a pool's core, maximum or capacity.
+/// Proves that no event changes a pool's core, maximum or capacity.
 pub fn sizes_stay()
     ensures { (first : PoolView) → IsKept (HasSizesOf first) }
 {}
 
-/// A pool of valid sizes never has more threads than its maximum, more idle workers than threads or
-/// more queued jobs than its capacity.
+/// Proves that a pool of valid sizes never has more threads than its maximum, more idle workers
+/// than threads or more queued jobs than its capacity.
 pub fn pools_stay_sound()
     ensures start { (pool : Pool) → IsTrue (has_lawful_sizes pool) → IsSound (new_pool pool) }
     ensures kept { IsKept IsSound }
 {}
 
-/// A pool with a queued job has at least `core` threads: a pool queues a job only at `core` threads
-/// or more, and core threads never end.
+/// Proves that a pool with a queued job has at least `core` threads. A pool queues a job only at
+/// `core` threads or more, and core threads never end.
 pub fn queues_only_at_core()
     ensures start { (pool : Pool) → QueuesOnlyAtCore (new_pool pool) }
     ensures kept { IsKept QueuesOnlyAtCore }
 {}
 
-/// A pool's load is the number of its threads and queued jobs. It begins with the number of first
-/// workers. Only an offer increases it, by at most 1. A pool that rejects a job was therefore
-/// offered at least as many jobs as its capacity and its maximum together, less its first workers.
+/// Proves that a pool's load, which is the number of its threads and queued jobs, begins with the
+/// number of first workers, and that only an offer increases it, by at most 1. A pool that rejects
+/// a job was therefore offered at least as many jobs as its capacity and its maximum together, less
+/// its first workers.
 pub fn load_is_offered()
     ensures { LoadIsOffered }
 {}
 
-/// The conditions under which an operation of a pool fails. The pool rejects a job exactly when its
-/// queue is full and it has `max` threads. A take returns nothing exactly when no worker is idle or
-/// the queue is empty. No worker ends exactly when no worker is idle or there are at most `core`
-/// threads.
+/// Proves when an operation of a pool fails. The pool rejects a job exactly when its queue is full
+/// and it has `max` threads. A take returns nothing exactly when no worker is idle or the queue is
+/// empty. No worker ends exactly when no worker is idle or there are at most `core` threads.
 pub fn pools_say_no()
     ensures { (pool : PoolView) → IsSound pool → SaysNo pool }
 {}

@@ -66,7 +66,7 @@ units plan ranks rounds = by_jobs plan ranks rounds (own Units) + sum_by (units_
 abbrev pub most_events : Plan → Ranks → ℕ → ℕ
 most_events plan ranks rounds = by_jobs plan ranks rounds (own Events) + sum_by (events_of_clients rounds) plan.clients
 
--- if the rows of the ranks hold, a job's number is its own number plus the numbers of the classes that it submits
+-- if the rows of the ranks hold, the quantity of a job is its own quantity plus those of the classes that it submits
 abbrev pub CausedIsWhole : Type 0
 CausedIsWhole = (plan : Plan) (ranks : Ranks) (own : Class → ℕ) (k : ℕ) → AllHold (rank_rows plan ranks) → caused plan ranks own k ≡ own (class_at plan k) + submitted (caused plan ranks own) (class_at plan k).body
 

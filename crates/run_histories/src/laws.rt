@@ -2,14 +2,15 @@
 
 ghost use Rattle.run_histories.specs.RunNumbers.{CausedIsWhole, NumbersAreOfThePlan};
 
-/// If the rows of the ranks hold, the number of a job class, with all jobs that it causes, is its
-/// own number plus the numbers of the classes that it submits: no generation is missing.
+/// Proves that, if the rows of the ranks hold, the quantity of a job with all jobs that it causes
+/// is its own quantity plus the quantities of the classes that it submits: no generation is
+/// missing.
 pub fn caused_is_whole()
     ensures { CausedIsWhole }
 {}
 
-/// All ranks whose rows hold give a run the same numbers of jobs, units and events. These numbers
-/// depend on the plan, and not on the certificate.
+/// Proves that all ranks whose rows hold give a run the same numbers of jobs, units and events.
+/// These numbers depend on the plan, and not on the certificate.
 pub fn numbers_are_of_the_plan()
     ensures { NumbersAreOfThePlan }
 {}

@@ -52,7 +52,7 @@ pub fn run_numbers(
     })
 }
 
-/// A quantity of a run.
+/// A quantity that is summed over the jobs of a run.
 #[derive(Clone, Copy)]
 enum Measure {
     Jobs,

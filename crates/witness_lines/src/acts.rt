@@ -6,8 +6,8 @@ use interleaving::{Event, Outcome, Phase, World};
 use job_bodies::{Action, Client, Plan};
 use std::alloc::{AllocError, Global};
 
-/// Performs the event, and returns its description in two parts, such as `client web` and `submits
-/// page (queued)`. Returns `None` if the event is not possible.
+/// Performs the event, and returns its description in two parts, such as `client web` and
+/// `submits page (queued)`. Returns `None` if the event is not possible.
 pub(crate) fn told_step(
     alloc: Global,
     world: &mut World,

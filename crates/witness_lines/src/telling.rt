@@ -11,9 +11,9 @@ use job_bodies::Plan;
 use plan_witnesses::{Ending, Reason, Witness};
 use std::alloc::{AllocError, Global};
 
-/// Returns the description of a witness. Its first line is like `refused by db, after 7 events of 2
-/// clients`. Then come the events, the pools, and what each job waits for. The last line says why
-/// the jobs wait permanently, or what may end the wait.
+/// Returns the description of a witness. Its first line is like
+/// `refused by db, after 7 events of 2 clients`. Then come the events, the pools, and what each job
+/// waits for. The last line says why the jobs wait permanently, or what may end the wait.
 ///
 /// # Errors
 ///

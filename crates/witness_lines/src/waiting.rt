@@ -7,8 +7,8 @@ use std::alloc::AllocError;
 /// The maximum number of waiting jobs that are listed.
 const MAX_LINES: usize = 20;
 
-/// Appends a line for each of the jobs, such as `job 0 (report) waits for job 1 (section)` or `job
-/// 1 (section) waits in the queue of p, ..`.
+/// Appends a line for each of the jobs, such as `job 0 (report) waits for job 1 (section)` or
+/// `job 1 (section) waits in the queue of p, ..`.
 pub(crate) fn push_waits(
     text: &mut String,
     plan: &Plan,

@@ -24,7 +24,7 @@ struct Node {
     is_open: bool,
 }
 
-/// A reached state, with the amount lost of each vector on the way to it.
+/// A reached state, with the total loss of each vector on the way to it.
 #[derive(Drop)]
 struct Reached<'a> {
     walk: Walk<'a>,
@@ -143,7 +143,8 @@ impl<'a> BestFirst<'a> {
         Ok(number)
     }
 
-    /// Closes the most promising open state, and returns it. The measures take turns by `turn`.
+    /// Closes an open state, and returns its number. By turns, each measure selects the state that
+    /// is most promising by it, and one further turn selects the oldest state.
     fn next_open(&mut self, turn: usize) -> Option<usize> {
         let measures = self.opens.len().saturating_add(1);
         let measure = turn.checked_rem(measures)?;

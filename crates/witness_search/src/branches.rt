@@ -63,7 +63,7 @@ impl<'a> Walk<'a> {
             && !ready.is_empty())
     }
 
-    /// Returns the amount of a vector that the branch loses.
+    /// Returns the loss of the branch, measured by the weights of a vector.
     pub(crate) fn loss(&self, branch: Branch, scale: &Scale) -> u64 {
         let Some(choice) = self.choices.all.get(branch.place).copied() else {
             return 0;
