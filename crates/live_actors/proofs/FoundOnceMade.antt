@@ -67,7 +67,7 @@ module _ (jobs : List (Option JobView)) (job : JobView) where
       subst (λ b. is_live_child b t (live_job (with_new jobs job) (length jobs)) ≡ true) (sym same.0)
       (subst (λ u. is_live_child job.parent u (live_job (with_new jobs job) (length jobs)) ≡ true) (sym same.1) (ap (is_live_child job.parent job.slot) new_job ∙ child_itself job))
 
-  -- an actor that may ask could ask before, unless it is the new job
+  -- an actor that may get its jobs could do so before, unless it is the new job
   asked : (a : Parent) → may_ask_for (with_new jobs job) a ≡ true → a ≢ parent.Job (length jobs) → may_ask_for jobs a ≡ true
   asked (parent.Client c) e other = refl
   asked (parent.Job j) e other = ⊎_elim

@@ -15,7 +15,7 @@ use Rattle.live_actors.proofs.MakersStay.{AreFading}
 use Rattle.live_actors.proofs.LatestFound.{made_if_child, reached_fading, child_itself}
 use Rattle.live_actors.proofs.FoundOnceFinished.{fading, fin_finished, found_finished}
 
--- a job that is not done may ask
+-- a job that is not done may still get its jobs
 pub asks_of : (jobs : List (Option JobView)) (n : ℕ) (job : JobView) → live_job jobs n ≡ Some job → is_done job.phase ≡ false → may_ask_for jobs (parent.Job n) ≡ true
 asks_of jobs n job live going = ap is_unfinished_job live ∙ ap not going
 

@@ -47,7 +47,7 @@ same_answer None None f g = refl
 same_answer None (Some k) f g = g k refl
 same_answer (Some k) c f g = sym (f k refl)
 
--- an actor that may ask finds its latest job
+-- an actor that may still get its jobs finds its latest job
 pub found_is_child : (jobs : List (Option JobView)) (latest : LatestList) (a : Parent) (t : ℕ) → AreFound jobs latest → may_ask_for jobs a ≡ true → found latest a t ≡ live_child jobs a t
 found_is_child jobs latest a t f asks =
     same_answer (found latest a t) (live_child jobs a t) (λ k e. is_latest jobs a t k (f.sound a t k e)) (λ k e. f.complete a t k asks (latest_is jobs a t k e))
@@ -131,7 +131,7 @@ phased_child jobs n to a t k = ⊎_elim
     (λ (other : k ≢ n). ap (is_live_child a t) (get_or-set_other jobs n k (in_phase to (live_job jobs n)) None other))
     (cases_eq k n)
 
--- an actor that may ask could ask before if no job became unfinished
+-- an actor that may get its jobs could do so before if no job became unfinished
 pub asks_before : (jobs after : List (Option JobView)) (a : Parent) → ((k : ℕ) → is_unfinished_job (live_job after k) ≡ true → is_unfinished_job (live_job jobs k) ≡ true) → may_ask_for after a ≡ true → may_ask_for jobs a ≡ true
 asks_before jobs after (parent.Client c) each e = refl
 asks_before jobs after (parent.Job j) each e = each j e

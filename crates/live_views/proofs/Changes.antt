@@ -22,7 +22,7 @@ use Rattle.live_views.proofs.View.{seen, phase_with, job_seen-with, length-view,
 abbrev pub as_seen : Made → Phase → JobView
 as_seen job phase = record { class = job.class; parent = job.parent; slot = job.slot; phase = phase }
 
--- the view of a job stays if the job, whether its parent may ask, and the parent's latest job stay
+-- the view of a job stays if the job, the latest job of its submit, and whether its parent may still get it stay the same
 pub seen_same : (s s' : State) (n : ℕ) → job_at s' n ≡ job_at s n → may_ask s' (job_at s n).parent ≡ may_ask s (job_at s n).parent
     → child s' (job_at s n).parent (job_at s n).slot ≡ child s (job_at s n).parent (job_at s n).slot → seen s' n ≡ seen s n
 seen_same s s' n same asks latest =

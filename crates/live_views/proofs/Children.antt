@@ -1,4 +1,4 @@
--- If an actor may ask, its latest job in the state is its latest job in the view.
+-- If an actor may still get its jobs, its latest job in the state is its latest job in the view.
 use Rattle.std.proofs.Common.{◌≡◌, ◌≢◌, ℕ, ◌<◌, Bool, true, false, ◌&&◌, ◌==◌, if◌then◌else◌, length, Option, Some, None, refl, sym, ap, ap₂, ◌∙◌, arith}
 use Rattle.std.proofs.lemmas.Bool.{and_from, eq-eqb}
 use Rattle.std.proofs.lemmas.List.{get_or_default}
@@ -54,7 +54,7 @@ live_if_done s j job asks e =
     let answers = and_from (may_ask s job.parent) (is_number (child s job.parent job.slot) j) asks (ap (λ o. is_number o j) e ∙ eq-eqb j j refl) in
     if_true (may_ask s job.parent && is_number (child s job.parent job.slot) j) phase.Done answers
 
--- the latest job of an actor that may ask is live unless it is claimed
+-- the latest job of an actor that may still get its jobs is live unless it is claimed
 is_live : (s : State) (j : ℕ) (job : Made) (stage : Stage) → may_ask s job.parent ≡ true → child s job.parent job.slot ≡ Some j → stage ≢ Claimed → (phase : Phase) × (phase_seen s j job stage ≡ Some phase)
 is_live s j job Queued asks e unclaimed = (phase.Queued, refl)
 is_live s j job (At i) asks e unclaimed = (phase.At i, refl)
@@ -72,7 +72,7 @@ child_seen plan s a t j asks e unclaimed =
     let live = child_live s a t j asks e unclaimed in
     live_child_is plan s a t j live.0 e live.1
 
--- a latest job that is done is in the view in the phase done, if its creator may ask
+-- a latest job that is done is in the view in the phase done, if its creator may still get it
 pub done_seen : (s : State) (a : Parent) (t j : ℕ) → may_ask s a ≡ true → child s a t ≡ Some j → (job_at s j).stage ≡ Done → seen s j ≡ Some (as_seen (job_at s j) phase.Done)
 done_seen s a t j asks e done =
     let job = job_at s j in

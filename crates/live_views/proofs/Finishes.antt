@@ -85,7 +85,7 @@ finished_stays : (j : ℕ) (job : Made) (b : Bool) → same_parent (parent.Job j
 finished_stays j job true other = unless_orphan-other j job (Some phase.Done) other
 finished_stays j job false other = refl
 
--- while the parent may ask, the view and the state agree on whether the job is its parent's latest
+-- while the parent may still get its jobs, the view and the state agree on whether this job is the latest one
 latest_seen : (plan : Plan) (s : State) (j : ℕ) → Settled plan s → j < length s.jobs → (job_at s j).stage ≢ Claimed → may_ask s (job_at s j).parent ≡ true → (o : Option ℕ) → child s (job_at s j).parent (job_at s j).slot ≡ o
     → is_number o j ≡ is_number (live_child (live_view plan s).jobs (job_at s j).parent (job_at s j).slot) j
 latest_seen plan s j settled inside unclaimed asks None e =

@@ -51,7 +51,7 @@ older_latest jobs a body i t j m older inside made unclaimed e claimed =
     let get = older.asked t m last.0 last.1 claimed in
     ⊎_elim unclaimed (λ latest. unclaimed (ap (λ k. (get_or jobs k no_job).stage) (same_Some j m (sym latest.2 ∙ e)) ∙ claimed)) (older.settled get.0 t j get.1 inside made)
 
--- a job that may ask is at a position, or is queued and has created no jobs
+-- a job that may still get its jobs is at a position, or is queued and has created no jobs
 unfinished_latest : (plan : Plan) (s : State) (n t j m : ℕ) → Settled plan s → (stage : Stage) → (job_at s n).stage ≡ stage → is_unfinished stage ≡ true → j < length s.jobs → is_made_by (parent.Job n) t (job_at s j) ≡ true → (job_at s j).stage ≢ Claimed
     → child s (parent.Job n) t ≡ Some m → (job_at s m).stage ≢ Claimed
 unfinished_latest plan s n t j m settled Queued e asks inside made unclaimed is_child =
@@ -63,7 +63,7 @@ unfinished_latest plan s n t j m settled (At i) e asks inside made unclaimed is_
 unfinished_latest plan s n t j m settled Done e asks inside made unclaimed is_child = absurd cc
 unfinished_latest plan s n t j m settled Claimed e asks inside made unclaimed is_child = absurd cc
 
--- the same for any actor that may ask: while one of its jobs is unclaimed, the latest one is unclaimed too
+-- the same for any actor that may still get its jobs: while one of them is unclaimed, the latest one is unclaimed too
 pub latest_unclaimed : (plan : Plan) (s : State) (a : Parent) (t j m : ℕ) → Settled plan s → may_ask s a ≡ true → j < length s.jobs → is_made_by a t (job_at s j) ≡ true → (job_at s j).stage ≢ Claimed
     → child s a t ≡ Some m → (job_at s m).stage ≢ Claimed
 latest_unclaimed plan s (parent.Client c) t j m settled asks inside made unclaimed e =

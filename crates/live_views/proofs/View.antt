@@ -21,7 +21,7 @@ use Rattle.live_views.specs.ViewStep.{live_job, is_unfinished_job, may_ask_for, 
 abbrev pub seen : State → ℕ → Option JobView
 seen s n = job_seen s n (job_at s n)
 
--- the phase of a live job, given whether its parent may ask and the parent's latest job
+-- the phase of a live job, given whether its parent may still get it, and the latest job of that submit
 abbrev pub phase_with : Bool → Option ℕ → ℕ → Stage → Option Phase
 phase_with asks latest j Queued = Some phase.Queued
 phase_with asks latest j (At i) = Some (phase.At i)

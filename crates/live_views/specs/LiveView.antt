@@ -12,7 +12,7 @@ use Rattle.live_views.specs.declared.job_view.JobView.{JobView}
 use Rattle.written_machine.specs.State.{Stage, Made, State, job_at, pool_seen, is_unfinished, child}
 use Rattle.written_machine.specs.State.Stage.{Queued, At, Done, Claimed}
 
--- the actor may still request the result of a job that it created: it is a client, or an unfinished job
+-- the actor may still get jobs that it created: it is a client, or an unfinished job
 abbrev pub may_ask : State → Parent → Bool
 may_ask s (parent.Client c) = true
 may_ask s (parent.Job j) = is_unfinished (job_at s j).stage
@@ -21,7 +21,7 @@ abbrev pub is_number : Option ℕ → ℕ → Bool
 is_number None j = false
 is_number (Some i) j = i == j
 
--- the phase of job j in the view; a done job is live only while it is the latest of its submit and its parent may ask
+-- the phase of job j in the view; a done job is live only if it is the latest of its submit and its parent may still get it
 abbrev pub phase_seen : State → ℕ → Made → Stage → Option Phase
 phase_seen s j job Queued = Some phase.Queued
 phase_seen s j job (At i) = Some (phase.At i)

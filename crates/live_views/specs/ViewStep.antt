@@ -46,7 +46,7 @@ abbrev pub is_unfinished_job : Option JobView → Bool
 is_unfinished_job None = false
 is_unfinished_job (Some job) = not (is_done job.phase)
 
--- the actor may still request the result of a job that it created
+-- the actor may still get jobs that it created
 abbrev pub may_ask_for : List (Option JobView) → Parent → Bool
 may_ask_for jobs (parent.Client c) = true
 may_ask_for jobs (parent.Job j) = is_unfinished_job (live_job jobs j)
@@ -69,7 +69,7 @@ abbrev pub unless_orphan : ℕ → Option JobView → Option JobView
 unless_orphan j None = None
 unless_orphan j (Some job) = if same_parent (parent.Job j) job.parent && is_done job.phase then None else Some job
 
--- a job that finishes stays live exactly if its parent may still request its result
+-- a job that finishes stays live exactly if it is the latest of its submit and its parent may still get it
 abbrev pub finished_or_gone : List (Option JobView) → ℕ → JobView → Option JobView
 finished_or_gone jobs j job =
     if may_ask_for jobs job.parent && is_number (live_child jobs job.parent job.slot) j then Some (record job { phase = phase.Done }) else None
@@ -140,7 +140,7 @@ answered_in plan view a i k offer.Refused = (record view { refusals = view.refus
 abbrev pub submitted_in : Plan → View → Parent → ℕ → ℕ → View × Outcome
 submitted_in plan view a i k = answered_in plan view a i k (answer (pool_in view (pool_of plan k)))
 
--- the view and outcome after an actor at position i gets the live job j; None if the job is not done
+-- the view and outcome after an actor at position i gets the live job j; None if the job is not live or not done
 abbrev pub got_in : View → Parent → ℕ → ℕ → Option JobView → Option (View × Outcome)
 got_in view a i j None = None
 got_in view a i j (Some job) =

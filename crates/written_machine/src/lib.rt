@@ -1,5 +1,6 @@
-//! The specification of the machine: the states of a plan, the effect of each event, and the states
-//! that a list of events reaches. The definitions are in `specs/`; no code of this crate runs.
+//! The reference machine: the specification of the states of a plan, of the effect of each event,
+//! and of the states that a list of events reaches. The definitions are in `specs/`; no code of
+//! this crate runs.
 #![tactic(auto)]
 
 mod client_state;
