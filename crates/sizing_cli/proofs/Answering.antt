@@ -1,4 +1,4 @@
--- An answer so far, line by line.
+-- The answer to event lines, one line at a time.
 use Rattle.std.proofs.Common.{◌≡◌, ℕ, ◌+◌, Bool, true, false, if◌then◌else◌, cond, List, [], ◌∷◌, ◌++◌, length, Option, Some, None, Result, Ok, Err, IfOk, refl, sym, ap, ap₂, ◌∙◌, append_assoc, arith}
 use Rattle.readings.specs.Reading.{◌>>=◌}
 use Rattle.job_bodies.specs.Plan.{Plan}
@@ -19,7 +19,7 @@ use Rattle.sizing_cli.specs.Transcript.{is_last, replied, happened, ending, repl
 use Rattle.sizing_cli.specs.Report.{replay_of_lines}
 use Rattle.sizing_cli.specs.SoFar.{IsEnded, RepliesIn, RepliesSo}
 
--- ---- the states that are reached
+-- ---- reachable states
 
 replay-append : (plan : Plan) (s : Option State) (events : List Event) (e : Event) → replay plan s (events ++ e ∷ []) ≡ replay plan (replay plan s events) (e ∷ [])
 replay-append plan s [] e = refl
@@ -32,7 +32,7 @@ reached_by_step plan s s' e outcome reached happens =
 
 -- ---- one reply
 
--- what a world answers to an event is the reply to its line
+-- the answer of a world to an event is the reply to its line
 pub replies_to_event : (plan : Plan) (s : State) (event : Event) (outcome : Outcome) (after : View) → IsReached plan s → AnswersAs plan s event (Some outcome) after
     → RepliesIn plan (happened s (step plan s event)) after (reply.Happened outcome)
 replies_to_event plan s event outcome after reached answers =
@@ -55,12 +55,12 @@ followed_by-assoc a b c = ap₂ (λ (t : List ℕ) (s : Status). record { text =
 
 -- ---- the lines so far
 
--- the answer, where so many lines are read and this came of them: it is over, or the rest are replayed from this state on
+-- the whole answer after `number` lines: the replay is over, or the remaining lines are replayed from this state
 abbrev pub replay_behind : Plan → State → Answer → ℕ → Bool → Result (List Line) ℕ → Answer
 replay_behind plan s front number is_over (Err bad) = bad_event bad
 replay_behind plan s front number is_over (Ok rest) = followed_by front (if is_over then ending s else transcript plan s (number + 1) rest)
 
--- so many lines are read, the world is a view of a state, and what the lines that are left add to that is the whole
+-- `number` lines are read, the world is the view of a state, and the remaining lines complete the whole answer
 pub record IsSoFar (plan : Plan) (lines : List (Option Line)) (world : View) (answer : Answer) (number : ℕ) (is_over : Bool) (left : List (Option Line)) : Type 0 where
   pub state : State
   pub reached : IsReached plan state
@@ -68,7 +68,7 @@ pub record IsSoFar (plan : Plan) (lines : List (Option Line)) (world : View) (an
   pub whole : replay_behind plan state answer number is_over (all_from number left) ≡ replay_of_lines plan (all_from 0 lines)
   pub count : number + length left ≡ length lines
 
--- no line is read yet
+-- before the first line
 pub so_far_start : (plan : Plan) (lines : List (Option Line)) (world : View) → world ≡ live_view plan (start plan) → IsSoFar plan lines world (record { text = []; status = Done }) 0 false lines
 so_far_start plan lines world live = record { state = start plan; reached = ([], refl); live = sym live; whole = from_nothing (all_from 0 lines); count = omega arith }
   where
@@ -82,7 +82,7 @@ so_far_start plan lines world live = record { state = start plan; reached = ([],
     from_nothing (Err bad) = refl
     from_nothing (Ok all) = ap (λ (s : Status). record { text = (transcript plan (start plan) 1 all).text; status = s }) (nothing_before (transcript plan (start plan) 1 all).status)
 
--- one reply more: what is left behind it is the rest from the state there, or the end
+-- after one more reply, the rest is the replay from the new state, or the ending
 more_replied : (plan : Plan) (s : State) (old new : Answer) (number : ℕ) (reply : Reply) (line : Line) (rest : Result (List Line) ℕ) → (reply_to plan s line).1 ≡ reply → new ≡ followed_by old (replied plan (number + 1) reply)
     → replay_behind plan (reply_to plan s line).0 new (number + 1) (is_last reply) rest ≡ replay_behind plan s old number false (rest >>= λ ls. Ok (line ∷ ls))
 more_replied plan s old new number reply line (Err bad) same is = refl
@@ -108,7 +108,7 @@ so_far_replied plan lines left rest before after old new number is_over reply li
       count = omega (arith, so_far.count, ap (λ (ls : List (Option Line)). length ls) next);
     }
 
--- no line is left
+-- after the last line
 pub so_far_ended : (plan : Plan) (lines left : List (Option Line)) (world : View) (answer whole : Answer) (number : ℕ) (is_over : Bool) → left ≡ []
     → IsSoFar plan lines world answer number is_over left → IsEnded world answer whole → whole ≡ replay_of_lines plan (all_from 0 lines)
 so_far_ended plan lines left world answer whole number is_over none so_far ended =

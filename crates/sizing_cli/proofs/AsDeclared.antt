@@ -1,4 +1,4 @@
--- Where no size of a plan has to change.
+-- The case in which no size of a plan has to change.
 use Rattle.std.proofs.Common.{◌≡◌, ◌∙◌, false, Option, Some, None, IfSome, IsTrue, sym}
 use Rattle.std.proofs.lemmas.Bool.{false≢true}
 use Rattle.std.specs.Prelude.{IfNone}
@@ -10,7 +10,8 @@ use Rattle.size_search.specs.declared.found.SizesFound.{SizesFound}
 use Rattle.size_search.specs.declared.found.SizesFound.TheVariants.{Found}
 use Rattle.sizing_cli.specs.Fit.{IsAsDeclared}
 
--- a search finds a certificate that accepts the plan, or the steady one does not; sizes are looked for from that certificate
+-- either the search finds a certificate that accepts the plan, and the search for sizes starts from it; or the steady
+-- certificate does not accept the plan
 pub as_declared : (plan : Plan) (first : Option Cert) (found : SizesFound)
     → IfSome first (λ cert. IsTrue (accepted plan cert)) → IfNone first (accepted plan (steady_cert plan) ≡ false)
     → IfSome first (λ cert. IsTrue (accepted plan cert) → found ≡ Found plan cert)

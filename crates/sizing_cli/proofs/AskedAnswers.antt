@@ -1,4 +1,4 @@
--- What status 0 means of an answer of `ask`.
+-- The meaning of status 0 of `ask`.
 use Rattle.std.proofs.Common.{◌≡◌, ℕ, Bool, true, false, List, [], ◌∷◌, length, Option, Some, None, Result, Ok, Err, refl, sym, ap, ◌∙◌}
 use Rattle.std.specs.Prelude.{MatchBool, nat_lt}
 use Rattle.job_bodies.specs.Plan.{Plan}
@@ -23,7 +23,7 @@ use Rattle.sizing_cli.specs.SafeInput.{IsSafePlan}
 use Rattle.sizing_cli.specs.Ask.{AnswersBundle, AnswersCert, AnswersGiven, AnswersInput, AnswersPlan, AnswersReading, IsAskAnswer, IsSafeAsked, IsSafeBundle, status_of}
 use Rattle.sizing_cli.proofs.FittedAnswers.{bad_text_is_not_done}
 
--- a plan of which something was found, with status 0
+-- a plan with a finding of status 0 is safe
 found_safe : (manner : Manner) (text : List ℕ) (plan : Plan) (given : Option Cert) (left : Option (List ℕ)) (answer : Answer) → plan_of text ≡ Ok plan → AnswersPlan manner plan given left answer → answer.status ≡ Done → IsSafePlan text
 found_safe manner text plan given left answer is_plan answers done = by_finding answers.finding answers.is_finding (sym answers.answers.status ∙ done)
   where

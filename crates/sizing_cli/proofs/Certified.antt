@@ -5,7 +5,7 @@ use Rattle.sizing_cli.specs.Certify.{IsYes, IsBundleWith}
 use Rattle.sizing_cli.specs.SplitAt.{IsSplitAt}
 use Rattle.sizing_cli.proofs.LastSeparator.{split_is}
 
--- fronts of one length are the same, and so is what stands behind them
+-- prefixes of equal length are the same, and so are the texts after them
 same_parts : (a b x y : List ℕ) → length a ≡ length b → a ++ x ≡ b ++ y → (a ≡ b) × (x ≡ y)
 same_parts [] [] x y len whole = (refl, whole)
 same_parts [] (b ∷ bs) x y len whole = absurd (omega arith)

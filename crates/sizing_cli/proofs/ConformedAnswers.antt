@@ -1,4 +1,4 @@
--- What status 0 of `conform` means.
+-- The meaning of status 0 of `conform`.
 use Rattle.std.proofs.Common.{◌≡◌, ℕ, inl, inr, Bool, true, false, cond, List, [], ◌∷◌, length, Option, Some, None, Result, Ok, Err, refl, sym, ap, ◌∙◌}
 use Rattle.std.specs.Prelude.{MatchBool, nat_lt, ◌==◌}
 use Rattle.std.proofs.lemmas.Bool.{eqb-true}
@@ -16,7 +16,7 @@ use Rattle.sizing_cli.specs.Answer.{Answer, input_too_long}
 use Rattle.sizing_cli.specs.Bundle.{Bundle, bundle_of}
 use Rattle.sizing_cli.specs.Conform.{AnswersBundle, AnswersReading, AnswersRecording, IsConformAnswer, IsConformingInput, IsSaidOf, answer_of, is_undecided, status_of}
 
--- nothing was found
+-- status 0 means that there are no findings
 done_of_no_findings : (findings : List Finding) → status_of findings ≡ Done → findings ≡ []
 done_of_no_findings findings done = by_length (length findings == 0) refl done
   where

@@ -1,4 +1,4 @@
--- What status 0 means of an answer of `fit`.
+-- The meaning of status 0 of `fit`.
 use Rattle.std.proofs.Common.{◌≡◌, ◌≤◌, ◌<◌, ℕ, inl, inr, Bool, true, false, List, [], ◌∷◌, ◌++◌, length, arith, Result, Ok, Err, IsTrue, refl, sym, ap, subst, ◌∙◌}
 use Rattle.std.specs.Prelude.{MatchBool, nat_lt, ◌==◌}
 use Rattle.std.proofs.lemmas.Bool.{eqb-true}
@@ -25,7 +25,7 @@ use Rattle.sizing_cli.specs.Certify.{HasLongText}
 use Rattle.sizing_cli.specs.Fit.{no_sizes_answer, text_too_long, AnswersFound, AnswersReading, IsFitAnswer, IsFittedBundle}
 use Rattle.sizing_cli.proofs.SafeInputs.{yes_from_done}
 
--- an answer with another status is none
+-- an answer with the status Refused does not have the status Done
 pub refused_is_not_done : (answer other : Answer) → answer ≡ other → other.status ≡ Refused → answer.status ≡ Done → ⊥
 refused_is_not_done answer other same refused done =
     let no : Refused ≡ Done = sym refused ∙ (sym (ap (λ (a : Answer). a.status) same) ∙ done) in
@@ -36,12 +36,12 @@ bad_text_is_not_done answer other same bad done =
     let no : BadText ≡ Done = sym bad ∙ (sym (ap (λ (a : Answer). a.status) same) ∙ done) in
     absurd cc
 
--- where no size changes, the plan is accepted as it is
+-- if no size changes, the certificate accepts the plan as it is
 sized_as_it_is : (plan fit : Plan) (cert : Cert) → IsSized plan cert fit → changes plan fit ≡ 0 → IsTrue (accepted plan cert)
 sized_as_it_is plan fit cert sized none =
     subst (λ (p : Plan). IsTrue (accepted p cert)) (unchanged plan fit sized.fits.same_outline none) sized.fits.accepts
 
--- the text of a certificate that is as long as one may be is too long with its newline
+-- a certificate's text of the maximum length is too long once it has a newline
 pub long_with_newline : (cert : Cert) (text : List ℕ) → text ≡ cert_text cert → MAX_CERT_BYTES ≤ length text → HasLongText cert
 long_with_newline cert text is long = subst (λ (t : List ℕ). MAX_CERT_BYTES < length (t ++ 10 ∷ [])) is (longer text long)
   where

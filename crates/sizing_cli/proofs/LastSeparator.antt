@@ -1,4 +1,4 @@
--- The split of a text is what its lines say: the last of them that is `%%` parts it.
+-- The split of a text is the one at its last line that is `%%`.
 use Rattle.std.proofs.Common.{◌≡◌, ◌⊎◌, inl, inr, ⊎_elim, ℕ, ◌<◌, Bool, true, false, cond, ◌==◌, ◌||◌, nat_eq, List, [], ◌∷◌, ◌++◌, length, drop, take, slice_index_or, bytes_eq, Option, Some, None, is_some, refl, sym, ap, ap₂, subst, ◌∙◌, arith, length-append, take-append-drop}
 use Rattle.std.specs.List.{list_any, slice_split, onto_first, starts_with, join_with_byte}
 use Rattle.std.proofs.lemmas.Bool.{cases_Bool, eqb-true, cond-true, cond-false, eq-eqb, true≢false, false_from_ne_true}
@@ -15,7 +15,7 @@ lines text = slice_split (λ b. b == 10) text
 abbrev is_separator : List ℕ → Bool
 is_separator line = bytes_eq line (37 ∷ 37 ∷ [])
 
--- the lines that begin in a text, which stands at the beginning of a line or not
+-- the lines that begin in a text; the flag says whether the text begins at the beginning of a line
 abbrev lines_begun : Bool → List ℕ → List (List ℕ)
 lines_begun true text = lines text
 lines_begun false text = drop 1 (lines text)
@@ -32,7 +32,7 @@ begun_by : (flag : Bool) (text : List ℕ) → cond flag (lines text) (drop 1 (l
 begun_by true text = refl
 begun_by false text = refl
 
--- behind its first byte begin the lines that begin behind its first line
+-- the lines that begin after the first byte are those that begin after the first line
 begun_next : (b : ℕ) (text : List ℕ) → drop 1 (lines (b ∷ text)) ≡ lines_begun (b == 10) text
 begun_next b text = behind_first (b == 10) b (lines text) ∙ begun_by (b == 10) text
 
@@ -43,7 +43,7 @@ front_and_rest (row ∷ rows) some = refl
 some_lines : (text : List ℕ) → 0 < length (lines text)
 some_lines text = omega (arith, length-slice_split (λ b. b == 10) text)
 
--- the first line is all, or a newline stands behind it
+-- the first line is the whole text, or a newline follows it
 first_line_is : (text : List ℕ) → (text ≡ first_line text) ⊎ ((rest : List ℕ) × (text ≡ first_line text ++ 10 ∷ rest))
 first_line_is text = by_rows (lines text) (some_lines text) (join_with_byte-slice_split 10 text)
   where
@@ -66,7 +66,7 @@ no_separator_here text unlike other =
     (λ more. true≢false (sym (ap (λ (t : List ℕ). starts_with nat_eq t (37 ∷ 37 ∷ 10 ∷ [])) (more.1 ∙ ap (λ (l : List ℕ). l ++ 10 ∷ more.0) line)) ∙ unlike))
     (first_line_is text))
 
--- something stands behind a first line `%%`, and else nothing does
+-- the text has a part after the separator exactly if its first line is `%%`
 separator_first : (text : List ℕ) → is_some (after_separator text) ≡ is_separator (first_line text)
 separator_first text =
     elim (cases_Bool (starts_with nat_eq text (37 ∷ 37 ∷ 10 ∷ []))) [
@@ -89,7 +89,7 @@ some_later_or b (Some later) (Some here) = refl
 some_later_or b None None = refl
 some_later_or b None (Some here) = refl
 
--- a text is split just where a line that begins in it is `%%`
+-- a text is split exactly if a line that begins in it is `%%`
 splits_where : (at_line : Bool) (text : List ℕ) → is_some (split_from at_line text) ≡ list_any is_separator (lines_begun at_line text)
 splits_where true [] = refl
 splits_where false [] = refl
@@ -106,11 +106,11 @@ none_where None none = refl
 none_where (Some x) none = absurd (true≢false none)
 
 -- ---- the split
--- the plan's text is empty at the beginning of a line, or ends with a newline
+-- the plan's text ends with a newline, or it is empty and begins at the beginning of a line
 abbrev IsFront : Bool → List ℕ → Type 0
 IsFront at_line plan = ((plan ≡ []) × (at_line ≡ true)) ⊎ ((front : List ℕ) × (plan ≡ front ++ 10 ∷ []))
 
--- the split of a text that stands at the beginning of a line or not
+-- the split of a text; the flag says whether the text begins at the beginning of a line
 record IsSplitFrom (at_line : Bool) (text : List ℕ) (bundle : Bundle) : Type 0 where
   front : IsFront at_line bundle.plan
   whole : IsJoined text bundle
@@ -165,8 +165,8 @@ split_read at_line (b ∷ text) bundle found = by_later at_line (split_from (b =
     by_later true None rest same found = split_first b text bundle same found
     by_later false None rest same found = absurd (none-some bundle found)
 
--- ---- and back
--- what stands from the line `%%` on
+-- ---- the converse
+-- the text from the line `%%` to the end
 abbrev IsTail : List ℕ → List ℕ → Type 0
 IsTail tail second = (tail ≡ 37 ∷ 37 ∷ 10 ∷ second) ⊎ ((tail ≡ 37 ∷ 37 ∷ []) × (second ≡ []))
 

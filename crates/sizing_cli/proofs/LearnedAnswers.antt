@@ -1,4 +1,4 @@
--- What status 0 of `learn` means.
+-- The meaning of status 0 of `learn`.
 use Rattle.std.proofs.Common.{◌≡◌, ℕ, inl, inr, Bool, true, false, List, length, sym, ap, ◌∙◌}
 use Rattle.std.specs.Prelude.{MatchBool, nat_lt}
 use Rattle.job_bodies.specs.declared.limits.TheConstants.{MAX_RECORDED_BYTES}

@@ -1,4 +1,4 @@
--- Event lines that are read one after another are those of the text.
+-- The event lines that the iterator returns are those of the text.
 use Rattle.std.specs.Prelude.{◌≡◌, ℕ, List}
 use Rattle.job_bodies.specs.Plan.{Plan}
 use Rattle.event_lines.specs.EventLine.{event_lines, lines_read, all_from}

@@ -1,4 +1,4 @@
--- Sizes with which a certificate accepts a plan that it does not accept as it is are others than the declared ones.
+-- Sizes whose certificate does not accept the plan as it is differ from the declared ones.
 use Rattle.std.proofs.Common.{◌≡◌, true, false, sym, ap, subst, ◌∙◌}
 use Rattle.std.specs.Prelude.{◌≢◌, IsTrue}
 use Rattle.job_bodies.specs.Plan.{Plan}
@@ -9,7 +9,7 @@ use Rattle.size_search.specs.declared.found.NoSizes.{NoSizes}
 use Rattle.size_search.specs.declared.found.SizesFound.{SizesFound}
 use Rattle.size_search.specs.declared.found.SizesFound.TheVariants.{Found, NotFound}
 
--- the plan of sizes that were found; this one where none were
+-- the plan with the sizes that were found, or the plan itself if there are none
 plan_of_sizes : Plan → SizesFound → Plan
 plan_of_sizes plan (Found fit cert) = fit
 plan_of_sizes plan (NotFound cause) = plan

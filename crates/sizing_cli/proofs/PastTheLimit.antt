@@ -1,4 +1,4 @@
--- What lies past the limit of an input does not change the answer.
+-- Bytes after the maximum length of an input do not change the answer.
 use Rattle.std.proofs.Common.{◌≡◌, ℕ, ◌+◌, ◌<◌, inl, inr, Bool, cond, List, length, take, Option, Some, None, Result, Ok, Err, IfSome, IfErr, sym, ap, ◌∙◌, arith}
 use Rattle.std.proofs.lemmas.Bool.{cases_lt, lt-ltb}
 use Rattle.std.proofs.lemmas.List.{take_all, length-take-le}

@@ -1,4 +1,4 @@
--- What status 0 means of a story and of a bundle of `refute`.
+-- What status 0 of `refute` means, for a story and for a bundle.
 use Rattle.std.proofs.Common.{◌≡◌, ◌≤◌, ℕ, inl, inr, ⊎_elim, Bool, true, false, List, length, Result, Ok, Err, refl, sym, ap, ◌∙◌}
 use Rattle.std.specs.Prelude.{MatchBool, nat_lt, Option, Some, None, IfSome, IfNone}
 use Rattle.plan_witnesses.specs.declared.witness.Witness.{Witness}
@@ -17,7 +17,7 @@ use Rattle.sizing_cli.specs.Certify.{IsUncertified, whole_lines}
 use Rattle.sizing_cli.specs.Refute.{not_decided, event_lines_of, AnswersPlan, AnswersReading, BundlesWitness, IsRefuteAnswer, IsWitnessBundle, IsWitnessOf, Refutes, ShowsWitness}
 use Rattle.sizing_cli.proofs.FittedAnswers.{bad_text_is_not_done}
 
--- the answer to a plan that no certificate was found for, by the witness that was found
+-- the answer for a plan without a certificate follows from the witness that was found
 pub answered_by : (states : ℕ) (shown : Shown) (text : List ℕ) (plan : Plan) (answer : Answer) (found : Option Witness) (searched : ℕ) → IsUncertified plan → IfSome found (IsWitnessOf plan) → searched ≤ states
     → IfSome found (λ witness. ShowsWitness shown text plan witness answer) → IfNone found (answer ≡ not_decided shown searched) → AnswersPlan states shown text plan answer
 answered_by states shown text plan answer (Some witness) searched uncertified is_witness within shows nothing = inr (inr (record { witness = witness; is_witness = is_witness; shows = shows }))

@@ -1,4 +1,4 @@
--- What a run comes to: the answer to a plan with a certificate that accepts it, and the fault where there is none.
+-- The answer and the fault of a run of a plan with a certificate that accepts it.
 use Rattle.std.proofs.Common.{◌≡◌, ℕ, Bool, true, false, inl, inr, Result, Ok, Err, IfOk, refl, subst, ap, ◌∙◌, arith}
 use Rattle.std.specs.Prelude.{◌==◌}
 use Rattle.faults.specs.declared.number.TheConstants.{RUN_TOO_LARGE}
@@ -19,7 +19,7 @@ run_of_certified plan cert rounds certified (Err fault) is fits ran = tt
 run_of_certified plan cert rounds certified (Ok answer) is fits ran =
     rw fits (ran ∙ ap (λ (c : Certified). run_of_accepted c.plan c.cert rounds) is)
 
--- 40 is told of no plan but one that is too large
+-- fault 40 occurs only if the plan is too large
 pub too_large_where_told : (large : Bool) (fault : RunFault) → IsFaultOf large fault → fault.number ≡ RUN_TOO_LARGE → large ≡ true
 too_large_where_told true fault is told = refl
 too_large_where_told false fault (inl strange) told = absurd (omega arith)
@@ -27,7 +27,7 @@ too_large_where_told false fault (inr (inl mixed)) told = absurd (omega arith)
 too_large_where_told false fault (inr (inr (inl memory))) told = absurd (omega arith)
 too_large_where_told false fault (inr (inr (inr gate))) told = absurd (omega arith)
 
--- and every other number is one of a run
+-- every other fault is one of a run
 pub of_run_else : (large : Bool) (fault : RunFault) → IsFaultOf large fault → (fault.number == RUN_TOO_LARGE) ≡ false → is_of_run fault.number ≡ true
 of_run_else true fault (inl told, none) other =
     let no : (RUN_TOO_LARGE == RUN_TOO_LARGE) ≡ false = subst (λ (n : ℕ). (n == RUN_TOO_LARGE) ≡ false) told other in

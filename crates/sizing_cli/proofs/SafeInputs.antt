@@ -1,4 +1,4 @@
--- A yes of `check` is true of the input.
+-- If `check` answers yes, the input has a safe plan.
 use Rattle.std.proofs.Common.{◌≡◌, ℕ, Bool, true, false, cond, ltb, List, length, Option, Some, None, Result, Ok, Err, refl}
 use Rattle.job_bodies.specs.Plan.{Plan}
 use Rattle.job_bodies.specs.declared.fault.PlanFault.{PlanFault}
@@ -17,22 +17,22 @@ use Rattle.sizing_cli.specs.Bundle.{Bundle, bundle_of}
 use Rattle.sizing_cli.specs.Report.{check, check_of_cert, run, run_of_cert, run_of_accepted, run_report, not_run, answer_of_plan, answer_of_bundle, report}
 use Rattle.sizing_cli.specs.SafeInput.{IsSafeInput, YesMeansSafe}
 
--- a question that ends as done is answered yes
+-- a yes-or-no answer with status Done is yes
 pub yes_from_done : (answer : Bool) → yes_or_no answer ≡ Done → answer ≡ true
 yes_from_done true done = refl
 yes_from_done false done = absurd cc
 
--- with a certificate that was read
+-- once the certificate is parsed
 with_cert : (plan : Plan) (text : List ℕ) (found : Result Cert CertFault) → (bytes : List ℕ) → plan_of bytes ≡ Ok plan → cert_of text plan ≡ found → (check_of_cert plan found).status ≡ Done → IsSafeWith plan text
 with_cert plan text (Err fault) bytes is_plan is done = absurd cc
 with_cert plan text (Ok cert) bytes is_plan is done = safe_with plan cert text (plans_read_are_well_formed bytes plan is_plan) is (yes_from_done (accepted plan cert) done)
 
--- with a plan that was read
+-- once the plan is parsed
 with_plan : (bytes text : List ℕ) (found : Result Plan PlanFault) → plan_of bytes ≡ found → (answer_of_plan check text found).status ≡ Done → IsSafeToRun bytes text
 with_plan bytes text (Err fault) is done = absurd cc
 with_plan bytes text (Ok plan) is done = record { plan = plan; is_plan = is; with_cert = with_cert plan text (cert_of text plan) bytes is refl done }
 
--- with an input that was split
+-- once the input is split
 with_bundle : (input : List ℕ) (found : Option Bundle) → bundle_of input ≡ found → (answer_of_bundle check found).status ≡ Done → IsSafeInput input
 with_bundle input None is done = absurd cc
 with_bundle input (Some bundle) is done = record { bundle = bundle; is_bundle = is; safe = with_plan bundle.plan bundle.second (plan_of bundle.plan) refl done }
@@ -44,7 +44,7 @@ yes_means_safe input done = by_length (ltb MAX_INPUT_BYTES (length input)) done
     by_length true done = absurd cc
     by_length false done = with_bundle input (bundle_of input) refl done
 
--- ---- a run that goes through
+-- ---- a completed run
 
 run_with_cert : (rounds : ℕ) (plan : Plan) (text : List ℕ) (found : Result Cert CertFault) → (bytes : List ℕ) → plan_of bytes ≡ Ok plan → cert_of text plan ≡ found → (run_of_cert plan rounds found).status ≡ Done → IsSafeWith plan text
 run_with_cert rounds plan text (Err fault) bytes is_plan is done = absurd cc

@@ -1,4 +1,4 @@
--- Numbers in another order are the same set of jobs.
+-- Two lists of the same numbers, in any order, are the same set of jobs.
 use Rattle.std.proofs.Common.{◌≡◌, ℕ, suc, ◌<◌, ◌↔◌, Bool, true, false, ◌==◌, ◌||◌, List, [], ◌∷◌, length, get_or, IsTrue, IsPermutation, Contains, refl, sym, arith, eq-eqb}
 use Rattle.std.proofs.lemmas.Bool.{eqb-true}
 use Rattle.std.proofs.lemmas.List.Folds.{list_any_at}

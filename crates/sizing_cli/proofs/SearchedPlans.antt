@@ -1,4 +1,4 @@
--- The fault of a text of which no search was made.
+-- The fault of a text that no search was made for.
 use Rattle.std.proofs.Common.{◌≡◌, ◌≤◌, ◌∙◌, ap, subst, sym, ℕ, Bool, List, length, Result, Ok, Err}
 use Rattle.std.specs.Prelude.{MatchBool, nat_lt}
 use Rattle.std.proofs.lemmas.Bool.{le-ltb}
@@ -13,7 +13,7 @@ pub searched_fault : (text : List ℕ) (read : Result Plan PlanFault) (told : Pl
 searched_fault text (Err found) told answer same is = is ∙ ap (λ (f : PlanFault). answers.fault (fault_line f)) same
 searched_fault text (Ok plan) told answer same is = absurd same
 
--- what is answered to an input that is not too long
+-- the answer to an input that is not too long
 pub within_limit : (A B : Type 0) (input : List ℕ) → length input ≤ MAX_INPUT_BYTES → B → MatchBool (nat_lt MAX_INPUT_BYTES (length input)) A B
 within_limit A B input short holds =
     let Answered : Bool → Type 0 = λ long. MatchBool long A B in

@@ -1,4 +1,4 @@
--- What a command writes is an answer that it may give to what was read, and what status 0 means then.
+-- A command writes a possible answer to what it read, and what status 0 then means.
 use Rattle.std.proofs.Common.{◌≡◌, ℕ, ◌+◌, ◌≤◌, inl, inr, Bool, true, false, List, length, take, Option, Some, None, Result, Ok, Err, IfSome, refl, sym, ap, subst, ◌∙◌, arith}
 use Rattle.std.specs.Prelude.{MatchBool, nat_lt}
 use Rattle.std.specs.Io.KnownBytes.{Appends}
@@ -40,12 +40,12 @@ use Rattle.sizing_cli.proofs.AskedAnswers.{asked_means_safe}
 use Rattle.sizing_cli.proofs.ConformedAnswers.{conformed}
 use Rattle.sizing_cli.proofs.LearnedAnswers.{learned}
 
--- ---- an answer to what was read is one to the whole input
+-- ---- an answer to the part that was read is an answer to the whole input
 
 abbrev ByLength : Type 0 → Type 0 → Bool → Type 0
 ByLength TooLong Answers long = MatchBool long TooLong Answers
 
--- by its length first
+-- the answers to an input, by its length
 abbrev IsWithin : ℕ → Type 0 → (List ℕ → Type 0) → List ℕ → Type 0
 IsWithin most TooLong Answers input = ByLength TooLong (Answers input) (nat_lt most (length input))
 
@@ -68,7 +68,7 @@ answered_by_length : (TooLong : Type 0) (Answers : List ℕ → Type 0) (remaini
     → IsByLength TooLong Answers items → IfSome remaining (IsByLength TooLong Answers)
 answered_by_length = answered_within MAX_INPUT_BYTES
 
--- an answer to a recording
+-- for commands on recordings
 pub recorded_by_front : (remaining : Option (List ℕ)) (items slice : List ℕ) (reading : Reading) (answer : Answer) → IfSome remaining (λ input. items ≡ take (MAX_RECORDED_BYTES + 1) input) → slice ≡ items
     → IsReadingAnswer reading slice answer → IfSome remaining (λ input. IsReadingAnswer reading input answer)
 recorded_by_front remaining items slice Conform answer front same is =
@@ -81,7 +81,7 @@ asked_by_front : (remaining : Option (List ℕ)) (items : List ℕ) (given : Giv
 asked_by_front remaining items given manner left answer front is =
     answered_by_length ((left ≡ None) × (answer ≡ input_too_long)) (λ bytes. AnswersInput given manner bytes left answer) remaining items front is
 
--- whatever the task is
+-- for every task
 pub answered_by_front : (remaining : Option (List ℕ)) (items : List ℕ) (task : Task) (answer : Answer) → IfSome remaining (λ input. items ≡ take (MAX_INPUT_BYTES + 1) input)
     → IsTaskAnswer task items answer → IfSome remaining (λ input. IsTaskAnswer task input answer)
 answered_by_front remaining items (Certify workers) answer front is =
@@ -96,7 +96,7 @@ answered_by_front remaining items (Ask given manner) answer front is = left_some
     left_somehow None asked = tt
     left_somehow (Some input) asked = (is.0, asked)
 
--- and what it leaves
+-- for the certificate that is left
 pub left_by_front : (remaining : Option (List ℕ)) (items : List ℕ) (task : Task) (answer : Answer) (left : Option (List ℕ)) → IfSome remaining (λ input. items ≡ take (MAX_INPUT_BYTES + 1) input)
     → IsLeftBy task items answer left → IfSome remaining (λ input. IsLeftBy task input answer left)
 left_by_front None items task answer left front is = tt
@@ -106,7 +106,7 @@ left_by_front (Some input) items (Run rounds) answer left front is = is
 left_by_front (Some input) items (Refute states shown) answer left front is = is
 left_by_front (Some input) items (Ask given manner) answer left front is = asked_by_front (Some input) items given manner left answer front is
 
--- ---- what is written of it
+-- ---- the written answer
 
 pub wrote_answer : (remaining old new : Option (List ℕ)) (command : Command) (answer : Answer) (bytes : List ℕ) (status : Status)
     → IfSome remaining (λ input. IsAnswer command input answer) → bytes ≡ answer.text → status ≡ answer.status → Appends old new bytes
@@ -177,7 +177,7 @@ means_safe (OnThreads (Ask given manner)) input status old new writes done = ask
 means_safe (OnThreads (Certify workers)) input status old new writes done =
     record { text = writes.answer.text; certified = certified_answer input writes.answer writes.is_answer (sym writes.status_is ∙ done); written = writes.written }
 
--- of what was read, where that is known
+-- the meaning of status 0, if the bytes that were read are known
 pub safely : (remaining old new : Option (List ℕ)) (command : Command) (status : Status) → IfSome remaining (λ input. WritesAnswer command input status old new) → status ≡ Done
     → IfSome remaining (λ input. MeansSafe command input old new)
 safely None old new command status answered done = tt

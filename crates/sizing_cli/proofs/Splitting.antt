@@ -1,4 +1,4 @@
--- A split found line by line from the end of an input is the split at its last line `%%`.
+-- The split found by looking at lines from the end of an input is the split at its last line `%%`.
 use Rattle.std.proofs.Common.{◌≡◌, ◌≢◌, ◌==◌, inl, inr, ⊎_elim, ℕ, zero, suc, ◌+◌, ◌-◌, ◌<◌, ◌≤◌, Bool, true, false, List, [], ◌∷◌, ◌++◌, length, take, drop, get_or, slice_index, nat_eq, bytes_eq, Option, Some, None, refl, sym, ap, ap₂, subst, ◌∙◌, arith, append_assoc, append-nil, take-append-drop, length-drop}
 use Rattle.std.specs.List.{IsAfterLastMatch, HoldsAt, All, starts_with}
 use Rattle.memchr.specs.Find.{IsLastByte, is_byte}
@@ -13,19 +13,19 @@ use Rattle.sizing_cli.specs.Bundle.{Bundle, split_from, split_here, bundle_here,
 use Rattle.sizing_cli.specs.Laws.{IsWholeLines}
 use Rattle.sizing_cli.proofs.LastSeparator.{starts}
 
--- none of the lines that begin behind this front of the input is `%%`, whichever place of a line it ends at
+-- no line that begins after this prefix of the input is `%%`, wherever in a line the prefix ends
 pub record AreSeenBehind (input front : List ℕ) : Type 0 where
   pub behind : List ℕ
   pub whole : input ≡ front ++ behind
   pub none : (at_line : Bool) → split_from at_line behind ≡ None
 
--- none of the lines that begin behind this front of the input, which ends within a line, is `%%`
+-- no line that begins after this prefix of the input, which ends within a line, is `%%`
 pub record IsSeenBehind (input front : List ℕ) : Type 0 where
   pub behind : List ℕ
   pub whole : input ≡ front ++ behind
   pub none : split_from false behind ≡ None
 
--- the rest of the input begins with a line, and none of the lines behind that one is `%%`
+-- the rest of the input begins with a line, and no later line is `%%`
 pub record IsCutAtLine (input plan rest : List ℕ) : Type 0 where
   pub whole : input ≡ plan ++ rest
   pub lines : IsWholeLines plan
@@ -56,7 +56,7 @@ none_without at_line [] behind other none = none at_line
 none_without at_line (b ∷ front) behind other none =
     ap₂ (later_or b) (none_without (b == 10) front behind (All-tail (λ b. (b == 37) ≡ false) b front other) none) (none_here at_line b (front ++ behind) (All-head (λ b. (b == 37) ≡ false) b front other))
 
--- nothing is seen yet
+-- before the first step
 pub seen_nothing : (input : List ℕ) → AreSeenBehind input input
 seen_nothing input = record { behind = []; whole = sym (append-nil input); none = λ at_line. none_of_nothing at_line }
   where
@@ -64,17 +64,17 @@ seen_nothing input = record { behind = []; whole = sym (append-nil input); none 
     none_of_nothing true = refl
     none_of_nothing false = refl
 
--- the bytes behind a place are no `%`
+-- no byte after a place is `%`
 others_behind : (front : List ℕ) (start : ℕ) → ((k : ℕ) → start ≤ k → k < length front → ¬ ((slice_index front k == 37) ≡ true)) → All (λ b. (b == 37) ≡ false) (drop start front)
 others_behind front start none = λ k d inside.
     let within : start + k < length front = omega (arith, length-drop start front) in
     false_from_ne_true _ (λ same. none (start + k) (omega arith) within (ap (λ b. b == 37) (get_or_default front (start + k) 0 d within ∙ sym (get_or-drop start front k d)) ∙ same))
 
--- there is no `%` in the front
+-- the prefix contains no `%`
 pub none_in_front : (input front : List ℕ) → IsLastByte (is_byte 37) front None → AreSeenBehind input front → None ≡ bundle_of input
 none_in_front input front last seen = sym (ap bundle_of seen.whole ∙ none_without true front seen.behind (others_behind front 0 last) seen.none)
 
--- the front before its last `%`
+-- the prefix before its last `%`
 pub seen_behind_last : (input front : List ℕ) (place : ℕ) → IsLastByte (is_byte 37) front (Some place) → AreSeenBehind input front → IsSeenBehind input (take place front)
 seen_behind_last input front place last seen =
     let rest : List ℕ = drop (place + 1) front in
@@ -96,7 +96,7 @@ none_over (b ∷ line) behind unbroken none =
     ap (λ flag. later_or b (split_from flag (line ++ behind)) None) (All-head EndsNoLine b line unbroken)
     ∙ ap (λ later. later_or b later None) (none_over line behind (All-tail EndsNoLine b line unbroken) none)
 
--- what stands before a place behind a newline
+-- the text before a place that follows a newline is whole lines
 whole_lines_before : (front : List ℕ) (n : ℕ) → n ≤ length front → (0 < n → HoldsAt (λ b. (b == 10) ≡ true) front (n - 1)) → IsWholeLines (take n front)
 whole_lines_before front zero inside newline = inl refl
 whole_lines_before front (suc n) inside newline =
@@ -104,7 +104,7 @@ whole_lines_before front (suc n) inside newline =
     let newline_there : get_or front n 0 ≡ 10 = eqb-true (get_or front n 0) 10 (rw place at (newline (omega arith) 0)) in
     inr (take n front, take-suc front n 0 inside ∙ ap (λ b. take n front ++ b ∷ []) newline_there)
 
--- the input is cut where the last line of the front begins
+-- the input is cut where the last line of the prefix begins
 pub cut_at_line : (input front plan rest : List ℕ) (start : ℕ) → start ≤ length front → IsAfterLastMatch (λ b. b == 10) front start → IsSeenBehind input front
     → plan ≡ take start input → rest ≡ drop start input → IsCutAtLine input plan rest
 cut_at_line input front plan rest start within last seen plan_is rest_is =
@@ -118,7 +118,7 @@ cut_at_line input front plan rest start within last seen plan_is rest_is =
       none = ap (split_from false) (sym rest_of_line) ∙ none_over line seen.behind unbroken seen.none;
     }
 
--- where no later line is `%%`, the split is at the first line, or there is none
+-- if no later line is `%%`, the split is at the first line, or there is none
 split_at_line : (text : List ℕ) → split_from false text ≡ None → split_from true text ≡ bundle_here (after_separator text)
 split_at_line [] none = refl
 split_at_line (b ∷ text) none = by_later (split_from (b == 10) text) none
@@ -127,7 +127,7 @@ split_at_line (b ∷ text) none = by_later (split_from (b == 10) text) none
     by_later None none = refl
     by_later (Some found) none = absurd (none-some _ (sym none))
 
--- a split behind a newline is the whole text's
+-- a split after a newline is that of the whole text
 split_behind : (at_line : Bool) (front rest second : List ℕ) → split_from true rest ≡ Some (record { plan = []; second = second })
     → split_from at_line (front ++ 10 ∷ rest) ≡ Some (record { plan = front ++ 10 ∷ []; second = second })
 split_behind at_line [] rest second found = ap (λ later. later_or 10 later (split_here at_line (10 ∷ rest))) found
@@ -146,13 +146,13 @@ module _ (input plan rest : List ℕ) (cut : IsCutAtLine input plan rest) where
   found_at second found =
       sym (ap bundle_of cut.whole ∙ split_joined plan rest second cut.lines (split_at_line rest cut.none ∙ ap bundle_here (sym found)))
 
-  -- the line is not `%%`, and no line stands before it
+  -- the line is not `%%`, and it is the first line
   pub none_at : None ≡ after_separator rest → ((front : List ℕ) → plan ≢ front ++ 10 ∷ []) → None ≡ bundle_of input
   none_at none first =
       let empty : plan ≡ [] = ⊎_elim (λ empty. empty) (λ more. absurd (first more.0 more.1)) cut.lines in
       sym (ap bundle_of cut.whole ∙ ap (λ l. bundle_of (l ++ rest)) empty ∙ split_at_line rest cut.none ∙ ap bundle_here (sym none))
 
-  -- the line is not `%%`, and stands behind this front and its newline
+  -- the line is not `%%`, and follows this prefix and its newline
   pub seen_further : (front : List ℕ) → None ≡ after_separator rest → plan ≡ front ++ 10 ∷ [] → AreSeenBehind input front
   seen_further front none plan_is = record {
     behind = 10 ∷ rest;

@@ -1,4 +1,4 @@
--- An answer: its bytes, and the status that goes with them.
+-- An answer: its bytes and its status.
 use Rattle.std.specs.Prelude.{ℕ, Bool, if◌then◌else◌, List, [], ◌∷◌, ◌++◌, codes}
 use Rattle.std.specs.Fmt.{decimal}
 use Rattle.faults.specs.Name.{head}
@@ -17,22 +17,22 @@ code Refused = 1
 code BadText = 2
 code Undecided = 4
 
--- the status of two parts of an answer: that of the second, unless it is Done
+-- the status of an answer in two parts: that of the second, unless it is Done
 abbrev pub then_status : Status → Status → Status
 then_status status Done = status
 then_status status Refused = Refused
 then_status status BadText = BadText
 then_status status Undecided = Undecided
 
--- of a question
+-- the status of an answer that is yes or no
 abbrev pub yes_or_no : Bool → Status
 yes_or_no answer = if answer then Done else Refused
 
--- an answer, and the rest behind it
+-- an answer followed by the rest of it
 abbrev pub followed_by : Answer → Answer → Answer
 followed_by front rest = record { text = front.text ++ rest.text; status = then_status front.status rest.status }
 
--- one line that tells what is wrong with the input
+-- the answer with one line that reports a fault of the input
 abbrev pub fault : List ℕ → Answer
 fault line = record { text = line ++ 10 ∷ []; status = BadText }
 
@@ -42,6 +42,6 @@ no_separator = fault (head NO_SEPARATOR)
 abbrev pub input_too_long : Answer
 input_too_long = fault (head INPUT_TOO_LONG)
 
--- the line of this number, from 1, says none of what a line of events may say
+-- the answer if line `line`, counted from 1, is not a valid event line
 abbrev pub bad_event : ℕ → Answer
 bad_event line = fault (head BAD_EVENT ++ (codes " at line " ++ decimal line))

@@ -1,5 +1,5 @@
--- What `ask` may answer to an input, and the certificate that it leaves: a relation, since nothing is said of which certificate,
--- witness or sizes are found, or that some are, nor of the words of faults and of a witness's story.
+-- The possible answers of `ask` to an input, and the certificate that it leaves. This is a relation: it does not fix which
+-- certificate, witness or sizes are found, or that some are, nor the wording of faults and of a witness's story.
 use Rattle.std.specs.Prelude.{◌≡◌, ℕ, nat_lt, Bool, true, false, not, ◌&&◌, ◌==◌, if◌then◌else◌, List, [], ◌∷◌, ◌++◌, length, codes, decimal, Option, Some, None, IfSome, Result, Ok, Err, option_map, IsTrue, MatchBool}
 use Rattle.job_bodies.specs.Plan.{Plan}
 use Rattle.job_bodies.specs.declared.fault.PlanFault.{PlanFault}
@@ -37,23 +37,23 @@ use Rattle.sizing_cli.specs.SafeInput.{IsSafePlan}
 
 -- ---- faults
 
--- the faults of a plan's text are told, as in a file of some name, and the first one is this
+-- the text reports the faults of a plan's text, under some file name, and the first one is this
 pub record TellsFault (fault : PlanFault) (text : List ℕ) : Type 0 where
   pub file : List ℕ
   pub faults : Faults
   pub is_first : faults.first.fault ≡ fault
   pub text_is : text ≡ faults_text file faults
 
--- the number of a fault, at the end of its line
+-- the fault number at the end of the message
 abbrev pub fault_number : ℕ → List ℕ
 fault_number number = codes " (fault " ++ (decimal number ++ (codes ")" ++ 10 ∷ []))
 
--- a fault of a certificate is told, behind words for people
+-- the text reports a fault of a certificate after some message
 pub record TellsCertFault (fault : CertFault) (text : List ℕ) : Type 0 where
   pub words : List ℕ
   pub text_is : text ≡ words ++ fault_number fault.number
 
--- no picture is made of bad text
+-- a fault of the text is never reported as a picture
 abbrev pub TellsFaultIn : Form → PlanFault → List ℕ → Type 0
 TellsFaultIn Words fault text = TellsFault fault text
 TellsFaultIn Json fault text = json.TellsFault fault.number text
@@ -74,53 +74,53 @@ pub record AnswersCertFault (form : Form) (fault : CertFault) (answer : Answer) 
 
 -- ---- answers
 
--- of a plan that is safe a warning is a no, where it is to be one
+-- the status of a finding; with `strict` a warning makes a safe plan a no
 abbrev pub status_of : Bool → List Warning → PlanFinding → Status
 status_of strict warnings (Safe cert) = if strict && not (length warnings == 0) then Refused else Done
 status_of strict warnings (NotSafe witness sizes) = Refused
 status_of strict warnings (NotDecided sizes) = Undecided
 
--- a certificate that was given and does not show it is warned of at the end
+-- the warning about a stale certificate, which comes last
 abbrev pub stale_if : Bool → List Oddity
 stale_if true = StaleCertificate ∷ []
 stale_if false = []
 
--- a certificate that was given is stale where it does not accept the plan
+-- a given certificate is stale if it does not accept the plan
 abbrev pub is_stale : Plan → Option Cert → Bool
 is_stale plan None = false
 is_stale plan (Some cert) = not (accepted plan cert)
 
--- a certificate that was given and accepts the plan is what the answer rests on
+-- the finding rests on the given certificate if that accepts the plan
 abbrev pub RestsOnGiven : Plan → Option Cert → PlanFinding → Type 0
 RestsOnGiven plan given finding = IfSome given (λ cert. IsTrue (accepted plan cert) → finding ≡ Safe cert)
 
--- how many places each pool needs, as the certificate that was found says it
+-- the number of places that each pool needs, by the certificate that was found
 abbrev pub needed_of : Plan → PlanFinding → List (Option ℕ)
 needed_of plan (Safe cert) = needed_places plan cert
 needed_of plan (NotSafe witness sizes) = []
 needed_of plan (NotDecided sizes) = []
 
--- the warnings are about what is seldom meant in the plan, just that and in its order, where pools need so many places; and about a
--- certificate that is stale, where it is
+-- the warnings are exactly the lints of the plan, in order, with these numbers of places for the pools; then a warning about
+-- a stale certificate, if it is stale
 pub record AreWarnings (plan : Plan) (finding : PlanFinding) (stale : Bool) (warnings : List Warning) : Type 0 where
   pub oddities : List Oddity
   pub are_oddities : AreOddities plan (needed_of plan finding) oddities
   pub warned : warned_of warnings ≡ oddities ++ stale_if stale
 
--- the warnings are told, as in a file of some name, and behind them what was found
+-- the text reports the warnings, under some file name, and then the finding
 pub record TellsFinding (plan : Plan) (warnings : List Warning) (finding : PlanFinding) (text : List ℕ) : Type 0 where
   pub file : List ℕ
   pub words : List ℕ
   pub tells : Tells plan finding words
   pub text_is : text ≡ warnings_text file warnings ++ words
 
--- in lines, as an object of JSON, or as a picture of the plan
+-- the finding in lines, as a JSON object, or as a picture of the plan
 abbrev pub TellsFindingIn : Form → Plan → List Warning → PlanFinding → List ℕ → Type 0
 TellsFindingIn Words plan warnings finding text = TellsFinding plan warnings finding text
 TellsFindingIn Json plan warnings finding text = json.TellsFinding finding text
 TellsFindingIn Dot plan warnings finding text = IsPicture text
 
--- what was found is told, with the warnings, and the status follows from both
+-- the answer reports the finding and the warnings, and its status follows from both
 pub record AnswersFinding (manner : Manner) (plan : Plan) (finding : PlanFinding) (stale : Bool) (answer : Answer) : Type 0 where
   pub warnings : List Warning
   pub are_warnings : AreWarnings plan finding stale warnings
@@ -129,25 +129,25 @@ pub record AnswersFinding (manner : Manner) (plan : Plan) (finding : PlanFinding
 
 -- ---- the certificate that an answer leaves
 
--- the text is that of the certificate, with which it is left; none is where that is too long to be read
+-- the text left is that of the certificate; it is missing exactly if it would be too long to be read back
 abbrev pub IsTextLeft : Plan → Cert → Option (List ℕ) → Type 0
 IsTextLeft plan cert (Some text) = cert_of text plan ≡ Ok cert
 IsTextLeft plan cert None = HasLongText cert
 
--- what a finding leaves: the certificate that accepts the plan, where one does
+-- a finding leaves the certificate that accepts the plan, if there is one
 abbrev pub IsLeftOf : Plan → PlanFinding → Option (List ℕ) → Type 0
 IsLeftOf plan (Safe cert) left = IsTextLeft plan cert left
 IsLeftOf plan (NotSafe witness sizes) left = left ≡ None
 IsLeftOf plan (NotDecided sizes) left = left ≡ None
 
--- the certificate that is left beside an answer
+-- the certificate's text that is left beside an answer
 abbrev pub left_in : Replied → Option (List ℕ)
 left_in replied = option_map (λ text. text.items) replied.certificate
 
--- ---- to an input
+-- ---- answers to an input
 
--- something was found that is so of the plan, by the certificate that was given where that accepts it; it is told, and it leaves
--- what it leaves
+-- the answer reports a finding that is true of the plan. It rests on the given certificate if that accepts the plan, and it
+-- leaves its certificate.
 pub record AnswersPlan (manner : Manner) (plan : Plan) (given : Option Cert) (left : Option (List ℕ)) (answer : Answer) : Type 0 where
   pub finding : PlanFinding
   pub is_finding : IsFinding plan finding
@@ -159,7 +159,7 @@ abbrev pub AnswersCert : Manner → Plan → Result Cert CertFault → Option (L
 AnswersCert manner plan (Err f) left answer = (left ≡ None) × AnswersCertFault manner.form f answer
 AnswersCert manner plan (Ok cert) left answer = AnswersPlan manner plan (Some cert) left answer
 
--- to a plan, and to the text of a certificate where one is given
+-- answers for a plan and, if one is given, the text of a certificate
 abbrev pub AnswersGiven : Manner → Option (List ℕ) → Plan → Option (List ℕ) → Answer → Type 0
 AnswersGiven manner None plan left answer = AnswersPlan manner plan None left answer
 AnswersGiven manner (Some cert) plan left answer = AnswersCert manner plan (cert_of cert plan) left answer
@@ -182,13 +182,13 @@ IsAskAnswer given manner input left answer =
 
 -- ---- what status 0 means
 
--- the plan in front of the last line `%%` is safe
+-- the plan before the last line `%%` is safe
 pub record IsSafeBundle (input : List ℕ) : Type 0 where
   pub bundle : Bundle
   pub is_bundle : bundle_of input ≡ Some bundle
   pub safe : IsSafePlan bundle.plan
 
--- the plan that is asked about is safe
+-- the plan in the input is safe
 abbrev pub IsSafeAsked : Given → List ℕ → Type 0
 IsSafeAsked PlanAlone input = IsSafePlan input
 IsSafeAsked WithCertificate input = IsSafeBundle input

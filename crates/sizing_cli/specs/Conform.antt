@@ -1,4 +1,5 @@
--- What `conform` may answer to an input: a relation, since nothing is said of which ways through a body are tried first.
+-- The possible answers of `conform` to an input: a relation, since it does not fix the order in which paths through a body
+-- are tried.
 use Rattle.std.specs.Prelude.{◌≡◌, ◌==◌, ℕ, Bool, true, false, nat_lt, if◌then◌else◌, List, [], ◌∷◌, ◌++◌, length, codes, Option, Some, None, Result, Ok, Err, MatchBool}
 use Rattle.std.specs.List.{list_all}
 use Rattle.job_bodies.specs.Plan.{Plan}
@@ -27,7 +28,7 @@ use Rattle.sizing_cli.specs.Answer.{Answer, fault, input_too_long, no_separator}
 use Rattle.sizing_cli.specs.Bundle.{Bundle, bundle_of}
 
 -- ---- what is written
--- the recording has this bad line
+-- the answer to a recording with this malformed line
 abbrev pub bad_recording : RecordingFault → Answer
 bad_recording found = fault (head BAD_RECORDING ++ (codes " at " ++ fault_text found))
 
@@ -40,7 +41,7 @@ is_undecided (finding.TooMany excess) = false
 is_undecided (finding.ForeignGet get name) = false
 is_undecided (finding.Void void) = false
 
--- a no, where more was found than what could not be decided
+-- the status is a no if any finding is more than undecided
 abbrev pub status_of : List Finding → Status
 status_of findings = if length findings == 0 then Done else (if list_all is_undecided findings then Undecided else Refused)
 
@@ -55,18 +56,18 @@ answer_of plan (Bad found) = bad_recording found
 answer_of plan (Compared findings) = findings_answer plan findings.items
 
 -- ---- what it means
--- where nothing was found, the recording conforms and no line of it voids a yes
+-- if there are no findings, the recording conforms and no line of it invalidates that result
 abbrev pub AreAllFindings : Plan → List ℕ → List Finding → Type 0
 AreAllFindings plan recording findings = findings ≡ [] → Conforms plan (lines_of recording) × IsNotVoid (lines_of recording)
 
--- the recording's first bad line; or all that is to be found, where it has none, each thing once, in the order of the lines
+-- either the recording's first malformed line; or, if it has none, all findings, each once, in the order of the lines
 pub record IsSaidOf (plan : Plan) (recording : List ℕ) (said : Conformance) : Type 0 where
   pub bad : IsFirstFault (lines_read recording) (fault_of said)
   pub found : IfCompared said (AreFindingsOf plan MAX_PATH_STEPS (lines_of recording))
   pub conforms : IfCompared said (AreAllFindings plan recording)
   pub ascending : IfCompared said AreInOrder
 
--- to a plan and a recording
+-- the answers for a plan and a recording
 pub record AnswersRecording (plan : Plan) (recording : List ℕ) (answer : Answer) : Type 0 where
   pub said : Conformance
   pub is_said : IsSaidOf plan recording said
@@ -80,11 +81,12 @@ abbrev pub AnswersBundle : Option Bundle → Answer → Type 0
 AnswersBundle None answer = answer ≡ no_separator
 AnswersBundle (Some bundle) answer = AnswersReading bundle.second (plan_of bundle.plan) answer
 
--- to an input
+-- the possible answers to an input
 abbrev pub IsConformAnswer : List ℕ → Answer → Type 0
 IsConformAnswer input answer = MatchBool (nat_lt MAX_RECORDED_BYTES (length input)) (answer ≡ input_too_long) (AnswersBundle (bundle_of input) answer)
 
--- what status 0 says: the input is a plan and a recording that conforms to it, and no line of it voids a yes
+-- what status 0 means: the input is a plan and a recording that conforms to it, and no line of the recording invalidates
+-- that result
 pub record IsConformingInput (input : List ℕ) : Type 0 where
   pub bundle : Bundle
   pub is_bundle : bundle_of input ≡ Some bundle

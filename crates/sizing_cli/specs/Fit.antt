@@ -1,4 +1,4 @@
--- What `fit` may answer to an input: a relation, since nothing is said of which sizes are found.
+-- The possible answers of `fit` to an input: a relation, since it does not fix which sizes are found.
 use Rattle.std.specs.Prelude.{◌≡◌, ◌⊎◌, ◌<◌, ℕ, nat_lt, ◌==◌, List, [], ◌∷◌, ◌++◌, length, codes, Result, Ok, Err, IsTrue, MatchBool}
 use Rattle.job_bodies.specs.Plan.{Plan}
 use Rattle.job_bodies.specs.FaultText.{fault_line}
@@ -23,7 +23,7 @@ use Rattle.sizing_cli.specs.declared.status.Status.TheVariants.{Done, Refused}
 use Rattle.sizing_cli.specs.Answer.{Answer, fault, input_too_long, yes_or_no}
 use Rattle.sizing_cli.specs.Certify.{IsBundleWith, HasLongText}
 
--- the sizes of the fitted plan, which are a no where one changes
+-- the sizes of the fitted plan; a no if one differs from the plan's
 abbrev pub sizes_answer : Plan → Plan → Answer
 sizes_answer plan fit = record { text = sizes_text plan fit; status = yes_or_no (changes plan fit == 0) }
 
@@ -33,18 +33,18 @@ no_sizes_answer plan cause = record { text = no_sizes_text plan cause; status = 
 abbrev pub text_too_long : Answer
 text_too_long = record { text = codes "no bundle: text too long" ++ 10 ∷ []; status = Refused }
 
--- what is told of what the search found
+-- the lines that report the result of the search
 abbrev pub told : Plan → SizesFound → Answer
 told plan (Found fit cert) = sizes_answer plan fit
 told plan (NotFound cause) = no_sizes_answer plan cause
 
--- a text of the plan, as one that is written, is too long to be read
+-- a written text of the plan is too long to be read back
 pub record HasLongPlanText (plan : Plan) : Type 0 where
   pub text : List ℕ
   pub is_text : IsPlanText plan text
   pub long : MAX_PLAN_BYTES < length text
 
--- the bundle of the text of the fitted plan, as it is written, and of the certificate: `check` says yes to it
+-- the bundle of the written text of the fitted plan and of the certificate, which `check` accepts
 pub record IsBundleOf (fit : Plan) (cert : Cert) (text : List ℕ) : Type 0 where
   pub fit_text : List ℕ
   pub is_text : IsPlanText fit fit_text
@@ -55,23 +55,23 @@ pub record IsBundled (fit : Plan) (cert : Cert) (answer : Answer) : Type 0 where
   pub bundle : IsBundleOf fit cert answer.text
   pub status : answer.status ≡ Done
 
--- to sizes that were found and the certificate: the bundle, or that a text of it is too long
+-- the answers for sizes that were found and their certificate: the bundle, or that one of its texts is too long
 abbrev pub BundlesSizes : Plan → Cert → Answer → Type 0
 BundlesSizes fit cert answer = ((answer ≡ text_too_long) × (HasLongPlanText fit ⊎ HasLongText cert)) ⊎ IsBundled fit cert answer
 
--- to what the search found
+-- the answers for the result of the search
 abbrev pub AnswersFound : SizesForm → Plan → SizesFound → Answer → Type 0
 AnswersFound Sizes plan found answer = answer ≡ told plan found
 AnswersFound Bundle plan (Found fit cert) answer = BundlesSizes fit cert answer
 AnswersFound Bundle plan (NotFound cause) answer = answer ≡ no_sizes_answer plan cause
 
--- no size is another one: some certificate accepts the plan as it is
+-- no size changes: some certificate accepts the plan as it is
 pub record IsAsDeclared (plan : Plan) (found : SizesFound) : Type 0 where
   pub cert : Cert
   pub is : found ≡ Found plan cert
 
--- to a plan: something was found that is so of the plan and that decides whether there are sizes, and it is answered; where the
--- steady certificate accepts the plan, no size is another one
+-- the answers for a plan: the result is true of the plan, decides whether there are sizes, and is reported; if the steady
+-- certificate accepts the plan, no size changes
 pub record AnswersPlan (wanted : SizesForm) (plan : Plan) (answer : Answer) : Type 0 where
   pub found : SizesFound
   pub is_found : IsFound plan found
@@ -83,11 +83,11 @@ abbrev pub AnswersReading : SizesForm → Result Plan PlanFault → Answer → T
 AnswersReading wanted (Err f) answer = answer ≡ fault (fault_line f)
 AnswersReading wanted (Ok plan) answer = AnswersPlan wanted plan answer
 
--- to an input
+-- the possible answers to an input
 abbrev pub IsFitAnswer : SizesForm → List ℕ → Answer → Type 0
 IsFitAnswer wanted input answer = MatchBool (nat_lt MAX_INPUT_BYTES (length input)) (answer ≡ input_too_long) (AnswersReading wanted (plan_of input) answer)
 
--- what status 0 means of a bundle: it is that of such sizes and of the certificate for which they are the least
+-- what status 0 means for a bundle: it has such sizes, and the certificate for which they are the least
 pub record IsFittedBundle (plan : Plan) (text : List ℕ) : Type 0 where
   pub cert : Cert
   pub fit : Plan

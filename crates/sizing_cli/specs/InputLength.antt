@@ -1,10 +1,10 @@
--- How long the inputs of commands may be.
+-- The maximum length of the inputs of commands.
 use Rattle.std.specs.Prelude.{ℕ}
 use Rattle.command_line.specs.declared.command.Command.{Command}
 use Rattle.command_line.specs.declared.command.Command.TheVariants.{Alone, OnRecording, OnThreads}
 use Rattle.job_bodies.specs.declared.limits.TheConstants.{MAX_INPUT_BYTES, MAX_RECORDED_BYTES}
 
--- the most bytes of a whole input of the command
+-- the maximum length of a command's input, in bytes
 abbrev pub most_bytes : Command → ℕ
 most_bytes (Alone review) = MAX_INPUT_BYTES
 most_bytes (OnRecording reading) = MAX_RECORDED_BYTES

@@ -1,4 +1,4 @@
--- What the split of an input is, in words of its lines.
+-- The split of an input, described by its lines.
 use Rattle.std.specs.Prelude.{◌≡◌, ◌⊎◌, ◌↔◌, ℕ, Bool, false, ◌==◌, List, [], ◌∷◌, ◌++◌, codes, Some, None}
 use Rattle.std.specs.List.{list_any, slice_split}
 use Rattle.std.specs.Str.{bytes_eq}
@@ -8,11 +8,11 @@ use Rattle.sizing_cli.specs.Bundle.{Bundle, bundle_of}
 abbrev pub has_separator : List ℕ → Bool
 has_separator text = list_any (λ line. bytes_eq line (codes "%%")) (slice_split (λ b. b == 10) text)
 
--- no line, or some lines, each with its newline
+-- no line, or lines that each end with a newline
 abbrev pub IsWholeLines : List ℕ → Type 0
 IsWholeLines text = (text ≡ []) ⊎ ((front : List ℕ) × (text ≡ front ++ 10 ∷ []))
 
--- the input is the plan's text, a line `%%` and the second part; it may end with that line, without its newline
+-- the input is the plan's text, a line `%%` and the second part; if the second part is empty, that line needs no newline
 abbrev pub IsJoined : List ℕ → Bundle → Type 0
 IsJoined input bundle = (input ≡ bundle.plan ++ (codes "%%" ++ 10 ∷ bundle.second)) ⊎ ((input ≡ bundle.plan ++ codes "%%") × (bundle.second ≡ []))
 
@@ -22,10 +22,10 @@ pub record IsSplit (input : List ℕ) (bundle : Bundle) : Type 0 where
   pub whole : IsJoined input bundle
   pub last : has_separator bundle.second ≡ false
 
--- an input is a bundle just where the bundle is its split at the last line `%%`
+-- an input is a bundle exactly if it is the split at its last line `%%`
 abbrev pub InputsSplitAtTheLastSeparator : Type 0
 InputsSplitAtTheLastSeparator = (input : List ℕ) (bundle : Bundle) → bundle_of input ≡ Some bundle ↔ IsSplit input bundle
 
--- an input is no bundle just where none of its lines is `%%`
+-- an input is no bundle exactly if none of its lines is `%%`
 abbrev pub NoBundleWithoutASeparator : Type 0
 NoBundleWithoutASeparator = (input : List ℕ) → bundle_of input ≡ None ↔ has_separator input ≡ false

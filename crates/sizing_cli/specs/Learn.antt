@@ -1,4 +1,4 @@
--- What `learn` may answer to a recording: a relation, since nothing is said of which bodies are found.
+-- The possible answers of `learn` to a recording: a relation, since it does not fix which bodies are found.
 use Rattle.std.specs.Prelude.{◌≡◌, ◌⊎◌, ◌&&◌, ℕ, false, if◌then◌else◌, nat_lt, nat_eq, List, [], ◌∷◌, ◌++◌, length, flat_map, codes, decimal, None, Some, Ok, MatchBool}
 use Rattle.std.specs.List.{All, list_any}
 use Rattle.job_bodies.specs.Plan.{Plan}
@@ -28,15 +28,15 @@ use Rattle.sizing_cli.specs.Answer.{Answer, input_too_long}
 use Rattle.sizing_cli.specs.Conform.{AreAllFindings, bad_recording}
 
 -- ---- the comments at the head of a plan
--- of how much it was seen
+-- the number of rounds and jobs that the plan was derived from
 abbrev pub seen_comment : ℕ → ℕ → List ℕ
 seen_comment rounds jobs = codes "# Learned from a recording. Rounds: " ++ (decimal rounds ++ (codes ". Jobs: " ++ (decimal jobs ++ (codes "." ++ 10 ∷ []))))
 
--- what no recording shows
+-- what a recording cannot show
 abbrev pub not_taken_comment : List ℕ
 not_taken_comment = codes "# What was not taken is not here: another path, class, kind or pool. Each count is what was seen at once." ++ 10 ∷ []
 
--- how many were not at their ends, where there are such
+-- the number of unfinished rounds and jobs, if there are any
 abbrev pub unfinished_comment : ℕ → ℕ → List ℕ
 unfinished_comment rounds jobs =
     if nat_eq rounds 0 && nat_eq jobs 0 then [] else
@@ -45,15 +45,16 @@ unfinished_comment rounds jobs =
 abbrev pub head_comment : SeenPlan → List ℕ
 head_comment seen = seen_comment seen.rounds seen.jobs ++ (not_taken_comment ++ unfinished_comment seen.unfinished_rounds seen.unfinished_jobs)
 
--- a thing that the recording has and no plan says
+-- the comment for a finding that the recording has and the plan does not contain
 abbrev pub comment_line : Plan → Finding → List ℕ
 comment_line plan found = codes "# " ++ finding_line plan found
 
 abbrev pub comments : Plan → List Finding → List ℕ
 comments plan findings = flat_map (comment_line plan) findings
 
--- ---- what is answered
--- its pools and the counts of its clients are those of the lines, and so many rounds and jobs were seen, or not at their ends
+-- ---- the answers
+-- the plan's pools and client counts are those of the lines, and these are the numbers of rounds and jobs, and of the
+-- unfinished ones
 pub record IsSeen (lines : List RecordedLine) (seen : SeenPlan) : Type 0 where
   pub pools : seen.plan.pools ≡ pools_seen lines
   pub counts : AreCounted lines seen.plan.clients
@@ -64,16 +65,16 @@ pub record IsSeen (lines : List RecordedLine) (seen : SeenPlan) : Type 0 where
   pub unfinished_rounds : seen.unfinished_rounds ≡ unfinished_rounds lines
   pub unfinished_jobs : seen.unfinished_jobs ≡ unfinished_jobs lines
 
--- The text is this plan's. At its head stands of how much it was learned, and each thing that was found, in a comment.
+-- The text is this plan's. Comments at its head give the extent of the recording and each finding.
 pub record IsTextOf (seen : SeenPlan) (findings : List Finding) (text : List ℕ) : Type 0 where
   pub is_plan : plan_of text ≡ Ok seen.plan
   pub written : List ℕ
   pub is_written : IsPlanText seen.plan written
   pub text_is : text ≡ head_comment seen ++ (comments seen.plan findings ++ 10 ∷ written)
 
--- The text is a plan's. Its pools are those of the recording, and the count of each kind is what was seen at once. What the jobs
--- and the rounds did is of its bodies, and it has enough clients. All else that is found of the recording stands at its head,
--- each thing in a comment, in the order of its lines; where nothing is, the recording conforms to the plan.
+-- The text is a plan's. Its pools are those of the recording, and the count of each kind of client is the largest number
+-- seen at once. The jobs and the rounds follow its bodies, and it has enough clients. Every other finding is in a comment at
+-- its head, in the order of the recording's lines. If there is none, the recording conforms to the plan.
 pub record IsLearnedText (recording text : List ℕ) : Type 0 where
   pub seen : SeenPlan
   pub is_seen : IsSeen (lines_of recording) seen
@@ -93,8 +94,8 @@ pub record IsLearned (recording : List ℕ) (answer : Answer) : Type 0 where
 abbrev pub not_learned : TooMuch → Answer
 not_learned reason = record { text = codes "no plan was learned: " ++ too_much_text reason ++ 10 ∷ []; status = Refused }
 
--- no plan was found that the recording conforms to: for a reason that its lines have, or since what it shows is no plan that it
--- conforms to, or since the plan's text is too long
+-- no conforming plan was found: for a reason that the lines give, or because the inferred plan does not conform, or because
+-- the plan's text is too long
 pub record IsNotLearned (recording : List ℕ) (answer : Answer) : Type 0 where
   pub no_fault : IsFirstFault (lines_read recording) None
   pub reason : TooMuch
@@ -109,6 +110,6 @@ pub record IsBadRecording (recording : List ℕ) (answer : Answer) : Type 0 wher
 abbrev pub AnswersLines : List ℕ → Answer → Type 0
 AnswersLines recording answer = IsBadRecording recording answer ⊎ (IsNotLearned recording answer ⊎ IsLearned recording answer)
 
--- to an input, which is a recording
+-- the possible answers to an input, which is a recording
 abbrev pub IsLearnAnswer : List ℕ → Answer → Type 0
 IsLearnAnswer input answer = MatchBool (nat_lt MAX_RECORDED_BYTES (length input)) (answer ≡ input_too_long) (AnswersLines input answer)

@@ -1,4 +1,4 @@
--- What sizes that were found say of the declared ones.
+-- The comparison of sizes that a search found with the declared ones.
 use Rattle.std.specs.Prelude.{IsTrue}
 use Rattle.job_bodies.specs.Plan.{Plan}
 use Rattle.headline.specs.Accepted.{accepted}
@@ -6,7 +6,7 @@ use Rattle.ask_answers.specs.Finding.{IsOpen}
 use Rattle.sizing_cli.specs.declared.certificate.Declared.{Declared}
 use Rattle.sizing_cli.specs.declared.certificate.Declared.TheVariants.{Accepted, Other}
 
--- their certificate accepts the plan as it is; or they are others, or none
+-- either their certificate accepts the plan as it is; or they differ, or there are none
 abbrev pub IsSaid : Plan → Declared → Type 0
 IsSaid plan (Accepted cert) = IsTrue (accepted plan cert)
 IsSaid plan (Other sizes) = IsOpen plan sizes

@@ -1,4 +1,4 @@
--- What `refute` may answer to an input: a relation, since nothing is said of which witness is found, or that one is.
+-- The possible answers of `refute` to an input: a relation, since it does not fix which witness is found, or that one is.
 use Rattle.std.specs.Prelude.{◌≡◌, ◌⊎◌, ◌≤◌, ◌<◌, ◌==◌, ℕ, nat_lt, if◌then◌else◌, List, [], ◌∷◌, ◌++◌, length, codes, Result, Ok, Err, IsTrue, MatchBool}
 use Rattle.std.specs.Fmt.{decimal}
 use Rattle.job_bodies.specs.Plan.{Plan}
@@ -25,13 +25,13 @@ pub record HasCertificate (plan : Plan) : Type 0 where
   pub cert : Cert
   pub accepts : IsTrue (accepted plan cert)
 
--- the plan has this witness, whose jobs, if it names some, are named in rising order
+-- this is a witness against the plan; if it names jobs, their numbers rise
 abbrev pub IsWitnessOf : Plan → Witness → Type 0
 IsWitnessOf plan witness = IsWitness plan witness.events.items witness.ending
 
--- ---- the lines where no witness is shown, with the status that each has
+-- ---- the lines if there is no witness, with their statuses
 
--- what a status is where a bundle is wanted: a no, since none is written
+-- the status of an answer without a bundle: a no if a bundle was wanted
 abbrev pub without_bundle : Shown → Status → Status
 without_bundle Story status = status
 without_bundle Bundle status = Refused
@@ -39,14 +39,14 @@ without_bundle Bundle status = Refused
 abbrev pub safe_answer : Shown → Answer
 safe_answer shown = record { text = codes "safe: a certificate was found" ++ 10 ∷ []; status = without_bundle shown Done }
 
--- what is said of so many states
+-- the words after the number of states
 abbrev pub were_searched : ℕ → List ℕ
 were_searched states = if states == 1 then codes " state was searched" else codes " states were searched"
 
 abbrev pub not_decided : Shown → ℕ → Answer
 not_decided shown states = record { text = codes "not decided: " ++ (decimal states ++ (were_searched states ++ 10 ∷ [])); status = without_bundle shown Undecided }
 
--- neither a certificate nor a witness was found in this many states, and no more than may be searched
+-- neither a certificate nor a witness was found in `searched` states, which are at most `states`
 pub record IsUndecided (states : ℕ) (shown : Shown) (plan : Plan) (answer : Answer) : Type 0 where
   pub uncertified : IsUncertified plan
   pub searched : ℕ
@@ -58,16 +58,16 @@ events_too_long = record { text = codes "no bundle: too many events" ++ 10 ∷ [
 
 -- ---- the witness
 
--- the witness is told: how it ends, and a story behind that
+-- the answer reports the witness: how it ends, and then its story
 pub record TellsWitness (plan : Plan) (witness : Witness) (answer : Answer) : Type 0 where
   pub told : IsTold plan witness answer.text
   pub status : answer.status ≡ Refused
 
--- the lines of its events
+-- the lines of the witness's events
 abbrev pub event_lines_of : Plan → Witness → List ℕ
 event_lines_of plan witness = lines_text plan (witness_lines witness)
 
--- the plan's text, a line `%%`, and the lines of its events, which are not too long to be read
+-- the answer is the plan's text, a line `%%`, and the lines of the events, which are not too long to be read back
 pub record BundlesWitness (text : List ℕ) (plan : Plan) (witness : Witness) (answer : Answer) : Type 0 where
   pub bundle : answer.text ≡ text ++ (codes "%%" ++ 10 ∷ event_lines_of plan witness)
   pub short : length (event_lines_of plan witness) ≤ MAX_EVENT_BYTES
@@ -78,13 +78,13 @@ ShowsWitness Story text plan witness answer = TellsWitness plan witness answer
 ShowsWitness Bundle text plan witness answer =
     ((answer ≡ events_too_long) × (MAX_EVENT_BYTES < length (event_lines_of plan witness))) ⊎ BundlesWitness text plan witness answer
 
--- the plan has a witness, and it is shown
+-- the plan has a witness, and the answer shows it
 pub record Refutes (shown : Shown) (text : List ℕ) (plan : Plan) (answer : Answer) : Type 0 where
   pub witness : Witness
   pub is_witness : IsWitnessOf plan witness
   pub shows : ShowsWitness shown text plan witness answer
 
--- the text is that of the input's plan, and behind it the events of a witness against it, which are not too long to be read
+-- the text is the input's plan followed by the events of a witness against it, which are not too long to be read back
 pub record IsWitnessBundle (input text : List ℕ) : Type 0 where
   pub plan : Plan
   pub is_plan : plan_of (whole_lines input) ≡ Ok plan
@@ -95,8 +95,8 @@ pub record IsWitnessBundle (input text : List ℕ) : Type 0 where
 
 -- ---- the whole
 
--- to the text of a plan, where so many states may be searched: that it is safe, where some certificate accepts it; that nothing
--- is known; or a witness
+-- the answers for a plan's text if at most `states` states may be searched: that it is safe, if some certificate accepts it;
+-- that it is undecided; or a witness
 abbrev pub AnswersPlan : ℕ → Shown → List ℕ → Plan → Answer → Type 0
 AnswersPlan states shown text plan answer = ((answer ≡ safe_answer shown) × HasCertificate plan) ⊎ (IsUndecided states shown plan answer ⊎ Refutes shown text plan answer)
 
@@ -104,7 +104,7 @@ abbrev pub AnswersReading : ℕ → Shown → List ℕ → Result Plan PlanFault
 AnswersReading states shown text (Err f) answer = answer ≡ fault (fault_line f)
 AnswersReading states shown text (Ok plan) answer = AnswersPlan states shown text plan answer
 
--- to an input
+-- the possible answers to an input
 abbrev pub IsRefuteAnswer : ℕ → Shown → List ℕ → Answer → Type 0
 IsRefuteAnswer states shown input answer =
     MatchBool (nat_lt MAX_INPUT_BYTES (length input)) (answer ≡ input_too_long) (AnswersReading states shown (whole_lines input) (plan_of (whole_lines input)) answer)

@@ -1,4 +1,4 @@
--- What the program writes for an input: a function of the bytes that it reads.
+-- The answers that are a function of the input.
 use Rattle.std.specs.Prelude.{ℕ, nat_lt, [], ◌∷◌, ◌++◌, codes, if◌then◌else◌, List, length, Option, Some, None, Result, Ok, Err}
 use Rattle.std.specs.Fmt.{decimal}
 use Rattle.job_bodies.specs.Plan.{Plan}
@@ -33,13 +33,13 @@ abbrev pub replay_of_lines : Plan → Result (List Line) ℕ → Answer
 replay_of_lines plan (Err line) = bad_event line
 replay_of_lines plan (Ok lines) = transcript plan (start plan) 1 lines
 
--- the replay of the event lines on the plan, or the number of the first bad line, whatever comes of those before it
+-- the replay of the event lines on the plan; if a line is malformed, only the number of the first such line
 abbrev pub replay : Plan → List ℕ → Answer
 replay plan second = if nat_lt MAX_EVENT_BYTES (length second) then input_too_long else replay_of_lines plan (event_lines plan second)
 
 -- ---- check
 
--- the verdict, which is a no where it says no
+-- the verdict on a plan; a no if the certificate does not accept it
 abbrev pub verdict_answer : Plan → Verdict → Answer
 verdict_answer plan verdict = record { text = verdict_text plan verdict; status = yes_or_no verdict.yes }
 
@@ -47,7 +47,7 @@ abbrev pub check_of_cert : Plan → Result Cert CertFault → Answer
 check_of_cert plan (Err f) = fault (head f.number)
 check_of_cert plan (Ok cert) = verdict_answer plan (verdict plan cert)
 
--- the verdict on the plan and the certificate that the second part is
+-- the verdict on the plan and the certificate in the second part
 abbrev pub check : Plan → List ℕ → Answer
 check plan second = check_of_cert plan (cert_of second plan)
 
@@ -57,20 +57,20 @@ abbrev pub explain_of_cert : Plan → Result Cert CertFault → Answer
 explain_of_cert plan (Err f) = fault (head f.number)
 explain_of_cert plan (Ok cert) = record { text = explanation plan (failing plan cert); status = yes_or_no (is_nil (failing plan cert)) }
 
--- the failing conditions of the certificate that the second part is
+-- the conditions that the certificate in the second part fails
 abbrev pub explain : Plan → List ℕ → Answer
 explain plan second = explain_of_cert plan (cert_of second plan)
 
 -- ---- run
 
--- the plan is not run
+-- the answer if the plan is not run
 abbrev pub not_run : Answer
 not_run = record { text = codes "no" ++ 10 ∷ []; status = Refused }
 
 abbrev pub too_large : Answer
 too_large = fault (head RUN_TOO_LARGE)
 
--- so many jobs and units of work went through, and no submit was refused
+-- a run completed with this many jobs and units of work, and no refused submit
 abbrev pub run_through : ℕ → ℕ → Answer
 run_through jobs units = record { text = codes "jobs " ++ (decimal jobs ++ (codes ", units " ++ (decimal units ++ (codes ", refused 0" ++ 10 ∷ [])))); status = Done }
 
@@ -81,13 +81,13 @@ abbrev pub run_of_cert : Plan → ℕ → Result Cert CertFault → Answer
 run_of_cert plan rounds (Err f) = fault (head f.number)
 run_of_cert plan rounds (Ok cert) = if accepted plan cert then run_of_accepted plan cert rounds else not_run
 
--- the run of the plan with the certificate that the second part is
+-- the run of the plan with the certificate in the second part
 abbrev pub run : ℕ → Plan → List ℕ → Answer
 run rounds plan second = run_of_cert plan rounds (cert_of second plan)
 
--- ---- the whole
+-- ---- whole inputs
 
--- the plan's fault comes before what the second part has to say
+-- a fault of the plan takes precedence over the second part
 abbrev pub answer_of_plan : (Plan → List ℕ → Answer) → List ℕ → Result Plan PlanFault → Answer
 answer_of_plan answers second (Err f) = fault (fault_line f)
 answer_of_plan answers second (Ok plan) = answers plan second
@@ -96,20 +96,20 @@ abbrev pub answer_of_bundle : (Plan → List ℕ → Answer) → Option Bundle �
 answer_of_bundle answers None = no_separator
 answer_of_bundle answers (Some bundle) = answer_of_plan answers bundle.second (plan_of bundle.plan)
 
--- the answer to an input, where its plan and its second part are answered so
+-- the answer to an input, given the answers for a plan and a second part
 abbrev pub answer_by : (Plan → List ℕ → Answer) → List ℕ → Answer
 answer_by answers input = if nat_lt MAX_INPUT_BYTES (length input) then input_too_long else answer_of_bundle answers (bundle_of input)
 
--- what is said of a plan and of its second part
+-- a review's answer for a plan and a second part
 abbrev pub answer_of : Review → Plan → List ℕ → Answer
 answer_of Replay plan second = replay plan second
 answer_of Check plan second = check plan second
 answer_of Explain plan second = explain plan second
 
--- what is said of an input
+-- a review's answer to an input
 abbrev pub report : Review → List ℕ → Answer
 report review input = answer_by (answer_of review) input
 
--- the answer of a run of so many rounds
+-- the answer of a run of `rounds` rounds
 abbrev pub run_report : ℕ → List ℕ → Answer
 run_report rounds input = answer_by (run rounds) input

@@ -1,4 +1,4 @@
--- Inputs of which a yes is true.
+-- Inputs with a safe plan.
 use Rattle.std.specs.Prelude.{◌≡◌, ℕ, List, Some, Ok}
 use Rattle.job_bodies.specs.Plan.{Plan}
 use Rattle.plan_text.specs.PlanOf.{plan_of}
@@ -16,13 +16,13 @@ pub record IsSafeInput (input : List ℕ) : Type 0 where
   pub is_bundle : bundle_of input ≡ Some bundle
   pub safe : IsSafeToRun bundle.plan bundle.second
 
--- the input is the text of a plan, and what some certificate promises of it holds
+-- the input is the text of a plan, and the promises of some certificate hold of it
 pub record IsSafePlan (input : List ℕ) : Type 0 where
   pub plan : Plan
   pub is_plan : plan_of input ≡ Ok plan
   pub cert : Cert
   pub promises : Promises plan cert
 
--- where check answers yes, the input is such a one
+-- if `check` answers yes, the input has a safe plan
 abbrev pub YesMeansSafe : Type 0
 YesMeansSafe = (input : List ℕ) → (report Check input).status ≡ Done → IsSafeInput input

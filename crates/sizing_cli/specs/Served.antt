@@ -1,4 +1,4 @@
--- What is written for a command, and what it means.
+-- What a command writes, and what it means.
 use Rattle.std.specs.Prelude.{◌≡◌, ◌≢◌, ◌+◌, ℕ, List, Option, Result, Ok, IfOk, IfErr, IfSome, IsTrue}
 use Rattle.std.specs.Io.KnownBytes.{Appends, Keeps}
 use Rattle.byte_streams.specs.Reading.{ConsumesAtMost}
@@ -30,7 +30,7 @@ use Rattle.sizing_cli.specs.Ask.{IsAskAnswer, IsSafeAsked}
 use Rattle.sizing_cli.specs.Conform.{IsConformAnswer, IsConformingInput}
 use Rattle.sizing_cli.specs.Learn.{IsLearnAnswer, IsLearnedText}
 
--- the answer is one that the task may come to
+-- the answer is a possible one of the task
 abbrev pub IsTaskAnswer : Task → List ℕ → Answer → Type 0
 IsTaskAnswer (Certify workers) input answer = IsCertifyAnswer input answer
 IsTaskAnswer (Fit wanted) input answer = IsFitAnswer wanted input answer
@@ -38,38 +38,37 @@ IsTaskAnswer (Run rounds) input answer = answer ≡ run_report rounds input
 IsTaskAnswer (Refute states shown) input answer = IsRefuteAnswer states shown input answer
 IsTaskAnswer (Ask given manner) input answer = (left : Option (List ℕ)) × IsAskAnswer given manner input left answer
 
--- the answer is one to an input with a recording
+-- the answer is a possible one for an input with a recording
 abbrev pub IsReadingAnswer : Reading → List ℕ → Answer → Type 0
 IsReadingAnswer Conform input answer = IsConformAnswer input answer
 IsReadingAnswer Learn input answer = IsLearnAnswer input answer
 
--- the answer is one that the command may give to the input
+-- the answer is a possible one of the command
 abbrev pub IsAnswer : Command → List ℕ → Answer → Type 0
 IsAnswer (Alone review) input answer = answer ≡ report review input
 IsAnswer (OnRecording reading) input answer = IsReadingAnswer reading input answer
 IsAnswer (OnThreads task) input answer = IsTaskAnswer task input answer
 
--- such an answer was written, and the status is its
+-- such an answer was written, and the status is its status
 pub record WritesAnswer (command : Command) (input : List ℕ) (status : Status) (old new : Option (List ℕ)) : Type 0 where
   pub answer : Answer
   pub is_answer : IsAnswer command input answer
   pub written : Appends old new answer.text
   pub status_is : status ≡ answer.status
 
--- a front of such an answer was written
+-- a prefix of such an answer was written
 pub record WritesFront (command : Command) (input : List ℕ) (old new : Option (List ℕ)) : Type 0 where
   pub answer : Answer
   pub is_answer : IsAnswer command input answer
   pub written : AppendsFront old new answer.text
 
--- a bundle was written that is the input's plan with a certificate to which `check` says yes
+-- a bundle was written: the input's plan with a certificate that `check` accepts
 pub record WritesCertified (input : List ℕ) (old new : Option (List ℕ)) : Type 0 where
   pub text : List ℕ
   pub certified : IsCertifiedBundle (whole_lines input) text
   pub written : Appends old new text
 
--- a bundle was written of a plan that differs from the input's in larger sizes alone, and of a certificate to which `check`
--- says yes
+-- a bundle was written: a plan that differs from the input's only in larger sizes, with a certificate that `check` accepts
 pub record WritesFitted (input : List ℕ) (old new : Option (List ℕ)) : Type 0 where
   pub plan : Plan
   pub is_plan : plan_of input ≡ Ok plan
@@ -77,21 +76,22 @@ pub record WritesFitted (input : List ℕ) (old new : Option (List ℕ)) : Type 
   pub fitted : IsFittedBundle plan text
   pub written : Appends old new text
 
--- a bundle was written that is the input's plan with a witness against it
+-- a bundle was written: the input's plan with a witness against it
 pub record WritesWitness (input : List ℕ) (old new : Option (List ℕ)) : Type 0 where
   pub text : List ℕ
   pub shows : IsWitnessBundle input text
   pub written : Appends old new text
 
--- a plan was written to which the recording conforms, but for what comments at its head say
+-- a plan was written to which the recording conforms, except for what the comments at its head list
 pub record WritesLearned (input : List ℕ) (old new : Option (List ℕ)) : Type 0 where
   pub text : List ℕ
   pub learned : IsLearnedText input text
   pub written : Appends old new text
 
--- what status 0 means: of `check`, `run`, `ask`, the sizes of `fit` and the story of `refute`, that the input's plan is safe; of `certify`
--- and the bundle of `fit`, that what was written is a plan that is; of the bundle of `refute`, that what was written has a witness; of
--- `conform`, that the recording is one of the plan; of `learn`, that what was written is a plan to which the recording conforms
+-- what status 0 means. For `check`, `run`, `ask`, the sizes of `fit` and the story of `refute`: the input's plan is safe.
+-- For `certify` and the bundle of `fit`: the plan that was written is safe. For the bundle of `refute`: the plan that was
+-- written has a witness. For `conform`: the recording is one of the plan. For `learn`: the recording conforms to the plan
+-- that was written.
 abbrev pub MeansSafe : Command → List ℕ → Option (List ℕ) → Option (List ℕ) → Type 0
 MeansSafe (Alone Replay) input old new = Unit {0}
 MeansSafe (Alone Check) input old new = IsSafeInput input
@@ -106,7 +106,7 @@ MeansSafe (OnThreads (Refute states shown.Story)) input old new = IsSafePlan (wh
 MeansSafe (OnThreads (Refute states shown.Bundle)) input old new = WritesWitness input old new
 MeansSafe (OnThreads (Ask given manner)) input old new = IsSafeAsked given input
 
--- an answer of `ask` leaves what it leaves
+-- an answer of `ask` leaves this certificate; other tasks leave none
 abbrev pub IsLeftBy : Task → List ℕ → Answer → Option (List ℕ) → Type 0
 IsLeftBy (Certify workers) input answer left = Unit {0}
 IsLeftBy (Fit wanted) input answer left = Unit {0}
@@ -114,42 +114,42 @@ IsLeftBy (Run rounds) input answer left = Unit {0}
 IsLeftBy (Refute states shown) input answer left = Unit {0}
 IsLeftBy (Ask given manner) input answer left = IsAskAnswer given manner input left answer
 
--- an answer was written that leaves this, and the status is its
+-- an answer was written that leaves this certificate, and the status is its status
 pub record WritesLeaving (task : Task) (input : List ℕ) (status : Status) (left old new : Option (List ℕ)) : Type 0 where
   pub answer : Answer
   pub is_left : IsLeftBy task input answer left
   pub written : Appends old new answer.text
   pub status_is : status ≡ answer.status
 
--- what is left behind what was written: of `ask` the certificate that the answer rests on, where it says that the plan is safe
+-- what a command leaves besides its output: for `ask` the certificate that the answer rests on, if the plan is safe
 abbrev pub Leaves : Command → List ℕ → Status → Option (List ℕ) → Option (List ℕ) → Option (List ℕ) → Type 0
 Leaves (Alone review) input status left old new = Unit {0}
 Leaves (OnRecording reading) input status left old new = Unit {0}
 Leaves (OnThreads task) input status left old new = WritesLeaving task input status left old new
 
--- ---- the whole
+-- ---- whole calls
 
--- a source or a sink before and behind a call: the bytes that are to come of it or that it was given, where they are known, and how
--- often it failed
+-- a source or a sink before and after a call: the bytes still to be read or already written, if they are known, and the
+-- number of failures
 pub record Passage : Type 0 where
   pub before : Option (List ℕ)
   pub after : Option (List ℕ)
   pub failed_before : ℕ
   pub failed_after : ℕ
 
--- that of a stream of which these are the bytes and the failures
+-- the passage of a stream, given its bytes and its failures
 abbrev pub passage : {X : Type 0} → (X → Option (List ℕ)) → (X → ℕ) → X → X → Passage
 passage bytes failures old new = record { before = bytes old; after = bytes new; failed_before = failures old; failed_after = failures new }
 
--- a call reads an input, and writes the answer of the command to it. Nothing was written where it ends with a fault, unless that is
--- the sink's: a front of the answer was, then
+-- a call reads an input and writes the command's answer to it. If the call ends with a fault, nothing was written, except
+-- that after a fault of the sink a prefix of the answer was.
 pub record Serves (command : Command) (source sink : Passage) (result : Result Status ServeFault) : Type 0 where
-  -- what was written, and the status, are an answer that the command may give to what was read
+  -- what was written, and the status, are a possible answer of the command to what was read
   pub answered : IfOk result (λ status. IfSome source.before (λ input. WritesAnswer command input status sink.before sink.after))
   pub front : IfErr result (λ fault. fault.number ≡ WRITE_FAILED → IfSome source.before (λ input. WritesFront command input sink.before sink.after))
   pub nothing : IfErr result (λ fault. fault.number ≢ WRITE_FAILED → Keeps sink.before sink.after)
   pub safe : IfOk result (λ status. status ≡ Done → IfSome source.before (λ input. MeansSafe command input sink.before sink.after))
-  -- no fault comes but those of the command, and 60 and 61 just where the source and the sink failed
+  -- only the command's own faults occur, and 60 and 61 exactly when the source and the sink failed
   pub known : IfErr result (λ fault. IsTrue (is_known_of command fault.number))
   pub read_failed : source.failed_after ≡ source.failed_before + count_of READ_FAILED result
   pub write_failed : sink.failed_after ≡ sink.failed_before + count_of WRITE_FAILED result

@@ -1,4 +1,4 @@
--- What a world replies, for each state that it is the view of, and what came of lines so far.
+-- The replies of a world, in terms of each state that it is the view of, and the answer after some of the lines.
 use Rattle.std.specs.Prelude.{◌≡◌, ℕ, List, Option, Some, None}
 use Rattle.job_bodies.specs.Plan.{Plan}
 use Rattle.written_machine.specs.State.{State}
@@ -10,19 +10,19 @@ use Rattle.sizing_cli.specs.Answer.{Answer, followed_by, bad_event}
 use Rattle.sizing_cli.specs.Report.{replay_of_lines}
 use Rattle.sizing_cli.specs.Transcript.{ending, reply_to}
 
--- the whole is the answer so far and its ending
+-- the whole answer is the answer so far followed by its ending
 abbrev pub IsEnded : View → Answer → Answer → Type 0
 IsEnded world front whole = (plan : Plan) (s : State) → IsReached plan s → live_view plan s ≡ world → whole ≡ followed_by front (ending s)
 
--- a state that is reached and seen so, with this reply
+-- the state is reachable, has this view, and gives this reply
 abbrev pub RepliesIn : Plan → State × Reply → View → Reply → Type 0
 RepliesIn plan x after reply = IsReached plan x.0 × (live_view plan x.0 ≡ after) × (x.1 ≡ reply)
 
--- the reply to the line, and the world behind it
+-- the reply to the line, and the world after it
 abbrev pub RepliesSo : Plan → View → View → Line → Reply → Type 0
 RepliesSo plan before after line reply = (s : State) → IsReached plan s → live_view plan s ≡ before → RepliesIn plan (reply_to plan s line) after reply
 
--- what came of the lines: they are replied to, but for the ending, or one of this number is bad
+-- the outcome of the lines: either all have replies and only the ending is missing, or the line of this number is malformed
 abbrev pub IsTranscribed : Plan → List (Option Line) → View → Answer → Option ℕ → Type 0
 IsTranscribed plan lines world answer None =
     (whole : Answer) → IsEnded world answer whole → whole ≡ replay_of_lines plan (all_from 0 lines)

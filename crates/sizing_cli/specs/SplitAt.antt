@@ -1,4 +1,4 @@
--- A bundle whose plan has so many bytes, to which `check` says yes.
+-- A bundle whose plan has `plan_len` bytes and that `check` accepts.
 use Rattle.std.specs.Prelude.{◌≡◌, ℕ, List, length, Some}
 use Rattle.sizing_cli.specs.Bundle.{Bundle, bundle_of}
 use Rattle.sizing_cli.specs.Certify.{IsYes}

@@ -1,4 +1,4 @@
--- What a replay of lines answers: the written machine's steps from a state on, and the written waiting sets.
+-- The answer of a replay: the steps of the written machine from a state, and its waiting sets.
 use Rattle.std.specs.Prelude.{ℕ, ◌+◌, Bool, true, false, if◌then◌else◌, List, [], ◌∷◌, count_by, Option, Some, None}
 use Rattle.job_bodies.specs.Plan.{Plan}
 use Rattle.written_machine.specs.declared.event.Outcome.{Outcome}
@@ -18,18 +18,18 @@ abbrev pub is_refusal : Outcome → Bool
 is_refusal (outcome.Refused p) = true
 is_refusal _ = false
 
--- a reply that makes the whole answer a no
+-- the reply makes the whole answer a no
 abbrev pub is_no : Reply → Bool
 is_no (reply.Happened outcome) = is_refusal outcome
 is_no reply.NotPossible = true
 is_no (reply.Stuck stuck) = stuck
 
--- a reply behind which no line is replayed
+-- no line is replayed after this reply
 abbrev pub is_last : Reply → Bool
 is_last reply.NotPossible = true
 is_last _ = false
 
--- the part of the answer that replies to the line of this number
+-- the part of the answer for the line of this number
 abbrev pub replied : Plan → ℕ → Reply → Answer
 replied plan number reply = record { text = numbered number (reply_text plan reply); status = if is_no reply then Refused else Done }
 
@@ -40,21 +40,21 @@ unfinished s = count_by (λ job. is_unfinished job.stage) s.jobs
 abbrev pub ending : State → Answer
 ending s = record { text = summary s.refusals (unfinished s); status = Done }
 
--- the state behind an event, and the reply to it
+-- the state after an event, and the reply to it
 abbrev pub happened : State → Option (State × Outcome) → State × Reply
 happened s None = (s, reply.NotPossible)
 happened s (Some x) = (x.0, reply.Happened x.1)
 
--- the state behind a line, and the reply to it
+-- the state after a line, and the reply to it
 abbrev pub reply_to : Plan → State → Line → State × Reply
 reply_to plan s (Happens event) = happened s (step plan s event)
 reply_to plan s (Stuck members) = (s, reply.Stuck (is_waiting_set plan s members))
 
--- a reply, and behind it the rest from the state there, or the end
+-- a reply, and then the rest from the new state, or the ending
 abbrev pub reply_then : Plan → ℕ → State × Reply → (State → Answer) → Answer
 reply_then plan number x rest = followed_by (replied plan number x.1) (if is_last x.1 then ending x.0 else rest x.0)
 
--- the lines from this number on, replayed from a state
+-- the replay of the lines from a state, with numbers from `number`
 abbrev pub transcript : Plan → State → ℕ → List Line → Answer
 transcript plan s number [] = ending s
 transcript plan s number (line ∷ lines) = reply_then plan number (reply_to plan s line) (λ s'. transcript plan s' (number + 1) lines)

@@ -1,4 +1,4 @@
-//! An answer: its text, and the status that goes with it.
+//! The answer of a command: its text and its status.
 
 ghost use Rattle.std.specs.Prelude.{◌≡◌, ◌++◌, [], IfOk, string_bytes};
 ghost use Rattle.faults.specs.Name.{head};
@@ -19,7 +19,7 @@ use recorded_rules::RecordingFault;
 use std::alloc::{AllocError, Global};
 use std::marker::Model;
 
-/// What is written, and how the program ends then.
+/// The text that a command writes, and the status that it ends with.
 #[derive(Drop)]
 pub struct Answer {
     pub text: String,
@@ -33,7 +33,7 @@ impl Model for Answer {
 }
 
 impl Answer {
-    /// The answer before its first line.
+    /// Returns an empty answer.
     pub fn empty(alloc: Global) -> Answer
         ensures { result ≡ record { text = []; status = Status.Done } }
     {
@@ -43,7 +43,7 @@ impl Answer {
         }
     }
 
-    /// A line that says no.
+    /// Returns an answer that is a no, with this line as its text.
     pub fn no(alloc: Global, line: &str) -> Result<Answer, AllocError>
         ensures { IfOk result
             (λ answer. answer ≡ record { text = line.now; status = Status.Refused }) }
@@ -54,7 +54,7 @@ impl Answer {
         })
     }
 
-    /// Replies to the line of this number, counted from 1.
+    /// Appends the reply to the event line `number`, counted from 1.
     pub fn push_reply(
         &mut self,
         plan: &Plan,
@@ -81,49 +81,49 @@ fn is_no(reply: Reply) -> bool
     )
 }
 
-/// The answer to an input without a line `%%`.
+/// Returns the answer to an input without a line `%%`.
 pub fn no_separator(alloc: Global) -> Result<Answer, AllocError>
     ensures { IfOk result (λ answer. answer ≡ spec.no_separator) }
 {
     fault(format!(in alloc; "{}", Head(number::NO_SEPARATOR))?)
 }
 
-/// The answer to an input, or to event lines, of too many bytes.
+/// Returns the answer to an input, or to event lines, that are too long.
 pub fn input_too_long(alloc: Global) -> Result<Answer, AllocError>
     ensures { IfOk result (λ answer. answer ≡ spec.input_too_long) }
 {
     fault(format!(in alloc; "{}", Head(number::INPUT_TOO_LONG))?)
 }
 
-/// The answer to a plan that is too large to be run.
+/// Returns the answer to a plan that is too large to run.
 pub fn too_large(alloc: Global) -> Result<Answer, AllocError>
     ensures { IfOk result (λ answer. answer ≡ too_large) }
 {
     fault(format!(in alloc; "{}", Head(number::RUN_TOO_LARGE))?)
 }
 
-/// The answer to event lines of which this one, counted from 1, is bad.
+/// Returns the answer to event lines whose line `line`, counted from 1, is malformed.
 pub fn bad_event(alloc: Global, line: u64) -> Result<Answer, AllocError>
     ensures { IfOk result (λ answer. answer ≡ spec.bad_event line) }
 {
     fault(format!(in alloc; "{} at line {line}", Head(number::BAD_EVENT))?)
 }
 
-/// The answer to a recording with this bad line.
+/// Returns the answer to a recording with this malformed line.
 pub fn bad_recording(alloc: Global, found: RecordingFault) -> Result<Answer, AllocError>
     ensures { IfOk result (λ answer. answer ≡ bad_recording_spec found) }
 {
     fault(format!(in alloc; "{} at {found}", Head(number::BAD_RECORDING))?)
 }
 
-/// The answer to a plan text with this fault.
+/// Returns the answer to a plan's text with this fault.
 pub fn plan_fault(alloc: Global, plan_fault: PlanFault) -> Result<Answer, AllocError>
     ensures { IfOk result (λ answer. answer ≡ spec.fault (fault_line plan_fault)) }
 {
     fault(format!(in alloc; "{plan_fault}")?)
 }
 
-/// The answer to the text of a certificate with this fault.
+/// Returns the answer to a certificate's text with this fault.
 pub fn cert_fault(alloc: Global, cert_fault: CertFault) -> Result<Answer, AllocError>
     ensures { IfOk result (λ answer. answer ≡ spec.fault (head cert_fault.number)) }
 {

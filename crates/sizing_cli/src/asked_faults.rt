@@ -1,4 +1,4 @@
-//! Faults of the texts that are asked about.
+//! The answers of `ask` to texts with faults.
 
 ghost use Rattle.std.specs.Prelude.{◌≡◌, IfOk, string_bytes};
 ghost use Rattle.decimals.specs.Pushed.{Pushes};
@@ -15,7 +15,8 @@ use json_answers::{fault_json, faults_json};
 use plan_advice::{Faults, faults_of, push_faults};
 use std::alloc::{AllocError, Global};
 
-/// The answer to a plan's text with faults of which this one is the first, as in a file of this name.
+/// Returns the answer to a plan's text whose first fault is `fault`. Messages use `file` as the
+/// name of its file.
 pub(crate) fn faults_answer(
     alloc: Global,
     form: Form,
@@ -30,7 +31,7 @@ pub(crate) fn faults_answer(
     Ok(bad_text(text))
 }
 
-/// The faults in this form.
+/// Writes the faults in this form.
 fn faults_text(alloc: Global, form: Form, file: &str, faults: &Faults) -> Result<String, AllocError>
     ensures { IfOk result
         (λ text. spec.TellsFaultIn form faults.now.first.fault (string_bytes text)) }
@@ -49,7 +50,7 @@ fn faults_lines(alloc: Global, file: &str, faults: &Faults) -> Result<String, Al
     Ok(text)
 }
 
-/// The answer that the text is bad.
+/// Returns an answer with this text and the status of a malformed input.
 fn bad_text(text: String) -> Output
     ensures { result ≡ record { text = string_bytes text; status = Status.BadText } }
 {
@@ -59,7 +60,8 @@ fn bad_text(text: String) -> Output
     })
 }
 
-/// The answer to a certificate's text with this fault, beside the plan in the file of this name.
+/// Returns the answer to a certificate's text with this fault. Messages use `file` as the name of
+/// the plan's file.
 pub(crate) fn cert_fault_answer(
     alloc: Global,
     form: Form,
@@ -101,7 +103,7 @@ fn push_number(text: &mut String, number: u8) -> Result<(), AllocError>
     writeln!(text, " (fault {number})")
 }
 
-/// What is wrong with a certificate, and what to do.
+/// Returns a message for a certificate fault that says what is wrong and how to fix it.
 fn words_for(number: u8) -> &'static str {
     match number {
         NOT_JSON =>

@@ -1,4 +1,4 @@
-//! The one question: whether the sizes that a plan declares are safe, from the bytes of a plan to the answer.
+//! The `ask` command: decides whether the sizes that a plan declares are safe.
 
 ghost use Rattle.std.specs.Prelude.{◌≡◌, IfOk, IfErr, IsTrue, None, option_map};
 ghost use Rattle.plan_text.specs.PlanOf.{plan_of};
@@ -21,11 +21,12 @@ use std::alloc::Global;
 use std::sync::Wait;
 use std::thread::Threads;
 
-/// What is answered, and the certificate that the answer rests on, where it rests on one.
+/// The answer of `ask`, and the text of the certificate that proves it, if there is one.
 #[derive(Debug, Drop)]
 pub struct Replied {
     pub output: Output,
-    /// Its text, with a newline at its end, where it is not too long to be read.
+    /// The certificate's text, with a newline at its end. `None` if the answer needs no certificate
+    /// or if the text would be too long to be read back.
     pub certificate: Option<Vec<u8>>,
 }
 
@@ -41,11 +42,13 @@ impl Replied {
     }
 }
 
-/// The answer to an input: a plan's text, or a bundle of one with a certificate's. Messages name the plan's file so.
+/// Answers whether the plan in `input` is safe. The input is a plan's text, or a bundle of a plan
+/// and a certificate. Messages use `file` as the name of the plan's file.
 ///
 /// # Errors
 ///
-/// Fault 20 where memory ran out or a thread could not be started, and 42 and 43 of the search.
+/// Fails with fault 20 if memory runs out or a thread cannot be started, and with the faults 42 and
+/// 43 of the search.
 pub fn ask<R: Threads + Wait + Sync>(
     rt: &R,
     alloc: Global,
@@ -104,7 +107,7 @@ fn ask_text<R: Threads + Wait + Sync>(
     }
 }
 
-/// The answer to a plan, and to the text of a certificate where one is given.
+/// Answers for a plan and, if one is given, the text of a certificate.
 fn ask_plan<R: Threads + Wait + Sync>(
     rt: &R,
     alloc: Global,
@@ -145,7 +148,7 @@ fn ask_with<R: Threads + Wait + Sync>(
     }
 }
 
-/// The answer to a plan, by what is found of it.
+/// Answers for a plan and, if one is given, a certificate that fits it.
 fn ask_found<R: Threads + Wait + Sync>(
     rt: &R,
     alloc: Global,

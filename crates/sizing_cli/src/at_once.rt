@@ -1,9 +1,9 @@
-//! A gate of the program, which holds nothing up.
+//! A gate for the program that never blocks.
 
 use cert_check::PoolGate;
 use locked_runner::{Actor, Gate, GateFault};
 
-/// A gate that answers at once: each pool may be looked at, and the declared work takes no time.
+/// A gate that admits every pool and does the declared work in no time.
 pub struct AtOnce;
 
 impl PoolGate for AtOnce {

@@ -1,4 +1,4 @@
-//! The bundle that an input is: a plan text, a line that is exactly `%%`, and a second part.
+//! Bundles: a plan's text, a line that is exactly `%%`, and a second part.
 
 ghost use Rattle.std.specs.Prelude.{◌≡◌, ◌≤◌, ◌==◌, length, option_map};
 ghost use Rattle.std.specs.List.{IsAfterLastMatch};
@@ -6,25 +6,25 @@ ghost use Rattle.sizing_cli.specs.Bundle as spec;
 
 use memchr::memrchr;
 
-/// A plan text, and what stands behind the last line `%%`.
+/// A plan's text, and the text after the last line `%%`.
 #[derive(Clone, Copy)]
 pub struct Bundle<'a> {
     pub plan: &'a [u8],
     pub second: &'a [u8],
 }
 
-/// Splits an input at its last line `%%`, for which the input's end may stand in place of a newline.
+/// Splits an input at its last line `%%`. If that is the input's last line, it needs no newline.
 ///
-/// It looks at each line with a `%` once, the last one first.
+/// It looks once at each line that contains a `%`, from the last one to the first.
 pub fn bundle_of(input: &[u8]) -> Option<Bundle<'_>>
     ensures { option_map (λ bundle. record { plan = bundle.plan.now; second = bundle.second.now })
         result
         ≡ spec.bundle_of input.now }
 {
-    // No line that begins behind this front is `%%`.
+    // No line that begins after this prefix is `%%`.
     let mut front = input;
     loop {
-        // Nor is one that begins behind its last `%`.
+        // Nor is a line that begins after its last `%`.
         let percent = memrchr(b'%', front)?;
         let (plan, rest) = input.split_at(last_line_start(&front[..percent]));
         if let Some(second) = after_separator(rest) {
@@ -34,7 +34,7 @@ pub fn bundle_of(input: &[u8]) -> Option<Bundle<'_>>
     }
 }
 
-/// Where the last line of a text begins: behind its last newline, or at its beginning.
+/// Returns where the last line of a text begins: after its last newline, or at 0.
 fn last_line_start(text: &[u8]) -> usize
     ensures within { result ≤ length text.now }
     ensures behind_newline { IsAfterLastMatch (λ byte. byte == 10) text.now result }

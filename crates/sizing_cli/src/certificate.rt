@@ -1,4 +1,4 @@
-//! A certificate of a plan as it is.
+//! The search for a certificate that accepts a plan with its declared sizes.
 
 ghost use Rattle.std.specs.Prelude.{◌≡◌, ◌≤◌, IfOk, IfErr, IfSome, IfNone, IsTrue, false};
 ghost use Rattle.job_bodies.specs.declared.limits.TheConstants.{MAX_WORKERS};
@@ -20,18 +20,21 @@ use std::alloc::{AllocError, Global};
 use std::sync::Wait;
 use std::thread::Threads;
 
-/// In how many threads to search and to check, where a command has no words for it.
+/// The number of threads that search and check, for commands without an option for it.
 pub(crate) const WORKERS: usize = DEFAULT_WORKERS as usize;
 
-/// So many pools are worth a thread to look at them. For fewer it costs more memory than it saves time.
+/// The number of pools for each search thread. For fewer, another thread costs more memory than it
+/// saves time.
 const POOLS_OF_A_WORKER: usize = 16;
 
-/// What the search for a certificate finds, in so many threads at most; or else what the search for sizes finds, where it
-/// changes none. So `certify` finds a certificate where `fit` changes nothing.
+/// Searches for a certificate in at most `workers` threads. If that finds none, searches for sizes
+/// and takes their certificate if it accepts the declared ones. So `certify` finds a certificate
+/// whenever `fit` changes nothing.
 ///
 /// # Errors
 ///
-/// Fault 20 where memory ran out or a thread could not be started, and 42 and 43 of the search.
+/// Fails with fault 20 if memory runs out or a thread cannot be started, and with the faults 42 and
+/// 43 of the search.
 pub(crate) fn certificate_of<R: Threads + Wait + Sync>(
     rt: &R,
     alloc: Global,
@@ -51,7 +54,7 @@ pub(crate) fn certificate_of<R: Threads + Wait + Sync>(
     }
 }
 
-/// How many threads, of at most so many, are worth a plan's pools.
+/// Returns the number of search threads that suit the plan's pools, at most `most`.
 fn workers_of(plan: &Plan, most: usize) -> usize
     requires { 1 ≤ most }
     ensures some { 1 ≤ result }
@@ -60,7 +63,7 @@ fn workers_of(plan: &Plan, most: usize) -> usize
     most.min(plan.pools().len() / POOLS_OF_A_WORKER).max(1)
 }
 
-/// What the search for sizes finds, where it changes none.
+/// Returns the certificate of the sizes that a search finds, if it accepts the declared sizes.
 fn certificate_of_sizes(alloc: Global, plan: &Plan) -> Result<Option<Cert>, AllocError>
     requires { accepted plan.now (steady_cert plan.now) ≡ false }
     ensures accepted { IfOk result
@@ -74,15 +77,15 @@ fn certificate_of_sizes(alloc: Global, plan: &Plan) -> Result<Option<Cert>, Allo
     })
 }
 
-/// What sizes that were found say of the declared ones.
+/// The result of comparing the sizes that a search found with the declared ones.
 pub(crate) enum Declared {
-    /// The certificate of these sizes accepts the declared ones too.
+    /// A certificate that accepts the plan with its declared sizes.
     Accepted(Cert),
-    /// These are others, or there are none.
+    /// Sizes that differ from the declared ones, or the reason why none were found.
     Other(SizesFound),
 }
 
-/// What sizes that were found for a plan say of its own.
+/// Compares the sizes that a search found with those that the plan declares.
 pub(crate) fn as_declared(plan: &Plan, sizes: SizesFound) -> Declared
     requires known { IsKnown plan.now sizes }
     requires not_steady { accepted plan.now (steady_cert plan.now) ≡ false }

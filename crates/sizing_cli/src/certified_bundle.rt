@@ -1,4 +1,4 @@
-//! Bundles to which `check` says yes.
+//! Bundles that `check` accepts.
 
 ghost use Rattle.std.specs.Prelude.{◌≡◌, ◌≤◌, ◌++◌, ◌∷◌, codes, IfOk, IfErr, IfSome, IsTrue};
 ghost use Rattle.job_bodies.specs.declared.limits.TheConstants.{MAX_WORKERS};
@@ -15,7 +15,8 @@ use std::alloc::{AllocError, Global};
 use std::sync::Wait;
 use std::thread::Threads;
 
-/// The bundle of the two texts, where it splits into them again and `check` says yes to them, on its very bytes.
+/// Returns the bundle of the two texts if it splits into them again and `check` accepts the
+/// bundle's own bytes.
 pub fn certified_bundle<R: Threads + Wait + Sync>(
     rt: &R,
     alloc: Global,
@@ -38,19 +39,20 @@ pub fn certified_bundle<R: Threads + Wait + Sync>(
     }
 }
 
-/// The two texts with a line `%%` between them. The room of the second one is free then.
+/// Joins the two texts with a line `%%` between them, and frees the second one.
 fn joined(plan: Vec<u8>, cert: Vec<u8>) -> Result<Vec<u8>, AllocError>
     ensures { IfOk result (λ text. text.items ≡ plan.items ++ (codes "%%" ++ 10 ∷ cert.items)) }
 {
     let mut text = plan;
-    // as much as it takes, and not twice the plan
+    // the exact size, since `Vec` could otherwise double the plan's
     text.reserve_exact(cert.len().saturating_add(3))?;
     text.extend_from_slice(b"%%\n")?;
     text.extend_from_slice(&cert)?;
     Ok(text)
 }
 
-/// Whether the text is a bundle whose plan has so many bytes, and `check` says yes to its parts.
+/// Returns whether the text is a bundle whose plan has `plan_len` bytes, and `check` accepts its
+/// parts.
 fn is_certified<R: Threads + Wait + Sync>(
     rt: &R,
     alloc: Global,
@@ -69,7 +71,7 @@ fn is_certified<R: Threads + Wait + Sync>(
     }
 }
 
-/// Whether `check` says yes to the two parts. A fault of either is no yes.
+/// Returns whether `check` accepts the two parts. It does not if either has a fault.
 fn says_yes<R: Threads + Wait + Sync>(
     rt: &R,
     alloc: Global,

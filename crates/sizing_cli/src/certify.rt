@@ -1,4 +1,5 @@
-//! The search for a certificate, from the bytes of a plan to those of a bundle.
+//! The `certify` command: searches for a certificate, and writes the bundle of the plan and the
+//! certificate.
 
 ghost use Rattle.std.specs.Prelude.{◌≡◌, ◌≤◌, IfOk, IfErr, IsTrue, length};
 ghost use Rattle.job_bodies.specs.declared.limits.TheConstants.{MAX_WORKERS};
@@ -19,21 +20,22 @@ use std::alloc::{AllocError, Global};
 use std::sync::Wait;
 use std::thread::Threads;
 
-/// What a search comes to.
+/// The result of the search for a certificate.
 enum Certified {
     /// The text of a certificate, with its newline.
     Text(Vec<u8>),
     Nothing,
-    /// A certificate whose text would be too long to be read.
+    /// A certificate whose text would be too long to be read back.
     TooLong,
 }
 
-/// The answer to an input, which is a plan's text: the plan with a certificate to which `check` says yes, or why there is
-/// none. It searches and checks in so many threads, 1 to 64.
+/// Returns the plan with a certificate that `check` accepts, or the reason why there is none. The
+/// input is a plan's text. Searches and checks in `workers` threads, 1 to 64.
 ///
 /// # Errors
 ///
-/// Fault 20 where memory ran out or a thread could not be started, and 42 and 43 of the search and the check.
+/// Fails with fault 20 if memory runs out or a thread cannot be started, and with the faults 42 and
+/// 43 of the search and of the check.
 pub fn certify<R: Threads + Wait + Sync>(
     rt: &R,
     alloc: Global,
@@ -58,11 +60,11 @@ pub fn certify<R: Threads + Wait + Sync>(
     }
 }
 
-/// The text with a newline at its end, unless it is empty or has one there.
+/// Returns the text with a newline appended, unless it is empty or already ends with one.
 ///
 /// # Errors
 ///
-/// [`AllocError`] where memory runs out.
+/// [`AllocError`] if memory runs out.
 pub fn whole_lines(mut text: Vec<u8>) -> Result<Vec<u8>, AllocError>
     ensures { IfOk result (λ lines. lines.items ≡ spec.whole_lines text.items) }
 {
@@ -73,8 +75,8 @@ pub fn whole_lines(mut text: Vec<u8>) -> Result<Vec<u8>, AllocError>
     Ok(text)
 }
 
-/// What a search for a certificate of the plan with this text comes to, or the text's first fault. The plan itself is not
-/// kept, so that its room is free when the bundle is checked.
+/// Searches for a certificate of the plan in this text, and returns the text's first fault if it
+/// has one. Drops the plan, so that its memory is free when the bundle is checked.
 fn searched<R: Threads + Wait + Sync>(
     rt: &R,
     alloc: Global,
@@ -114,7 +116,7 @@ fn found_text<R: Threads + Wait + Sync>(
     Ok(Certified::Text(text))
 }
 
-/// The bundle of the two texts, where `check` says yes to it.
+/// Returns the bundle of the two texts, which `check` accepts.
 fn bundle<R: Threads + Wait + Sync>(
     rt: &R,
     alloc: Global,
@@ -133,7 +135,7 @@ fn bundle<R: Threads + Wait + Sync>(
             bytes,
             status: Status::Done,
         }),
-        // The threads of the check say otherwise than the search, which no check alone would.
+        // The check on threads contradicts the search, which a check on one thread cannot do.
         None => Err(ServeFault { number: MIXED }),
     }
 }

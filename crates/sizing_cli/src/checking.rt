@@ -1,4 +1,4 @@
-//! What `check` answers to the text of a certificate for a plan.
+//! The `check` command.
 
 ghost use Rattle.std.specs.Prelude.{◌≡◌, IfOk, IsTrue};
 ghost use Rattle.certificates.specs.Cert.{cert_fits};
@@ -12,7 +12,7 @@ use certificates::Cert;
 use job_bodies::Plan;
 use std::alloc::{AllocError, Global};
 
-/// Whether the certificate accepts the plan, and both sides of each bound.
+/// Returns whether the certificate accepts the plan, with both sides of each bound.
 pub fn check(alloc: Global, plan: &Plan, cert: &[u8]) -> Result<Answer, AllocError>
     ensures { IfOk result (λ answer. answer ≡ spec.check plan.now cert.now) }
 {

@@ -1,4 +1,4 @@
-//! What a recording is answered that stands behind a plan.
+//! The `conform` command: compares a recording with a plan.
 
 ghost use Rattle.std.specs.Prelude.{◌≡◌, IfOk};
 ghost use Rattle.std.specs.List.{list_all};
@@ -12,11 +12,12 @@ use conformance::{Conformance, Finding, conform, push_findings};
 use job_bodies::{MAX_PATH_STEPS, MAX_RECORDED_BYTES, Plan};
 use std::alloc::{AllocError, Global};
 
-/// The answer to an input, which is a plan and a recording: whether the service still is the plan.
+/// Returns how the recording differs from the plan. The input is a bundle of a plan and a
+/// recording.
 ///
 /// # Errors
 ///
-/// [`AllocError`] where memory runs out.
+/// [`AllocError`] if memory runs out.
 pub fn conform_report(alloc: Global, input: &[u8]) -> Result<Answer, AllocError>
     ensures { IfOk result (spec.IsConformAnswer input.now) }
 {
@@ -32,7 +33,7 @@ pub fn conform_report(alloc: Global, input: &[u8]) -> Result<Answer, AllocError>
     }
 }
 
-/// The answer to a recording of what the service of this plan did.
+/// Compares a recording with the plan.
 fn compared(alloc: Global, plan: &Plan, recording: &[u8]) -> Result<Answer, AllocError>
     ensures { IfOk result (spec.AnswersRecording plan.now recording.now) }
 {

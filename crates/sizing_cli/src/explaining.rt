@@ -1,4 +1,4 @@
-//! What `explain` answers to the text of a certificate for a plan.
+//! The `explain` command.
 
 ghost use Rattle.std.specs.Prelude.{◌≡◌, IfOk, IsTrue};
 ghost use Rattle.certificates.specs.Cert.{cert_fits};
@@ -12,7 +12,7 @@ use job_bodies::Plan;
 use refusal_notes::push_explanation;
 use std::alloc::{AllocError, Global};
 
-/// Each condition of the certificate that fails, with both its sides.
+/// Returns each condition of the certificate that fails, with both its sides.
 pub fn explain(alloc: Global, plan: &Plan, cert: &[u8]) -> Result<Answer, AllocError>
     ensures { IfOk result (λ answer. answer ≡ spec.explain plan.now cert.now) }
 {

@@ -1,4 +1,4 @@
-//! What is found of a plan with its declared sizes.
+//! The search for what `ask` reports about a plan with its declared sizes.
 
 ghost use Rattle.std.specs.Prelude.{◌≡◌, IfOk, IfErr, IsTrue, false, not};
 ghost use Rattle.headline.specs.Accepted.{accepted};
@@ -22,15 +22,16 @@ use std::alloc::{AllocError, Global};
 use std::sync::Wait;
 use std::thread::Threads;
 
-/// In how many states a witness is looked for.
+/// The maximum number of states in which a witness is searched for.
 const STATES: usize = DEFAULT_STATES as usize;
 
-/// What is found of a plan, and whether a certificate that is given is stale: that one is looked at first, then one is searched,
-/// then a witness, and then other sizes.
+/// Finds out whether a plan is safe, and returns whether the given certificate is stale. Tries the
+/// given certificate first, then searches for one, then for a witness, and then for other sizes.
 ///
 /// # Errors
 ///
-/// Fault 20 where memory ran out or a thread could not be started, and 42 and 43 of the search.
+/// Fails with fault 20 if memory runs out or a thread cannot be started, and with the faults 42 and
+/// 43 of the search.
 pub(crate) fn finding_of<R: Threads + Wait + Sync>(
     rt: &R,
     alloc: Global,
@@ -48,7 +49,7 @@ pub(crate) fn finding_of<R: Threads + Wait + Sync>(
     }
 }
 
-/// The same where this certificate is given.
+/// Finds out whether a plan is safe, with this certificate given.
 fn finding_with<R: Threads + Wait + Sync>(
     rt: &R,
     alloc: Global,
@@ -81,7 +82,8 @@ fn search_finding<R: Threads + Wait + Sync>(
     }
 }
 
-/// What is found of a plan for which the search for a certificate finds none: a witness, or what sizes say.
+/// Searches for a witness and for other sizes, for a plan for which the first search found no
+/// certificate.
 fn without_certificate(alloc: Global, plan: &Plan) -> Result<PlanFinding, AllocError>
     requires { accepted plan.now (steady_cert plan.now) ≡ false }
     ensures { IfOk result (IsFinding plan.now) }
@@ -94,7 +96,8 @@ fn without_certificate(alloc: Global, plan: &Plan) -> Result<PlanFinding, AllocE
     })
 }
 
-/// What sizes say of a plan without a witness: the declared ones may be among them.
+/// Decides by the sizes that were found for a plan without a witness. They can be the declared
+/// ones.
 fn without_witness(plan: &Plan, sizes: SizesFound) -> PlanFinding
     requires known { IsKnown plan.now sizes }
     requires not_steady { accepted plan.now (steady_cert plan.now) ≡ false }

@@ -1,4 +1,4 @@
-//! The search for sizes, from the bytes of a plan to the lines of its sizes or to a bundle.
+//! The `fit` command: searches for sizes, and writes them as lines or as a bundle.
 
 ghost use Rattle.std.specs.Prelude.{◌≡◌, IfOk, IfErr, IsTrue};
 ghost use Rattle.headline.specs.Accepted.{accepted};
@@ -28,12 +28,14 @@ use std::alloc::{AllocError, Global};
 use std::sync::Wait;
 use std::thread::Threads;
 
-/// The answer to an input, which is a plan's text: the sizes with which there is a certificate, or the bundle of that plan
-/// and of the certificate, or why there are none.
+/// Searches for sizes that a certificate accepts. Returns them as lines, or as the bundle of the
+/// plan with those sizes and the certificate, or returns the reason why none were found. The input
+/// is a plan's text.
 ///
 /// # Errors
 ///
-/// Fault 20 where memory ran out or a thread could not be started, and 42 and 43 of the search and the check.
+/// Fails with fault 20 if memory runs out or a thread cannot be started, and with the faults 42 and
+/// 43 of the search and of the check.
 pub fn fit<R: Threads + Wait + Sync>(
     rt: &R,
     alloc: Global,
@@ -65,11 +67,13 @@ fn fit_plan<R: Threads + Wait + Sync>(
     answer_of_sizes(rt, alloc, wanted, plan, &found)
 }
 
-/// The answer to what a search for sizes found of the plan: the lines of the sizes or the bundle, or why there are none.
+/// Returns the answer for what a search for sizes found: the lines of the sizes or the bundle, or
+/// the reason why there are none.
 ///
 /// # Errors
 ///
-/// Fault 20 where memory ran out or a thread could not be started, and 42 and 43 of the check of the bundle.
+/// Fails with fault 20 if memory runs out or a thread cannot be started, and with the faults 42 and
+/// 43 of the check of the bundle.
 pub fn answer_of_sizes<R: Threads + Wait + Sync>(
     rt: &R,
     alloc: Global,
@@ -86,7 +90,7 @@ pub fn answer_of_sizes<R: Threads + Wait + Sync>(
     }
 }
 
-/// The sizes that are found; those of the plan, where a certificate is found for it as it is.
+/// Searches for sizes. They are those of the plan if a certificate accepts it as it is.
 fn sizes_of<R: Threads + Wait + Sync>(
     rt: &R,
     alloc: Global,
@@ -102,7 +106,7 @@ fn sizes_of<R: Threads + Wait + Sync>(
     Ok(search_sizes(alloc, plan, first)?)
 }
 
-/// The lines of what the search found.
+/// Writes the sizes that were found as lines.
 fn lines_of(alloc: Global, plan: &Plan, found: &SizesFound) -> Result<Answer, AllocError>
     ensures { IfOk result (λ answer. answer ≡ spec.told plan.now found.now) }
 {
@@ -112,7 +116,7 @@ fn lines_of(alloc: Global, plan: &Plan, found: &SizesFound) -> Result<Answer, Al
     }
 }
 
-/// The sizes of the fitted plan, which are a no where they are not those of the plan.
+/// Writes the sizes of the fitted plan. The answer is a no if they differ from the plan's.
 fn sizes(alloc: Global, plan: &Plan, fit: &Plan) -> Result<Answer, AllocError>
     ensures { IfOk result (λ answer. answer ≡ spec.sizes_answer plan.now fit.now) }
 {
@@ -124,7 +128,7 @@ fn sizes(alloc: Global, plan: &Plan, fit: &Plan) -> Result<Answer, AllocError>
     })
 }
 
-/// The lines that say that no sizes were found, and why.
+/// Writes that no sizes were found, and why.
 fn no_sizes(alloc: Global, plan: &Plan, cause: NoSizes) -> Result<Answer, AllocError>
     ensures { IfOk result (λ answer. answer ≡ spec.no_sizes_answer plan.now cause) }
 {
@@ -136,7 +140,7 @@ fn no_sizes(alloc: Global, plan: &Plan, cause: NoSizes) -> Result<Answer, AllocE
     })
 }
 
-/// The bundle of what the search found.
+/// Writes the bundle for what the search found.
 fn bundle<R: Threads + Wait + Sync>(
     rt: &R,
     alloc: Global,
@@ -152,7 +156,7 @@ fn bundle<R: Threads + Wait + Sync>(
     }
 }
 
-/// The bundle of the fitted plan and of the certificate.
+/// Writes the bundle of the fitted plan and its certificate.
 fn bundle_of_sizes<R: Threads + Wait + Sync>(
     rt: &R,
     alloc: Global,
@@ -176,7 +180,7 @@ fn bundle_of_sizes<R: Threads + Wait + Sync>(
             bytes,
             status: Status::Done,
         }),
-        // The threads of the check say otherwise than the search, which no check alone would.
+        // The check on threads contradicts the search, which a check on one thread cannot do.
         None => Err(ServeFault { number: MIXED }),
     }
 }

@@ -1,4 +1,4 @@
-//! The answer to a plan by what was found of it.
+//! The answer of `ask` about a plan, written from a finding.
 
 ghost use Rattle.std.specs.Prelude.{◌≡◌, ◌++◌, IfOk, IsTrue, option_map, string_bytes};
 ghost use Rattle.headline.specs.Accepted.{accepted};
@@ -21,8 +21,8 @@ use plan_advice::{Oddity, Warning, push_warnings, warnings_of};
 use plan_places::TextPlace;
 use std::alloc::{AllocError, Global};
 
-/// The answer to a plan of which this was found, the text of which is given, as in a file of this name. A certificate that was
-/// given is stale where it is not the one that the answer rests on.
+/// Writes the answer for this finding. Messages use `file` as the name of the plan's file. A given
+/// certificate is stale if it does not accept the plan.
 pub(crate) fn answer_of(
     alloc: Global,
     manner: Manner,
@@ -47,7 +47,7 @@ pub(crate) fn answer_of(
     })
 }
 
-/// The warnings of a plan, and that a certificate is stale.
+/// Returns the warnings about a plan, and one about a stale certificate if `is_stale`.
 fn warnings_for(
     alloc: Global,
     text: &[u8],
@@ -64,7 +64,7 @@ fn warnings_for(
     Ok(all)
 }
 
-/// How many places each pool needs, as far as a certificate says it.
+/// Returns how many places each pool needs. The list is empty if no certificate was found.
 fn needed_of(
     alloc: Global,
     plan: &Plan,
@@ -78,7 +78,7 @@ fn needed_of(
     }
 }
 
-/// The warnings, and that a certificate is stale, if it is.
+/// Appends a warning about a stale certificate if `is_stale`.
 fn with_stale(
     alloc: Global,
     mut warnings: Vec<Warning>,
@@ -93,7 +93,7 @@ fn with_stale(
     Ok(warnings)
 }
 
-/// The answer with these warnings.
+/// Writes the answer with these warnings.
 fn answer_with(
     alloc: Global,
     manner: Manner,
@@ -162,7 +162,7 @@ fn status_of(strict: bool, warnings: &[Warning], finding: &PlanFinding) -> Statu
     }
 }
 
-/// The text of the certificate that a finding rests on.
+/// Returns the text of the certificate that a finding rests on.
 fn certificate_text(alloc: Global, finding: &PlanFinding) -> Result<Option<Vec<u8>>, AllocError>
     ensures { IfOk result (λ left.
         (plan : PlanValue)
@@ -176,7 +176,8 @@ fn certificate_text(alloc: Global, finding: &PlanFinding) -> Result<Option<Vec<u
     }
 }
 
-/// The text of a certificate, with a newline, where it is not too long to be read.
+/// Returns the text of a certificate with a newline at its end, unless that is too long to be read
+/// back.
 fn readable_text(alloc: Global, cert: &Cert) -> Result<Option<Vec<u8>>, AllocError>
     ensures { IfOk result (λ left.
         (plan : PlanValue)
@@ -191,7 +192,7 @@ fn readable_text(alloc: Global, cert: &Cert) -> Result<Option<Vec<u8>>, AllocErr
     Ok(Some(text))
 }
 
-/// That the certificate that was given is no longer what the answer rests on.
+/// Returns the warning that the given certificate does not accept the plan.
 fn stale(alloc: Global) -> Result<Warning, AllocError>
     ensures { IfOk result (λ warning. warning.oddity ≡ Oddity.StaleCertificate) }
 {

@@ -13,14 +13,14 @@ use job_bodies::{MAX_INPUT_BYTES, Plan};
 use readings::ReadError;
 use std::alloc::Global;
 
-/// The plan of an input, and its second part, which nothing has looked at.
+/// The plan of a bundle, and its second part, which has not been parsed.
 #[derive(Drop)]
 pub struct Input<'a> {
     pub plan: Plan,
     pub second: &'a [u8],
 }
 
-/// Reads an input. Its fault is what it is answered, whatever is asked of it.
+/// Splits a bundle and parses its plan. A fault is the answer to the input whatever the command is.
 pub fn read_input(alloc: Global, input: &[u8]) -> Result<Input<'_>, ReadError<Answer>>
     ensures input { IfOk result (λ read.
         (answers : PlanValue → List ℕ → answer_spec.Answer)

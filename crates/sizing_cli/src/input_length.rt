@@ -1,4 +1,4 @@
-//! How long the input of a command may be.
+//! The maximum length of a command's input.
 
 ghost use Rattle.std.specs.Prelude.{◌≡◌};
 ghost use Rattle.sizing_cli.specs.InputLength as spec;
@@ -6,7 +6,8 @@ ghost use Rattle.sizing_cli.specs.InputLength as spec;
 use command_line::Command;
 use job_bodies::{MAX_INPUT_BYTES, MAX_RECORDED_BYTES};
 
-/// The most bytes of a whole input of the command, of which one byte more is read.
+/// Returns the maximum length of the command's input, in bytes. The program reads one byte more to
+/// detect a longer input.
 pub fn most_bytes(command: Command) -> usize
     ensures { result ≡ spec.most_bytes command }
 {

@@ -1,4 +1,4 @@
-//! What a recording is answered that a plan is to be learned of.
+//! The `learn` command: derives a plan from a recording.
 
 ghost use Rattle.std.specs.Prelude.{◌≡◌, ◌≤◌, ◌++◌, IfOk, IfSome, IsTrue, None, length, string_bytes};
 ghost use Rattle.std.specs.List.{list_any};
@@ -20,14 +20,14 @@ use learned_plans::{Extent, Learned, START_BYTES, SeenPlan, TooMuch, learn};
 use plan_writer::write_plan;
 use std::alloc::{AllocError, Global};
 
-/// The answer to an input, which is a recording: the plan that it shows.
+/// Returns the plan that a recording shows. The input is the recording.
 ///
-/// The bodies of a long recording are learned from its start, and held against all of it. Only where they do not say all that
-/// was done, they are learned from all of it.
+/// The bodies of a long recording are first derived from its start and compared with all of it.
+/// They are derived from the whole recording only if they do not explain all of it.
 ///
 /// # Errors
 ///
-/// [`AllocError`] where memory runs out.
+/// [`AllocError`] if memory runs out.
 pub fn learn_report(alloc: Global, input: &[u8]) -> Result<Answer, AllocError>
     ensures { IfOk result (spec.IsLearnAnswer input.now) }
 {
@@ -42,7 +42,8 @@ pub fn learn_report(alloc: Global, input: &[u8]) -> Result<Answer, AllocError>
     told_by_all(alloc, input)
 }
 
-/// The answer, where bodies that are learned from the start of the recording say all that was done.
+/// Returns the answer with bodies derived from the start of the recording, if they explain all of
+/// it.
 fn told_by_start(alloc: Global, recording: &[u8]) -> Result<Option<Answer>, AllocError>
     ensures { IfOk result (λ found. IfSome found (spec.AnswersLines recording.now)) }
 {
@@ -53,7 +54,7 @@ fn told_by_start(alloc: Global, recording: &[u8]) -> Result<Option<Answer>, Allo
     }
 }
 
-/// The answer, with bodies that are learned from the whole recording.
+/// Returns the answer with bodies derived from the whole recording.
 fn told_by_all(alloc: Global, recording: &[u8]) -> Result<Answer, AllocError>
     ensures { IfOk result (spec.AnswersLines recording.now) }
 {
@@ -67,8 +68,9 @@ fn told_by_all(alloc: Global, recording: &[u8]) -> Result<Answer, AllocError>
     }
 }
 
-/// The plan that was seen, with all that is otherwise in comments at its head; None where a job or a round did what it does not
-/// say, or there are more rounds.
+/// Writes the inferred plan. Comments at its head list what the recording shows beyond it. Returns
+/// `None` if a job or a round did not follow its body, or if there are more rounds than the plan
+/// has clients.
 fn seen_told(alloc: Global, recording: &[u8], seen: &SeenPlan) -> Result<Option<Answer>, AllocError>
     requires no_fault { IsFirstFault (lines_read recording.now) None }
     requires seen { spec.IsSeen (lines_of recording.now) seen.now }
@@ -90,8 +92,8 @@ fn seen_told(alloc: Global, recording: &[u8], seen: &SeenPlan) -> Result<Option<
     }
 }
 
-/// The text of the plan, behind comments on all that the recording has and the plan does not say; None where that is not a text
-/// that a plan may have.
+/// Returns the plan's text after comments that list what the recording shows beyond the plan.
+/// Returns `None` if that text is too long or does not read back as the plan.
 fn seen_text(
     alloc: Global,
     seen: &SeenPlan,
@@ -111,7 +113,8 @@ fn seen_text(
     }
 }
 
-/// Whether the two texts are of the same plan, and the second is as [`write_plan`] writes it.
+/// Returns whether the two texts have the same plan, and the second is as [`write_plan`] writes it
+/// and not too long.
 fn reads_as(alloc: Global, text: &[u8], written: &[u8]) -> Result<bool, AllocError>
     ensures same { IfOk result (λ yes. IsTrue yes → plan_of text.now ≡ plan_of written.now) }
     ensures short { IfOk result (λ yes. IsTrue yes → length written.now ≤ MAX_PLAN_BYTES) }
@@ -125,7 +128,7 @@ fn reads_as(alloc: Global, text: &[u8], written: &[u8]) -> Result<bool, AllocErr
     }
 }
 
-/// The comments at the head of a plan.
+/// Returns the comments at the head of a plan.
 fn head_of(alloc: Global, seen: &SeenPlan, findings: &[Finding]) -> Result<String, AllocError>
     ensures { IfOk result (λ text.
         string_bytes text
@@ -137,7 +140,7 @@ fn head_of(alloc: Global, seen: &SeenPlan, findings: &[Finding]) -> Result<Strin
     Ok(text)
 }
 
-/// Of how much the plan was learned, and what is not in it.
+/// Appends the comments about the extent of the recording and about what the plan does not contain.
 fn push_head(text: &mut String, seen: &SeenPlan) -> Result<(), AllocError>
     ensures { Pushes result text.old text.new (spec.head_comment seen.now) }
 {
@@ -148,7 +151,7 @@ fn push_head(text: &mut String, seen: &SeenPlan) -> Result<(), AllocError>
     push_unfinished(text, seen.unfinished_rounds, seen.unfinished_jobs)
 }
 
-/// Of how much the plan was learned.
+/// Appends the comment with the number of rounds and jobs that the plan was derived from.
 fn push_seen(text: &mut String, rounds: usize, jobs: usize) -> Result<(), AllocError>
     ensures { Pushes result text.old text.new (spec.seen_comment rounds jobs) }
 {
@@ -158,7 +161,8 @@ fn push_seen(text: &mut String, rounds: usize, jobs: usize) -> Result<(), AllocE
     )
 }
 
-/// How many rounds and jobs were not at their ends, where there are such. A service that hung has some.
+/// Appends the comment with the number of unfinished rounds and jobs, if there are any. A service
+/// that hung has some.
 fn push_unfinished(text: &mut String, rounds: usize, jobs: usize) -> Result<(), AllocError>
     ensures { Pushes result text.old text.new (spec.unfinished_comment rounds jobs) }
 {
@@ -194,7 +198,8 @@ fn are_of_actors(findings: &[Finding]) -> bool
     findings.iter().any(|finding| is_of_actors(finding))
 }
 
-/// Whether it is about what a job or a round did by itself, or about how many rounds there are.
+/// Returns whether the finding is about the steps of one job or round, or about the number of
+/// rounds.
 fn is_of_actors(finding: &Finding) -> bool
     ensures { result ≡ is_of_actors finding.now }
 {

@@ -1,4 +1,5 @@
-//! The program from bytes to bytes: it reads its whole input, makes its whole answer, and only then writes it.
+//! The commands of the program, from input bytes to output bytes. A command reads its whole input
+//! and computes its whole answer before it writes anything.
 #![tactic(auto)]
 
 mod alone;

@@ -1,4 +1,4 @@
-//! What is written for a command.
+//! The bytes that a command writes.
 
 ghost use Rattle.std.specs.Prelude.{◌≡◌};
 ghost use Rattle.sizing_cli.specs.Answer as spec;
@@ -7,7 +7,7 @@ use crate::Status;
 use crate::answer::Answer;
 use std::marker::Model;
 
-/// An answer as its bytes, which may be those of an input.
+/// An answer as bytes. Unlike an [`Answer`], it can hold bytes of the input that are not UTF-8.
 #[derive(Debug, Drop)]
 pub struct Output {
     pub bytes: Vec<u8>,
@@ -21,7 +21,7 @@ impl Model for Output {
 }
 
 impl Output {
-    /// The bytes of an answer's text.
+    /// Converts an answer to bytes.
     pub fn of(answer: Answer) -> Output
         ensures { result ≡ answer }
     {

@@ -1,4 +1,4 @@
-//! Serves one input that has a recording: reads it, answers it, and writes the answer.
+//! The entry point of the commands on recordings.
 
 ghost use Rattle.std.specs.Prelude.{IfOk};
 ghost use Rattle.command_line.specs.declared.command.Command.TheVariants.{OnRecording};
@@ -13,15 +13,17 @@ use command_line::Reading;
 use job_bodies::MAX_RECORDED_BYTES;
 use std::alloc::{AllocError, Global};
 
-/// Reads an input, and writes what is said of it. The whole answer is made before its first byte is written.
+/// Reads an input, and writes the answer to it. The whole answer is computed before its first byte
+/// is written.
 ///
-/// It reads at most 268,435,457 bytes, one at least in each turn but the last, so it returns whatever the source and the
-/// sink do.
+/// It reads at most 268,435,457 bytes. Each read except the last takes at least one byte, so the
+/// call returns whatever the source and the sink do.
 ///
 /// # Errors
 ///
-/// Fault 20 where memory ran out, 60 where the source failed in this call, and 61 where the sink did. After 20 and 60
-/// nothing was written; after 61 a front of the answer was.
+/// Fails with fault 20 if memory runs out, with 60 if the source fails during this call, and with
+/// 61 if the sink fails. After 61 a prefix of the answer was written; after any other fault nothing
+/// was.
 pub fn serve_recording<S: Source, K: Sink>(
     alloc: Global,
     reading: Reading,

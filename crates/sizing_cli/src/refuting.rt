@@ -1,4 +1,4 @@
-//! The search for a witness, from the bytes of a plan to its story or to a bundle.
+//! The `refute` command: searches for a witness, and writes it as a story or as a bundle.
 
 ghost use Rattle.std.specs.Prelude.{◌≡◌, ◌++◌, ◌∷◌, IfOk, IfErr, IfSome, IfNone, IsTrue, codes};
 ghost use Rattle.sizing_cli.specs.Certify.{IsUncertified};
@@ -20,12 +20,14 @@ use std::sync::Wait;
 use std::thread::Threads;
 use witness_lines::{push_event_lines, told};
 
-/// The answer to an input, which is a plan's text: that it is safe, where a certificate was found; else a witness, as a story
-/// or as a bundle with its events; else that it is not decided, and how many states were searched. So many may be, at most.
+/// Returns that the plan is safe if a certificate is found; otherwise a witness, as a story or as a
+/// bundle with its events; otherwise that it is undecided, with the number of states searched,
+/// which is at most `states`. The input is a plan's text.
 ///
 /// # Errors
 ///
-/// Fault 20 where memory ran out or a thread could not be started, and 42 and 43 of the search for a certificate.
+/// Fails with fault 20 if memory runs out or a thread cannot be started, and with the faults 42 and
+/// 43 of the search for a certificate.
 pub fn refute<R: Threads + Wait + Sync>(
     rt: &R,
     alloc: Global,
@@ -46,7 +48,7 @@ pub fn refute<R: Threads + Wait + Sync>(
     }
 }
 
-/// The answer to the text of this plan.
+/// Returns the answer for this plan, whose text is `text`.
 fn refute_plan<R: Threads + Wait + Sync>(
     rt: &R,
     alloc: Global,
@@ -64,7 +66,7 @@ fn refute_plan<R: Threads + Wait + Sync>(
     }
 }
 
-/// The answer to the text of a plan that no certificate was found for.
+/// Searches for a witness against a plan for which no certificate was found.
 fn without_certificate(
     alloc: Global,
     states: usize,
@@ -79,7 +81,7 @@ fn without_certificate(
     Ok(answer_of(alloc, shown, plan, sought, text)?)
 }
 
-/// The answer to a plan that no certificate was found for, by what the search for a witness came to.
+/// Writes the answer for the result of the search for a witness.
 fn answer_of(
     alloc: Global,
     shown: Shown,
@@ -99,7 +101,7 @@ fn answer_of(
     }
 }
 
-/// Shows the witness as it is wanted.
+/// Writes the witness in this form.
 fn show(
     alloc: Global,
     shown: Shown,
@@ -125,7 +127,7 @@ fn story(alloc: Global, plan: &Plan, witness: &Witness) -> Result<Answer, AllocE
     })
 }
 
-/// The plan's text, and the events behind it.
+/// Writes the plan's text followed by the events of the witness.
 fn bundle(
     alloc: Global,
     plan: &Plan,
@@ -147,7 +149,7 @@ fn bundle(
     })
 }
 
-/// The line of a plan that a certificate accepts.
+/// Writes that a certificate accepts the plan.
 fn safe(alloc: Global, shown: Shown) -> Result<Answer, AllocError>
     ensures { IfOk result (λ answer. answer ≡ spec.safe_answer shown) }
 {
@@ -158,7 +160,7 @@ fn safe(alloc: Global, shown: Shown) -> Result<Answer, AllocError>
     )
 }
 
-/// The line where neither a certificate nor a witness was found in so many states.
+/// Writes that neither a certificate nor a witness was found in this many states.
 fn not_decided(alloc: Global, shown: Shown, states: usize) -> Result<Answer, AllocError>
     ensures { IfOk result (λ answer. answer ≡ spec.not_decided shown states) }
 {
@@ -186,7 +188,7 @@ fn events_too_long(alloc: Global) -> Result<Answer, AllocError>
     Answer::no(alloc, "no bundle: too many events\n")
 }
 
-/// The status where no bundle is written though one may be wanted.
+/// Returns the status of an answer without a bundle: a no if a bundle was wanted.
 fn without_bundle(shown: Shown, status: Status) -> Status
     ensures { result ≡ spec.without_bundle shown status }
 {

@@ -1,4 +1,4 @@
-//! What event lines on a plan are answered.
+//! The `replay` command.
 
 ghost use Rattle.std.specs.Prelude.{◌≡◌, IfOk};
 ghost use Rattle.sizing_cli.specs.Report as spec;
@@ -9,7 +9,8 @@ use event_lines::EventLines;
 use job_bodies::{MAX_EVENT_BYTES, Plan};
 use std::alloc::{AllocError, Global};
 
-/// Replays event lines on a plan, in one pass. It answers what came of them only if none of them is bad.
+/// Replays event lines on a plan, in one pass. If a line is malformed, the answer is that fault
+/// alone.
 #[tactic(auto, using(crate::proofs::LinesInOrder::lines_in_order))]
 pub fn replay(alloc: Global, plan: &Plan, lines: &[u8]) -> Result<Answer, AllocError>
     ensures { IfOk result (λ answer. answer ≡ spec.replay plan.now lines.now) }

@@ -13,7 +13,7 @@ use job_bodies::Plan;
 use readings::ReadError;
 use std::alloc::{AllocError, Global};
 
-/// What is said of an input.
+/// Returns the review's answer to an input.
 pub fn report(alloc: Global, review: Review, input: &[u8]) -> Result<Answer, AllocError>
     ensures { IfOk result (λ answer. answer ≡ spec.report review input.now) }
 {
@@ -24,7 +24,7 @@ pub fn report(alloc: Global, review: Review, input: &[u8]) -> Result<Answer, All
     }
 }
 
-/// What is said of a plan and of its second part.
+/// Returns the review's answer for a plan and the second part of its bundle.
 fn answer_of(
     alloc: Global,
     review: Review,

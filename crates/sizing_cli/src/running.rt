@@ -1,4 +1,4 @@
-//! A run of a plan with its certificate, from the bytes of an input to the line of its numbers.
+//! The `run` command: runs a plan with its certificate and reports the counts of the run.
 
 ghost use Rattle.std.specs.Prelude.{◌≡◌, IfOk, IfErr, IsTrue, Ok};
 ghost use Rattle.sizing_cli.specs.Report as spec;
@@ -19,12 +19,14 @@ use std::alloc::{AllocError, Global};
 use std::sync::Wait;
 use std::thread::Threads;
 
-/// The answer to an input, which is a bundle: the numbers of a run of its plan, in which each repeating client goes
-/// through its body so many times, or why it is not run.
+/// Runs the plan of a bundle with its certificate, and returns the counts of the run. Each
+/// repeating client goes through its body `rounds` times. The answer is a no if the certificate
+/// does not accept the plan, and a fault if the input has one or if the run would be too large.
 ///
 /// # Errors
 ///
-/// Fault 20 where memory ran out or a thread could not be started, and 41 to 43 of the run.
+/// Fails with fault 20 if memory runs out or a thread cannot be started, and with the faults 41 to
+/// 43 of the run.
 pub fn run_report<R: Threads + Wait + Sync>(
     rt: &R,
     alloc: Global,
@@ -93,7 +95,7 @@ fn run_certified<R: Threads + Wait + Sync>(
     }
 }
 
-/// The line of a run that went through: its jobs and its units of work.
+/// Returns the line of a completed run, with its jobs and its units of work.
 fn run_through(alloc: Global, jobs: u64, units: u64) -> Result<Answer, AllocError>
     ensures { IfOk result (λ answer. answer ≡ spec.run_through jobs units) }
 {

@@ -1,4 +1,4 @@
-//! Serves one input to any command.
+//! The entry points that serve one input to any command.
 
 ghost use Rattle.std.specs.Prelude.{IfOk, IfErr, IfSome, IsTrue, option_map};
 ghost use Rattle.command_line.specs.Command.{IsInRange, IsTaskInRange};
@@ -23,21 +23,23 @@ use std::alloc::Global;
 use std::sync::Wait;
 use std::thread::Threads;
 
-/// What messages name a plan that no file has.
+/// The name of the plan in messages if it was not read from a named file.
 const STANDARD_INPUT_NAME: &str = "<stdin>";
 
-/// Reads an input, and writes the command's answer to it. The whole answer is made before its first byte is written. The
-/// numbers of the command lie in their ranges.
+/// Reads an input, and writes the command's answer to it. The whole answer is computed before its
+/// first byte is written. The numbers in the command must be in their ranges.
 ///
-/// It reads at most 2,097,156 bytes, of a command about a recording 268,435,457, one at least in each turn but the last. For a [`Task`] it starts threads, and waits for
-/// them.
+/// It reads at most 2,097,156 bytes, or 268,435,457 for a command on a recording. Each read except
+/// the last takes at least one byte. For a [`Task`] it starts threads and joins them.
 ///
 /// # Errors
 ///
-/// Of any command fault 20 where memory ran out, 60 where the source failed in this call, and 61 where the sink did. Of a
-/// [`Task`] also 20 where a thread could not be started, 42 of [`search`](cert_search::search), and 43 of it and of
-/// [`check_on`](cert_check::check_on); and of [`Task::Run`] 41, 42 and 43 of [`run`](locked_runner::run). After 61 a front of
-/// the answer was written, and after any other nothing.
+/// Any command fails with fault 20 if memory runs out, with 60 if the source fails during this
+/// call, and with 61 if the sink fails. A [`Task`] also fails with 20 if a thread cannot be
+/// started, with 42 of [`search`](cert_search::search), and with 43 of the search and of
+/// [`check_on`](cert_check::check_on). [`Task::Run`] also fails with 41, 42 and 43 of
+/// [`run`](locked_runner::run). After 61 a prefix of the answer was written; after any other fault
+/// nothing was.
 pub fn serve<R: Threads + Wait + Sync, S: Source, K: Sink>(
     rt: &R,
     alloc: Global,
@@ -61,8 +63,9 @@ pub fn serve<R: Threads + Wait + Sync, S: Source, K: Sink>(
     )
 }
 
-/// The same, where messages of [`Task::Ask`] name the plan's file so. Where its answer rests on a certificate, the
-/// certificate's text is left in `certificate`, with a newline at its end, if it is not too long to be read.
+/// Does what [`serve`] does, with `file` as the name of the plan's file in messages of
+/// [`Task::Ask`]. If the answer of `ask` rests on a certificate, sets `certificate` to its text
+/// with a newline at its end, unless that is too long to be read back.
 ///
 /// # Errors
 ///
@@ -80,7 +83,8 @@ pub fn serve_named<R: Threads + Wait + Sync, S: Source, K: Sink>(
     ensures serves { Serves command (passage S.remaining S.failures source.old source.new)
         (passage K.written K.failures sink.old sink.new) result }
 
-    // Where `ask` says that the plan is safe, the certificate that this rests on is left, unless it is too long to be read.
+    // If `ask` says that the plan is safe, `certificate` is the one that proves it, unless its text
+    // is too long to be read back.
     ensures left { IfOk result (λ status.
         IfSome (S.remaining source.old) (λ input.
         Leaves command input status (option_map (λ text. text.items) certificate.new)
@@ -95,7 +99,7 @@ pub fn serve_named<R: Threads + Wait + Sync, S: Source, K: Sink>(
     }
 }
 
-/// The same for a task.
+/// Serves a task, which runs on threads.
 fn serve_on_threads<R: Threads + Wait + Sync, S: Source, K: Sink>(
     rt: &R,
     alloc: Global,
@@ -119,7 +123,7 @@ fn serve_on_threads<R: Threads + Wait + Sync, S: Source, K: Sink>(
     Ok(output.status)
 }
 
-/// An answer that the task may come to.
+/// Returns an answer of the task to the input.
 fn answer_on_threads<R: Threads + Wait + Sync>(
     rt: &R,
     alloc: Global,
@@ -145,7 +149,7 @@ fn answer_on_threads<R: Threads + Wait + Sync>(
     }
 }
 
-/// An answer to the question, and the certificate that it rests on.
+/// Answers `ask`, and sets `certificate` to the text of the certificate that the answer rests on.
 fn answer_question<R: Threads + Wait + Sync>(
     rt: &R,
     alloc: Global,

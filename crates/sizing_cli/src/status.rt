@@ -1,4 +1,4 @@
-//! How a call that serves ends.
+//! The status and the faults with which a command ends.
 
 ghost use Rattle.std.specs.Prelude.{◌≡◌, Some};
 ghost use Rattle.faults.specs.Name.{head};
@@ -14,29 +14,31 @@ use std::alloc::AllocError;
 use std::error::Error;
 use std::fmt;
 
-/// How an answer ends.
+/// The outcome of a command that gave an answer.
 #[derive(Clone, Copy, Debug, PartialEq, Eq)]
 pub enum Status {
     /// Yes, or done.
     Done,
-    /// No: something is refused, not possible or stuck, a condition fails, no certificate or no sizes were found, sizes
-    /// change, or a plan is not run.
+    /// No: for example an event was refused or impossible, jobs are stuck, a condition of the
+    /// certificate fails, no certificate or sizes were found, sizes would change, or the plan is
+    /// not run.
     Refused,
-    /// The input has a fault, which the answer tells.
+    /// The input has a fault, which the answer reports.
     BadText,
-    /// Neither a certificate nor a witness was found: nothing is said of the plan.
+    /// Undecided: neither a certificate nor a witness was found.
     Undecided,
 }
 
 impl Status {
-    /// The status of an answer that is yes or no.
+    /// Returns the status of an answer that is yes or no.
     pub(crate) fn of_question(yes: bool) -> Status
         ensures { result ≡ yes_or_no yes }
     {
         if yes { Status::Done } else { Status::Refused }
     }
 
-    /// The program's exit status: 0, 1 for a no, 2 for a fault of the input, or 4 where nothing was decided.
+    /// Returns the program's exit status: 0 for a yes, 1 for a no, 2 for a fault of the input, 4 if
+    /// nothing was decided.
     pub fn code(self) -> u8
         ensures { result ≡ code self }
     {
@@ -49,10 +51,10 @@ impl Status {
     }
 }
 
-/// Why there is no answer: fault 20 Memory, 41 Strange of a run, 42 Mixed of a run or a search, 43 Gate of a run, a search or
-/// a check on threads, 60 ReadFailed or 61 WriteFailed.
+/// The fault for which a command gives no answer: 20 Memory, 41 Strange of a run, 42 Mixed of a run
+/// or a search, 43 Gate of a run, a search or a check on threads, 60 ReadFailed or 61 WriteFailed.
 ///
-/// After 61 a front of the answer was written, and after any other nothing.
+/// After 61 a prefix of the answer was written; after any other fault nothing was.
 #[derive(Clone, Copy, Debug, PartialEq, Eq)]
 pub struct ServeFault {
     pub number: u8,

@@ -1,4 +1,5 @@
-//! The texts of plans and of certificates, of which want of memory is no fault.
+//! The parsing of plans and certificates, with running out of memory kept apart from faults of the
+//! text.
 
 ghost use Rattle.std.specs.Prelude.{◌≡◌, IfOk, IsTrue};
 ghost use Rattle.certificates.specs.Cert.{cert_fits};
@@ -12,11 +13,11 @@ use job_bodies::{Plan, PlanFault};
 use plan_text::read_plan;
 use std::alloc::{AllocError, Global};
 
-/// The plan that the text is of, or the text's first fault.
+/// Parses a plan. Returns the text's first fault if it has one.
 ///
 /// # Errors
 ///
-/// [`AllocError`] where memory runs out.
+/// [`AllocError`] if memory runs out.
 pub(crate) fn plan_in(alloc: Global, text: &[u8]) -> Result<Result<Plan, PlanFault>, AllocError>
     ensures { IfOk result (λ read. read ≡ plan_of text.now) }
 {
@@ -27,11 +28,11 @@ pub(crate) fn plan_in(alloc: Global, text: &[u8]) -> Result<Result<Plan, PlanFau
     }
 }
 
-/// The certificate of the plan that the text is of, or the text's first fault.
+/// Parses a certificate for the plan. Returns the text's first fault if it has one.
 ///
 /// # Errors
 ///
-/// [`AllocError`] where memory runs out.
+/// [`AllocError`] if memory runs out.
 pub(crate) fn cert_in(
     alloc: Global,
     text: &[u8],

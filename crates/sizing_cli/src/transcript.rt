@@ -17,9 +17,11 @@ use interleaving::World;
 use job_bodies::Plan;
 use std::alloc::{AllocError, Global};
 
-/// Replays the lines from the plan's start, up to the first event that is not possible. Those behind it are only read.
+/// Replays the lines from the plan's start state up to the first impossible event. The lines after
+/// it are only parsed.
 ///
-/// A bad line is told in place of what came of the lines before it, so nothing is answered before all are read.
+/// A malformed line replaces the replies to the lines before it, so no answer is given before all
+/// lines are read.
 pub fn replay_lines(alloc: Global, plan: &Plan, lines: EventLines<'_>) -> Result<Answer, AllocError>
     requires { length lines < 2 ^ 64 }
     ensures { IfOk result (λ answer. answer ≡ replay_of_lines plan.now (all_from 0 lines.entry)) }
@@ -32,7 +34,7 @@ pub fn replay_lines(alloc: Global, plan: &Plan, lines: EventLines<'_>) -> Result
     }
 }
 
-/// Replies to the lines, or answers the number of the first bad one.
+/// Appends the replies to the lines, or returns the number of the first malformed line, from 1.
 fn push_replies(
     alloc: Global,
     plan: &Plan,
@@ -62,7 +64,7 @@ fn push_replies(
     Ok(None)
 }
 
-/// Lets the event of the line happen, or answers its question.
+/// Performs the event of the line, or answers its question.
 fn reply_to(
     alloc: Global,
     world: &mut World,
@@ -79,7 +81,7 @@ fn reply_to(
             None => Ok(Reply::NotPossible),
         },
         EventLine::Stuck(members) => {
-            // A world finds numbers that rise by halves.
+            // `World::stuck` finds numbers by bisection, so they must rise.
             let mut members = members.to_vec(alloc)?;
             members.sort_unstable();
             Ok(Reply::Stuck(world.stuck(plan, &members)))
@@ -93,7 +95,7 @@ fn is_last(reply: Reply) -> bool
     matches!(reply, Reply::NotPossible)
 }
 
-/// Ends the answer with the numbers of refusals and unfinished jobs.
+/// Appends the line with the numbers of refusals and unfinished jobs.
 fn finish(mut answer: Answer, world: &World) -> Result<Answer, AllocError>
     ensures { IfOk result (λ whole. IsEnded world.now.view answer whole) }
 {

@@ -1,4 +1,4 @@
-//! A witness against a plan: what the search finds, confirmed.
+//! The search for a confirmed witness against a plan.
 
 ghost use Rattle.std.specs.Prelude.{◌≤◌, IfOk, IfSome};
 ghost use Rattle.sizing_cli.specs.Refute.{IsWitnessOf};
@@ -10,15 +10,16 @@ use std::alloc::{AllocError, Global};
 use weights::{Bound, Vector};
 use witness_search::{SupposedWitness, search_witness};
 
-/// What a search for a witness came to.
+/// The result of a search for a witness.
 #[derive(Drop)]
 pub(crate) struct Sought {
     pub(crate) witness: Option<Witness>,
-    /// How many states were searched.
+    /// The number of states that were searched.
     pub(crate) states: usize,
 }
 
-/// A witness against the plan, if the search finds one in so many states at most. What was found is replayed.
+/// Searches at most `states` states for a witness against the plan. A witness that is found is
+/// confirmed by a replay.
 pub(crate) fn witness_of(alloc: Global, plan: &Plan, states: usize) -> Result<Sought, AllocError>
     ensures witness { IfOk result (λ sought. IfSome sought.witness (IsWitnessOf plan.now)) }
     ensures states { IfOk result (λ sought. sought.states ≤ states) }
@@ -32,7 +33,7 @@ pub(crate) fn witness_of(alloc: Global, plan: &Plan, states: usize) -> Result<So
     Ok(Sought { witness, states })
 }
 
-/// The witness that was found, where it is one.
+/// Confirms a candidate by a replay. Returns `None` if it is not a witness.
 fn confirm(
     alloc: Global,
     plan: &Plan,
@@ -51,8 +52,8 @@ fn confirm(
     confirmed(alloc, plan, found.events, members, &standing)
 }
 
-/// A vector for each pool, which may show that it never has more than core threads; one without weights, which shows nothing,
-/// where none is found.
+/// Returns a vector for each pool. It can show that the pool never has more than core threads. If
+/// none is found, it has no weights and shows nothing.
 fn standing_vectors(alloc: Global, plan: &Plan) -> Result<Vec<Vector>, AllocError> {
     let mut vectors = Vec::new(alloc);
     let Some(levels) = Levels::of(alloc, plan)? else {
@@ -68,7 +69,7 @@ fn standing_vectors(alloc: Global, plan: &Plan) -> Result<Vec<Vector>, AllocErro
     Ok(vectors)
 }
 
-/// The vector of a standing bound.
+/// Returns the vector of a standing bound.
 fn standing_of(alloc: Global, bound: Bound) -> Vector {
     match bound {
         Bound::Standing(vector) => vector,
