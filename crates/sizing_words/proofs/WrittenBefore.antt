@@ -9,7 +9,7 @@ use Rattle.sizing_words.specs.WordsFault.{IsOfFile, IsWrittenBefore, is_of_readi
 use Rattle.sizing_words.specs.declared.fault.WordsFault.{WordsFault}
 use Rattle.sizing_words.specs.declared.fault.WordsFault.TheVariants.{Words, NoCommand, InputTwice, Unread, Occupied, Unwritten, Served}
 
--- where the sink did not fail, no more is said of it
+-- nothing is promised if the sink did not fail
 pub not_of_sink : (fault : WordsFault) (command : Command) (input : List ℕ) (old new : Option (List ℕ)) → is_of_sink fault ≡ false → IsWrittenBefore fault command input old new
 not_of_sink (Words error) command input old new calm = tt
 not_of_sink NoCommand command input old new calm = tt
@@ -19,7 +19,7 @@ not_of_sink (Occupied name) command input old new calm = tt
 not_of_sink (Unwritten name) command input old new calm = absurd (false≢true (sym calm))
 not_of_sink (Served fault) command input old new calm = λ is. absurd (false≢true (sym calm ∙ ap (λ n. n == WRITE_FAILED) is))
 
--- nor of a file that could not be read
+-- nor if a file could not be read
 pub of_file : (name : Text) (fault : WordsFault) (command : Command) (input : List ℕ) (old new : Option (List ℕ)) → IsOfFile name fault → IsWrittenBefore fault command input old new
 of_file name (Words error) command input old new of = absurd of
 of_file name NoCommand command input old new of = absurd of
@@ -29,7 +29,7 @@ of_file name (Occupied other) command input old new of = absurd of
 of_file name (Unwritten other) command input old new of = absurd of
 of_file name (Served fault) command input old new of = λ is. absurd (false≢true (subst (λ (n : ℕ). IsTrue (is_of_reading n)) is of))
 
--- what holds of each input holds of a known one
+-- what holds of every input holds of a known one
 pub of_each : (known : Option (List ℕ)) (P : List ℕ → Type 0) → ((input : List ℕ) → P input) → IfSome known P
 of_each (Some input) P each = each input
 of_each None P each = tt

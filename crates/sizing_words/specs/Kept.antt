@@ -1,25 +1,24 @@
--- The certificate that is kept in a file.
+-- The certificate that is written to a file.
 use Rattle.std.specs.Prelude.{◌≡◌, ◌==◌, ℕ, Bool, true, List, [], ◌∷◌, Option, IfSome}
 use Rattle.clap.specs.Words.{Text}
 use Rattle.command_line.specs.declared.command.Command.{Command}
 use Rattle.sizing_cli.specs.Served.{Leaves}
 use Rattle.sizing_cli.specs.declared.status.Status.{Status}
 
--- as the first byte tells, a text is a certificate, which is an object of JSON, or there is none: a certificate may be written
--- in its place
+-- whether a certificate may replace this text: its first byte says that it is a JSON object, or it is empty
 abbrev pub may_be_certificate : List ℕ → Bool
 may_be_certificate [] = true
 may_be_certificate (byte ∷ bytes) = byte == 123
 
--- so it is of the file that is named, where its text is known
+-- this holds of the named file, if its text is known
 abbrev pub IsSpared : (Text → Option (List ℕ)) → Option Text → Type 0
 IsSpared content named = IfSome named (λ name. IfSome (content name) (λ text. may_be_certificate text ≡ true))
 
--- where a file is named and a text is left, the file was made of the text
+-- if a file is named and a certificate is left, the file was made of its text
 abbrev pub IsKept : (Text → List ℕ → Type 0) → Option Text → Option (List ℕ) → Type 0
 IsKept made named left = IfSome named (λ name. IfSome left (made name))
 
--- the answer of a command that was written leaves a certificate's text, or none, and that is kept where a file is named for it
+-- the answer that was written leaves a certificate's text or none, and the text is written to the named file
 pub record LeavesKept (made : Text → List ℕ → Type 0) (named : Option Text) (command : Command) (input : List ℕ) (status : Status) (old new : Option (List ℕ)) : Type 0 where
   pub left : Option (List ℕ)
   pub leaves : Leaves command input status left old new

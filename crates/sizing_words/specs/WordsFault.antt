@@ -1,4 +1,4 @@
--- Why the words of a command line got no answer.
+-- The errors of a call with the arguments of a command line.
 use Rattle.std.specs.Prelude.{◌≡◌, ◌≢◌, ◌⊎◌, ℕ, Bool, true, false, ◌==◌, ◌||◌, List, Option, Some, None, IfSome, IsTrue, is_some}
 use Rattle.clap.specs.Words.{HasKind, Text, kind_of}
 use Rattle.clap.specs.declared.error.kind.ErrorKind.TheVariants.{OutOfMemory}
@@ -13,7 +13,7 @@ use Rattle.sizing_words.specs.Texts.{file_named}
 use Rattle.sizing_words.specs.declared.fault.WordsFault.{WordsFault}
 use Rattle.sizing_words.specs.declared.fault.WordsFault.TheVariants.{Words, NoCommand, InputTwice, Unread, Occupied, Unwritten, Served}
 
--- the sink failed, or the file of a certificate did: an answer may have been written
+-- the sink failed, or the certificate's file did, so an answer may have been written
 abbrev pub is_of_sink : WordsFault → Bool
 is_of_sink (Words error) = false
 is_of_sink NoCommand = false
@@ -23,7 +23,7 @@ is_of_sink (Occupied name) = false
 is_of_sink (Unwritten name) = true
 is_of_sink (Served fault) = fault.number == WRITE_FAILED
 
--- the exit status: 2 of bad arguments and of help, and 3 where there is no answer
+-- the exit status: 2 for bad arguments and for help, 3 if there is no answer
 abbrev pub IsCode : WordsFault → ℕ → Type 0
 IsCode (Words error) status = ((kind_of error ≡ OutOfMemory) × (status ≡ 3)) ⊎ ((kind_of error ≢ OutOfMemory) × (status ≡ 2))
 IsCode NoCommand status = status ≡ 2
@@ -37,15 +37,15 @@ IsCode (Served fault) status = status ≡ 3
 abbrev pub IsTwice : Option Text × Option Text → Type 0
 IsTwice (first, second) = (is_some second ≡ true) × ((file_named first ≡ None) × (file_named second ≡ None))
 
--- one of the two texts is of this file
+-- one of the two texts is in this file
 abbrev pub IsNamed : Option Text × Option Text → Text → Type 0
 IsNamed (first, second) name = (file_named first ≡ Some name) ⊎ (file_named second ≡ Some name)
 
--- a reading failed, or found no memory
+-- reading failed, or memory ran out
 abbrev pub is_of_reading : ℕ → Bool
 is_of_reading number = number == MEMORY || number == READ_FAILED
 
--- of standard input it may come
+-- a possible fault of reading standard input
 abbrev pub IsOfReading : WordsFault → Type 0
 IsOfReading (Words error) = ⊥
 IsOfReading NoCommand = ⊥
@@ -55,7 +55,7 @@ IsOfReading (Occupied name) = ⊥
 IsOfReading (Unwritten name) = ⊥
 IsOfReading (Served fault) = IsTrue (is_of_reading fault.number)
 
--- of this file it may come
+-- a possible fault of reading this file
 abbrev pub IsOfFile : Text → WordsFault → Type 0
 IsOfFile file (Words error) = ⊥
 IsOfFile file NoCommand = ⊥
@@ -65,7 +65,7 @@ IsOfFile file (Occupied name) = ⊥
 IsOfFile file (Unwritten name) = ⊥
 IsOfFile file (Served fault) = IsTrue (is_of_reading fault.number)
 
--- the fault may come of a command that reads these files
+-- a possible fault of a command that reads these files
 abbrev pub IsOfTexts : Command → Option Text × Option Text → WordsFault → Type 0
 IsOfTexts command files (Words error) = ⊥
 IsOfTexts command files NoCommand = ⊥
@@ -75,7 +75,7 @@ IsOfTexts command files (Occupied name) = ⊥
 IsOfTexts command files (Unwritten name) = ⊥
 IsOfTexts command files (Served fault) = IsTrue (is_known_of command fault.number)
 
--- the certificate was to be written into this file, where one is named, and that failed
+-- the certificate could not be written to the named file
 abbrev pub IsUnwritten : Option Text → WordsFault → Type 0
 IsUnwritten named (Words error) = ⊥
 IsUnwritten named NoCommand = ⊥
@@ -85,7 +85,7 @@ IsUnwritten named (Occupied name) = ⊥
 IsUnwritten named (Unwritten name) = named ≡ Some name.now
 IsUnwritten named (Served fault) = ⊥
 
--- where it is said that a file has a text that is no certificate, that is so of what is known of it
+-- if the fault says that a file holds something other than a certificate, that agrees with what is known of the file
 abbrev pub IsOccupied : (Text → Option (List ℕ)) → WordsFault → Type 0
 IsOccupied content (Words error) = Unit {0}
 IsOccupied content NoCommand = Unit {0}
@@ -95,7 +95,7 @@ IsOccupied content (Occupied name) = IfSome (content name.now) (λ text. may_be_
 IsOccupied content (Unwritten name) = Unit {0}
 IsOccupied content (Served fault) = Unit {0}
 
--- the fault may come of looking at that file
+-- a possible fault of looking at that file
 abbrev pub IsOfSparing : Option Text → WordsFault → Type 0
 IsOfSparing named (Words error) = ⊥
 IsOfSparing named NoCommand = ⊥
@@ -105,7 +105,7 @@ IsOfSparing named (Occupied name) = named ≡ Some name.now
 IsOfSparing named (Unwritten name) = ⊥
 IsOfSparing named (Served fault) = fault.number ≡ MEMORY
 
--- the fault may come of these words
+-- a possible fault for these arguments
 abbrev pub IsFaultOf : List Text → WordsFault → Type 0
 IsFaultOf words (Words error) = HasKind (faults_of words) error
 IsFaultOf words NoCommand = command_of words ≡ None
@@ -114,8 +114,8 @@ IsFaultOf words (Unread name) = IsNamed (files_of words) name.now ⊎ (certifica
 IsFaultOf words (Occupied name) = certificate_of words ≡ Some name.now
 IsFaultOf words fault = IfSome (command_of words) (λ command. IsOfTexts command (files_of words) fault)
 
--- what was written before the fault: a front of an answer where the sink failed, and a whole one where only the file of the
--- certificate did
+-- what was written before the fault: a prefix of an answer if the sink failed, and a whole one if only the certificate's
+-- file failed
 abbrev pub IsWrittenBefore : WordsFault → Command → List ℕ → Option (List ℕ) → Option (List ℕ) → Type 0
 IsWrittenBefore (Words error) command input old new = Unit {0}
 IsWrittenBefore NoCommand command input old new = Unit {0}

@@ -1,4 +1,4 @@
-//! Why the words of a command line got no answer.
+//! The errors of a call with the arguments of a command line.
 
 ghost use Rattle.std.specs.Prelude.{◌≡◌};
 ghost use Rattle.sizing_words.specs.declared.fault.WordsFault.TheVariants.{Served, Words};
@@ -10,33 +10,36 @@ use clap::error::ErrorKind;
 use sizing_cli::ServeFault;
 use std::alloc::AllocError;
 
-/// The exit status of bad arguments.
+/// The exit status for bad arguments.
 const USAGE: u8 = 2;
-/// The exit status where there is no answer.
+/// The exit status if there is no answer.
 const NO_ANSWER: u8 = 3;
 
-/// Why the words of a command line got no answer. Nothing was written then, but where the sink failed, or the file of the
-/// certificate.
+/// The reason why the arguments of a command line got no complete answer. Nothing was written,
+/// except after a failure of the sink or of the certificate's file.
 #[derive(Debug, Drop)]
 pub enum WordsFault<'a> {
-    /// `clap` refuses them, or they ask for help. Its `Display` is `clap`'s own text for the user.
+    /// An error of `clap`, or a request for help. Its `Display` is `clap`'s own text for the user.
     Words(Error),
-    /// They name no command.
+    /// The arguments name no command.
     NoCommand,
-    /// They name standard input for both texts.
+    /// Both texts are to come from standard input.
     InputTwice,
     /// The file of this name could not be read: fault 60.
     Unread(&'a str),
-    /// The file of this name, which is named for the certificate, has a text that is none. It stays as it is.
+    /// The file of this name, to which the certificate was to be written, holds something else. It
+    /// is left as it is.
     Occupied(&'a str),
-    /// The certificate could not be written into the file of this name: fault 61. The whole answer was written.
+    /// The certificate could not be written to the file of this name: fault 61. The whole answer
+    /// was written.
     Unwritten(&'a str),
-    /// The command was not served.
+    /// The command ended with this fault.
     Served(ServeFault),
 }
 
 impl WordsFault<'_> {
-    /// The program's exit status: 2 of bad arguments and of help, and 3 where there is no answer.
+    /// Returns the program's exit status: 2 for bad arguments and for help, 3 if there is no
+    /// answer.
     pub fn code(&self) -> u8
         ensures { spec.IsCode self.now result }
     {

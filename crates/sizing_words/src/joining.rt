@@ -1,4 +1,4 @@
-//! The one input that two texts stand for.
+//! The joining of two texts into one input.
 
 ghost use Rattle.std.specs.Prelude.{◌≡◌, IfOk};
 ghost use Rattle.sizing_words.specs.Texts as spec;
@@ -6,12 +6,12 @@ ghost use Rattle.sizing_words.specs.Texts as spec;
 use sizing_cli::whole_lines;
 use std::alloc::AllocError;
 
-/// The input that a plan's text and a second text stand for: the plan, with a newline where its last line has none, a line
-/// `%%`, and the second text.
+/// Joins a plan's text and a second text: the plan, with a newline appended if its last line has
+/// none, then a line `%%`, then the second text.
 ///
 /// # Errors
 ///
-/// [`AllocError`] where memory runs out.
+/// [`AllocError`] if memory runs out.
 pub fn joined(plan: Vec<u8>, second: &[u8]) -> Result<Vec<u8>, AllocError>
     ensures { IfOk result (λ input. input.items ≡ spec.joined plan.items second.now) }
 {

@@ -1,5 +1,5 @@
-//! The program from the words of its command line to its answer: which command they name, on which texts, of files or of
-//! standard input, and what is written.
+//! The program, from the arguments of its command line to its answer: it reads the named files or
+//! standard input, runs the named command, and writes the result.
 #![tactic(auto)]
 
 mod fault;

@@ -1,4 +1,4 @@
-//! Serves the words of a command line.
+//! The entry point that serves the arguments of a command line.
 
 ghost use Rattle.std.specs.Prelude.{◌≡◌, ◌≢◌, ℕ, IfOk, IfErr, IfSome, map, take, option_map, [], is_some, true, false, None};
 ghost use Rattle.std.specs.Io.KnownBytes.{Keeps};
@@ -20,22 +20,26 @@ use std::alloc::{AllocError, Global};
 use std::sync::Wait;
 use std::thread::Threads;
 
-/// The name of standard input among files.
+/// The file name that means standard input.
 const STANDARD_INPUT: &str = "-";
 
-/// What messages name a plan of standard input.
+/// The name of a plan from standard input in messages.
 const NO_FILE: &str = "<stdin>";
 
-/// Reads the words of a command line, of which the first is the program's name, then the texts that they name, and writes the
-/// answer of the command that they name. Where they name a file for the certificate that the answer rests on, it is written
-/// last, in the place of no text but a certificate, as the first byte tells. Texts are those of standard input, `input`, where no file is named or its name is
-/// `-`, and else of `files`: one file has all that standard input would have; of two, the first one is the plan and the second
-/// one what comes after the line `%%`.
+/// Runs the command that the arguments name, and writes its answer. The first argument is the
+/// program's name.
+///
+/// A text is read from standard input, `input`, if no file is named or its name is `-`, and
+/// otherwise from `files`. A single file holds all that standard input would hold. Of two files,
+/// the first holds the plan and the second the text after the line `%%`.
+///
+/// If the arguments name a file for the certificate that the answer rests on, that file is written
+/// last. A file with other content is not overwritten, which its first byte decides.
 ///
 /// # Errors
 ///
-/// What each [`WordsFault`] says. Nothing was written then but a front of the answer where the sink failed, and the whole answer
-/// where the file of the certificate did.
+/// Returns the [`WordsFault`] of the first failure. Nothing was written then, except a prefix of
+/// the answer if the sink failed, and the whole answer if writing the certificate's file failed.
 pub fn serve_words<'a, R: Threads + Wait + Sync, F: TextFiles, S: Source, K: Sink>(
     rt: &R,
     alloc: Global,
@@ -44,7 +48,8 @@ pub fn serve_words<'a, R: Threads + Wait + Sync, F: TextFiles, S: Source, K: Sin
     input: &mut S,
     sink: &mut K,
 ) -> Result<Status, WordsFault<'a>>
-    // What was written, and the status, are an answer that the command of the words may give to the texts that they name.
+    // What was written, and the status, are a possible answer of the named command to the named
+    // texts.
     ensures named { IfOk result (λ _.
         (is_some (command_of (map (λ word. word.now) words.now)) ≡ true)
         × (faults_of (map (λ word. word.now) words.now) ≡ [])) }
@@ -68,7 +73,8 @@ pub fn serve_words<'a, R: Threads + Wait + Sync, F: TextFiles, S: Source, K: Sin
         MeansSafe command text (K.written sink.old)
         (K.written sink.new)))) }
 
-    // The file that the words name for a certificate was made of the text of the one that the answer rests on.
+    // The file named for the certificate holds the text of the certificate that the answer rests
+    // on.
     ensures kept { IfOk result (λ status.
         IfSome
         (command_of (map (λ word. word.now) words.now))
@@ -87,7 +93,8 @@ pub fn serve_words<'a, R: Threads + Wait + Sync, F: TextFiles, S: Source, K: Sin
     ensures nothing { IfErr result
         (λ fault. is_of_sink fault ≡ false → Keeps (K.written sink.old) (K.written sink.new)) }
 
-    // Where the sink failed, it has a front of such an answer; where the file of the certificate did, it has the whole answer.
+    // If the sink failed, a prefix of such an answer was written; if the certificate's file failed,
+    // the whole answer.
     ensures before { IfErr result (λ fault.
         IfSome
         (command_of (map (λ word. word.now) words.now))
@@ -108,7 +115,8 @@ pub fn serve_words<'a, R: Threads + Wait + Sync, F: TextFiles, S: Source, K: Sin
     Ok(status)
 }
 
-/// Refuses the file that is named for the certificate where it has another text: no plan is lost to a word too many.
+/// Returns an error if the file named for the certificate holds another text, so that a misplaced
+/// argument does not overwrite a plan.
 fn spare<'a, F: TextFiles>(
     alloc: Global,
     files: &F,
@@ -137,7 +145,7 @@ fn spare<'a, F: TextFiles>(
     }
 }
 
-/// Whether a text that begins so is a certificate, or empty.
+/// Returns whether a text with this first byte is a certificate, or empty.
 fn may_be_certificate(text: &[u8]) -> bool
     ensures { result ≡ spared.may_be_certificate text.now }
 {
@@ -147,7 +155,7 @@ fn may_be_certificate(text: &[u8]) -> bool
     }
 }
 
-/// Writes the certificate that was found into the file that is named for it.
+/// Writes the certificate that was found to the file named for it.
 fn keep<'a, F: TextFiles>(
     files: &F,
     name: Option<&'a str>,
@@ -171,7 +179,7 @@ fn keep<'a, F: TextFiles>(
     }
 }
 
-/// The same, once the words were read.
+/// Serves parsed arguments.
 fn serve_asked<'a, R: Threads + Wait + Sync, F: TextFiles, S: Source, K: Sink>(
     rt: &R,
     alloc: Global,
@@ -229,7 +237,7 @@ fn serve_asked<'a, R: Threads + Wait + Sync, F: TextFiles, S: Source, K: Sink>(
     }
 }
 
-/// The name of the file, where it is not standard input that is named.
+/// Returns the name of the file, or `None` if the name means standard input.
 fn file_named(name: Option<&str>) -> Option<&str>
     ensures { option_map (λ name. name.now) result
         ≡ spec.file_named (option_map (λ name. name.now) name.entry) }
@@ -237,7 +245,7 @@ fn file_named(name: Option<&str>) -> Option<&str>
     name.filter(|name| *name != STANDARD_INPUT)
 }
 
-/// What messages name the plan.
+/// Returns the name of the plan in messages.
 fn shown_name(name: Option<&str>) -> &str {
     match file_named(name) {
         Some(name) => name,
@@ -274,7 +282,7 @@ fn serve_text<'a, R: Threads + Wait + Sync, K: Sink>(
     Ok(serve_named(rt, alloc, command, shown, found, &mut source, sink)?)
 }
 
-/// Reads two texts for the command, and joins them.
+/// Reads the two texts of the command and joins them.
 fn read_both<'a, F: TextFiles, S: Source>(
     alloc: Global,
     command: Command,

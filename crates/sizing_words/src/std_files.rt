@@ -1,4 +1,4 @@
-//! The files of the system.
+//! The files of the operating system.
 
 ghost use Rattle.std.specs.Prelude.{None};
 
@@ -8,14 +8,14 @@ use std::alloc::Global;
 use std::fs;
 use std::fs::{File, Files};
 
-/// The files of the system, of which contracts know nothing.
+/// The files of the operating system. Contracts know nothing of their content.
 #[derive(Clone, Copy)]
 pub struct StdFiles<'a, R> {
     files: &'a R,
 }
 
 impl<'a, R: Files> StdFiles<'a, R> {
-    /// The files that `files` opens.
+    /// Creates a store that opens files through `files`.
     pub fn new(files: &'a R) -> StdFiles<'a, R> {
         StdFiles { files }
     }

@@ -1,13 +1,13 @@
-//! Where files are read from.
+//! The interface to files.
 
 ghost use Rattle.std.specs.Prelude.{◌≡◌, ℕ, List, Option, Some, IfOk, IfSome, option_map, take};
 
 use byte_streams::{InputError, IoFault};
 use std::alloc::Global;
 
-/// Files that are read, and written, by their names.
+/// A store of files that are read and written by name.
 pub trait TextFiles {
-    // The bytes of the file of this name, where they are known.
+    // The bytes of the file of this name, if they are known.
     ghost content: { Self → List ℕ → Option (List ℕ) };
 
     // A file of this name was made of these bytes.
@@ -17,17 +17,17 @@ pub trait TextFiles {
     ///
     /// # Errors
     ///
-    /// [`InputError::Fault`] where it cannot be read, as where it is a directory or not there, and [`InputError::Memory`]
-    /// where its bytes find no room.
+    /// [`InputError::Fault`] if the file cannot be read, for example if it is missing or a
+    /// directory. [`InputError::Memory`] if memory runs out.
     fn read(&self, alloc: Global, name: &str, limit: usize) -> Result<Vec<u8>, InputError>
         ensures { IfOk result (λ bytes. IfSome (content self.now name.now) (λ known. bytes.items ≡ take limit known)) };
 
-    /// Reads the first bytes of a file that is stored, at most `limit`. None where there is none of this name, or what has it
-    /// keeps nothing, as a pipe or a terminal.
+    /// Reads the first bytes of a regular file, at most `limit`. Returns `None` if there is no file
+    /// of this name, or if it is not a regular file, such as a pipe or a terminal.
     ///
     /// # Errors
     ///
-    /// Those of [`read`](TextFiles::read), where there is such a file.
+    /// Those of [`read`](TextFiles::read), if there is such a file.
     fn read_stored(
         &self,
         alloc: Global,
@@ -36,11 +36,11 @@ pub trait TextFiles {
     ) -> Result<Option<Vec<u8>>, InputError>
         ensures { IfOk result (λ found. IfSome (content self.now name.now) (λ known. option_map (λ bytes. bytes.items) found ≡ Some (take limit known))) };
 
-    /// Makes a file of these bytes, in place of one that is there.
+    /// Writes these bytes to a file, which is created or replaced.
     ///
     /// # Errors
     ///
-    /// [`IoFault`] where that fails. The file may then have a front of them.
+    /// [`IoFault`] if that fails. The file may then hold a prefix of the bytes.
     fn write(&self, name: &str, bytes: &[u8]) -> Result<(), IoFault>
         ensures { IfOk result (λ _. made self.now name.now bytes.now) };
 }
