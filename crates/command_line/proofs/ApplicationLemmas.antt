@@ -1,4 +1,4 @@
--- What `clap` gives of an application that is the written one.
+-- The results of `clap` for the application.
 use Rattle.std.proofs.Common.{◌≡◌, true, false, refl, subst, inl, inr, List, [], ◌∷◌, Option, Result, Ok, Err}
 use Rattle.std.specs.Prelude.{IsErrAnd}
 use Rattle.std.proofs.lemmas.Bool.{and_parts}
@@ -13,7 +13,7 @@ use Rattle.clap.proofs.OnLiterals.{clap_on_literals}
 use Rattle.command_line.specs.Application.{sizing}
 use Rattle.command_line.specs.Command.{is_out_of_range, faults_of}
 
--- the application uses nothing that goes past `clap`'s meaning of a simple command
+-- the application uses only features that the model of `clap` covers
 pub sizing_is_simple : is_simple_and_free sizing ≡ true
 unfolding clap_on_literals
 sizing_is_simple = refl
@@ -21,14 +21,14 @@ sizing_is_simple = refl
 sizing_is_plain : is_simple sizing ≡ true
 sizing_is_plain = (and_parts (is_simple sizing) (is_free_app (built sizing)) sizing_is_simple).0
 
--- words at which an application of this shape has no fault are no fault of the written one
+-- if `clap` finds no fault in the arguments, they have none
 pub no_fault : (made : App) (words : List Text) → made ≡ sizing
     → (is_simple_and_free made ≡ true → fault_of made words ≡ []) → fault_of sizing words ≡ []
 no_fault made words e taken =
     let P : App → Type 0 = λ a. is_simple_and_free a ≡ true → fault_of a words ≡ [] in
     subst P e taken sizing_is_simple
 
--- a kind of the first faults is among all of them
+-- a kind among the first faults is among all of them
 among_first : (kind : ErrorKind) (first rest : Kinds) → IsAmong kind first → IsAmong kind (or_else first rest)
 among_first kind [] rest among = absurd among
 among_first kind (k ∷ first) rest among = among
@@ -45,7 +45,7 @@ fails_by_clap made words error (Err e) is fails same =
     let P : App → Type 0 = λ a. is_simple_and_free a ≡ true → HasKind (fault_of a words) error in
     rw same (has_kind_first (fault_of sizing words) _ error (subst P is fails sizing_is_simple))
 
--- where `clap` gives no fault, and no number is out of its range, there is none
+-- if `clap` finds no fault and no number is out of its range, there is no fault
 pub no_faults : {A : Type 0} (made : App) (words : List Text) (rows : Option (Text × List Row)) → made ≡ sizing → fault_of sizing words ≡ []
     → (is_simple made ≡ true → A × (rows ≡ subcommand_of made words)) → is_out_of_range rows ≡ false → faults_of words ≡ []
 no_faults {A} made words rows is none same within =
@@ -54,14 +54,14 @@ no_faults {A} made words rows is none same within =
     let inside : is_out_of_range (subcommand_of sizing words) ≡ false = rw (← rows_are) within in
     rw (none, inside) refl
 
--- what `clap` makes of the words is what it makes of them by the written application
+-- the parse of the arguments is that of the specified application
 pub rows_of_parse : {A : Type 0} (made : App) (words : List Text) (rows : Option (Text × List Row)) → made ≡ sizing
     → (is_simple made ≡ true → A × (rows ≡ subcommand_of made words)) → rows ≡ subcommand_of sizing words
 rows_of_parse {A} made words rows is same =
     let P : App → Type 0 = λ a. is_simple a ≡ true → A × (rows ≡ subcommand_of a words) in
     (subst P is same sizing_is_plain).1
 
--- where `clap` gives no fault, and a number is out of its range, that is the fault
+-- if `clap` finds no fault and a number is out of its range, that is the fault
 pub fails_out_of_range : (words : List Text) (rows : Option (Text × List Row)) (error : Error) → fault_of sizing words ≡ [] → rows ≡ subcommand_of sizing words
     → is_out_of_range rows ≡ true → kind_of error ≡ ValueValidation → HasKind (faults_of words) error
 fails_out_of_range words rows error none same beyond is =

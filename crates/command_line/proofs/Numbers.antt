@@ -1,4 +1,4 @@
--- Texts that are whole numbers of a range.
+-- Texts that are whole numbers in a range.
 use Rattle.std.proofs.Common.{◌≡◌, ℕ, Bool, true, false, cond, Some, None, refl, ap}
 use Rattle.std.specs.Str.Parse.{digits_value, without_leading_plus}
 use Rattle.clap.specs.Walk.{Text}
@@ -12,7 +12,7 @@ use Rattle.command_line.specs.Command.{number_in}
 pub number_read : (low high : ℕ) (text : Text) (number : ℕ) → IsUnsignedIn low high text → number ≡ digits_value 10 (without_leading_plus text) → Some number ≡ number_in low high text
 number_read low high text number lies is = rw (Accepts-accepts false (parser.Unsigned low high) text lies) (ap Some is)
 
--- the text is none
+-- the text is not such a number
 pub number_refused : (low high : ℕ) (text : Text) → (IsUnsignedIn low high text → ⊥) → None ≡ number_in low high text
 number_refused low high text refused = by_test (accepts false (parser.Unsigned low high) text) refl
   where

@@ -1,4 +1,4 @@
--- What a command is with one more subcommand, which may not have been made, and with one more argument.
+-- A `clap` command with one more subcommand or argument.
 use Rattle.std.proofs.Common.{◌≡◌, ◌∙◌, ap, ap₂, false, [], ◌∷◌, ◌++◌, Result, Ok, Err}
 use Rattle.std.specs.Prelude.{◌||◌, IfOk, IsOkAnd}
 use Rattle.std.specs.declared.alloc.AllocError.{AllocError}
@@ -7,7 +7,7 @@ use Rattle.clap.specs.declared.builder.arg.Arg.{Arg}
 use Rattle.clap.specs.declared.builder.command.Command.TheViews.{out-Command as fields_of}
 use Rattle.clap.specs.declared.builder.command.Command.{Command}
 
--- a subcommand of this shape stands behind what the program was
+-- a subcommand of this shape is added at the end
 pub added : (made : Result Command AllocError) (shape : Shape) (before was : App) (both : Command)
     → IfOk made (λ it. shape_of it ≡ shape)
     → IsOkAnd made (λ it. app_of both ≡ with_subcommand before (shape_of it))
@@ -16,14 +16,14 @@ pub added : (made : Result Command AllocError) (shape : Shape) (before was : App
 added (Ok it) shape before was both is adds same = adds ∙ ap (with_subcommand before) is ∙ ap (λ app. with_subcommand app shape) same
 added (Err error) shape before was both is adds same = absurd adds
 
--- a command with this argument too, which is not global
+-- adds an argument that is not global
 pub argued : (old : Command) (argument : Arg) (new : Command) (shape : Shape) (rule : Rule)
     → AddsArg old argument new → argument.global ≡ false → rule_of argument ≡ rule → shape_of old ≡ shape
     → shape_of new ≡ record shape { rules = shape.rules ++ rule ∷ [] }
 argued old argument new shape rule adds local is was =
     ap (λ app. app.top) (adds.shape local) ∙ ap₂ (λ (first : Shape) (last : Rule). record first { rules = first.rules ++ last ∷ [] }) was is
 
--- none of its arguments is global, as none was before
+-- none of its arguments is global if none was before
 pub still_local : (old : Command) (argument : Arg) (new : Command) → AddsArg old argument new → argument.global ≡ false
     → (fields_of old).has_globals ≡ false → (fields_of new).has_globals ≡ false
 still_local old argument new adds local was = adds.globals ∙ ap₂ (λ first last. first || last) was local

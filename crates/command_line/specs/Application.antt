@@ -1,4 +1,4 @@
--- The application that `clap` reads the words by, as its definitions write one.
+-- The `clap` application, written in the definitions of `clap`.
 use Rattle.std.specs.Prelude.{ℕ, [], ◌∷◌, true, Some, codes, decimal}
 use Rattle.clap.specs.Words.{App, Rule, Shape, Text, new_app, new_rule, with_rule, with_subcommand}
 use Rattle.clap.specs.declared.builder.action.ArgAction.TheVariants.{Set, SetTrue}
@@ -13,7 +13,7 @@ file_argument id = record (new_rule id) { action = Some Set; value_names = 1 }
 abbrev pub plan_argument : Rule
 plan_argument = file_argument (codes "PLAN")
 
--- the file of what stands behind the plan
+-- the file of the second text
 abbrev pub second_argument : Rule
 second_argument = file_argument (codes "SECOND")
 
@@ -21,7 +21,7 @@ second_argument = file_argument (codes "SECOND")
 abbrev pub of_plan : Text → App
 of_plan name = with_rule (new_app name) plan_argument
 
--- a subcommand that reads a plan and what stands behind it
+-- a subcommand that reads a plan and a second text
 abbrev pub of_both : Text → App
 of_both name = with_rule (of_plan name) second_argument
 
@@ -34,7 +34,7 @@ check_shape = (of_both (codes "check")).top
 abbrev pub explain_shape : Shape
 explain_shape = (of_both (codes "explain")).top
 
--- the option `--ID N`, for one whole number of this range
+-- the option `--ID N`, for a whole number in this range
 abbrev pub number_option : Text → ℕ → ℕ → Rule
 number_option id low high = record (new_rule id) { long = Some id; action = Some Set; parser = Some (parser.Unsigned low high); value_names = 1 }
 
@@ -45,28 +45,28 @@ workers_option = record (number_option (codes "workers") 1 MAX_WORKERS) { defaul
 abbrev pub certify_shape : Shape
 certify_shape = (with_rule (of_plan (codes "certify")) workers_option).top
 
--- whether to write a bundle
+-- writes a bundle
 abbrev pub bundle_option : Rule
 bundle_option = record (new_rule (codes "bundle")) { long = Some (codes "bundle"); action = Some SetTrue }
 
 abbrev pub fit_shape : Shape
 fit_shape = (with_rule (of_plan (codes "fit")) bundle_option).top
 
--- how often each repeating client goes through its body, which must be said
+-- the number of rounds of each repeating client, which is required
 abbrev pub rounds_option : Rule
 rounds_option = record (number_option (codes "rounds") 1 MAX_ROUNDS) { required = true }
 
 abbrev pub run_shape : Shape
 run_shape = (with_rule (of_both (codes "run")) rounds_option).top
 
--- how many states a search for a witness may go through
+-- the maximum number of states that a search for a witness visits
 abbrev pub states_option : Rule
 states_option = record (number_option (codes "states") 1 MAX_STATES) { defaults = codes "100000" ∷ [] }
 
 abbrev pub refute_shape : Shape
 refute_shape = (with_rule (with_rule (of_plan (codes "refute")) states_option) bundle_option).top
 
--- whether a warning is a no
+-- makes a warning a no
 abbrev pub strict_option : Rule
 strict_option = record (new_rule (codes "strict")) { long = Some (codes "strict"); action = Some SetTrue }
 
@@ -74,7 +74,7 @@ strict_option = record (new_rule (codes "strict")) { long = Some (codes "strict"
 abbrev pub certificate_option : Rule
 certificate_option = record (new_rule (codes "certificate")) { long = Some (codes "certificate"); action = Some Set; value_names = 1 }
 
--- the options that ask for another form than lines
+-- the options for other output formats than lines
 abbrev pub json_option : Rule
 json_option = record (new_rule (codes "json")) { long = Some (codes "json"); action = Some SetTrue }
 
@@ -92,16 +92,16 @@ conform_shape = (of_both (codes "conform")).top
 abbrev pub learn_shape : Shape
 learn_shape = (of_plan (codes "learn")).top
 
--- with a subcommand for each review
+-- adds a subcommand for each review
 abbrev pub with_reviews : App → App
 with_reviews program = with_subcommand (with_subcommand (with_subcommand program replay_shape) check_shape) explain_shape
 
--- with a subcommand for each task
+-- adds a subcommand for each task
 abbrev pub with_tasks : App → App
 with_tasks program =
     with_subcommand (with_subcommand (with_subcommand (with_subcommand (with_subcommand program certify_shape) fit_shape) run_shape) refute_shape) ask_shape
 
--- with a subcommand for each reading of a recording
+-- adds a subcommand for each command on recordings
 abbrev pub with_readings : App → App
 with_readings program = with_subcommand (with_subcommand program conform_shape) learn_shape
 

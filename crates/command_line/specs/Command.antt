@@ -1,4 +1,4 @@
--- The command that the words of a command line name.
+-- The command that the arguments of a command line name.
 use Rattle.std.specs.Prelude.{ℕ, ◌≤◌, List, [], ◌∷◌, Bool, true, false, not, ◌&&◌, Option, Some, None, is_some, codes, if◌then◌else◌, option_and_then, option_map}
 use Rattle.std.specs.Option.{option_map_or}
 use Rattle.std.specs.Str.{bytes_eq}
@@ -24,15 +24,15 @@ use Rattle.command_line.specs.declared.command.Given.TheVariants.{PlanAlone, Wit
 use Rattle.command_line.specs.declared.command.Form.{Form}
 use Rattle.command_line.specs.declared.command.Form.TheVariants.{Words, Json, Dot}
 
--- the whole number that a text is, where it lies in the range
+-- the whole number in a text, if it is in the range
 abbrev pub number_in : ℕ → ℕ → Text → Option ℕ
 number_in low high text = if accepts false (parser.Unsigned low high) text then Some (digits_value 10 (without_leading_plus text)) else None
 
--- the number of this option, where it lies in the range
+-- the number of this option, if it is in the range
 abbrev pub number_of : Text → ℕ → ℕ → List Row → Option ℕ
 number_of id low high rows = option_and_then (number_in low high) (first_of id rows)
 
--- the option of this name was given, as `clap` writes it down
+-- the option of this name was given, as `clap` records it
 abbrev pub is_set : Text → List Row → Bool
 is_set id rows = option_map_or (λ text. bytes_eq text (codes "true")) (first_of id rows) false
 
@@ -48,23 +48,23 @@ run_with = option_map (λ rounds. Run rounds)
 abbrev pub refute_with : Bool → Option ℕ → Option Task
 refute_with bundle = option_map (λ states. Refute states (if bundle then shown.Bundle else shown.Story))
 
--- a certificate is given where a second file is named
+-- a certificate is given if a second file is named
 abbrev pub given_among : Option Text → Given
 given_among None = PlanAlone
 given_among (Some name) = WithCertificate
 
--- the form that these two options ask for, unless both are given
+-- the format that these two options request, unless both are given
 abbrev pub form_of : Bool → Bool → Option Form
 form_of false false = Some Words
 form_of true false = Some Json
 form_of false true = Some Dot
 form_of true true = None
 
--- the question in this form
+-- the task `ask` in this format
 abbrev pub ask_in : List Row → Form → Task
 ask_in rows form = Ask (given_among (first_of (codes "SECOND") rows)) (record { strict = is_set (codes "strict") rows; form = form })
 
--- the question of these rows
+-- the task `ask` of these rows
 abbrev pub ask_named : List Row → Option Task
 ask_named rows = option_map (ask_in rows) (form_of (is_set (codes "json") rows) (is_set (codes "dot") rows))
 
@@ -90,24 +90,24 @@ command_named (name, rows) =
 abbrev pub command_among : Option (Text × List Row) → Option Command
 command_among = option_and_then command_named
 
--- the command that `clap` makes of the words
+-- the command that `clap` parses from the arguments
 abbrev pub command_of : List Text → Option Command
 command_of words = command_among (subcommand_of sizing words)
 
--- the two files that the rows of a subcommand name, where one was entered
+-- the two files that the rows of a subcommand name, if one was entered
 abbrev pub files_in : Option (List Row) → Option Text × Option Text
 files_in None = (None, None)
 files_in (Some rows) = (first_of (codes "PLAN") rows, first_of (codes "SECOND") rows)
 
--- those of the subcommand that was entered
+-- the two files of the subcommand that was entered
 abbrev pub files_among : Option (Text × List Row) → Option Text × Option Text
 files_among entered = files_in (option_map (λ entry. entry.1) entered)
 
--- the files that the words name: of the plan, or of all texts, and of what stands behind the plan
+-- the files that the arguments name: of the plan or of all texts, and of the second text
 abbrev pub files_of : List Text → Option Text × Option Text
 files_of words = files_among (subcommand_of sizing words)
 
--- those that were read from the words
+-- the files in the parsed arguments
 abbrev pub files_asked : Asked → Option Text × Option Text
 files_asked asked = (option_map (λ name. name.now) asked.first, option_map (λ name. name.now) asked.second)
 
@@ -116,27 +116,27 @@ abbrev pub certificate_in : Option (List Row) → Option Text
 certificate_in None = None
 certificate_in (Some rows) = first_of (codes "certificate") rows
 
--- that of the subcommand that was entered
+-- the certificate's file of the subcommand that was entered
 abbrev pub certificate_among : Option (Text × List Row) → Option Text
 certificate_among entered = certificate_in (option_map (λ entry. entry.1) entered)
 
--- the file that the words name for a certificate
+-- the file that the arguments name for a certificate
 abbrev pub certificate_of : List Text → Option Text
 certificate_of words = certificate_among (subcommand_of sizing words)
 
--- the one that was read from the words
+-- the certificate's file in the parsed arguments
 abbrev pub certificate_asked : Asked → Option Text
 certificate_asked asked = option_map (λ name. name.now) asked.certificate
 
--- a subcommand was entered that names no command with the numbers and options that it has
+-- a subcommand was entered whose numbers and options name no command
 abbrev pub is_out_of_range : Option (Text × List Row) → Bool
 is_out_of_range entered = is_some entered && not (is_some (command_among entered))
 
--- the kinds of error that the words may have: those that `clap` gives, and then that of a number out of its range or of options that exclude each other
+-- the possible kinds of error: those of `clap`, or that of a number out of its range or of options that exclude each other
 abbrev pub faults_of : List Text → Kinds
 faults_of words = or_else (fault_of sizing words) (if is_out_of_range (subcommand_of sizing words) then ValueValidation ∷ [] else [])
 
--- the numbers of a task lie in their ranges
+-- the numbers of a task are in their ranges
 abbrev pub IsTaskInRange : Task → Type 0
 IsTaskInRange (Certify workers) = (1 ≤ workers) × (workers ≤ MAX_WORKERS)
 IsTaskInRange (Fit wanted) = Unit {0}
@@ -144,7 +144,7 @@ IsTaskInRange (Run rounds) = (1 ≤ rounds) × (rounds ≤ MAX_ROUNDS)
 IsTaskInRange (Refute states shown) = (1 ≤ states) × (states ≤ MAX_STATES)
 IsTaskInRange (Ask given manner) = Unit {0}
 
--- those of a command
+-- the numbers of a command are in their ranges
 abbrev pub IsInRange : Command → Type 0
 IsInRange (Alone review) = Unit {0}
 IsInRange (OnRecording reading) = Unit {0}

@@ -1,4 +1,4 @@
-//! The application that `clap` reads the words by: a subcommand for each command.
+//! The `clap` application, with a subcommand for each command.
 ghost use Rattle.std.specs.Prelude.{◌≡◌, IfOk, IsOkAnd, false, codes};
 ghost use Rattle.clap.specs.Words.{app_of, new_app, rule_of, shape_of, with_subcommand};
 ghost use Rattle.clap.specs.declared.builder.command.Command.TheViews.{out-Command as fields_of};
@@ -10,7 +10,7 @@ use clap::{Arg, ArgAction, Command};
 use job_bodies::{MAX_ROUNDS, MAX_STATES, MAX_WORKERS};
 use std::alloc::{AllocError, Global};
 
-/// The program `sizing`, with its subcommands.
+/// Creates the application `sizing` with its subcommands.
 pub(crate) fn application<'a>(alloc: Global) -> Result<Command<'a>, AllocError>
     ensures { IfOk result (λ made. app_of made ≡ sizing) }
 {
@@ -19,7 +19,7 @@ pub(crate) fn application<'a>(alloc: Global) -> Result<Command<'a>, AllocError>
     with_readings(alloc, tasked)
 }
 
-// With a subcommand for each review.
+// Adds a subcommand for each review.
 fn with_reviews<'a>(alloc: Global, program: Command<'a>) -> Result<Command<'a>, AllocError>
     ensures { IfOk result (λ made. app_of made ≡ with_reviews (app_of program.entry)) }
 {
@@ -28,7 +28,7 @@ fn with_reviews<'a>(alloc: Global, program: Command<'a>) -> Result<Command<'a>, 
     with_subcommand(checked, explain(alloc))
 }
 
-// With a subcommand for each task.
+// Adds a subcommand for each task.
 fn with_tasks<'a>(alloc: Global, program: Command<'a>) -> Result<Command<'a>, AllocError>
     ensures { IfOk result (λ made. app_of made ≡ with_tasks (app_of program.entry)) }
 {
@@ -39,7 +39,7 @@ fn with_tasks<'a>(alloc: Global, program: Command<'a>) -> Result<Command<'a>, Al
     with_subcommand(refuted, ask(alloc))
 }
 
-// With a subcommand for each reading of a recording.
+// Adds a subcommand for each command on recordings.
 fn with_readings<'a>(alloc: Global, program: Command<'a>) -> Result<Command<'a>, AllocError>
     ensures { IfOk result (λ made. app_of made ≡ with_readings (app_of program.entry)) }
 {
@@ -47,8 +47,8 @@ fn with_readings<'a>(alloc: Global, program: Command<'a>) -> Result<Command<'a>,
     with_subcommand(conformed, learn(alloc))
 }
 
-// The program with this subcommand too, if it was made. The `?` stands here, so that no caller owns a program where it may
-// end early.
+// Adds this subcommand, if it was made. The `?` is here so that no caller owns an application when
+// it returns early.
 fn with_subcommand<'a>(
     program: Command<'a>,
     made: Result<Command<'a>, AllocError>,
@@ -60,7 +60,7 @@ fn with_subcommand<'a>(
     program.subcommand(made?)
 }
 
-// The program, with no subcommand yet.
+// Creates the application without subcommands.
 fn program<'a>(alloc: Global) -> Command<'a>
     ensures { app_of result ≡ new_app (codes "sizing") }
 {
@@ -109,7 +109,7 @@ fn explain<'a>(alloc: Global) -> Result<Command<'a>, AllocError>
     )
 }
 
-// The file of the plan, or of all texts.
+// Creates the argument for the file of the plan, or of all texts.
 fn plan<'a>(alloc: Global) -> Arg<'a>
     ensures rule { rule_of result ≡ file_argument (codes "PLAN") }
     ensures local { result.global ≡ false }
@@ -119,7 +119,7 @@ fn plan<'a>(alloc: Global) -> Arg<'a>
     )
 }
 
-// The file of what stands behind the plan.
+// Creates the argument for the file of the second text.
 fn second<'a>(alloc: Global) -> Arg<'a>
     ensures rule { rule_of result ≡ file_argument (codes "SECOND") }
     ensures local { result.global ≡ false }
@@ -127,7 +127,7 @@ fn second<'a>(alloc: Global) -> Arg<'a>
     file(alloc, "SECOND").help("The file of what comes after the plan")
 }
 
-// The argument that names a file.
+// Creates an argument that names a file.
 fn file<'a>(alloc: Global, id: &'a str) -> Arg<'a>
     ensures rule { rule_of result ≡ file_argument id.entry.now }
     ensures local { result.global ≡ false }
@@ -175,7 +175,7 @@ fn fit<'a>(alloc: Global) -> Result<Command<'a>, AllocError>
     ))
 }
 
-// The option `--bundle`, with what it writes.
+// Creates the option `--bundle` with this help text.
 fn bundle<'a>(alloc: Global, help: &'a str) -> Arg<'a>
     ensures rule { rule_of result ≡ bundle_option }
     ensures local { result.global ≡ false }
@@ -280,7 +280,7 @@ fn learn<'a>(alloc: Global) -> Result<Command<'a>, AllocError>
     .arg(recording(alloc))
 }
 
-// The file of a recording, in the place of a plan's.
+// Creates the argument for the file of a recording. Its id is that of the plan's file.
 fn recording<'a>(alloc: Global) -> Arg<'a>
     ensures rule { rule_of result ≡ file_argument (codes "PLAN") }
     ensures local { result.global ≡ false }
@@ -291,7 +291,7 @@ fn recording<'a>(alloc: Global) -> Arg<'a>
         .help("The file of the recording; `-` is standard input")
 }
 
-// The option that makes a warning a no.
+// Creates the option that makes a warning a no.
 fn strict<'a>(alloc: Global) -> Arg<'a>
     ensures rule { rule_of result ≡ strict_option }
     ensures local { result.global ≡ false }
@@ -302,7 +302,7 @@ fn strict<'a>(alloc: Global) -> Arg<'a>
         .help("SAFE with a warning is a no: status 1")
 }
 
-// The options that ask for another form than lines.
+// Create the options for other output formats than lines.
 fn json<'a>(alloc: Global) -> Arg<'a>
     ensures rule { rule_of result ≡ json_option }
     ensures local { result.global ≡ false }
@@ -323,7 +323,7 @@ fn dot<'a>(alloc: Global) -> Arg<'a>
         .help("Write a picture of the plan, for Graphviz")
 }
 
-// The option that names the file for a certificate.
+// Creates the option that names the file for a certificate.
 fn certificate<'a>(alloc: Global) -> Arg<'a>
     ensures rule { rule_of result ≡ certificate_option }
     ensures local { result.global ≡ false }
@@ -335,7 +335,7 @@ fn certificate<'a>(alloc: Global) -> Arg<'a>
         .help("Write the certificate that was found into this file, to be given next time")
 }
 
-// The option `--ID N`, for one whole number of this range.
+// Creates the option `--ID N`, for a whole number in this range.
 fn number<'a>(alloc: Global, id: &'a str, low: u64, high: u64) -> Arg<'a>
     ensures rule { rule_of result ≡ number_option id.entry.now low high }
     ensures local { result.global ≡ false }
@@ -347,7 +347,7 @@ fn number<'a>(alloc: Global, id: &'a str, low: u64, high: u64) -> Arg<'a>
         .value_parser(ValueParser::unsigned(low, high))
 }
 
-// A subcommand that reads a plan and what stands behind it, with its help, and with no option yet.
+// Creates a subcommand that reads a plan and a second text, with its help and without options.
 fn of_both<'a>(
     alloc: Global,
     name: &'a str,
@@ -361,7 +361,7 @@ fn of_both<'a>(
     of_plan(alloc, name, about, usage, notes)?.arg(second(alloc))
 }
 
-// A subcommand that reads a plan.
+// Creates a subcommand that reads a plan.
 fn of_plan<'a>(
     alloc: Global,
     name: &'a str,
@@ -375,7 +375,7 @@ fn of_plan<'a>(
     subcommand(alloc, name, about, usage, notes).arg(plan(alloc))
 }
 
-// A subcommand that reads no file yet.
+// Creates a subcommand without arguments.
 fn subcommand<'a>(
     alloc: Global,
     name: &'a str,

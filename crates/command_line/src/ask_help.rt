@@ -1,15 +1,15 @@
-//! The texts of help of the question.
+//! The help texts of `ask`.
 
-/// What `ask` does, in the list of commands and at the top of its own help.
+/// The short description of `ask`.
 pub(crate) const ASK_ABOUT: &str =
     "Answers whether the sizes that a plan declares are safe, and says why: for a person or a build";
 
-/// How `ask` is called.
+/// The usage lines of `ask`.
 pub(crate) const ASK_USAGE: &str = "\
 sizing ask [--strict] [--json | --dot] [--certificate FILE] PLAN [CERTIFICATE]
        sizing ask [--strict] [--json | --dot] [--certificate FILE] < PLAN";
 
-/// What `ask` reads and answers, with an example.
+/// The input and the answer of `ask`, with an example.
 pub(crate) const ASK_NOTES: &str = "\
 PLAN is a plan in TOML, and CERTIFICATE one that was kept: where it shows that the sizes are safe,
 nothing is searched. Else a certificate is looked for, and events that show the sizes to be wrong.

@@ -1,4 +1,4 @@
-//! The commands, and the words that name them.
+//! The commands, and the arguments that name them.
 ghost use Rattle.std.specs.Prelude.{◌≡◌, IfOk, IfSome, codes, map, option_map};
 ghost use Rattle.clap.specs.Words.{FailsBy, first_of, found_of, rows_of, subcommand_rows_of};
 ghost use Rattle.command_line.specs.Command as spec;
@@ -11,140 +11,141 @@ use clap::{ArgMatches, Error};
 use job_bodies::{MAX_ROUNDS, MAX_STATES, MAX_WORKERS};
 use std::alloc::Global;
 
-/// What the program is asked to do.
+/// A command of the program.
 #[derive(Clone, Copy, Debug, PartialEq, Eq)]
 pub enum Command {
-    /// Starts no thread, and waits for nobody.
+    /// A command that starts no thread and never blocks on one.
     Alone(Review),
-    /// Starts no thread, and reads a recording.
+    /// A command that starts no thread and reads a recording.
     OnRecording(Reading),
-    /// Starts threads, and waits for them.
+    /// A command that starts threads and joins them.
     OnThreads(Task),
 }
 
-/// What is said of a plan and of the text behind it.
+/// A command on a plan and a second text.
 #[derive(Clone, Copy, Debug, PartialEq, Eq)]
 pub enum Review {
-    /// Replays events on a plan, and says what came of each.
+    /// Replays events on a plan and reports the outcome of each.
     Replay,
-    /// Says whether a certificate shows that no submit is refused and no jobs starve.
+    /// Decides whether a certificate shows that no submit is refused and no jobs starve.
     Check,
     /// Lists the conditions of a certificate that fail.
     Explain,
 }
 
-/// What is said of a recording of what a service did.
+/// A command on a recording of what a service did.
 #[derive(Clone, Copy, Debug, PartialEq, Eq)]
 pub enum Reading {
-    /// Says whether the service still is the plan in front of the recording.
+    /// Compares a recording with the plan before it.
     Conform,
-    /// Tells the plan that the recording shows.
+    /// Derives a plan from a recording.
     Learn,
 }
 
-/// What is looked for or run.
+/// A command that searches, or runs a plan.
 #[derive(Clone, Copy, Debug, PartialEq, Eq)]
 pub enum Task {
-    /// Looks for a certificate.
+    /// Searches for a certificate.
     Certify {
-        /// In how many threads, 1 to 64.
+        /// The number of threads, 1 to 64.
         workers: usize,
     },
-    /// Looks for sizes with which there is a certificate.
+    /// Searches for sizes that a certificate accepts.
     Fit {
-        /// What is written of the sizes.
+        /// The output for the sizes.
         wanted: SizesForm,
     },
     /// Runs a certified plan on threads, and counts its jobs and their units of work.
     Run {
-        /// How often each repeating client goes through its body, 1 to 1,000,000.
+        /// The number of times that each repeating client goes through its body, 1 to 1,000,000.
         rounds: u64,
     },
-    /// Looks for events that show that a plan is wrong.
+    /// Searches for events that show that a plan is unsafe.
     Refute {
-        /// How many states may be searched, 1 to 10,000,000, and 100,000 where it is not said.
+        /// The maximum number of states to search, 1 to 10,000,000. The default is 100,000.
         states: usize,
-        /// What is written of a witness.
+        /// The output for a witness.
         shown: Shown,
     },
-    /// Answers whether a plan is safe with the sizes that it declares, for a person or for a build.
+    /// Decides whether a plan is safe with the sizes that it declares, for a person or for a build.
     Ask {
-        /// Whether a certificate stands behind the plan.
+        /// Whether a certificate follows the plan.
         given: Given,
-        /// How the answer is given.
+        /// The options of the answer.
         manner: Manner,
     },
 }
 
-/// What the words of a command line ask.
+/// The parsed arguments of a command line.
 #[derive(Clone, Copy, Debug, PartialEq, Eq)]
 pub struct Asked<'a> {
-    /// What to do.
+    /// The command.
     pub command: Command,
-    /// The file of the command's texts, or, where there is a second one, of the plan. Standard input has them where it is not
-    /// said, and where it is `-`.
+    /// The file of all texts, or of the plan if there is a second file. `None` and `-` mean
+    /// standard input.
     pub first: Option<&'a str>,
-    /// The file of what stands behind the plan.
+    /// The file of the second text.
     pub second: Option<&'a str>,
-    /// The file that a certificate is written to, where one was found.
+    /// The file to which a certificate is written, if one is found.
     pub certificate: Option<&'a str>,
 }
 
-/// What is written of sizes that were found.
+/// An output format for sizes.
 #[derive(Clone, Copy, Debug, PartialEq, Eq)]
 pub enum SizesForm {
-    /// A line for each pool, which tells what changes.
+    /// A line for each pool, with what changes.
     Sizes,
     /// The plan with those sizes, and its certificate.
     Bundle,
 }
 
-/// What is written of a witness.
+/// An output format for a witness.
 #[derive(Clone, Copy, Debug, PartialEq, Eq)]
 pub enum Shown {
-    /// How it ends, and the story that leads there.
+    /// How the witness ends, and the story that leads there.
     Story,
-    /// The plan, and its events behind it, as `replay` reads them.
+    /// The plan followed by the events, as `replay` reads them.
     Bundle,
 }
 
-/// What is given with a question.
+/// The texts that `ask` reads.
 #[derive(Clone, Copy, Debug, PartialEq, Eq)]
 pub enum Given {
-    /// A plan, and nothing behind it.
+    /// A plan alone.
     PlanAlone,
     /// A plan, and a certificate for it.
     WithCertificate,
 }
 
-/// How an answer to the question is given.
+/// The options of `ask`.
 #[derive(Clone, Copy, Debug, PartialEq, Eq)]
 pub struct Manner {
-    /// Whether a warning is a no.
+    /// Whether a warning makes the answer a no.
     pub strict: bool,
-    /// What is written.
+    /// The output format.
     pub form: Form,
 }
 
-/// What is written of an answer to the question.
+/// An output format of `ask`.
 #[derive(Clone, Copy, Debug, PartialEq, Eq)]
 pub enum Form {
     /// Lines for a person.
     Words,
-    /// One object of JSON, for a program.
+    /// A JSON object, for a program.
     Json,
-    /// A picture of the plan, as Graphviz reads it.
+    /// A picture of the plan, for Graphviz.
     Dot,
 }
 
-/// Reads the words of a command line, of which the first is the program's name.
+/// Parses the arguments of a command line, of which the first is the program's name.
 ///
-/// `None` comes where the words name no command. The numbers of a command lie in their ranges.
+/// Returns `None` if the arguments name no command. The numbers of a command are in their ranges.
 ///
 /// # Errors
 ///
-/// Words that `clap` refuses, a number out of its range, `--json` beside `--dot`, and a request for help: the `Display` of the
-/// error is a text for the user. Out of memory, where the error's `kind` is `ErrorKind::OutOfMemory`.
+/// Fails if `clap` rejects the arguments, if a number is out of its range, if `--json` and `--dot`
+/// are both given, and on a request for help. The `Display` of the error is a text for the user. If
+/// memory runs out, the error's `kind` is `ErrorKind::OutOfMemory`.
 pub fn read_words<'a>(alloc: Global, words: &'a [&'a str]) -> Result<Option<Asked<'a>>, Error>
     ensures command { IfOk result (λ found.
         option_map (λ asked. asked.command) found
@@ -169,7 +170,7 @@ pub fn read_words<'a>(alloc: Global, words: &'a [&'a str]) -> Result<Option<Aske
     Ok(asked_among(&matches))
 }
 
-// What the subcommand that the parse entered asks.
+// Returns the parsed arguments of the subcommand that was entered.
 fn asked_among<'a>(matches: &ArgMatches<'a>) -> Option<Asked<'a>>
     ensures command { option_map (λ asked. asked.command) result
         ≡ spec.command_among (subcommand_rows_of matches.now) }
@@ -189,7 +190,7 @@ fn asked_among<'a>(matches: &ArgMatches<'a>) -> Option<Asked<'a>>
     })
 }
 
-// The file that this argument names, where it was given.
+// Returns the file that this argument names, if it was given.
 fn file_named<'a>(options: &ArgMatches<'a>, id: &str) -> Option<&'a str>
     ensures { option_map (λ name. name.now) result
         ≡ first_of id.now (rows_of (found_of options.now)) }
@@ -197,14 +198,15 @@ fn file_named<'a>(options: &ArgMatches<'a>, id: &str) -> Option<&'a str>
     options.get_str(id)
 }
 
-// Whether the parse entered a subcommand, and a number of it is out of its range or two of its options exclude each other.
+// Returns whether a subcommand was entered with a number out of its range, or with two options that
+// exclude each other.
 fn is_out_of_range(matches: &ArgMatches<'_>) -> bool
     ensures { result ≡ spec.is_out_of_range (subcommand_rows_of matches.now) }
 {
     matches.subcommand().is_some() && command_among(matches).is_none()
 }
 
-// The command of the subcommand that the parse entered.
+// Returns the command of the subcommand that was entered.
 fn command_among(matches: &ArgMatches<'_>) -> Option<Command>
     ensures command { result ≡ spec.command_among (subcommand_rows_of matches.now) }
     ensures in_range { IfSome result spec.IsInRange }
@@ -219,7 +221,7 @@ fn command_among(matches: &ArgMatches<'_>) -> Option<Command>
     }
 }
 
-// The task of the subcommand of this name.
+// Returns the task of the subcommand of this name.
 fn task_of(name: &str, options: &ArgMatches<'_>) -> Option<Task>
     ensures task { result ≡ spec.task_of name.now (rows_of (found_of options.now)) }
     ensures in_range { IfSome result spec.IsTaskInRange }
@@ -298,7 +300,7 @@ fn ask(options: &ArgMatches<'_>) -> Option<Task>
     })
 }
 
-// The form that is asked for, unless these are two.
+// Returns the requested format, unless there are two.
 fn form_of(json: bool, dot: bool) -> Option<Form>
     ensures { result ≡ spec.form_of json dot }
 {

@@ -1,14 +1,15 @@
-//! The texts of help: what to write, and an example that can be pasted into a shell.
+//! The help texts of the program and of the reviews. Each shows an example that can be pasted into
+//! a shell.
 
-/// What the program does.
+/// The short description of the program.
 pub(crate) const SIZING_ABOUT: &str = "\
 Answers, before a service starts, whether a submit to its thread pools can ever be refused, and
 whether jobs that wait for jobs can starve.";
 
-/// How the program is called.
+/// The usage line of the program.
 pub(crate) const SIZING_USAGE: &str = "sizing <COMMAND>";
 
-/// What the program reads, where to begin, and what the exit status says.
+/// The program's input, where to begin, and the exit statuses.
 pub(crate) const SIZING_NOTES: &str = "\
 sizing reads files, or standard input where none is named and where the name is `-`. For `ask`,
 `certify`, `fit` and `refute` it reads a plan, and for `learn` a recording of what a service did. For
@@ -28,15 +29,15 @@ Exit status:
   3  memory ran out, or reading, writing or running failed
   4  not decided, of `ask`, `conform` and `refute` (with --bundle that is 1)";
 
-/// What `replay` does, in the list of commands and at the top of its own help.
+/// The short description of `replay`.
 pub(crate) const REPLAY_ABOUT: &str = "Replays events on a plan, and says what came of each";
 
-/// How `replay` is called.
+/// The usage lines of `replay`.
 pub(crate) const REPLAY_USAGE: &str = "\
 sizing replay PLAN EVENTS
        sizing replay < INPUT";
 
-/// What `replay` reads and answers, with an example.
+/// The input and the answer of `replay`, with an example.
 pub(crate) const REPLAY_NOTES: &str = "\
 INPUT is a plan in TOML, a line that is exactly `%%`, and one event a line:
   client N     client N does its next action
@@ -97,16 +98,16 @@ It answers, with status 1:
 7: refused by pages
 refusals 1, unfinished 1";
 
-/// What `check` does, in the list of commands and at the top of its own help.
+/// The short description of `check`.
 pub(crate) const CHECK_ABOUT: &str =
     "Says whether a certificate shows that no submit is ever refused and no jobs starve";
 
-/// How `check` is called.
+/// The usage lines of `check`.
 pub(crate) const CHECK_USAGE: &str = "\
 sizing check PLAN CERTIFICATE
        sizing check < INPUT";
 
-/// What `check` reads and answers, with an example.
+/// The input and the answer of `check`, with an example.
 pub(crate) const CHECK_NOTES: &str = "\
 INPUT is a plan in TOML, a line that is exactly `%%`, and a certificate in JSON:
   pools  for each pool two vectors: `standing` bounds the jobs in its queue (in version 2 `lifetime`
@@ -167,16 +168,16 @@ It answers, with status 0:
 yes
 pool pages: standing 2 of 2, blocked 0 of 0";
 
-/// What `explain` does, in the list of commands and at the top of its own help.
+/// The short description of `explain`.
 pub(crate) const EXPLAIN_ABOUT: &str =
     "Lists the conditions of a certificate that fail, each with both its sides";
 
-/// How `explain` is called.
+/// The usage lines of `explain`.
 pub(crate) const EXPLAIN_USAGE: &str = "\
 sizing explain PLAN CERTIFICATE
        sizing explain < INPUT";
 
-/// What `explain` reads and answers, with an example.
+/// The input and the answer of `explain`, with an example.
 pub(crate) const EXPLAIN_NOTES: &str = "\
 INPUT is what `sizing check` reads: a plan in TOML, a line that is exactly `%%`, and a certificate
 in JSON.

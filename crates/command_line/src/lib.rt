@@ -1,8 +1,7 @@
-//! The words of the command line, and the command that they name.
+//! The arguments of the command line, and the command that they name.
 //!
-//! `clap` reads the words, its help and its usage faults included. What it makes of them is written
-//! out in `specs/`: `Application` says which application the program is, and `Command` says which
-//! command the words name.
+//! `clap` parses the arguments and reports help and usage errors. `specs/` fixes its result:
+//! `Application` is the application, and `Command` is the command that the arguments name.
 #![tactic(auto)]
 
 mod application;

@@ -1,15 +1,15 @@
-//! The texts of help of what reads a recording.
+//! The help texts of the commands on recordings.
 
-/// What `conform` does, in the list of commands and at the top of its own help.
+/// The short description of `conform`.
 pub(crate) const CONFORM_ABOUT: &str =
     "Says whether a service, as it was recorded, still is its plan";
 
-/// How `conform` is called.
+/// The usage lines of `conform`.
 pub(crate) const CONFORM_USAGE: &str = "\
 sizing conform PLAN RECORDING
        sizing conform < INPUT";
 
-/// What `conform` reads and answers, with an example.
+/// The input and the answer of `conform`, with an example.
 pub(crate) const CONFORM_NOTES: &str = "\
 INPUT is a plan in TOML, a line that is exactly `%%`, and a recording: what the service did with its
 pools, a line for each event, as the recorder in `java/` writes it (docs/RECORDING.md).
@@ -66,15 +66,15 @@ It answers, with status 1:
 line 2: pool pages: queue 3, plan 2
 line 7: round 0 of kind browser ended; its body has a get before its end";
 
-/// What `learn` does, in the list of commands and at the top of its own help.
+/// The short description of `learn`.
 pub(crate) const LEARN_ABOUT: &str = "Tells the plan that a recording of a service shows";
 
-/// How `learn` is called.
+/// The usage lines of `learn`.
 pub(crate) const LEARN_USAGE: &str = "\
 sizing learn RECORDING
        sizing learn < RECORDING";
 
-/// What `learn` reads and answers, with an example.
+/// The input and the answer of `learn`, with an example.
 pub(crate) const LEARN_NOTES: &str = "\
 RECORDING is what a service did with its pools, a line for each event, as the recorder in `java/`
 writes it (docs/RECORDING.md).

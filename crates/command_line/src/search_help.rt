@@ -1,15 +1,15 @@
-//! The texts of help of the commands that search or run on threads.
+//! The help texts of the commands that search, or run on threads.
 
-/// What `certify` does, in the list of commands and at the top of its own help.
+/// The short description of `certify`.
 pub(crate) const CERTIFY_ABOUT: &str =
     "Looks for a certificate that shows that no submit is ever refused and no jobs starve";
 
-/// How `certify` is called.
+/// The usage lines of `certify`.
 pub(crate) const CERTIFY_USAGE: &str = "\
 sizing certify [--workers N] PLAN
        sizing certify [--workers N] < PLAN";
 
-/// What `certify` reads and answers, with an example.
+/// The input and the answer of `certify`, with an example.
 pub(crate) const CERTIFY_NOTES: &str = "\
 PLAN is a plan in TOML, and nothing behind it.
 
@@ -50,15 +50,15 @@ It answers, with status 0:
 yes
 pool pages: standing 2 of 2, blocked 0 of 0";
 
-/// What `fit` does, in the list of commands and at the top of its own help.
+/// The short description of `fit`.
 pub(crate) const FIT_ABOUT: &str = "Says which sizes to change so that there is a certificate";
 
-/// How `fit` is called.
+/// The usage lines of `fit`.
 pub(crate) const FIT_USAGE: &str = "\
 sizing fit [--bundle] PLAN
        sizing fit [--bundle] < PLAN";
 
-/// What `fit` reads and answers, with an example.
+/// The input and the answer of `fit`, with an example.
 pub(crate) const FIT_NOTES: &str = "\
 PLAN is a plan in TOML, and nothing behind it.
 
@@ -115,16 +115,16 @@ It answers, with status 1:
 pool pages: core 1, max 1, queue 2 (now 1)
 changes 1";
 
-/// What `run` does, in the list of commands and at the top of its own help.
+/// The short description of `run`.
 pub(crate) const RUN_ABOUT: &str =
     "Runs a certified plan on threads, and counts its jobs and their units of work";
 
-/// How `run` is called.
+/// The usage lines of `run`.
 pub(crate) const RUN_USAGE: &str = "\
 sizing run --rounds N PLAN CERTIFICATE
        sizing run --rounds N < INPUT";
 
-/// What `run` reads and answers, with an example.
+/// The input and the answer of `run`, with an example.
 pub(crate) const RUN_NOTES: &str = "\
 INPUT is what `sizing check` reads: a plan in TOML, a line that is exactly `%%`, and a certificate
 in JSON. Where `sizing check` answers yes, there is a thread for each client, and for each pool as
@@ -176,16 +176,16 @@ It answers, with status 0:
 
 jobs 6, units 6, refused 0";
 
-/// What `refute` does, in the list of commands and at the top of its own help.
+/// The short description of `refute`.
 pub(crate) const REFUTE_ABOUT: &str =
     "Looks for events by which a submit is refused, or jobs wait for each other for ever";
 
-/// How `refute` is called.
+/// The usage lines of `refute`.
 pub(crate) const REFUTE_USAGE: &str = "\
 sizing refute [--states N] [--bundle] PLAN
        sizing refute [--states N] [--bundle] < PLAN";
 
-/// What `refute` reads and answers, with an example.
+/// The input and the answer of `refute`, with an example.
 pub(crate) const REFUTE_NOTES: &str = "\
 PLAN is a plan in TOML. First a certificate is looked for. Where one is found the answer is
   safe: a certificate was found
