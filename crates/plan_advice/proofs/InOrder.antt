@@ -1,20 +1,20 @@
--- Lists that are made of what each element gives, by its place.
+-- Lists that are the concatenation of what each element contributes, given its index.
 use Rattle.std.proofs.Common.{◌≡◌, ◌<◌, ◌+◌, ℕ, List, ◌++◌, length, get_or, drop, flat_map, sym, ap, subst, ◌∙◌, append_assoc}
 use Rattle.std.specs.List.{enumerate_from}
 use Rattle.std.proofs.lemmas.List.{at_drop_more}
 
--- what the elements from this place on give
+-- the contributions of the elements from this index
 abbrev pub rest_of : {X Y : Type 0} → (ℕ × X → List Y) → List X → ℕ → List Y
 rest_of f xs i = flat_map f (enumerate_from i (drop i xs))
 
--- one more has given what it gives
+-- the step for one more element
 pub one_more : {X Y : Type 0} (f : ℕ × X → List Y) (xs : List X) (i : ℕ) (d : X) (front all : List Y) → i < length xs → front ++ rest_of f xs i ≡ all
     → (front ++ f (i, get_or xs i d)) ++ rest_of f xs (i + 1) ≡ all
 one_more {X} {Y} f xs i d front all inside so_far =
     let turn : rest_of f xs i ≡ f (i, get_or xs i d) ++ rest_of f xs (i + 1) = at_drop_more (λ (ys : List X). flat_map f (enumerate_from i ys)) xs i d inside in
     append_assoc front (f (i, get_or xs i d)) (rest_of f xs (i + 1)) ∙ (sym (ap (λ (ys : List Y). front ++ ys) turn) ∙ so_far)
 
--- the same of an element that was read
+-- the step for one more element that was read
 pub one_more_read : {X Y : Type 0} (f : ℕ × X → List Y) (xs : List X) (i : ℕ) (x : X) (front all : List Y) → i < length xs → x ≡ get_or xs i x → front ++ rest_of f xs i ≡ all
     → (front ++ f (i, x)) ++ rest_of f xs (i + 1) ≡ all
 one_more_read {X} {Y} f xs i x front all inside here so_far =

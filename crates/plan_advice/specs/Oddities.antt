@@ -1,4 +1,4 @@
--- What is lawful in a plan, and yet seldom meant, in the order in which it is told.
+-- The lints of a plan, in the order in which they are reported.
 use Rattle.std.specs.Prelude.{◌≡◌, ℕ, ◌/◌, max, Bool, true, false, not, ◌&&◌, ◌||◌, ◌==◌, nat_lt, nat_le, if◌then◌else◌, List, [], ◌∷◌, ◌++◌, map, length, slice_index_or, Option, Some, None}
 use Rattle.std.specs.List.{list_any, list_all, flat_map, enumerate_from}
 use Rattle.job_bodies.specs.declared.action.Action.{Action}
@@ -11,29 +11,29 @@ use Rattle.plan_advice.specs.declared.oddity.Oddity.{Oddity}
 use Rattle.plan_advice.specs.declared.oddity.Oddity.TheVariants.{NothingToAsk, NoClients, NothingSubmitted, PoolWithoutJobs, UselessMax, QueueFarAbove, ClassWithoutJobs, GoesOnce, Crowd, WorkLikeASize}
 use Rattle.plan_advice.specs.declared.warnings.Warning.{Warning}
 
--- the oddity alone, or nothing
+-- the lint alone, or nothing
 abbrev pub only_if : Bool → Oddity → List Oddity
 only_if true oddity = oddity ∷ []
 only_if false oddity = []
 
 -- ---- lengths of work that look like sizes
 
--- is so much one of the pool's sizes?
+-- the number is a size of the pool
 abbrev pub has_size : ℕ → Pool → Bool
 has_size n pool = pool.core == n || pool.max == n || pool.queue == n
 
 abbrev pub are_so_many : ℕ → Client → Bool
 are_so_many n client = client.count == n
 
--- a size of some pool, or the count of some kind of clients
+-- the number is a size of some pool, or the count of some kind of clients
 abbrev pub is_a_size : Plan → ℕ → Bool
 is_a_size plan n = list_any (has_size n) plan.pools || list_any (are_so_many n) plan.clients
 
--- at least 50 units, as many as some size
+-- the length of work is at least 50 units and equals some size
 abbrev pub looks_like_a_size : Plan → ℕ → Bool
 looks_like_a_size plan units = nat_le 50 units && is_a_size plan units
 
--- the action at this place of the body of this class, or of this kind of clients
+-- the lints of an action in the body of a class or a kind of clients
 abbrev pub oddities_of_action : Plan → Part → ℕ → ℕ → Action → List Oddity
 oddities_of_action plan of number place (Work units) = only_if (looks_like_a_size plan units) (WorkLikeASize of number place units)
 oddities_of_action plan of number place _ = []
@@ -43,27 +43,27 @@ oddities_of_body plan of number body = flat_map (λ (entry : ℕ × Action). odd
 
 -- ---- pools
 
--- is the class submitted, and are its jobs the pool's?
+-- the class is submitted, and its jobs run in the pool
 abbrev pub brings_jobs : List Bool → ℕ → ℕ → Class → Bool
 brings_jobs marks p k class = slice_index_or marks k false && class.pool == p
 
--- where the classes with these marks are submitted, is it one whose jobs are the pool's?
+-- a class that is submitted has its jobs in the pool
 abbrev pub gets_a_job : Plan → List Bool → ℕ → Bool
 gets_a_job plan marks p = list_any (λ (entry : ℕ × Class). brings_jobs marks p entry.0 entry.1) (enumerate_from 0 plan.classes)
 
--- more threads than core, which are made where the queue is full
+-- the pool can have more threads than its core size, which are created when the queue is full
 abbrev pub may_grow : Pool → Bool
 may_grow pool = nat_lt pool.core pool.max
 
--- a tenth of the queue is more than what waits there at most, and than 1
+-- a tenth of the queue's capacity is more than the jobs that it holds at most, and more than 1
 abbrev pub is_far_above : Pool → ℕ → Bool
 is_far_above pool most = nat_lt (max most 1) (pool.queue / 10)
 
--- sizes beside the number of jobs that wait in the queue at most
+-- the lints of sizes that are larger than needed for this number of jobs in the queue
 abbrev pub oddities_beside : ℕ → Pool → ℕ → List Oddity
 oddities_beside p pool most = only_if (may_grow pool) (UselessMax p) ++ only_if (is_far_above pool most) (QueueFarAbove p most)
 
--- where that number is known
+-- if that number is known
 abbrev pub oddities_of_sizes : ℕ → Pool → Option ℕ → List Oddity
 oddities_of_sizes p pool None = []
 oddities_of_sizes p pool (Some most) = oddities_beside p pool most
@@ -88,16 +88,16 @@ abbrev pub is_submit : Action → Bool
 is_submit (Submit k) = true
 is_submit _ = false
 
--- one core thread, and a queue that holds fewer jobs than there are clients
+-- the pool has one core thread, and a queue that holds fewer jobs than there are clients
 abbrev pub is_small : ℕ → Pool → Bool
 is_small count pool = pool.core == 1 && nat_lt pool.queue count
 
--- no submit, or one to such a pool
+-- the action is not a submit, or submits to such a pool
 abbrev pub is_for_small : Plan → ℕ → Action → Bool
 is_for_small plan count (Submit k) = is_small count (pool_at plan (class_at plan k).pool)
 is_for_small plan count _ = true
 
--- clients that submit, and to such pools alone
+-- the clients submit, and only to such pools
 abbrev pub are_a_crowd : Plan → Client → Bool
 are_a_crowd plan client = list_any is_submit client.body && list_all (is_for_small plan client.count) client.body
 
@@ -115,19 +115,19 @@ without_clients plan = if length plan.pools == 0 then NothingToAsk else NoClient
 abbrev pub oddities_of_parts : Plan → List (Option ℕ) → List Bool → List Oddity
 oddities_of_parts plan needed marks = oddities_of_pools plan needed marks ++ oddities_of_classes plan marks ++ oddities_of_clients plan
 
--- what is seldom meant where so many jobs wait in the pools' queues at most, as far as that is known, and where the classes with
--- these marks are submitted: of the plan as a whole, or of its parts
+-- the lints of the plan as a whole, or else of its parts, given the most jobs that each queue holds, as far as known, and
+-- the classes that are submitted
 abbrev pub oddities : Plan → List (Option ℕ) → List Bool → List Oddity
 oddities plan needed marks =
     if length plan.clients == 0 then without_clients plan ∷ [] else
     (if list_any (λ (mark : Bool). mark) marks then oddities_of_parts plan needed marks else NothingSubmitted ∷ [])
 
--- the list is what is seldom meant in the plan, where the classes are marked that clients submit, at whatever remove
+-- the list is the lints of the plan; the marked classes are those that clients submit, directly or through other jobs
 pub record AreOddities (plan : Plan) (needed : List (Option ℕ)) (found : List Oddity) : Type 0 where
   pub marks : List Bool
   pub submitted : MarksSubmitted plan marks
   pub listed : found ≡ oddities plan needed marks
 
--- what the warnings are of
+-- the lints that the warnings report
 abbrev pub warned_of : List Warning → List Oddity
 warned_of warnings = map (λ (warning : Warning). warning.oddity) warnings

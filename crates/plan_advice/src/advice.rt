@@ -1,4 +1,4 @@
-//! What is wrong, and its lines.
+//! The faults of a plan's text, and their lines.
 
 ghost use Rattle.plan_advice.specs.Advice as spec;
 ghost use Rattle.decimals.specs.Pushed.{Pushes};
@@ -7,31 +7,32 @@ use job_bodies::PlanFault;
 use plan_places::TextPlace;
 use std::alloc::AllocError;
 
-/// One thing that is wrong, and where.
+/// A diagnostic for one fault.
 #[derive(Debug, Drop)]
 pub struct Advice {
-    /// The fault, as the other commands tell it.
+    /// The fault, as the other commands report it.
     pub fault: PlanFault,
-    /// Where in the text it stands.
+    /// The place of the fault in the text.
     pub place: TextPlace,
-    /// What is wrong, and what would be right.
+    /// A message that says what is wrong and how to fix it.
     pub what: String,
 }
 
-/// What is wrong with a text.
+/// The faults of a plan's text.
 #[derive(Debug, Drop)]
 pub struct Faults {
-    /// The fault that the reader of plans gives.
+    /// The fault that the plan parser reports.
     pub first: Advice,
-    /// More that is wrong, as far as it can be seen behind the first: some 100 faults at most.
+    /// Further faults that can be found in spite of the first, at most 100.
     pub others: Vec<Advice>,
 }
 
-/// Puts a line for each fault behind the text, as `shop.toml:17:21: class page, action 2 "get row": nothing was submitted as
-/// row; did you mean rows? (fault 13)`, in the file of this name.
+/// Appends a line for each fault, such as `shop.toml:17:21: class page, action 2 "get row": nothing
+/// was submitted as row; did you mean rows? (fault 13)`, with `file` as the file's name.
 ///
 /// # Errors
 ///
+/// [`AllocError`] if memory runs out.
 /// [`AllocError`] where memory runs out.
 pub fn push_faults(text: &mut String, file: &str, faults: &Faults) -> Result<(), AllocError>
     ensures { Pushes result text.old text.new (spec.faults_text file.now faults.now) }
@@ -70,7 +71,7 @@ fn push_line(
     push_number(text, number)
 }
 
-/// Puts a place behind the text.
+/// Appends a place in the file.
 pub(crate) fn push_place(text: &mut String, file: &str, place: TextPlace) -> Result<(), AllocError>
     ensures { Pushes result text.old text.new (spec.place_head file.now place) }
 {

@@ -1,4 +1,5 @@
-//! Bodies: each action is one, names a class that there is, and gets what was submitted.
+//! The checks of bodies: each action is well-formed, names an existing class, and gets a job that
+//! was submitted.
 
 use crate::entry::PlacedEntry;
 use crate::near::{listed, meant};
@@ -11,13 +12,13 @@ use std::alloc::{AllocError, Global};
 #[derive(Clone, Copy)]
 struct Slot<'a> {
     name: &'a str,
-    /// The action that submitted it.
+    /// The index of the action that submitted the job.
     submit: usize,
-    /// The action that got it.
+    /// The index of the action that got the job.
     got: Option<usize>,
 }
 
-/// An action that is looked at.
+/// The action that is being checked.
 #[derive(Clone, Copy)]
 struct Spot<'a> {
     entry: &'a PlacedEntry<'a>,
@@ -32,7 +33,7 @@ impl Spot<'_> {
     }
 }
 
-/// Tells what is wrong with the actions of an entry's body.
+/// Reports the faults of the actions in an entry's body.
 pub(crate) fn body(
     notes: &mut Notes,
     entry: &PlacedEntry<'_>,

@@ -1,4 +1,4 @@
-//! A pool, a class or a kind of clients, as its table in the text gives it.
+//! The entries of a plan: its pools, its classes and its kinds of clients.
 
 use crate::notes::Notes;
 use job_bodies::{Part, PlanFault};
@@ -6,10 +6,11 @@ use plan_places::{Places, TextPlace};
 use std::alloc::{AllocError, Global};
 use toml::{Table, Value};
 
-/// Where a text begins.
+/// The beginning of a text.
 pub(crate) const BEGINNING: TextPlace = TextPlace { line: 1, column: 1 };
 
-/// The name of the list of such parts in a plan's text, and of one of them in messages.
+/// Returns the name of the list of such entries in a plan's text, which also names an entry in
+/// messages.
 pub(crate) fn list_of(part: Part) -> &'static str {
     match part {
         Part::Text => "plan",
@@ -19,7 +20,7 @@ pub(crate) fn list_of(part: Part) -> &'static str {
     }
 }
 
-/// An entry of a list, and where it stands.
+/// An entry of a list, with the places of its text.
 #[derive(Clone, Copy)]
 pub(crate) struct PlacedEntry<'a> {
     pub(crate) part: Part,
@@ -33,7 +34,7 @@ impl<'a> PlacedEntry<'a> {
         self.table.get(key)
     }
 
-    /// The text at a key, where there is one.
+    /// Returns the string at a key, if there is one.
     pub(crate) fn text(&self, key: &str) -> Option<&'a str> {
         match self.table.get(key) {
             Some(value) => value.as_str(),
@@ -41,7 +42,7 @@ impl<'a> PlacedEntry<'a> {
         }
     }
 
-    /// The whole number at a key, where there is one.
+    /// Returns the integer at a key, if there is one.
     pub(crate) fn number(&self, key: &str) -> Option<i64> {
         match self.table.get(key) {
             Some(value) => value.as_integer(),
@@ -49,7 +50,7 @@ impl<'a> PlacedEntry<'a> {
         }
     }
 
-    /// The entry as messages name it, as `pool db`.
+    /// Returns the entry's name in messages, such as `pool db`.
     pub(crate) fn who(&self, alloc: Global) -> Result<String, AllocError> {
         let list = list_of(self.part);
         match self.text("name") {
@@ -87,7 +88,7 @@ impl<'a> PlacedEntry<'a> {
         }
     }
 
-    /// Tells a fault of the entry, as `pool db: WORDS`.
+    /// Reports a fault of the entry, as `pool db: WORDS`.
     pub(crate) fn tell(
         &self,
         notes: &mut Notes,
@@ -104,7 +105,7 @@ impl<'a> PlacedEntry<'a> {
         )
     }
 
-    /// Tells a fault of an action, as `class page, action 1 "get row": WORDS`.
+    /// Reports a fault of an action, as `class page, action 1 "get row": WORDS`.
     pub(crate) fn tell_action(
         &self,
         notes: &mut Notes,

@@ -1,8 +1,8 @@
-//! What is wrong with the text of a plan, told for a person: where, what, and what would be right; and what is lawful and yet
-//! seldom meant.
+//! Diagnostics for the text of a plan, which say where a fault is, what is wrong and how to fix it;
+//! and lints, which warn of valid plans that are probably not meant.
 //!
-//! The first fault that is told is the one that the reader of plans gives, and the warnings are of just what is seldom meant in
-//! the plan. Of the words and the places nothing is promised.
+//! The first fault is the one that the plan parser reports, and the warnings are exactly the lints
+//! of the plan. The contracts promise nothing about messages and places.
 #![tactic(auto)]
 
 mod advice;

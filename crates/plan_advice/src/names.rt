@@ -1,4 +1,4 @@
-//! Names of entries: which are lawful, and new in their list.
+//! The checks of names: each is well-formed, and unique in its list.
 
 use crate::entry::{PlacedEntry, list_of};
 use crate::notes::Notes;
@@ -6,7 +6,7 @@ use faults::number::{BAD_NAME, DOUBLE_NAME};
 use job_bodies::is_lawful_name;
 use std::alloc::{AllocError, Global};
 
-/// Tells a name that is not lawful, or that an earlier entry of the list has.
+/// Reports a name that is malformed, or that an earlier entry of the list has.
 pub(crate) fn name(
     notes: &mut Notes,
     entry: &PlacedEntry<'_>,
@@ -31,7 +31,7 @@ pub(crate) fn name(
     Ok(())
 }
 
-/// What a name is to be, with one that is near.
+/// Returns the rule for names, with a similar name that is well-formed, if there is one.
 pub(crate) fn name_rule(alloc: Global, name: &str) -> Result<String, AllocError> {
     let lawful = lawful_of(alloc, name)?;
     let rule = "a name is a small letter and at most 31 small letters, digits and _ behind it";
@@ -42,7 +42,7 @@ pub(crate) fn name_rule(alloc: Global, name: &str) -> Result<String, AllocError>
     }
 }
 
-/// The name with small letters, and `_` for what no name has.
+/// Returns the name in lower case, with `_` for each character that names cannot have.
 fn lawful_of(alloc: Global, name: &str) -> Result<String, AllocError> {
     let mut lawful = String::new(alloc);
     for letter in name.chars() {

@@ -1,10 +1,10 @@
-//! Words that are meant where another is written.
+//! Suggestions for misspelled words.
 
 use std::alloc::{AllocError, Global};
 use strsim::osa_distance;
 
-/// The word of these that is nearest to what is written, where one is near: it begins so, or a third of its letters differ, or
-/// one of a short one.
+/// Returns the word that is most similar to `written`, if one is similar enough: one that starts
+/// with `written`, or one whose edit distance to it is at most a third of its length, or 1.
 pub(crate) fn nearest<'w>(
     alloc: Global,
     written: &str,
@@ -28,7 +28,7 @@ pub(crate) fn nearest<'w>(
     Ok(best)
 }
 
-/// The words of a question for it, as `; did you mean rows?`, or `otherwise` where none is near.
+/// Returns a suggestion, such as `; did you mean rows?`, or `otherwise` if no word is similar.
 pub(crate) fn meant(
     alloc: Global,
     written: &str,
@@ -41,7 +41,7 @@ pub(crate) fn meant(
     }
 }
 
-/// The words behind each other, with commas: none where there are none, and no more than a line has room for.
+/// Joins the words with commas. After 12 words it ends with `..`.
 pub(crate) fn listed(alloc: Global, words: &[&str]) -> Result<String, AllocError> {
     let mut list = String::new(alloc);
     for (number, word) in words.iter().copied().enumerate() {

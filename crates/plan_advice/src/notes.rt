@@ -1,14 +1,14 @@
-//! What was found so far.
+//! The faults found so far.
 
 use crate::advice::Advice;
 use job_bodies::PlanFault;
 use plan_places::TextPlace;
 use std::alloc::{AllocError, Global};
 
-/// How many faults are told at most beside the first.
+/// The maximum number of faults that are reported besides the first.
 const MAX_FOUND: usize = 100;
 
-/// What was found so far.
+/// A list of the faults found so far.
 #[derive(Drop)]
 pub(crate) struct Notes {
     pub(crate) alloc: Global,
@@ -23,7 +23,7 @@ impl Notes {
         }
     }
 
-    /// Adds one, unless there are many.
+    /// Appends a fault, unless the list is full.
     pub(crate) fn push(
         &mut self,
         fault: PlanFault,

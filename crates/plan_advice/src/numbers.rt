@@ -1,4 +1,4 @@
-//! Sizes and counts: which are in their ranges.
+//! The checks of sizes and counts: each is in its range.
 
 use crate::entry::PlacedEntry;
 use crate::notes::Notes;
@@ -6,14 +6,14 @@ use faults::number::BAD_NUMBER;
 use job_bodies::MAX_SIZE;
 use std::alloc::AllocError;
 
-/// The greatest size and count.
+/// The largest size and count.
 const MOST: i64 = MAX_SIZE as i64;
 
 fn is_lawful(number: i64) -> bool {
     (1..=MOST).contains(&number)
 }
 
-/// Tells the numbers at these keys that are out of their range. Answers whether there are some.
+/// Reports the numbers at these keys that are out of range. Returns whether there are any.
 fn out_of_range(
     notes: &mut Notes,
     entry: &PlacedEntry<'_>,
@@ -34,7 +34,7 @@ fn out_of_range(
     Ok(any)
 }
 
-/// Tells the sizes of a pool that are not lawful.
+/// Reports the invalid sizes of a pool.
 pub(crate) fn sizes(notes: &mut Notes, pool: &PlacedEntry<'_>) -> Result<(), AllocError> {
     if out_of_range(notes, pool, &["core", "max", "queue"])? {
         return Ok(());
@@ -51,7 +51,7 @@ pub(crate) fn sizes(notes: &mut Notes, pool: &PlacedEntry<'_>) -> Result<(), All
     Ok(())
 }
 
-/// Tells the count of a kind of clients that is not lawful.
+/// Reports the count of a kind of clients if it is invalid.
 pub(crate) fn count(notes: &mut Notes, client: &PlacedEntry<'_>) -> Result<(), AllocError> {
     out_of_range(notes, client, &["count"])?;
     Ok(())

@@ -1,4 +1,4 @@
-//! What is seldom meant in a plan, in order.
+//! The lints of a plan, in order.
 
 ghost use Rattle.std.specs.Prelude.{◌≡◌, [], ◌∷◌, ◌++◌, IfOk, OnOk};
 ghost use Rattle.plan_advice.specs.Oddities as spec;
@@ -12,7 +12,8 @@ use job_bodies::{Action, Class, Client, Part, Plan, Pool};
 use size_causes::submitted_by_clients;
 use std::alloc::{AllocError, Global};
 
-/// What is seldom meant in this plan. Of each pool whose queue a standing vector bounds, `needed` says by how many jobs.
+/// Returns the lints of the plan. For each pool whose queue is bounded by a standing vector,
+/// `needed` has the bound.
 pub(crate) fn oddities_of(
     alloc: Global,
     plan: &Plan,
@@ -24,7 +25,7 @@ pub(crate) fn oddities_of(
     oddities_where(alloc, plan, needed, &marks)
 }
 
-/// The same where these classes are submitted.
+/// Returns the lints of the plan, given which classes are submitted.
 fn oddities_where(
     alloc: Global,
     plan: &Plan,
@@ -60,7 +61,7 @@ fn without_clients(plan: &Plan) -> Oddity
     }
 }
 
-/// What is seldom meant of the pools, the classes and the kinds of clients.
+/// Returns the lints of the pools, the classes and the kinds of clients.
 fn oddities_of_parts(
     alloc: Global,
     plan: &Plan,
@@ -93,7 +94,7 @@ fn push_pools(
     Ok(())
 }
 
-/// A pool without jobs, or one with sizes that nobody needs.
+/// Appends the lint of a pool that gets no jobs, or those of sizes that are larger than needed.
 fn push_pool(
     found: &mut Vec<Oddity>,
     plan: &Plan,
@@ -113,7 +114,8 @@ fn push_pool(
     }
 }
 
-/// Sizes that nobody needs, where it is known how many jobs wait in the queue at most.
+/// Appends the lints of sizes that are larger than needed, if it is known how many jobs the queue
+/// holds at most.
 fn push_sizes(
     found: &mut Vec<Oddity>,
     number: usize,
@@ -198,7 +200,7 @@ fn push_client(
     push_work(found, plan, Part::Client, number, &client.body)
 }
 
-/// Each length of work of a body that looks like a size.
+/// Appends a lint for each length of work in a body that looks like a size.
 fn push_work(
     found: &mut Vec<Oddity>,
     plan: &Plan,
@@ -237,7 +239,7 @@ fn push_action(
     }
 }
 
-/// Puts the oddity behind the others, if it is there.
+/// Appends the lint if it applies.
 fn push_if(found: &mut Vec<Oddity>, is_there: bool, oddity: Oddity) -> Result<(), AllocError>
     ensures { OnOk result (found.new.items ≡ found.old.items ++ spec.only_if is_there oddity) }
 {

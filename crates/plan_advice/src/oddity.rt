@@ -1,32 +1,34 @@
-//! What is lawful, and yet seldom meant.
+//! The lints of plans.
 
 use job_bodies::Part;
 
-/// What is lawful in a plan, and yet seldom meant. Pools, classes, kinds of clients and actions are counted from 0.
+/// A lint: something that is valid in a plan but probably not meant. Pools, classes, kinds of
+/// clients and actions are counted from 0.
 #[derive(Clone, Copy, Debug, PartialEq, Eq)]
 pub enum Oddity {
-    /// There are no pools and no clients.
+    /// The plan has no pools and no clients.
     NothingToAsk,
-    /// There are no clients, and pools.
+    /// The plan has pools, but no clients.
     NoClients,
-    /// There are clients, and no class is submitted.
+    /// The plan has clients, but no class is submitted.
     NothingSubmitted,
-    /// The pool of this number gets no job.
+    /// This pool gets no jobs.
     PoolWithoutJobs(usize),
-    /// The pool of this number has a maximum above core, and its queue never fills.
+    /// This pool has a maximum above its core size, and its queue never fills.
     UselessMax(usize),
-    /// The pool of this number has a queue far above the jobs that wait in it at most, which are so many.
+    /// The queue of this pool is much larger than this number of jobs, the most that can be in it.
     QueueFarAbove(usize, u64),
-    /// Nobody submits the class of this number.
+    /// No client submits this class, directly or through other jobs.
     ClassWithoutJobs(usize),
-    /// The clients of the kind of this number go through their body once.
+    /// The clients of this kind go through their body once.
     GoesOnce(usize),
-    /// The clients of the kind of this number submit to pools of one core thread alone, whose queues hold fewer than they are.
+    /// The clients of this kind submit only to pools with one core thread, and their number is
+    /// larger than each of those pools' queues.
     Crowd(usize),
-    /// In the body of the class or the kind of clients of this number, the action of the next number works for so many units,
-    /// which is a size of the plan too.
+    /// In the body of this class or kind of clients, the action at the second index works for this
+    /// number of units, which is also a size of the plan.
     WorkLikeASize(Part, usize, usize, u32),
-    /// A certificate that was given is not what the answer rests on. It is not of the plan, and whoever warns of it has the
-    /// words.
+    /// A given certificate does not accept the plan. This is not a lint of the plan itself, and the
+    /// caller that reports it provides the message.
     StaleCertificate,
 }

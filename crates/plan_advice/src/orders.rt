@@ -1,11 +1,11 @@
-//! Actions of a body as they are written, and what is wrong with one that is none.
+//! The parsing of actions, and what is wrong with a text that is not one.
 
 use crate::names::name_rule;
 use crate::near::meant;
 use job_bodies::{MAX_WORK, is_lawful_name};
 use std::alloc::{AllocError, Global};
 
-/// An action as its text gives it.
+/// An action as it is written.
 #[derive(Clone, Copy)]
 pub(crate) enum Order<'a> {
     Work,
@@ -14,7 +14,7 @@ pub(crate) enum Order<'a> {
     Get(&'a str),
 }
 
-/// The words of a text: the first four, and whether there are more.
+/// The words of a text: the first four, and how many there are.
 #[derive(Clone, Copy)]
 struct Words<'a> {
     words: [&'a str; 4],
@@ -35,7 +35,7 @@ fn words_of(text: &str) -> Words<'_> {
     found
 }
 
-/// The order that a text is, where it is one.
+/// Parses an action, if the text is one.
 pub(crate) fn order_of(text: &str) -> Option<Order<'_>> {
     let Words {
         words: [verb, first, word, slot],
@@ -52,7 +52,8 @@ pub(crate) fn order_of(text: &str) -> Option<Order<'_>> {
     }
 }
 
-/// Whether the text is the length of a work: digits without a leading zero, from 1 to 1,000,000.
+/// Returns whether the text is a length of work: a number from 1 to 1,000,000 without a leading
+/// zero.
 fn is_length(text: &str) -> bool {
     let bytes = text.as_bytes();
     if bytes.first() == Some(&b'0') || !bytes.iter().all(|byte| byte.is_ascii_digit()) {
@@ -64,7 +65,7 @@ fn is_length(text: &str) -> bool {
     }
 }
 
-/// What is wrong with a text that is no order.
+/// Returns what is wrong with a text that is not an action.
 pub(crate) fn slip_of(alloc: Global, text: &str) -> Result<String, AllocError> {
     if is_spaced(text) {
         let words = "one space stands between two words, and none before or behind them";

@@ -1,8 +1,8 @@
-//! What each fault breaks, where no more is known of it.
+//! The rules that faults violate, for faults with no other message.
 
 use faults::number::*;
 
-/// The rule that a fault of this number breaks.
+/// Returns the rule that a fault of this number violates.
 pub(crate) fn rule_of(number: u8) -> &'static str {
     match number {
         NOT_TOML => "the text is no TOML",

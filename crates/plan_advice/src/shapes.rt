@@ -1,4 +1,4 @@
-//! The keys of an entry: which are there, and of which types.
+//! The checks of an entry's keys: which it has, and the types of their values.
 
 use crate::entry::{PlacedEntry, list_of};
 use crate::near::meant;
@@ -8,7 +8,7 @@ use job_bodies::{MAX_ACTIONS, Part};
 use std::alloc::AllocError;
 use toml::Value;
 
-/// What the value at a key is to be.
+/// The type of the value at a key.
 #[derive(Clone, Copy, PartialEq, Eq)]
 enum ValueKind {
     Text,
@@ -17,12 +17,12 @@ enum ValueKind {
     Body,
 }
 
-/// A key that entries have.
+/// A key of an entry.
 #[derive(Clone, Copy)]
 struct Known {
     key: &'static str,
     wanted: ValueKind,
-    /// What it says, where it is to be there.
+    /// The hint if a required key is missing. It is empty for an optional key.
     says: &'static str,
 }
 
@@ -32,7 +32,7 @@ const CLASS_KEYS: [&str; 3] = ["name", "pool", "body"];
 
 const CLIENT_KEYS: [&str; 4] = ["name", "count", "repeat", "body"];
 
-/// The keys that such an entry has.
+/// Returns the keys of such an entry.
 pub(crate) fn keys_of(part: Part) -> &'static [&'static str] {
     match part {
         Part::Text => &["pool", "class", "client"],
@@ -82,7 +82,7 @@ fn key_named(key: &str) -> Option<Known> {
     Some(Known { key, wanted, says })
 }
 
-/// What the key of a Java program, or of another plan, is called here.
+/// Returns the name in plans for a key from Java or from other configuration files.
 fn here_called(key: &str) -> Option<&'static str> {
     match key {
         "corePoolSize" | "corepoolsize" | "core_pool_size" | "threads" | "size" => Some("core"),
@@ -99,7 +99,7 @@ fn here_called(key: &str) -> Option<&'static str> {
     }
 }
 
-/// Tells the keys that no such entry has.
+/// Reports the unknown keys of an entry.
 pub(crate) fn unknown_keys(notes: &mut Notes, entry: &PlacedEntry<'_>) -> Result<(), AllocError> {
     for key in entry.table.keys() {
         let key = key.as_str();
@@ -110,7 +110,7 @@ pub(crate) fn unknown_keys(notes: &mut Notes, entry: &PlacedEntry<'_>) -> Result
     Ok(())
 }
 
-/// Whether such an entry has this key.
+/// Returns whether such an entry has this key.
 pub(crate) fn has_key(part: Part, key: &str) -> bool {
     keys_of(part).iter().any(|known| *known == key)
 }
@@ -131,7 +131,7 @@ fn unknown_key(notes: &mut Notes, entry: &PlacedEntry<'_>, key: &str) -> Result<
     entry.tell(notes, UNKNOWN_KEY, entry.key_place(key), &words)
 }
 
-/// Tells the keys that the entry lacks, and the values of another type than is wanted.
+/// Reports the keys that the entry lacks, and the values of the wrong type.
 pub(crate) fn values(notes: &mut Notes, entry: &PlacedEntry<'_>) -> Result<(), AllocError> {
     for key in keys_of(entry.part).iter().copied() {
         if let Some(known) = key_named(key) {
@@ -181,7 +181,7 @@ fn rule_of(wanted: ValueKind) -> &'static str {
     }
 }
 
-/// Tells a body that is no list, or a long one, or has elements that are no texts.
+/// Reports a body that is not a list, is too long, or has elements that are not strings.
 fn body(notes: &mut Notes, entry: &PlacedEntry<'_>, value: &Value) -> Result<(), AllocError> {
     let place = entry.value_place("body");
     let Some(actions) = value.as_array() else {

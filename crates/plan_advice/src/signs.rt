@@ -1,4 +1,4 @@
-//! By what it is told that something is seldom meant.
+//! The conditions of the lints.
 
 ghost use Rattle.std.specs.Prelude.{◌≡◌, slice_index_or, false};
 ghost use Rattle.std.specs.List.{list_any, list_all};
@@ -7,27 +7,28 @@ ghost use Rattle.plan_advice.specs.Oddities as spec;
 
 use job_bodies::{Action, Class, Client, Plan, Pool};
 
-/// How many times what is needed a queue may hold before it is told.
+/// The ratio of a queue's capacity to the jobs that it holds at most, above which a lint reports
+/// it.
 const FAR_ABOVE: u64 = 10;
 
-/// From where on a length of work that is also a size of the plan is told.
+/// The shortest length of work that a lint reports if it is also a size of the plan.
 const LIKE_A_SIZE: u32 = 50;
 
-/// Whether the class of this number is submitted.
+/// Returns whether the class of this number is submitted.
 pub(crate) fn is_submitted(marks: &[bool], class: usize) -> bool
     ensures { result ≡ slice_index_or marks.now class false }
 {
     class < marks.len() && marks[class]
 }
 
-/// Whether any class is submitted.
+/// Returns whether any class is submitted.
 pub(crate) fn is_any_submitted(marks: &[bool]) -> bool
     ensures { result ≡ list_any (λ mark. mark) marks.now }
 {
     marks.iter().any(|mark| *mark)
 }
 
-/// How many jobs wait at most in the queue of the pool of this number, where that is known.
+/// Returns how many jobs the queue of the pool of this number holds at most, if that is known.
 pub(crate) fn most_at(needed: &[Option<u64>], pool: usize) -> Option<u64>
     ensures { result ≡ slice_index_or needed.now pool None }
 {
@@ -38,7 +39,7 @@ pub(crate) fn most_at(needed: &[Option<u64>], pool: usize) -> Option<u64>
     }
 }
 
-/// Whether the pool of this number gets a job of one of the classes that are submitted.
+/// Returns whether the pool of this number gets a job of a class that is submitted.
 pub(crate) fn gets_a_job(plan: &Plan, marks: &[bool], pool: usize) -> bool
     ensures { result ≡ spec.gets_a_job plan.now marks.now pool }
 {
@@ -54,21 +55,22 @@ fn brings_jobs(marks: &[bool], number: usize, class: &Class, pool: usize) -> boo
     is_submitted(marks, number) && class.pool == pool
 }
 
-/// Whether the pool may have more threads than core.
+/// Returns whether the pool can have more threads than its core size.
 pub(crate) fn may_grow(pool: &Pool) -> bool
     ensures { result ≡ spec.may_grow pool.now }
 {
     pool.core < pool.max
 }
 
-/// Whether the pool's queue is far above so many jobs.
+/// Returns whether the pool's queue is much larger than `most` jobs.
 pub(crate) fn is_far_above(pool: &Pool, most: u64) -> bool
     ensures { result ≡ spec.is_far_above pool.now most }
 {
     most.max(1) < pool.queue / FAR_ABOVE
 }
 
-/// Whether the clients submit, and to pools of one core thread alone, whose queues hold fewer than they are.
+/// Returns whether the clients submit, and only to pools with one core thread whose queues hold
+/// fewer jobs than there are clients.
 pub(crate) fn are_a_crowd(plan: &Plan, client: &Client) -> bool
     ensures { result ≡ spec.are_a_crowd plan.now client.now }
 {
@@ -93,7 +95,8 @@ fn submits_to_small_alone(plan: &Plan, count: u64, body: &[Action]) -> bool
     body.iter().all(|action| is_for_small(plan, count, *action))
 }
 
-/// Whether the action is no submit, or one to a pool that is small for so many clients.
+/// Returns whether the action is not a submit, or submits to a pool that is small for this many
+/// clients.
 fn is_for_small(plan: &Plan, count: u64, action: Action) -> bool
     ensures { result ≡ spec.is_for_small plan.now count action }
 {
@@ -103,7 +106,7 @@ fn is_for_small(plan: &Plan, count: u64, action: Action) -> bool
     }
 }
 
-/// The number of the pool that runs the jobs of the class; 0 where there is no such class.
+/// Returns the number of the pool that runs the jobs of the class, or 0 if there is no such class.
 fn pool_of(plan: &Plan, class: usize) -> usize
     ensures { result ≡ (class_at plan.now class).pool }
 {
@@ -122,21 +125,22 @@ fn is_small_at(plan: &Plan, count: u64, pool: usize) -> bool
     }
 }
 
-/// Whether the pool has one core thread, and a queue that holds fewer jobs than there are clients.
+/// Returns whether the pool has one core thread, and a queue that holds fewer jobs than there are
+/// clients.
 fn is_small(count: u64, pool: &Pool) -> bool
     ensures { result ≡ spec.is_small count pool.now }
 {
     pool.core == 1 && pool.queue < count
 }
 
-/// Whether so many units of work are as many as a size of the plan, and not few.
+/// Returns whether the length of work equals a size of the plan and is at least 50.
 pub(crate) fn looks_like_a_size(plan: &Plan, units: u32) -> bool
     ensures { result ≡ spec.looks_like_a_size plan.now units }
 {
     LIKE_A_SIZE <= units && is_a_size(plan, u64::from(units))
 }
 
-/// Whether some pool has this size, or some kind of clients this count.
+/// Returns whether some pool has this size, or some kind of clients this count.
 fn is_a_size(plan: &Plan, number: u64) -> bool
     ensures { result ≡ spec.is_a_size plan.now number }
 {

@@ -1,4 +1,5 @@
-//! Texts that are no TOML: where, by the words of the crate that reads it, and what a person mostly meant.
+//! Faults of texts that are not TOML: the place, the parser's message, and a hint for common
+//! mistakes.
 
 use crate::advice::Advice;
 use faults::number::NOT_TOML;
@@ -6,7 +7,7 @@ use job_bodies::PlanFault;
 use plan_places::{TextPlace, place_at};
 use std::alloc::{AllocError, Global};
 
-/// What is wrong with bytes that are not UTF-8.
+/// Returns the fault of bytes that are not UTF-8.
 pub(crate) fn not_text(alloc: Global, bytes: &[u8], valid: usize) -> Result<Advice, AllocError> {
     let is_wide = matches!(bytes, [0xFF, 0xFE, ..] | [0xFE, 0xFF, ..]);
     let what = if is_wide {
@@ -21,7 +22,7 @@ pub(crate) fn not_text(alloc: Global, bytes: &[u8], valid: usize) -> Result<Advi
     })
 }
 
-/// What is wrong with a text that is no TOML, at this place and by these words.
+/// Returns the fault of a text that is not TOML, at this place and with this message.
 pub(crate) fn not_toml(
     alloc: Global,
     text: &str,
@@ -52,7 +53,7 @@ fn line_of(text: &str, place: TextPlace) -> &str {
     ""
 }
 
-/// What was meant by a line that is no TOML.
+/// Returns a hint for a line that is not TOML.
 fn hint_of(line: &str) -> Option<&'static str> {
     let line = line.trim();
     if line.starts_with("//") {
@@ -72,7 +73,7 @@ fn hint_of(line: &str) -> Option<&'static str> {
     value_hint(line)
 }
 
-/// What was meant by the head of an entry: a list of entries is no table, and is given in one way alone.
+/// Returns a hint for the header of an entry. A list cannot be written as a table, nor in two ways.
 fn bracket_hint(line: &str) -> Option<&'static str> {
     match line.split('#').next().unwrap_or("").trim() {
         "[pool]" | "[class]" | "[client]" => {

@@ -1,4 +1,4 @@
-//! The lists of a plan's text.
+//! The checks of a plan's lists.
 
 use crate::entry::{BEGINNING, PlacedEntry, list_of};
 use crate::near::{listed, meant};
@@ -19,7 +19,7 @@ struct Lists<'a> {
     clients: Vec<PlacedEntry<'a>>,
 }
 
-/// Tells what is wrong with a document.
+/// Reports the faults of a document.
 pub(crate) fn document(
     notes: &mut Notes,
     document: &Table,
@@ -33,7 +33,7 @@ pub(crate) fn document(
     all_bodies(notes, &lists)
 }
 
-/// The entries, with what is wrong with the shapes and the names of each list.
+/// Returns the entries, and reports the faults of their shapes and names.
 fn lists_of<'a>(
     notes: &mut Notes,
     document: &'a Table,
@@ -49,7 +49,7 @@ fn lists_of<'a>(
     })
 }
 
-/// Tells what is wrong with sizes, with the pools of classes and with counts.
+/// Reports the faults of sizes, of the pools of classes, and of counts.
 fn numbers_and_pools(notes: &mut Notes, lists: &Lists<'_>) -> Result<(), AllocError> {
     let pool_names = names_of(notes.alloc, &lists.pools)?;
     for pool in &lists.pools {
@@ -64,7 +64,7 @@ fn numbers_and_pools(notes: &mut Notes, lists: &Lists<'_>) -> Result<(), AllocEr
     Ok(())
 }
 
-/// Tells what is wrong with the bodies.
+/// Reports the faults of the bodies.
 fn all_bodies(notes: &mut Notes, lists: &Lists<'_>) -> Result<(), AllocError> {
     let class_names = names_of(notes.alloc, &lists.classes)?;
     for class in &lists.classes {
@@ -76,7 +76,7 @@ fn all_bodies(notes: &mut Notes, lists: &Lists<'_>) -> Result<(), AllocError> {
     Ok(())
 }
 
-/// Tells a key at the top that no plan has.
+/// Reports an unknown key at the top level.
 fn unknown_list(notes: &mut Notes, key: &str, places: &Places<'_>) -> Result<(), AllocError> {
     let alloc = notes.alloc;
     if has_key(Part::Text, key) {
@@ -94,7 +94,7 @@ fn unknown_list(notes: &mut Notes, key: &str, places: &Places<'_>) -> Result<(),
     notes.push(PlanFault::at_text(UNKNOWN_KEY), place, what)
 }
 
-/// The entries of a list, with what is wrong with their shapes and their names.
+/// Returns the entries of a list, and reports the faults of their shapes and names.
 fn entries<'a>(
     notes: &mut Notes,
     document: &'a Table,
@@ -118,7 +118,7 @@ fn entries<'a>(
     Ok(found)
 }
 
-/// Tells that the entries are no list.
+/// Reports that the entries are not a list.
 fn no_list(notes: &mut Notes, part: Part, places: &Places<'_>) -> Result<(), AllocError> {
     let list = list_of(part);
     let what = format!(in notes.alloc;
@@ -128,7 +128,7 @@ fn no_list(notes: &mut Notes, part: Part, places: &Places<'_>) -> Result<(), All
     notes.push(PlanFault::at_text(WRONG_TYPE), place, what)
 }
 
-/// Tells what is wrong with the shape of an entry, and with its name behind those of the entries before it.
+/// Reports the faults of an entry's shape and of its name, given the earlier entries.
 fn shape_and_name(
     notes: &mut Notes,
     entry: &PlacedEntry<'_>,
@@ -176,7 +176,7 @@ fn names_of<'a>(alloc: Global, entries: &[PlacedEntry<'a>]) -> Result<Vec<&'a st
     Ok(names)
 }
 
-/// Tells a pool that there is not.
+/// Reports a pool that does not exist.
 fn pool_of(notes: &mut Notes, class: &PlacedEntry<'_>, pools: &[&str]) -> Result<(), AllocError> {
     let Some(pool) = class.text("pool") else {
         return Ok(());

@@ -1,4 +1,4 @@
-//! All that can be seen to be wrong with a text.
+//! The faults of a plan's text.
 
 ghost use Rattle.std.specs.Prelude.{◌≡◌, IfOk};
 
@@ -12,12 +12,12 @@ use job_bodies::PlanFault;
 use plan_places::Places;
 use std::alloc::{AllocError, Global};
 
-/// What is wrong with the text of a plan that the reader of plans refuses for this fault: first that one, and then what else
-/// can be seen.
+/// Returns the faults of a plan's text that the parser rejects with `fault`: first that one, and
+/// then the others that can be found.
 ///
 /// # Errors
 ///
-/// [`AllocError`] where memory runs out.
+/// [`AllocError`] if memory runs out.
 pub fn faults_of(alloc: Global, text: &[u8], fault: PlanFault) -> Result<Faults, AllocError>
     ensures { IfOk result (λ told. told.first.fault ≡ fault) }
 {
@@ -50,7 +50,7 @@ fn take_at(found: &mut Vec<Advice>, index: usize) -> Option<Advice> {
     }
 }
 
-/// What can be seen to be wrong, of TOML or of what it says.
+/// Returns all faults that can be found, of the TOML or of the plan in it.
 fn all_found(alloc: Global, bytes: &[u8]) -> Result<Vec<Advice>, AllocError> {
     let mut notes = Notes::new(alloc);
     match std::str::from_utf8(bytes) {

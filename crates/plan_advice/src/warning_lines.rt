@@ -8,12 +8,12 @@ use crate::warnings::Warning;
 use plan_places::TextPlace;
 use std::alloc::AllocError;
 
-/// Puts a line for each warning behind the text, as `shop.toml:24:1: warning: client browser goes through its body once`, in
-/// the file of this name.
+/// Appends a line for each warning, such as `shop.toml:24:1: warning: client browser goes through
+/// its body once`, with `file` as the file's name.
 ///
 /// # Errors
 ///
-/// [`AllocError`] where memory runs out.
+/// [`AllocError`] if memory runs out.
 pub fn push_warnings(
     text: &mut String,
     file: &str,

@@ -1,11 +1,11 @@
-//! Where in the text of a plan what is seldom meant stands.
+//! The places of lints in a plan's text.
 
 use crate::entry::{BEGINNING, list_of};
 use crate::oddity::Oddity;
 use job_bodies::Part;
 use plan_places::{Places, TextPlace};
 
-/// Where the oddity stands.
+/// Returns the place of the lint.
 pub(crate) fn place_of(places: &Places<'_>, oddity: Oddity) -> TextPlace {
     match oddity {
         Oddity::NothingToAsk

@@ -1,10 +1,11 @@
-//! What is seldom meant, in words.
+//! The messages of lints.
 
 use crate::oddity::Oddity;
 use job_bodies::Plan;
 use std::alloc::{AllocError, Global};
 
-/// What the oddity is, and what it means for the answer. Nothing is said of a number that the plan does not have.
+/// Returns the lint's message: what it is, and what it means for the answer. The message is empty
+/// if the plan does not have a number that the lint names.
 pub(crate) fn words_of(alloc: Global, plan: &Plan, oddity: Oddity) -> Result<String, AllocError> {
     match oddity {
         Oddity::NothingToAsk => String::from_str(

@@ -1,4 +1,4 @@
-//! What is lawful in a plan, and yet seldom meant, and where.
+//! Warnings: lints with their places and messages.
 
 ghost use Rattle.std.specs.Prelude.{◌≡◌, IfOk};
 ghost use Rattle.plan_advice.specs.Oddities as spec;
@@ -11,23 +11,24 @@ use job_bodies::Plan;
 use plan_places::{Places, TextPlace};
 use std::alloc::{AllocError, Global};
 
-/// One thing that is seldom meant, and where.
+/// A warning about a plan.
 #[derive(Debug, Drop)]
 pub struct Warning {
-    /// What it is.
+    /// The lint.
     pub oddity: Oddity,
-    /// Where in the text it stands.
+    /// The place in the plan's text.
     pub place: TextPlace,
-    /// What it is, and what it means for the answer, in words.
+    /// A message that says what the lint is and what it means for the answer.
     pub what: String,
 }
 
-/// What is seldom meant in this plan, the text of which is given: the oddities of the plan, just these and in their order.
-/// Of each pool whose queue a standing vector bounds, `needed` says by how many jobs. Of places and words nothing is promised.
+/// Returns a warning for each lint of the plan, in order. `text` is the plan's text. For each pool
+/// whose queue is bounded by a standing vector, `needed` has the bound. The contract promises
+/// nothing about places and messages.
 ///
 /// # Errors
 ///
-/// [`AllocError`] where memory runs out.
+/// [`AllocError`] if memory runs out.
 pub fn warnings_of(
     alloc: Global,
     text: &[u8],
@@ -42,7 +43,7 @@ pub fn warnings_of(
     warnings_about(alloc, &places, plan, &oddities)
 }
 
-/// A warning about each.
+/// Returns a warning for each lint.
 fn warnings_about(
     alloc: Global,
     places: &Places<'_>,

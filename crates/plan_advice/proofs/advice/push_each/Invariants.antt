@@ -1,4 +1,4 @@
--- The text so far and the lines that are left are all lines.
+-- The text so far and the remaining lines are all lines.
 use Rattle.std.proofs.Common.{◌≡◌, ◌++◌, length}
 use Rattle.std.specs.Prelude.{string_bytes}
 use Rattle.plan_advice.specs.Advice.{advice_lines}

@@ -1,4 +1,4 @@
--- What the classes so far gave and what the others give is what all give.
+-- The lints of the classes so far and of the remaining ones are those of all.
 use Rattle.std.proofs.Common.{◌≡◌, ◌++◌, ℕ}
 use Rattle.job_bodies.specs.Plan.{Class}
 use Rattle.plan_advice.specs.Oddities.{oddities_of_class, oddities_of_classes}

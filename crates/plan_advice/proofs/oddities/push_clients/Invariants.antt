@@ -1,4 +1,4 @@
--- What the kinds of clients so far gave and what the others give is what all give.
+-- The lints of the kinds of clients so far and of the remaining ones are those of all.
 use Rattle.std.proofs.Common.{◌≡◌, ◌++◌, ℕ}
 use Rattle.job_bodies.specs.Plan.{Client}
 use Rattle.plan_advice.specs.Oddities.{oddities_of_client, oddities_of_clients}

@@ -1,4 +1,4 @@
--- What the pools so far gave and what the others give is what all give.
+-- The lints of the pools so far and of the remaining ones are those of all.
 use Rattle.std.proofs.Common.{◌≡◌, ◌++◌, ℕ}
 use Rattle.job_bodies.specs.Plan.{Pool}
 use Rattle.plan_advice.specs.Oddities.{oddities_of_pool, oddities_of_pools}

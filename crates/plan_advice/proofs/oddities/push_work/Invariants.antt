@@ -1,4 +1,4 @@
--- What the actions so far gave and what the others give is what all give.
+-- The lints of the actions so far and of the remaining ones are those of all.
 use Rattle.std.proofs.Common.{◌≡◌, ◌++◌, ℕ}
 use Rattle.job_bodies.specs.declared.action.Action.{Action}
 use Rattle.plan_advice.specs.Oddities.{oddities_of_action, oddities_of_body}

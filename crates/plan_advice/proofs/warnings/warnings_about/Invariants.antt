@@ -1,4 +1,4 @@
--- So far each oddity has its warning.
+-- Each lint so far has its warning.
 use Rattle.std.proofs.Common.{◌≡◌, take}
 use Rattle.plan_advice.specs.Oddities.{warned_of}
 use Rattle.plan_advice.proofs.warnings.warnings_about.Given as goal
