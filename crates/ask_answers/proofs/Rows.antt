@@ -1,14 +1,14 @@
--- Texts that are put together piece by piece.
+-- Texts that are put together from parts.
 use Rattle.std.proofs.Common.{◌≡◌, ◌<◌, ◌+◌, ℕ, List, [], ◌∷◌, ◌++◌, length, get_or, drop, map, flat_map, Result, Ok, Err, OnOk, sym, ap, refl, ◌∙◌, append_assoc}
 use Rattle.std.specs.List.{enumerate_from, join_by}
 use Rattle.std.proofs.lemmas.List.{at_drop_more}
 use Rattle.std.proofs.lemmas.List.Folds.{flat_map-map}
 
--- what the elements from this place on give, by their places
+-- the contributions of the elements from this index
 abbrev pub rest_of : {X Y : Type 0} → (ℕ × X → List Y) → List X → ℕ → List Y
 rest_of f xs i = flat_map f (enumerate_from i (drop i xs))
 
--- one more gives its part
+-- the step for one more element
 pub part_more : {X Y : Type 0} (f : ℕ × X → List Y) (xs : List X) (i : ℕ) (d x : X) (front all : List Y) → i < length xs → x ≡ get_or xs i d → front ++ rest_of f xs i ≡ all → (front ++ f (i, x)) ++ rest_of f xs (i + 1) ≡ all
 part_more {X} {Y} f xs i d x front all inside here so_far =
     let turn : rest_of f xs i ≡ f (i, x) ++ rest_of f xs (i + 1) =
@@ -16,12 +16,12 @@ part_more {X} {Y} f xs i d x front all inside here so_far =
     ∙ ap (λ (y : X). f (i, y) ++ rest_of f xs (i + 1)) (sym here) in
     append_assoc front (f (i, x)) (rest_of f xs (i + 1)) ∙ (sym (ap (λ (ys : List Y). front ++ ys) turn) ∙ so_far)
 
--- a row of texts is the row of what they are seen as
+-- joining under a view is joining the viewed texts
 pub row_seen : {X A : Type 0} (view : X → List A) (separator : List A) (xs : List X) → join_by view separator xs ≡ join_by (λ part. part) separator (map view xs)
 row_seen view separator [] = refl
 row_seen view separator (x ∷ xs) = ap (λ (rest : List _). view x ++ rest) (sym (flat_map-map (λ part. separator ++ part) view xs))
 
--- a text behind a text behind an old one
+-- two texts appended in order
 pub both_pushed : {X E : Type 0} (r : Result X E) (old middle new first second : List ℕ) → middle ≡ old ++ first → OnOk r (new ≡ middle ++ second) → OnOk r (new ≡ old ++ (first ++ second))
 both_pushed (Ok x) old middle new first second is_first is_second = is_second ∙ (ap (λ (t : List ℕ). t ++ second) is_first ∙ append_assoc old first second)
 both_pushed (Err e) old middle new first second is_first is_second = tt

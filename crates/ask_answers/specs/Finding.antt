@@ -1,4 +1,4 @@
--- What an answer to a plan rests on.
+-- The finding about a plan on which an answer rests.
 use Rattle.std.specs.Prelude.{◌≡◌, ◌≢◌, false, IsTrue}
 use Rattle.job_bodies.specs.Plan.{Plan}
 use Rattle.certificates.specs.Cert.{Cert}
@@ -12,20 +12,19 @@ use Rattle.size_search.specs.declared.found.SizesFound.TheVariants.{Found}
 use Rattle.ask_answers.specs.declared.finding.PlanFinding.{PlanFinding}
 use Rattle.ask_answers.specs.declared.finding.PlanFinding.TheVariants.{Safe, NotSafe, NotDecided}
 
--- what was found of the plan's sizes is so, and decides whether there are any
+-- the result of the search for sizes is true of the plan, and decides whether there are any
 pub record IsKnown (plan : Plan) (sizes : SizesFound) : Type 0 where
   pub is_found : IsFound plan sizes
   pub is_decided : IsDecided plan sizes
 
--- a certificate was looked for and none was found: the steady one does not accept the plan, and the sizes that were found are not
--- the declared ones
+-- no certificate was found: the steady one does not accept the plan, and the sizes that were found are not the declared ones
 pub record IsOpen (plan : Plan) (sizes : SizesFound) : Type 0 where
   pub known : IsKnown plan sizes
   pub not_steady : accepted plan (steady_cert plan) ≡ false
   pub others : (cert : Cert) → sizes ≢ Found plan cert
 
--- it is so of the plan: a certificate accepts it; or it has a witness, and what was found of its sizes holds; or neither was found,
--- and that holds
+-- the finding is true of the plan: a certificate accepts it; or it has a witness, and the result for other sizes is true; or
+-- neither was found, and the result for other sizes is true
 abbrev pub IsFinding : Plan → PlanFinding → Type 0
 IsFinding plan (Safe cert) = IsTrue (accepted plan cert)
 IsFinding plan (NotSafe witness sizes) = IsWitness plan witness.events.items witness.ending × IsKnown plan sizes

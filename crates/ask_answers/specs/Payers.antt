@@ -1,13 +1,14 @@
--- Who pays for the bound of a vector: the clients by what they weigh at their beginning, and the workers of each pool.
+-- The shares in the bound of a vector: of the clients, by their weight before their first action, and of each pool's
+-- workers.
 use Rattle.std.specs.Prelude.{ℕ, ◌*◌, List, map}
 use Rattle.std.specs.List.{enumerate_from}
 use Rattle.job_bodies.specs.Plan.{Plan}
 use Rattle.weights.specs.Vector.{Vector, client_weight, workers_weight}
 
--- what the clients of each kind pay
+-- the share of each kind of clients
 abbrev pub client_shares : Plan → Vector → List ℕ
 client_shares plan v = map (λ entry. entry.1.count * client_weight v entry.0 0) (enumerate_from 0 plan.clients)
 
--- what the workers of each pool pay, as many as there can be
+-- the share of each pool's workers, for its maximum size
 abbrev pub worker_shares : Plan → Vector → List ℕ
 worker_shares plan v = map (λ entry. workers_weight v entry.0 * entry.1.max) (enumerate_from 0 plan.pools)

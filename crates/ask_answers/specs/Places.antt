@@ -1,4 +1,4 @@
--- How many places of its queue a pool needs at most, as a certificate says it.
+-- The number of places that a pool needs in its queue, by a certificate.
 use Rattle.std.specs.Prelude.{ℕ, List, map, if◌then◌else◌, Option, Some, None}
 use Rattle.job_bodies.specs.Plan.{Plan}
 use Rattle.weights.specs.Vector.{Vector, vector_fits, total}
@@ -6,11 +6,11 @@ use Rattle.weights.specs.declared.bound.Bound.{Bound}
 use Rattle.weights.specs.declared.bound.Bound.TheVariants.{Standing, Lifetime}
 use Rattle.certificates.specs.Cert.{Cert}
 
--- the total of a vector, where it fits the plan
+-- the total of a vector, if it fits the plan
 abbrev pub total_of : Plan → Vector → Option ℕ
 total_of plan v = if vector_fits plan v then Some (total plan v) else None
 
--- a standing vector says how many wait at once
+-- a standing vector bounds the jobs in the queue
 abbrev pub places_of : Plan → Bound → Option ℕ
 places_of plan (Standing v) = total_of plan v
 places_of plan (Lifetime v) = None

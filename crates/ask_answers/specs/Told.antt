@@ -31,21 +31,21 @@ abbrev pub sizes_part : Plan → SizesFound → List ℕ
 sizes_part plan (Found fit cert) = fit_part plan fit
 sizes_part plan (NotFound cause) = no_sizes_text plan cause
 
--- the answer, and behind it what the certificate says of each pool
+-- the answer, and then the lines for each pool
 abbrev pub TellsSafe : Plan → Cert → List ℕ → Type 0
 TellsSafe plan cert text = text ≡ safe_head ++ safe_text plan cert
 
--- the answer, the witness's story, the sizes, and what they mean
+-- the answer, the witness's story, the sizes, and the advice for them
 pub record TellsNotSafe (plan : Plan) (witness : Witness) (sizes : SizesFound) (text : List ℕ) : Type 0 where
   pub story : List ℕ
   pub is_story : IsTold plan witness story
   pub is : text ≡ ((not_safe_head ++ story) ++ sizes_part plan sizes) ++ advice_text plan sizes
 
--- the answer, the sizes, what they mean, and what stays open
+-- the answer, the sizes, the advice for them, and what is left undecided
 abbrev pub TellsNotDecided : Plan → SizesFound → List ℕ → Type 0
 TellsNotDecided plan sizes text = text ≡ ((not_decided_head ++ sizes_part plan sizes) ++ advice_text plan sizes) ++ open_text sizes
 
--- the text tells the finding
+-- the text reports the finding
 abbrev pub Tells : Plan → PlanFinding → List ℕ → Type 0
 Tells plan (Safe cert) text = TellsSafe plan cert text
 Tells plan (NotSafe witness sizes) text = TellsNotSafe plan witness sizes text

@@ -1,29 +1,29 @@
--- Which pools wait for which: those whose jobs get jobs of others.
+-- The pools that wait for other pools: their jobs get jobs of those pools.
 use Rattle.std.specs.Prelude.{ℕ, Bool, false, ◌==◌, ◌&&◌, List, Option, Some, slice_get}
 use Rattle.std.specs.List.{list_any}
 use Rattle.job_bodies.specs.declared.action.Action.{Action}
 use Rattle.job_bodies.specs.declared.action.Action.TheVariants.{Submit, Get}
 use Rattle.job_bodies.specs.Plan.{Class, Plan}
 
--- is it a class of the pool?
+-- the class belongs to the pool
 abbrev pub is_of_pool : ℕ → Option Class → Bool
 is_of_pool p (Some class) = class.pool == p
 is_of_pool p _ = false
 
--- is it a submit of a class of the pool?
+-- the action submits a class of the pool
 abbrev pub submits_to : Plan → ℕ → Option Action → Bool
 submits_to plan p (Some (Submit k)) = is_of_pool p (slice_get plan.classes k)
 submits_to plan p _ = false
 
--- does an action of the body get a job of the pool?
+-- an action of the body gets a job of the pool
 abbrev pub gets_of : Plan → List Action → ℕ → Action → Bool
 gets_of plan body p (Get t) = submits_to plan p (slice_get body t)
 gets_of plan body p _ = false
 
--- is it a class of pool p whose jobs get jobs of pool q?
+-- the class belongs to pool p, and its jobs get jobs of pool q
 abbrev pub class_waits_for : Plan → ℕ → ℕ → Class → Bool
 class_waits_for plan p q class = class.pool == p && list_any (gets_of plan class.body q) class.body
 
--- do jobs of pool p get jobs of pool q?
+-- jobs of pool p get jobs of pool q
 abbrev pub waits_for : Plan → ℕ → ℕ → Bool
 waits_for plan p q = list_any (class_waits_for plan p q) plan.classes

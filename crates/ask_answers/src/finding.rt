@@ -1,16 +1,17 @@
-//! What an answer rests on.
+//! The finding about a plan on which an answer rests.
 
 use certificates::Cert;
 use plan_witnesses::Witness;
 use size_search::SizesFound;
 
-/// What is found of a plan with its declared sizes.
+/// A finding about a plan with its declared sizes.
 #[derive(Debug, Drop)]
 pub enum PlanFinding {
     /// This certificate accepts the plan.
     Safe(Cert),
-    /// The plan has this witness, and this was found of other sizes.
+    /// This is a witness against the plan, and this is the result of the search for other sizes.
     NotSafe(Witness, SizesFound),
-    /// Neither was found. The declared sizes may be right.
+    /// Neither a certificate nor a witness was found, so the declared sizes can be safe. This is
+    /// the result of the search for other sizes.
     NotDecided(SizesFound),
 }

@@ -1,5 +1,5 @@
-//! The answer to the one question about a plan, whether its declared sizes are safe: what it rests on, and its text and its
-//! picture.
+//! The answer of `ask`, whether the declared sizes of a plan are safe: its finding, its text and
+//! its picture.
 #![tactic(auto)]
 
 mod finding;

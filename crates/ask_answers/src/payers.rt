@@ -1,4 +1,4 @@
-//! Who pays for a bound.
+//! The shares of clients and threads in a bound.
 
 ghost use Rattle.std.specs.Prelude.{◌≡◌, ◌+◌, IfOk, IsTrue, sum};
 ghost use Rattle.weights.specs.Vector.{total, vector_fits};
@@ -8,20 +8,20 @@ use job_bodies::Plan;
 use std::alloc::{AllocError, Global};
 use weights::Vector;
 
-/// Who pays for the total of a vector.
+/// The shares in the total of a vector.
 #[derive(Debug, Drop)]
 pub struct Payers {
-    /// What the clients of each kind pay, in plan order.
+    /// The share of each kind of clients, in plan order.
     pub clients: Vec<u64>,
-    /// What the threads of each pool pay, in plan order.
+    /// The share of each pool's threads, in plan order.
     pub workers: Vec<u64>,
 }
 
-/// Who pays for the total of this vector: together they pay just that.
+/// Returns the shares of clients and threads in the total of this vector. Their sum is the total.
 ///
 /// # Errors
 ///
-/// [`AllocError`] where memory runs out.
+/// [`AllocError`] if memory runs out.
 #[tactic(auto, using(crate::proofs::Paid::paid_in_all))]
 pub fn payers_of(alloc: Global, plan: &Plan, vector: &Vector) -> Result<Payers, AllocError>
     requires { IsTrue (vector_fits plan.now vector.now) }

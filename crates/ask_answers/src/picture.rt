@@ -1,5 +1,6 @@
-//! A plan as a picture, in the language of Graphviz: pools as boxes with their sizes and their classes in them, clients outside,
-//! an arrow for each submit, a dashed one for each get, and a bold one where the get is counted.
+//! The picture of a plan, as a Graphviz graph. Pools are boxes with their sizes and classes,
+//! clients are outside them. An arrow is a submit, a dashed one a get, and a bold one a counted
+//! get.
 
 ghost use Rattle.std.specs.Prelude.{◌≡◌, IfOk, string_bytes};
 ghost use Rattle.ask_answers.specs.Picture as spec;
@@ -14,11 +15,11 @@ use job_bodies::{Client, Plan, Pool};
 use std::alloc::{AllocError, Global};
 use weights::Bound;
 
-/// The picture of a plan, with what bounds its queues where a certificate accepts it.
+/// Draws a plan, with the bounds of its queues if a certificate accepts it.
 ///
 /// # Errors
 ///
-/// [`AllocError`] where memory runs out.
+/// [`AllocError`] if memory runs out.
 pub fn picture_of(alloc: Global, plan: &Plan, finding: &PlanFinding) -> Result<String, AllocError>
     ensures { IfOk result (λ text. spec.IsPicture (string_bytes text)) }
 {
@@ -62,7 +63,7 @@ fn push_client(text: &mut String, number: usize, client: &Client) -> Result<(), 
     )
 }
 
-/// A box for the pool, with its classes.
+/// Appends a box for the pool, with its classes.
 fn push_pool(
     text: &mut String,
     plan: &Plan,
@@ -90,13 +91,13 @@ fn push_pool(
         }
     }
     if !any {
-        // Graphviz draws no box around nothing.
+        // Graphviz draws no box around an empty cluster.
         writeln!(text, "    pool{number} [style=invis label=\"\"]")?;
     }
     text.push_str("  }\n")
 }
 
-/// How many jobs wait in its queue at most, or are ever given to it.
+/// Appends how many jobs the queue holds at most, or how many the pool ever gets.
 fn push_bound(text: &mut String, plan: &Plan, bound: &Bound) -> Result<(), AllocError> {
     match total_of(plan, bound.vector()) {
         Some(total) => {

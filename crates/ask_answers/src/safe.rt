@@ -1,4 +1,4 @@
-//! What a certificate says of a plan that it accepts, for a person.
+//! The text for a plan that a certificate accepts.
 
 ghost use Rattle.std.specs.Prelude.{◌≡◌, ◌++◌, IfOk, IsTrue, OnOk, map, string_bytes};
 ghost use Rattle.decimals.specs.Pushed.{Pushes};
@@ -13,7 +13,7 @@ use job_bodies::{Plan, Pool};
 use std::alloc::{AllocError, Global};
 use weights::{Bound, Vector};
 
-/// Two lines for each pool, and why no job starves.
+/// Appends two lines for each pool, and that no job starves.
 pub(crate) fn push_safe(
     alloc: Global,
     text: &mut String,
@@ -35,7 +35,7 @@ fn push_pools(alloc: Global, text: &mut String, plan: &Plan, cert: &Cert) -> Res
     Ok(())
 }
 
-/// The lines of a pool for which the certificate has a part.
+/// Appends the lines of a pool, if the certificate has a part for it.
 fn push_pool(
     alloc: Global,
     text: &mut String,
@@ -69,12 +69,12 @@ fn push_lines(
     push_waits(alloc, text, plan, number, pool, &part.blocked)
 }
 
-/// How many places of its queue each pool needs at most, in the certificate's order, where a standing vector that fits the
-/// plan says it.
+/// Returns how many places of its queue each pool needs at most, in the certificate's order. That
+/// is known if a standing vector that fits the plan bounds the queue.
 ///
 /// # Errors
 ///
-/// [`AllocError`] where memory runs out.
+/// [`AllocError`] if memory runs out.
 pub fn needed_places(
     alloc: Global,
     plan: &Plan,
@@ -98,7 +98,7 @@ fn places_of(plan: &Plan, bound: &Bound) -> Option<u64>
     }
 }
 
-/// The total of a vector, where it fits the plan.
+/// Returns the total of a vector, if it fits the plan.
 pub fn total_of(plan: &Plan, vector: &Vector) -> Option<u64>
     ensures { result ≡ places.total_of plan.now vector.now }
 {
@@ -109,7 +109,7 @@ pub fn total_of(plan: &Plan, vector: &Vector) -> Option<u64>
     }
 }
 
-/// How many threads a pool has, and its queue.
+/// Appends the line with the pool's threads and its queue.
 fn push_bound(
     alloc: Global,
     text: &mut String,
@@ -126,7 +126,7 @@ fn push_bound(
     text.push('\n')
 }
 
-/// What bounds the queue of a pool, and who pays for it.
+/// Appends the bound of a pool's queue, and the shares in it.
 fn push_queue(
     alloc: Global,
     text: &mut String,
@@ -152,7 +152,7 @@ fn push_queue(
     text.push_str(")")
 }
 
-/// How many jobs a bound is of.
+/// Appends the number of jobs of a bound.
 pub(crate) fn push_most(text: &mut String, bound: &Bound, total: u64) -> Result<(), AllocError>
     ensures { Pushes result text.old text.new (spec.most_text bound.now total) }
 {
@@ -164,7 +164,7 @@ pub(crate) fn push_most(text: &mut String, bound: &Bound, total: u64) -> Result<
     }
 }
 
-/// How many threads the pool has.
+/// Appends the number of the pool's threads.
 pub(crate) fn push_threads(text: &mut String, pool: &Pool) -> Result<(), AllocError>
     ensures { Pushes result text.old text.new (spec.threads_text pool.now) }
 {
@@ -179,7 +179,7 @@ pub(crate) fn push_threads(text: &mut String, pool: &Pool) -> Result<(), AllocEr
     }
 }
 
-/// Who pays for the total of a vector, as `200 browser, 8 from threads of web`.
+/// Appends the shares in the total of a vector, such as `200 browser, 8 from threads of web`.
 fn push_payers(
     alloc: Global,
     text: &mut String,
@@ -234,7 +234,7 @@ fn push_workers(
     Ok(())
 }
 
-/// The part of one that pays, if it does.
+/// Appends one share, unless it is 0.
 #[tactic(auto, using(std::proofs::lemmas::List::map_push))]
 fn push_paid(
     alloc: Global,
@@ -254,7 +254,7 @@ fn push_paid(
     Ok(())
 }
 
-/// The parts in a row, a comma between each two.
+/// Joins the parts with commas.
 #[tactic(auto, using(crate::proofs::Rows::row_seen))]
 fn push_separated(alloc: Global, text: &mut String, parts: &[String]) -> Result<(), AllocError>
     ensures { Pushes result text.old text.new (spec.separated (map string_bytes parts.now)) }
@@ -263,7 +263,8 @@ fn push_separated(alloc: Global, text: &mut String, parts: &[String]) -> Result<
     text.push_str(&row)
 }
 
-/// For which pools the jobs of a pool wait, and how many of its threads.
+/// Appends the line with the pools that the pool's jobs wait for, and with the number of its
+/// threads that wait.
 fn push_waits(
     alloc: Global,
     text: &mut String,
@@ -282,7 +283,7 @@ fn push_waits(
     text.push('\n')
 }
 
-/// How many core threads of a pool wait at most at gets where one must be left.
+/// Appends how many core threads of a pool wait at most at gets that need a free thread.
 fn push_left(
     text: &mut String,
     plan: &Plan,
@@ -312,7 +313,7 @@ fn push_waiting(text: &mut String, pool: &Pool, most: u64) -> Result<(), AllocEr
     )
 }
 
-/// The pools for which jobs of the pool of this number wait.
+/// Appends the pools that jobs of this pool wait for.
 fn push_waited(
     alloc: Global,
     text: &mut String,
@@ -339,7 +340,7 @@ fn waited_names(alloc: Global, plan: &Plan, number: usize) -> Result<Vec<String>
     Ok(names)
 }
 
-/// The name of the other pool, if jobs of the pool of this number wait for its jobs.
+/// Appends the name of the other pool, if jobs of this pool wait for its jobs.
 #[tactic(auto, using(std::proofs::lemmas::List::map_push))]
 fn push_if_waited(
     alloc: Global,

@@ -1,4 +1,4 @@
-//! The answer for a person.
+//! The answer as text.
 
 ghost use Rattle.std.specs.Prelude.{IfOk, string_bytes};
 ghost use Rattle.decimals.specs.Pushed.{Pushes};
@@ -14,12 +14,12 @@ use size_lines::{push_no_sizes, push_sizes};
 use size_search::SizesFound;
 use std::alloc::{AllocError, Global};
 
-/// Tells what was found: `SAFE`, and what bounds each queue and who pays for it; `NOT SAFE`, the story of the witness and the
-/// sizes that would do; or `NOT DECIDED`, and those sizes.
+/// Writes the finding: `SAFE`, with the bound of each queue and the shares in it; `NOT SAFE`, with
+/// the story of the witness and the sizes that would be safe; or `NOT DECIDED`, with those sizes.
 ///
 /// # Errors
 ///
-/// [`AllocError`] where memory runs out.
+/// [`AllocError`] if memory runs out.
 pub fn told(alloc: Global, plan: &Plan, finding: &PlanFinding) -> Result<String, AllocError>
     ensures { IfOk result (λ text. spec.Tells plan.now finding.now (string_bytes text)) }
 {
@@ -65,7 +65,7 @@ fn not_decided(alloc: Global, plan: &Plan, sizes: &SizesFound) -> Result<String,
     Ok(text)
 }
 
-/// The sizes that were found, or why there are none.
+/// Appends the sizes that were found, or why there are none.
 fn push_found(text: &mut String, plan: &Plan, sizes: &SizesFound) -> Result<(), AllocError>
     ensures { Pushes result text.old text.new (spec.sizes_part plan.now sizes.now) }
 {

@@ -1,4 +1,4 @@
-//! What to do about a plan that is not safe with its declared sizes, or not shown to be.
+//! The advice for a plan whose declared sizes are not safe, or not shown to be.
 
 ghost use Rattle.decimals.specs.Pushed.{Pushes};
 ghost use Rattle.ask_answers.specs.AdviceText as spec;
@@ -8,7 +8,7 @@ use size_causes::Cause;
 use size_search::{NoSizes, SizesFound};
 use std::alloc::AllocError;
 
-/// What the sizes that were found, or the cause why there are none, mean for whoever has the plan.
+/// Appends what the sizes that were found, or the cause why there are none, mean for the user.
 pub(crate) fn push_advice(
     text: &mut String,
     plan: &Plan,
@@ -22,7 +22,7 @@ pub(crate) fn push_advice(
     }
 }
 
-/// Why each size grows.
+/// Appends the reason for each size that grows.
 fn push_reasons(text: &mut String, plan: &Plan, fit: &Plan) -> Result<(), AllocError>
     ensures { Pushes result text.old text.new (spec.reasons_text plan.now fit.now) }
 {
@@ -72,7 +72,7 @@ fn push_queue(text: &mut String, declared: &Pool, fit: &Pool) -> Result<(), Allo
     )
 }
 
-/// What to do where sizes alone do not help.
+/// Appends what to do if sizes alone do not help.
 fn push_way(text: &mut String, cause: NoSizes) -> Result<(), AllocError>
     ensures { Pushes result text.old text.new (spec.way_text cause) }
 {
@@ -89,7 +89,7 @@ fn push_way(text: &mut String, cause: NoSizes) -> Result<(), AllocError>
     }
 }
 
-/// What stays open.
+/// Appends what is left undecided.
 pub(crate) fn push_open(text: &mut String, sizes: &SizesFound) -> Result<(), AllocError>
     ensures { Pushes result text.old text.new (spec.open_text sizes.now) }
 {

@@ -1,4 +1,4 @@
-//! Which pools wait for which.
+//! The pools that wait for other pools.
 
 ghost use Rattle.std.specs.Prelude.{◌≡◌, option_map};
 ghost use Rattle.std.specs.List.{list_any};
@@ -6,7 +6,7 @@ ghost use Rattle.ask_answers.specs.Waits as spec;
 
 use job_bodies::{Action, Class, Plan};
 
-/// Whether jobs of the pool of this number get jobs of the other one, as of their own.
+/// Returns whether jobs of pool `pool` get jobs of pool `other`, which can be the same pool.
 pub fn waits_for(plan: &Plan, pool: usize, other: usize) -> bool
     ensures { result ≡ spec.waits_for plan.now pool other }
 {

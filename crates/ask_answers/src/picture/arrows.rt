@@ -8,7 +8,8 @@ use job_bodies::{Action, Plan};
 use pool_ranks::Ranks;
 use std::alloc::{AllocError, Global};
 
-/// How often an actor submits jobs of a class, gets them, and gets them where the get is counted.
+/// The number of times that an actor submits jobs of a class, gets them, and gets them by a counted
+/// get.
 #[derive(Clone, Copy)]
 struct Calls {
     submits: u64,
@@ -22,7 +23,7 @@ const NONE: Calls = Calls {
     counted: 0,
 };
 
-/// The arrows from each kind of clients and from each class.
+/// Appends the arrows from each kind of clients and from each class.
 pub(crate) fn push_arrows(
     alloc: Global,
     text: &mut String,
@@ -44,7 +45,8 @@ pub(crate) fn push_arrows(
     Ok(())
 }
 
-/// The calls of a body, by class; of the class of this number, with these ranks.
+/// Counts the calls in a body for each class. `ranked` has the number of the body's class and the
+/// ranks that decide which gets are counted.
 fn calls_of(
     alloc: Global,
     plan: &Plan,
@@ -75,7 +77,7 @@ fn calls_of(
     Ok(calls)
 }
 
-/// Whether the ranks count the get at this position of the class.
+/// Returns whether the ranks count the get at this position of the class.
 fn is_counted(plan: &Plan, ranked: Option<(usize, &Ranks)>, position: usize) -> bool {
     match ranked {
         Some((class, ranks)) => ranks.fits(plan) && counts(plan, ranks, class, position),

@@ -1,4 +1,4 @@
--- The shares so far and those of the other kinds are all.
+-- The shares so far and those of the remaining kinds are all shares.
 use Rattle.std.proofs.Common.{◌≡◌, ◌++◌, ◌*◌}
 use Rattle.weights.specs.Vector.{client_weight}
 use Rattle.ask_answers.proofs.Paid.{rest_given}

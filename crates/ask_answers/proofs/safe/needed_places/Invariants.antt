@@ -1,4 +1,4 @@
--- The places of the pools before this one are told.
+-- The list has the places of the pools before this one.
 use Rattle.std.proofs.Common.{◌≡◌, map, take}
 use Rattle.ask_answers.specs.Places as spec
 use Rattle.ask_answers.proofs.safe.needed_places.Given as goal

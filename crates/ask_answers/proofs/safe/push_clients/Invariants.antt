@@ -1,4 +1,4 @@
--- The parts so far and those of the other kinds are all.
+-- The parts so far and those of the remaining kinds are all parts.
 use Rattle.std.proofs.Common.{◌≡◌, ◌++◌, map}
 use Rattle.std.specs.Prelude.{string_bytes}
 use Rattle.ask_answers.specs.SafeText.{client_part}

@@ -1,4 +1,4 @@
--- The text so far and the lines of the other pools are all.
+-- The text so far and the lines of the remaining pools are the whole text.
 use Rattle.std.proofs.Common.{◌≡◌, ◌++◌}
 use Rattle.std.specs.Prelude.{string_bytes}
 use Rattle.ask_answers.specs.SafeText.{pool_lines}

@@ -1,4 +1,4 @@
--- The names so far and those of the other pools are all.
+-- The names so far and those of the remaining pools are all names.
 use Rattle.std.proofs.Common.{◌≡◌, ◌++◌, map}
 use Rattle.std.specs.Prelude.{string_bytes}
 use Rattle.ask_answers.specs.SafeText.{waited_name}

@@ -1,4 +1,4 @@
--- The reasons of the pools so far are told.
+-- The text has the reasons of the pools so far.
 use Rattle.std.proofs.Common.{◌≡◌, ◌++◌, length}
 use Rattle.std.specs.Prelude.{string_bytes}
 use Rattle.ask_answers.specs.AdviceText.{pool_reasons}
