@@ -1,4 +1,4 @@
--- The answer as an object of JSON on a line.
+-- The answer of `ask` as a JSON object on one line.
 use Rattle.std.specs.Prelude.{◌≡◌, ℕ, List, [], ◌∷◌, ◌++◌, codes}
 use Rattle.serde_json.specs.Data.{Data, number, unsigned, string, array, object, Items, item, member, no_members}
 use Rattle.serde_json.specs.Written.{IsInOrder}
@@ -7,7 +7,7 @@ use Rattle.json_answers.specs.declared.answers.AnswerParts.{AnswerParts}
 use Rattle.ask_answers.specs.declared.finding.PlanFinding.{PlanFinding}
 use Rattle.ask_answers.specs.declared.finding.PlanFinding.TheVariants.{Safe, NotSafe, NotDecided}
 
--- what an answer says beside itself
+-- the members of an answer besides its name
 pub record Rest : Type 0 where
   pub faults : Data
   pub file : Data
@@ -19,7 +19,7 @@ pub record Rest : Type 0 where
 abbrev pub rest_of : AnswerParts → Rest
 rest_of m = record { faults = view m.faults; file = view m.file; pools = view m.pools; sizes = view m.sizes; warnings = view m.warnings; witness = view m.witness }
 
--- the object of an answer with this word, its keys ascending
+-- the object of an answer with this name, its keys in ascending order
 unfoldable pub answer_data : List ℕ → Rest → Data
 answer_data word rest =
     object (member (codes "answer") (string word)
@@ -30,7 +30,7 @@ answer_data word rest =
     (member (codes "warnings") rest.warnings
     (member (codes "witness") rest.witness no_members)))))))
 
--- the text is the value, with each of its items and members once and in order, and a newline
+-- the text is the value, with each item and member once and in order, followed by a newline
 pub record IsLineOf (value : Data) (text : List ℕ) : Type 0 where
   pub json : List ℕ
   pub in_order : IsInOrder json value
@@ -41,7 +41,7 @@ word_of (Safe cert) = codes "SAFE"
 word_of (NotSafe witness sizes) = codes "NOT SAFE"
 word_of (NotDecided sizes) = codes "NOT DECIDED"
 
--- the answer is what was found
+-- the answer reports the finding
 pub record TellsFinding (finding : PlanFinding) (text : List ℕ) : Type 0 where
   pub rest : Rest
   pub is_line : IsLineOf (answer_data (word_of finding) rest) text
@@ -64,13 +64,13 @@ pub record BeginsWith (first value : Data) : Type 0 where
   pub others : Items
   pub is : value ≡ array (item first others)
 
--- a list of faults, and the first one has this number
+-- a list of faults, of which the first has this number
 pub record IsLedBy (fault : ℕ) (value : Data) : Type 0 where
   pub first : Data
   pub is_fault : IsFault fault first
   pub begins : BeginsWith first value
 
--- the answer is that there are faults, and the first one has this number
+-- the answer reports faults, of which the first has this number
 pub record TellsFault (fault : ℕ) (text : List ℕ) : Type 0 where
   pub rest : Rest
   pub led : IsLedBy fault rest.faults

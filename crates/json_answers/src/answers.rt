@@ -1,6 +1,6 @@
-//! The answer as one object of JSON on a line, for a program.
+//! The answer of `ask` as a JSON object on one line.
 //!
-//! Each answer has the same members; `docs/GUIDE.md` says what they are.
+//! Every answer has the same members; `docs/GUIDE.md` describes them.
 
 ghost use Rattle.std.specs.Prelude.{◌≡◌, IfOk, string_bytes};
 ghost use Rattle.serde_json.specs.View.{view as data_of};
@@ -17,7 +17,7 @@ use plan_advice::{Faults, Warning};
 use serde_json::{Value, json};
 use std::alloc::{AllocError, Global};
 
-/// What an answer says beside itself.
+/// The members of an answer besides `answer`.
 #[derive(Drop)]
 struct AnswerParts {
     faults: Value,
@@ -28,11 +28,11 @@ struct AnswerParts {
     witness: Value,
 }
 
-/// What was found of the plan in the file of this name, with these warnings.
+/// Writes the finding about the plan in the file of this name, with these warnings.
 ///
 /// # Errors
 ///
-/// [`AllocError`] where memory runs out.
+/// [`AllocError`] if memory runs out.
 pub fn finding_json(
     alloc: Global,
     file: &str,
@@ -47,11 +47,11 @@ pub fn finding_json(
     line_of(alloc, &value)
 }
 
-/// The faults of the plan's text in the file of this name.
+/// Writes the faults of the plan's text in the file of this name.
 ///
 /// # Errors
 ///
-/// [`AllocError`] where memory runs out.
+/// [`AllocError`] if memory runs out.
 pub fn faults_json(alloc: Global, file: &str, faults: &Faults) -> Result<String, AllocError>
     ensures { IfOk result
         (λ text. spec.TellsFault faults.now.first.fault.number (string_bytes text)) }
@@ -62,11 +62,11 @@ pub fn faults_json(alloc: Global, file: &str, faults: &Faults) -> Result<String,
     line_of(alloc, &value)
 }
 
-/// One fault that has no place in the plan's text, in these words.
+/// Writes one fault that has no place in the plan's text, with this message.
 ///
 /// # Errors
 ///
-/// [`AllocError`] where memory runs out.
+/// [`AllocError`] if memory runs out.
 pub fn fault_json(alloc: Global, file: &str, number: u8, words: &str) -> Result<String, AllocError>
     ensures { IfOk result (λ text. spec.TellsFault number (string_bytes text)) }
 {
@@ -76,7 +76,7 @@ pub fn fault_json(alloc: Global, file: &str, number: u8, words: &str) -> Result<
     line_of(alloc, &value)
 }
 
-/// The word for what was found.
+/// Returns the name of the finding.
 fn word_of(finding: &PlanFinding) -> &'static str
     ensures { result.now ≡ spec.word_of finding.now }
 {
@@ -87,7 +87,7 @@ fn word_of(finding: &PlanFinding) -> &'static str
     }
 }
 
-/// The answer with this word.
+/// Creates the object of an answer with this name.
 #[tactic(auto, unfolding(crate::specs::Json::answer_data))]
 fn answer_value(alloc: Global, word: &str, rest: AnswerParts) -> Result<Value, AllocError>
     ensures { IfOk result (λ value. data_of value ≡ spec.answer_data word.now (spec.rest_of rest)) }
@@ -111,7 +111,7 @@ fn answer_value(alloc: Global, word: &str, rest: AnswerParts) -> Result<Value, A
     })
 }
 
-/// The text of a value, with a newline.
+/// Writes a value, followed by a newline.
 fn line_of(alloc: Global, value: &Value) -> Result<String, AllocError>
     ensures { IfOk result (λ text. spec.IsLineOf (data_of value.now) (string_bytes text)) }
 {
@@ -120,7 +120,7 @@ fn line_of(alloc: Global, value: &Value) -> Result<String, AllocError>
     Ok(text)
 }
 
-/// What is said of a plan beside what was found.
+/// Creates the members of an answer for a finding.
 fn rest_of(
     alloc: Global,
     file: &str,
@@ -151,7 +151,7 @@ fn rest_of(
     })
 }
 
-/// Nothing but these faults.
+/// Creates the members of an answer that has only these faults.
 fn only_faults(alloc: Global, file: &str, faults: Value) -> Result<AnswerParts, AllocError>
     ensures { IfOk result (λ rest. data_of rest.faults ≡ data_of faults) }
 {

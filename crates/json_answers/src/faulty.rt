@@ -1,4 +1,4 @@
-//! Faults as JSON: each with its number, its place and what is wrong.
+//! Faults as JSON: the number, the place and the message of each.
 
 ghost use Rattle.std.specs.Prelude.{◌≡◌, IfOk};
 ghost use Rattle.serde_json.specs.View.{view};
@@ -8,7 +8,7 @@ use plan_advice::{Advice, Faults};
 use serde_json::{Value, json};
 use std::alloc::{AllocError, Global};
 
-/// The faults of a plan's text.
+/// Converts the faults of a plan's text.
 pub(crate) fn faults_value(alloc: Global, faults: &Faults) -> Result<Value, AllocError>
     ensures { IfOk result (λ value. spec.IsLedBy faults.now.first.fault.number (view value)) }
 {
@@ -17,7 +17,7 @@ pub(crate) fn faults_value(alloc: Global, faults: &Faults) -> Result<Value, Allo
     led_by(first, others)
 }
 
-/// A fault without a place.
+/// Creates a list with one fault without a place.
 pub(crate) fn fault_alone(alloc: Global, number: u8, words: &str) -> Result<Value, AllocError>
     ensures { IfOk result (λ value. spec.IsLedBy number (view value)) }
 {
@@ -25,7 +25,7 @@ pub(crate) fn fault_alone(alloc: Global, number: u8, words: &str) -> Result<Valu
     led_by(fault, Vec::new(alloc))
 }
 
-/// A list of faults that begins with this one.
+/// Creates a list of faults that begins with this one.
 fn led_by(first: Value, mut others: Vec<Value>) -> Result<Value, AllocError>
     ensures { IfOk result (λ value. spec.BeginsWith (view first) (view value)) }
 {

@@ -1,4 +1,4 @@
-//! The answer to the question about a plan as one object of JSON, for a program.
+//! The answer of `ask` as a JSON object, for programs.
 #![tactic(auto)]
 
 mod answers;

@@ -1,4 +1,5 @@
-//! Pools as JSON: their sizes, and, where a certificate accepts the plan, what bounds each queue and who pays for it.
+//! Pools as JSON: their sizes, and, if a certificate accepts the plan, the bound of each queue and
+//! the shares in it.
 
 use ask_answers::{Payers, payers_of, total_of, waits_for};
 use certificates::Cert;
@@ -7,7 +8,7 @@ use serde_json::{Value, json};
 use std::alloc::{AllocError, Global};
 use weights::{Bound, Vector};
 
-/// The pools of a plan, and what this certificate says of each.
+/// Converts the pools of a plan, with the bounds of this certificate.
 pub(crate) fn bounded_pools(alloc: Global, plan: &Plan, cert: &Cert) -> Result<Value, AllocError> {
     let mut values = Vec::with_capacity(alloc, plan.pools().len())?;
     for (number, (pool, parts)) in plan.pools().iter().zip(cert.pools.iter()).enumerate() {
@@ -18,7 +19,7 @@ pub(crate) fn bounded_pools(alloc: Global, plan: &Plan, cert: &Cert) -> Result<V
     Ok(Value::Array(values))
 }
 
-/// The pools of a plan without a certificate.
+/// Converts the pools of a plan without a certificate.
 pub(crate) fn no_pools(alloc: Global, plan: &Plan) -> Result<Value, AllocError> {
     let mut values = Vec::with_capacity(alloc, plan.pools().len())?;
     for (number, pool) in plan.pools().iter().enumerate() {
@@ -49,7 +50,8 @@ fn pool_value(
     })
 }
 
-/// What bounds the queue: how many jobs wait in it at once, or are ever given to the pool, and whose they are.
+/// Converts the bound of a queue: how many jobs it holds at most, or the pool ever gets, and whose
+/// jobs they are.
 fn bound_value(alloc: Global, plan: &Plan, bound: &Bound) -> Result<Value, AllocError> {
     let vector = bound.vector();
     if !vector.fits(plan) {
@@ -77,7 +79,8 @@ fn bound_value(alloc: Global, plan: &Plan, bound: &Bound) -> Result<Value, Alloc
     json!(in alloc; {"clients": clients, "kind": kind, "threads": threads, "total": total})
 }
 
-/// How many core threads wait at gets at most where others must go on, and how many are left.
+/// Converts how many core threads wait at most at gets that need a free thread, and how many are
+/// left.
 fn blocked_value(
     alloc: Global,
     plan: &Plan,
@@ -91,7 +94,7 @@ fn blocked_value(
     json!(in alloc; {"left": left, "most": most})
 }
 
-/// Who pays what, of those that pay: a share stands at its name's place.
+/// Converts the shares that are not 0. The share at an index belongs to the name at that index.
 fn shares_value(alloc: Global, names: &[&str], shares: &[u64]) -> Result<Value, AllocError> {
     let mut values = Vec::new(alloc);
     for (name, share) in names.iter().zip(shares) {
@@ -106,7 +109,7 @@ fn share_value(alloc: Global, name: &str, jobs: u64) -> Result<Value, AllocError
     json!(in alloc; {"jobs": jobs, "name": name})
 }
 
-/// The names of the pools for which jobs of the pool of this number wait.
+/// Returns the names of the pools that jobs of this pool wait for.
 fn waited_names(alloc: Global, plan: &Plan, number: usize) -> Result<Value, AllocError> {
     let mut values = Vec::new(alloc);
     for (other, pool) in plan.pools().iter().enumerate() {

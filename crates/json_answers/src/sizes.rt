@@ -1,4 +1,4 @@
-//! Other sizes as JSON, or why none help.
+//! Other sizes as JSON, or why there are none.
 
 use job_bodies::{Plan, Pool};
 use serde_json::{Value, json};
@@ -6,7 +6,7 @@ use size_lines::push_no_sizes;
 use size_search::{NoSizes, SizesFound};
 use std::alloc::{AllocError, Global};
 
-/// The sizes that were found, or the cause why there are none.
+/// Converts the sizes that were found, or the cause why there are none.
 pub(crate) fn sizes_value(
     alloc: Global,
     plan: &Plan,
@@ -37,7 +37,7 @@ fn pool_value(alloc: Global, pool: &Pool) -> Result<Value, AllocError> {
     json!(in alloc; {"core": pool.core, "max": pool.max, "name": name, "queue": pool.queue})
 }
 
-/// The cause is the second line of what is told of it.
+/// Returns the cause as text: the second line that [`push_no_sizes`] writes.
 fn cause_value(alloc: Global, plan: &Plan, cause: NoSizes) -> Result<Value, AllocError> {
     let mut text = String::new(alloc);
     push_no_sizes(&mut text, plan, cause)?;

@@ -4,7 +4,7 @@ use plan_advice::{Oddity, Warning};
 use serde_json::{Value, json};
 use std::alloc::{AllocError, Global};
 
-/// Each warning: its kind, its place and its words.
+/// Converts each warning: its kind, its place and its message.
 pub(crate) fn warnings_value(alloc: Global, warnings: &[Warning]) -> Result<Value, AllocError> {
     let mut values = Vec::with_capacity(alloc, warnings.len())?;
     for warning in warnings {

@@ -6,7 +6,8 @@ use serde_json::{Value, json};
 use std::alloc::{AllocError, Global};
 use witness_lines::push_event_lines;
 
-/// How the witness ends, its story, and its events as `replay` reads them, each a line.
+/// Converts a witness: how it ends, the lines of its story, and the lines of its events as `replay`
+/// reads them.
 pub(crate) fn witness_value(
     alloc: Global,
     plan: &Plan,
