@@ -1,4 +1,4 @@
--- What was told of the pools so far, and how many of their sizes change.
+-- The lines of the pools so far, and how many of their sizes change.
 use Rattle.std.proofs.Common.{◌≡◌, ◌<◌, ◌≤◌, ℕ, ◌+◌, ◌*◌, Bool, true, false, cond, List, [], ◌∷◌, ◌++◌, length, get_or, take, flat_map, sum_by, refl, sym, ap, subst, ◌∙◌, append_assoc, arith}
 use Rattle.std.specs.Prelude.{◌==◌, codes, decimal, min}
 use Rattle.std.proofs.lemmas.Grind.{flat_map-append}
@@ -9,13 +9,13 @@ use Rattle.job_bodies.specs.Plan.{Pool, Plan, no_pool}
 use Rattle.size_lines.specs.Sizes as spec
 use Rattle.size_lines.specs.Sizes.{changed, pool_changes, pool_text, both_text, both_changes, both_pools, sizes_text}
 
--- of so many pools
+-- after the first n pools
 pub record IsToldOf (declared fit : Plan) (old : List ℕ) (n : ℕ) (text : List ℕ) (changes : ℕ) : Type 0 where
   pub text_is : text ≡ old ++ flat_map both_text (take n (both_pools declared fit))
   pub changes_are : changes ≡ sum_by both_changes (take n (both_pools declared fit))
   pub few : changes ≤ n * 3
 
--- a size changes once at most
+-- a size counts as at most one change
 at_most_one : (declared fit : ℕ) → changed declared fit ≤ 1
 at_most_one declared fit = by_test (declared == fit)
   where
@@ -33,7 +33,7 @@ at_most_three declared fit =
 pub told_of_none : (declared fit : Plan) (old : List ℕ) → IsToldOf declared fit old 0 old 0
 told_of_none declared fit old = record { text_is = sym (append-nil old); changes_are = refl; few = omega arith }
 
--- of one more
+-- after one more pool
 pub told_of_more : {X : Type 0} (declared fit : Plan) (old : List ℕ) (told : List X) (x : X) (text longer : List ℕ) (changes more : ℕ) (d f : Pool)
     → length told < length declared.pools → length told < length fit.pools → d ≡ get_or declared.pools (length told) no_pool → f ≡ get_or fit.pools (length told) no_pool
     → longer ≡ text ++ pool_text d f → more ≡ changes + pool_changes d f → IsToldOf declared fit old (length told) text changes → IsToldOf declared fit old (length (told ++ x ∷ [])) longer more
@@ -55,7 +55,7 @@ told_of_more declared fit old told x text longer changes more d f in_declared in
     } in
     subst (λ (m : ℕ). IsToldOf declared fit old m longer more) (sym (length-append told (x ∷ []))) next
 
--- of all, and then how many sizes change
+-- after the last pool, and the number of sizes that change
 pub told_of_all : (declared fit : Plan) (old text whole : List ℕ) (n changes : ℕ) → n ≡ min (length declared.pools) (length fit.pools) → IsToldOf declared fit old n text changes
     → whole ≡ text ++ (codes "changes " ++ (decimal changes ++ 10 ∷ [])) → (whole ≡ old ++ sizes_text declared fit) × (changes ≡ spec.changes declared fit)
 told_of_all declared fit old text whole n changes all told whole_is =

@@ -1,4 +1,4 @@
--- A plan of which no size changes is the declared one.
+-- A plan with no changed size is the declared one.
 use Rattle.std.proofs.Common.{◌≡◌, ℕ, ◌+◌, Bool, true, false, cond, List, [], ◌∷◌, map, zip, sum_by, refl, sym, ap, ap₂, ◌∙◌, arith}
 use Rattle.std.specs.Prelude.{◌==◌}
 use Rattle.std.proofs.lemmas.Bool.{eqb-true}
@@ -18,7 +18,7 @@ same_size declared fit none = by_test (declared == fit) refl none
 abbrev bare : Pool → Pool
 bare pool = record pool { core = 0; max = 0; queue = 0 }
 
--- nor does a pool change of which no size does
+-- a pool with no changed size is the declared one
 same_pool : (declared fit : Pool) → bare fit ≡ bare declared → pool_changes declared fit ≡ 0 → fit ≡ declared
 same_pool declared fit same none =
     let core : fit.core ≡ declared.core = same_size declared.core fit.core (omega (arith, none)) in

@@ -1,10 +1,10 @@
--- The lines that tell the sizes of a fitted plan beside those that are declared.
+-- The lines with the sizes of a fitted plan, next to the declared ones.
 use Rattle.std.specs.Prelude.{◌≡◌, ℕ, ◌+◌, ◌==◌, if◌then◌else◌, List, [], ◌∷◌, ◌++◌, codes, decimal}
 use Rattle.std.specs.List.{flat_map, sum_by, zip}
 use Rattle.job_bodies.specs.Plan.{Pool, Plan}
 use Rattle.fitted_sizes.specs.Widened.{outline}
 
--- a size, and behind it what is declared where that is another
+-- a size, followed by the declared one if it differs
 abbrev pub size_text : ℕ → ℕ → List ℕ
 size_text declared fit = decimal fit ++ (if declared == fit then [] else codes " (now " ++ decimal declared ++ codes ")")
 
@@ -16,11 +16,11 @@ pool_text declared fit =
     ++ codes ", max " ++ size_text declared.max fit.max
     ++ codes ", queue " ++ size_text declared.queue fit.queue ++ 10 ∷ []
 
--- 1 where the size changes
+-- 1 if the size changes
 abbrev pub changed : ℕ → ℕ → ℕ
 changed declared fit = if declared == fit then 0 else 1
 
--- how many sizes of the pool change
+-- the number of sizes of the pool that change
 abbrev pub pool_changes : Pool → Pool → ℕ
 pool_changes declared fit = changed declared.core fit.core + changed declared.max fit.max + changed declared.queue fit.queue
 
@@ -34,14 +34,14 @@ both_text both = pool_text both.0 both.1
 abbrev pub both_changes : Pool × Pool → ℕ
 both_changes both = pool_changes both.0 both.1
 
--- how many sizes change
+-- the number of sizes that change
 abbrev pub changes : Plan → Plan → ℕ
 changes declared fit = sum_by both_changes (both_pools declared fit)
 
--- a line for each pool, and then how many sizes change
+-- a line for each pool, and then the number of sizes that change
 abbrev pub sizes_text : Plan → Plan → List ℕ
 sizes_text declared fit = flat_map both_text (both_pools declared fit) ++ (codes "changes " ++ (decimal (changes declared fit) ++ 10 ∷ []))
 
--- a plan that differs from the declared one in sizes alone, and in no size, is the declared one
+-- a plan that differs from the declared one only in sizes, with no size changed, is the declared one
 abbrev pub UnchangedSizesAreTheDeclaredPlan : Type 0
 UnchangedSizesAreTheDeclaredPlan = (declared fit : Plan) → outline fit ≡ outline declared → changes declared fit ≡ 0 → fit ≡ declared

@@ -1,4 +1,4 @@
-//! Why no sizes were found.
+//! The lines that say why no sizes were found.
 
 ghost use Rattle.decimals.specs.Pushed.{Pushes};
 ghost use Rattle.size_lines.specs.Cause as spec;
@@ -8,11 +8,12 @@ use size_causes::Cause;
 use size_search::NoSizes;
 use std::alloc::AllocError;
 
-/// Tells that no sizes were found for the plan, and why, as `no fitting sizes found` and `class render submits itself`.
+/// Appends that no sizes were found for the plan, and why, such as `no fitting sizes found` and
+/// `class render submits itself`.
 ///
 /// # Errors
 ///
-/// [`AllocError`] where memory runs out.
+/// [`AllocError`] if memory runs out.
 pub fn push_no_sizes(text: &mut String, plan: &Plan, cause: NoSizes) -> Result<(), AllocError>
     ensures { Pushes result text.old text.new (spec.no_sizes_text plan.now cause) }
 {

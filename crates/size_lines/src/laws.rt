@@ -1,8 +1,9 @@
-//! What the number of changes says.
+//! A law about the number of changes.
 
 ghost use Rattle.size_lines.specs.Sizes.{UnchangedSizesAreTheDeclaredPlan};
 
-/// Where no size of a plan changes that differs from the declared one in sizes alone, it is the declared one.
+/// States that a plan that differs from the declared one only in sizes, with no size changed, is
+/// the declared one.
 pub fn unchanged_sizes_are_the_declared_plan()
     ensures { UnchangedSizesAreTheDeclaredPlan }
 {}

@@ -1,4 +1,4 @@
-//! The lines that tell what came of a search for sizes.
+//! The lines that report the result of a search for sizes.
 #![tactic(auto)]
 
 mod cause;

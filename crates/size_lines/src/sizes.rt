@@ -1,4 +1,4 @@
-//! The sizes of a plan that was fitted, each beside what is declared.
+//! The lines with the sizes of a fitted plan, next to the declared ones.
 
 ghost use Rattle.std.specs.Prelude.{◌≡◌, IfOk};
 ghost use Rattle.decimals.specs.Pushed.{Pushes};
@@ -7,12 +7,13 @@ ghost use Rattle.size_lines.specs.Sizes as spec;
 use job_bodies::{Plan, Pool};
 use std::alloc::AllocError;
 
-/// Tells the sizes of a fitted plan, a line for each pool, as `pool pages: core 1, max 1, queue 2 (now 1)` where the
-/// declared queue is 1, and then how many of them change, as `changes 1`. Answers that number.
+/// Appends a line with the sizes of each pool, such as `pool pages: core 1, max 1, queue 2 (now 1)`
+/// if the declared queue is 1, and then the number of sizes that change, such as `changes 1`.
+/// Returns that number.
 ///
 /// # Errors
 ///
-/// [`AllocError`] where memory runs out.
+/// [`AllocError`] if memory runs out.
 pub fn push_sizes(text: &mut String, declared: &Plan, fit: &Plan) -> Result<u64, AllocError>
     ensures text { Pushes result text.old text.new (spec.sizes_text declared.now fit.now) }
     ensures changes { IfOk result (λ changes. changes ≡ spec.changes declared.now fit.now) }
@@ -49,7 +50,7 @@ fn push_size(text: &mut String, declared: u64, fit: u64) -> Result<(), AllocErro
     }
 }
 
-/// How many sizes of the pool change.
+/// Returns how many sizes of the pool change.
 fn pool_changes(declared: &Pool, fit: &Pool) -> u64
     ensures { result ≡ spec.pool_changes declared.now fit.now }
 {

@@ -1,4 +1,4 @@
--- The pools so far are told, and their changes counted.
+-- The text has the pools so far, and their changes are counted.
 use Rattle.std.proofs.Common.{length}
 use Rattle.std.specs.Prelude.{string_bytes}
 use Rattle.size_lines.proofs.Telling.{IsToldOf}
