@@ -1,4 +1,4 @@
-//! The vectors that a pool needs at least, for whoever looks for the sizes of a plan.
+//! The lightest vectors of a pool, for a search that changes the sizes of a plan.
 
 ghost use Rattle.std.specs.Prelude.{◌≡◌, ◌<◌, length, IfOk, IfSome, IsTrue, vec_len};
 ghost use Rattle.weights.specs.Vector.{vector_fits};
@@ -15,34 +15,34 @@ use weights::Vector;
 /// A vector without its rows.
 #[derive(Debug, Drop)]
 pub struct Weighed {
-    /// What the workers of each pool weigh.
+    /// The weight of a worker of each pool.
     pub workers: Vec<u64>,
-    /// The pools that lent on the way to it. The way is the same where these have the same maximums, and the others no smaller
-    /// ones.
+    /// The pools whose workers got weight during the search. The search is the same for other
+    /// maximums if these pools have the same ones and the others no smaller ones.
     pub lenders: Vec<usize>,
-    /// What the start of the plan weighs.
+    /// The weight of the plan's start state.
     pub total: u64,
 }
 
-/// Which vector of a pool is looked for, whatever the pool's core and queue are.
+/// The kind of vector of a pool, for any core and queue of that pool.
 #[derive(Clone, Copy)]
 pub enum Kind<'a> {
-    /// A standing vector, to which all pools may lend.
+    /// A standing vector. The workers of every pool can have weight.
     Standing,
     /// A lifetime vector.
     Lifetime,
-    /// A blocked vector, where the pool has this rank and the classes reach as high as told. The pool itself never lends:
-    /// its own workers would weigh more than any core of it leaves.
+    /// A blocked vector for this rank of the pool. The pool's own workers never have weight:
+    /// together they would weigh more than any core leaves.
     Blocked {
-        /// How high each class reaches.
+        /// The reach of each class.
         reach: &'a [u64],
         rank: u64,
-        /// Whether the other pools may lend.
+        /// Whether the workers of other pools can have weight.
         lending: bool,
     },
 }
 
-/// A plan whose pools have other maximums than it declares.
+/// A plan with other maximums than it declares.
 #[derive(Clone, Copy)]
 pub struct Growing<'a> {
     pub plan: &'a Plan,
@@ -52,11 +52,12 @@ pub struct Growing<'a> {
 }
 
 impl Growing<'_> {
-    /// The pool's vector whose total loans bring down to this number or, where they do not, down to where no further loan
-    /// helps; None where there is no vector.
+    /// Returns the pool's vector with worker weights that bring its total down to `enough` or, if
+    /// none do, to the point where no further weight helps. Returns `None` if there is no vector.
     ///
     /// # Errors
     ///
+    /// [`AllocError`] if memory runs out.
     /// [`AllocError`] where memory runs out.
     pub fn lightest(
         &self,
@@ -84,11 +85,12 @@ impl Growing<'_> {
         }))
     }
 
-    /// The pool's vector in which the workers weigh so much; None where a number of it is above the limit.
+    /// Returns the pool's vector with these worker weights, or `None` if a number in it is above
+    /// the limit.
     ///
     /// # Errors
     ///
-    /// [`AllocError`] where memory runs out.
+    /// [`AllocError`] if memory runs out.
     pub fn vector(
         &self,
         alloc: Global,
@@ -105,7 +107,7 @@ impl Growing<'_> {
         vector_of(alloc, self.plan, &target, workers, &sketch)
     }
 
-    /// What is looked for, with a total of so much at most.
+    /// Creates the target of a search for a total of at most `limit`.
     fn target<'b>(&'b self, pool: usize, kind: Kind<'b>, limit: u64) -> Target<'b> {
         let target = match kind {
             Kind::Standing => Target::standing(pool, limit),

@@ -1,4 +1,5 @@
-//! Vectors whose total is brought below its limit by workers that lend what their jobs weigh.
+//! The search for a vector with a small total. A loan gives the workers of a pool a weight, which
+//! makes its queued jobs lighter.
 
 ghost use Rattle.std.specs.Prelude.{◌≡◌, ◌<◌, ◌≤◌, length, IfOk, IfSome, IsTrue, vec_len};
 ghost use Rattle.weights.specs.Vector.{vector_fits};
@@ -14,10 +15,10 @@ use job_bodies::Plan;
 use std::alloc::{AllocError, Global};
 use weights::Vector;
 
-/// The most loans that are tried for one vector: each makes the total smaller, so that few are enough.
+/// The maximum number of loans for one vector. Each makes the total smaller, so few are enough.
 const MAX_LOANS: usize = 256;
 
-/// A pool whose workers weigh so much instead of what they weighed, and where what comes of it stands.
+/// A new weight for the workers of a pool, and the index of the resulting sketch.
 #[derive(Clone, Copy)]
 pub(crate) struct Loan {
     pub(crate) pool: usize,
@@ -25,27 +26,30 @@ pub(crate) struct Loan {
     pub(crate) place: usize,
 }
 
-/// What each pool's workers weigh, and what comes of it.
+/// The worker weights of each pool, and the resulting sketch.
 #[derive(Drop)]
 pub(crate) struct Loans {
     pub(crate) workers: Vec<u64>,
-    /// The pools that lent, also those whose workers weigh nothing again.
+    /// The pools that got a loan, including those whose workers weigh nothing again.
     pub(crate) lenders: Vec<usize>,
     pub(crate) sketch: Sketch,
 }
 
-/// The loans that bring the total of the target within its limit or, where none do, those behind which no
-/// further one makes it less.
+/// Returns the loans that bring the total of the target within its limit or, if none do, those
+/// after which no further loan makes it smaller.
 ///
-/// While the total is above its limit, one pool lends: its workers weigh as much as its jobs do at most, so that its
-/// queued jobs weigh less. Of all pools that may lend one lends which makes the total the least.
+/// While the total is above its limit, one more pool lends: its workers get at most the weight of
+/// its jobs, so that its queued jobs weigh less. Each time, the loan with the smallest total is
+/// chosen.
 ///
-/// Classes that nobody submits have no part in that: a pool that lent what their jobs weigh would lend in vain. Only where one
-/// of them weighs too much, so that there is no vector, a pool lends as little as is enough for it.
+/// Classes that are never submitted are left out, because a loan for their jobs would have no
+/// effect on the total. Only if the weight of such a class is above the limit, so that there is no
+/// vector, a pool lends as little as that class needs.
 ///
-/// No workers' weights are weighed twice, since all that are tried are kept with what comes of them. A pool that lent
-/// is asked what its jobs weigh where it lends nothing: of the last lender these are the workers from before its loan,
-/// and of another one often a loan that was passed over.
+/// The sketch of each combination of worker weights is computed once, since all that were tried are
+/// kept. The weight of a lender's jobs is looked up in the sketch in which that pool lends nothing.
+/// For the last lender that is the sketch before its loan, and for another lender often one that
+/// was tried and not chosen.
 pub(crate) fn lent(
     alloc: Global,
     plan: &Plan,
@@ -78,7 +82,8 @@ pub(crate) fn lent(
     })
 }
 
-/// The least vector that the target is, or None where none is found whose total is within its limit.
+/// Returns the least vector for the target, or `None` if none with a total within its limit is
+/// found.
 pub(crate) fn least_vector(
     alloc: Global,
     plan: &Plan,
@@ -98,7 +103,8 @@ pub(crate) fn least_vector(
     vector_of(alloc, plan, target, workers, &sketch)
 }
 
-/// The loan that comes next behind this place, of the workers as they are. The workers stay so.
+/// Returns the next loan after the sketch at `place`, which belongs to these worker weights.
+/// `workers` is unchanged afterwards.
 fn next_loan(
     tried: &mut Tried,
     workers: &mut [u64],
@@ -117,10 +123,10 @@ fn next_loan(
     }
 }
 
-/// The loan that makes the total the least, if one makes it less than the total at this place, of the workers as they
-/// are. The workers stay so.
+/// Returns the loan with the smallest total, if that is smaller than the total at `place`.
+/// `workers` is unchanged afterwards.
 ///
-/// A loan is not weighed where its workers alone weigh as much as the least total so far: it cannot make it less.
+/// A loan is skipped if the workers alone weigh as much as the smallest total so far.
 fn best_loan(
     tried: &mut Tried,
     workers: &mut [u64],
@@ -163,8 +169,8 @@ fn best_loan(
     Ok(best)
 }
 
-/// The most that a job of the pool weighs in its body, where neither the pool's workers nor its done jobs weigh anything.
-/// The sketch at this place, of the workers as they are, tells it of a pool that does not lend.
+/// Returns the largest weight of a job of the pool in its body, when neither the pool's workers nor
+/// its done jobs have weight. For a pool that does not lend, the sketch at `place` has that number.
 fn peak(
     tried: &mut Tried,
     workers: &mut [u64],

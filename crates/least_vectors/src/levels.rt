@@ -1,4 +1,4 @@
-//! How high classes stand above those that they submit.
+//! The levels of classes above those that they submit.
 
 ghost use Rattle.std.specs.Prelude.{◌≡◌, IfOk, IfSome, length, vec_len};
 
@@ -7,27 +7,29 @@ use crate::submitted::submitted_classes;
 use job_bodies::{Action, Class, Plan};
 use std::alloc::{AllocError, Global};
 
-/// What stands in place of the level of a class that has none yet.
+/// The placeholder for the level of a class that has none yet.
 const NO_LEVEL: u64 = u64::MAX;
 
 /// The levels of a plan's classes, and which of them are submitted.
 #[derive(Debug, Drop)]
 pub struct Levels {
-    /// The level of each class: 1 plus the greatest level of the classes that it submits, and 0 where it submits none.
+    /// The level of each class: 1 plus the greatest level of the classes that it submits, or 0 if
+    /// it submits none.
     pub of_classes: Vec<u64>,
-    /// The classes from the lowest level up, so that each stands behind all that it submits.
+    /// The classes in ascending order of levels, so that each comes after all that it submits.
     pub order: Vec<usize>,
-    /// Whether each class is submitted: by a client, or by a job that a client causes. There are no jobs of another class, so
-    /// that no total counts them.
+    /// Whether each class is submitted by a client, or by a job that a client causes. There are no
+    /// jobs of other classes, so no total counts them.
     pub submitted: Vec<bool>,
 }
 
 impl Levels {
-    /// The levels of the plan's classes; None where a class submits itself, at whatever remove.
+    /// Returns the levels of the plan's classes, or `None` if a class submits itself, directly or
+    /// through other classes.
     ///
     /// # Errors
     ///
-    /// [`AllocError`] where memory runs out.
+    /// [`AllocError`] if memory runs out.
     pub fn of(alloc: Global, plan: &Plan) -> Result<Option<Levels>, AllocError>
         ensures { IfOk result (λ found.
             IfSome found (λ levels. vec_len levels.of_classes ≡ length plan.now.classes)) }
@@ -49,13 +51,14 @@ impl Levels {
         Ok(Some(levels))
     }
 
-    /// Whether the class is submitted.
+    /// Returns whether the class is submitted.
     pub(crate) fn is_submitted(&self, class: usize) -> bool {
         self.submitted.get(class).copied().unwrap_or(false)
     }
 
-    /// Gives this level to the classes that submit only classes of lower levels and have no level yet. `known` has, for
-    /// each class, how many actions at the front of its body are known to do so, so that none is looked at twice.
+    /// Gives this level to the classes that have no level yet and submit only classes of lower
+    /// levels. `known` has, for each class, how many actions at the start of its body are known to
+    /// do so, so that none is looked at twice.
     fn add_level(&mut self, plan: &Plan, level: u64, known: &mut [usize]) -> Result<(), AllocError>
         ensures { vec_len self.new.of_classes ≡ vec_len self.old.of_classes }
     {
@@ -71,7 +74,8 @@ impl Levels {
         Ok(())
     }
 
-    /// How many actions at the front of the class's body submit only classes below this level; so many are known to.
+    /// Returns how many actions at the start of the class's body submit only classes below this
+    /// level. The first `known` ones do.
     fn known_actions(&self, class: &Class, level: u64, known: usize) -> usize {
         let mut known = known;
         for action in class.body.iter().skip(known) {
@@ -83,7 +87,7 @@ impl Levels {
         known
     }
 
-    /// Whether the action submits nothing, or a class of a level below this one.
+    /// Returns whether the action submits nothing, or a class below this level.
     fn is_below(&self, action: Action, level: u64) -> bool {
         match action {
             Action::Submit(class) => number_at(&self.of_classes, class) < level,

@@ -1,8 +1,9 @@
-//! Least vectors of weights: what each part of a plan has to weigh so that a pool's jobs weigh something where they
-//! must, and no event makes a state heavier.
+//! Least vectors of weights. A vector gives each part of a plan a weight so that the jobs of a pool
+//! have weight where they must, and no event makes a state heavier.
 //!
-//! A search for certificates is made of them. Nothing is promised of what is found but its shape: whoever wants to rest
-//! on a vector tests it, as by `cert_check::accepts`. That they are the vectors that one hopes for is shown by tests.
+//! Searches for certificates are built from them. The contracts promise only the shape of the
+//! vectors, so a caller must check a vector before it relies on it, for example with
+//! `cert_check::accepts`. Tests show that the vectors are the intended ones.
 #![tactic(auto)]
 
 mod growing;

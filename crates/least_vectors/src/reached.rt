@@ -1,4 +1,4 @@
-//! How high classes reach.
+//! The reach of classes.
 
 ghost use Rattle.std.specs.Prelude.{◌≡◌, IfOk, length, vec_len};
 
@@ -8,12 +8,12 @@ use job_bodies::{Action, Class, Plan};
 use std::alloc::{AllocError, Global};
 use weights::class_got;
 
-/// How high each class reaches, where the pools have these ranks: the greatest of the rank of its own pool and of what
-/// the classes of the jobs that it gets reach.
+/// Returns the reach of each class for these ranks: the greatest of the rank of its own pool and of
+/// the reaches of the classes that its jobs get.
 ///
 /// # Errors
 ///
-/// [`AllocError`] where memory runs out.
+/// [`AllocError`] if memory runs out.
 pub fn reach(
     alloc: Global,
     plan: &Plan,
@@ -32,7 +32,7 @@ pub fn reach(
     Ok(reach)
 }
 
-/// How high the class reaches, where all classes of lower levels reach so high.
+/// Returns the reach of the class, given the reaches of all classes of lower levels.
 fn reach_of(reach: &[u64], ranks: &[u64], class: &Class) -> u64 {
     let mut reached = number_at(ranks, class.pool);
     for action in &class.body {

@@ -1,4 +1,5 @@
-//! Loans for the sake of classes that nobody submits. No total counts their jobs, but what these weigh has a limit too.
+//! Loans for the sake of classes that are never submitted. No total counts their jobs, but their
+//! weights have a limit too.
 
 ghost use Rattle.std.specs.Prelude.{◌≡◌, ◌<◌, ◌≤◌, IfOk, IfSome, vec_len, length};
 
@@ -8,12 +9,13 @@ use crate::tried::Tried;
 use job_bodies::MAX_SIZE;
 use std::alloc::AllocError;
 
-/// So often the weights up to [`MAX_SIZE`] are halved until one is left.
+/// The number of bisection steps over the weights up to [`MAX_SIZE`].
 const HALVINGS: usize = 20;
 
-/// The loan behind which the fewest classes that nobody submits weigh too much; of several such loans the one with which all
-/// workers weigh least. None where no loan leaves fewer than there are at this place, of the workers as they are. The
-/// workers stay so.
+/// Returns the loan that leaves the fewest classes that are never submitted above the weight limit.
+/// Among several such loans, the workers of the returned one weigh least. Returns `None` if no loan
+/// leaves fewer than the sketch at `place`, which belongs to these worker weights. `workers` is
+/// unchanged afterwards.
 pub(crate) fn relieving_loan(
     tried: &mut Tried,
     workers: &mut [u64],
@@ -57,8 +59,8 @@ pub(crate) fn relieving_loan(
     Ok(best)
 }
 
-/// The least that the pool's workers may weigh so that no more classes weigh too much that nobody submits. The heavier the
-/// workers are, the fewer do.
+/// Returns the least weight of the pool's workers for which no more than `strays` classes that are
+/// never submitted are above the weight limit. Heavier workers never leave more of them.
 fn least_weight(
     tried: &Tried,
     workers: &mut [u64],

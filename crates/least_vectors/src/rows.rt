@@ -1,4 +1,4 @@
-//! The vector of a sketch, with the numbers at each position of each body.
+//! The vector of a sketch, with a number for each position of each body.
 
 ghost use Rattle.std.specs.Prelude.{IfOk, IfSome, IsTrue};
 ghost use Rattle.weights.specs.Vector.{vector_fits};
@@ -11,7 +11,8 @@ use job_bodies::{Class, Client, Plan};
 use std::alloc::{AllocError, Global};
 use weights::Vector;
 
-/// The vector of a sketch with these workers' weights; None where a number of it is above the limit.
+/// Builds the vector of a sketch with these worker weights. Returns `None` if a number in it is
+/// above the limit.
 pub(crate) fn vector_of(
     alloc: Global,
     plan: &Plan,
@@ -43,7 +44,8 @@ pub(crate) fn vector_of(
     })
 }
 
-/// What a job of the class weighs queued, at each position and done. It is found from its end on.
+/// Returns the weights of a job of the class when queued, at each position, and when done. They are
+/// computed from the end of the body.
 fn class_row(
     alloc: Global,
     target: &Target,
@@ -71,7 +73,7 @@ fn class_row(
     Ok(row)
 }
 
-/// What a client of the kind weighs at each position, found from its end on.
+/// Returns the weights of a client of the kind at each position, computed from the end of the body.
 fn client_row(
     alloc: Global,
     target: &Target,

@@ -1,4 +1,5 @@
-//! What the jobs and clients of a plan weigh at their beginnings and ends, by one pass over the bodies.
+//! The weights of a plan's jobs and clients at their start and end, computed in one pass over the
+//! bodies.
 
 use crate::Levels;
 use crate::numbers::{number_at, put_at};
@@ -8,31 +9,32 @@ use job_bodies::{Action, Class, Client, MAX_WEIGHT, Plan};
 use std::alloc::{AllocError, Global};
 use weights::class_got;
 
-/// What is said of a vector that is too heavy for every bound, or that there is not.
+/// The total of a vector that does not exist, or is too heavy for every bound.
 pub(crate) const TOO_HEAVY: u64 = u64::MAX;
 
 /// A vector without its rows.
 #[derive(Drop)]
 pub(crate) struct Sketch {
-    /// Of a queued job of each class.
+    /// The weight of a queued job of each class.
     pub(crate) queued: Vec<u64>,
-    /// Of a job of each class that is done.
+    /// The weight of a done job of each class.
     pub(crate) done: Vec<u64>,
-    /// Of a client of each kind at its beginning.
+    /// The weight of a client of each kind at the start of its body.
     pub(crate) starts: Vec<u64>,
-    /// The most that a job of each pool weighs in its body, where it weighs nothing when it is done. Classes that nobody
-    /// submits do not count.
+    /// The largest weight of a job of each pool in its body, when its done jobs have no weight.
+    /// Classes that are never submitted do not count.
     pub(crate) peaks: Vec<u64>,
-    /// What all workers weigh together.
+    /// The weight of all workers together.
     pub(crate) on_loan: u64,
-    /// How many classes that nobody submits weigh too much.
+    /// The number of classes that are never submitted and whose weight is above the limit.
     pub(crate) strays: usize,
-    /// What the start of the plan weighs.
+    /// The weight of the plan's start state.
     pub(crate) total: u64,
 }
 
 impl Sketch {
-    /// The target, where the workers weigh so much, from the lowest level of the classes up.
+    /// Computes the sketch of the target with these worker weights, from the lowest level of the
+    /// classes to the highest.
     pub(crate) fn of(
         alloc: Global,
         plan: &Plan,
@@ -61,8 +63,8 @@ impl Sketch {
         Ok(sketch)
     }
 
-    /// Finds what a job of the class weighs queued and done. Done it weighs as much as it may, so that a get gives much
-    /// back, but no more than it weighs queued.
+    /// Computes the weights of a job of the class when queued and when done. A done job gets as
+    /// much weight as possible, so that a get returns much, but no more than when queued.
     fn weigh_class(
         &mut self,
         target: &Target,
@@ -97,8 +99,9 @@ impl Sketch {
         }
     }
 
-    /// Finds what a client of the kind weighs at its beginning. One that repeats weighs at its end what it weighs at its
-    /// beginning, so there is no vector where that makes the beginning heavier.
+    /// Computes the weight of a client of the kind at the start of its body. A client that repeats
+    /// weighs the same at the end and at the start, so there is no vector if that makes the start
+    /// heavier.
     fn weigh_client(&mut self, target: &Target, client: &Client) -> Result<(), AllocError> {
         let mut weight = Weight::at_end(0);
         let mut peak = 0;
@@ -114,7 +117,7 @@ impl Sketch {
         Ok(())
     }
 
-    /// What an actor weighs before the action, if it weighs so much behind it.
+    /// Returns the weight of an actor before the action, given its weight after it.
     pub(crate) fn before(
         &self,
         target: &Target,
@@ -132,7 +135,7 @@ impl Sketch {
         }
     }
 
-    /// Adds so many times a weight to the total.
+    /// Adds a weight `count` times to the total.
     fn add(&mut self, weight: u64, count: u64) {
         self.total = self.total.saturating_add(weight.saturating_mul(count));
     }

@@ -1,10 +1,10 @@
-//! Which classes are submitted.
+//! The classes that are submitted.
 
 use job_bodies::{Action, Plan};
 use std::alloc::{AllocError, Global};
 
-/// For each class whether it is submitted: by a client, or by a job that a client causes. In this order each class stands
-/// behind all that it submits.
+/// Returns for each class whether it is submitted by a client, or by a job that a client causes. In
+/// `order` each class must come after all that it submits.
 pub(crate) fn submitted_classes(
     alloc: Global,
     plan: &Plan,
@@ -24,7 +24,7 @@ pub(crate) fn submitted_classes(
     Ok(submitted)
 }
 
-/// The classes that the body submits are submitted too.
+/// Marks the classes that the body submits.
 fn add_submits(submitted: &mut [bool], body: &[Action]) {
     for action in body {
         if let Action::Submit(class) = action {

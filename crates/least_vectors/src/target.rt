@@ -1,53 +1,53 @@
-//! Which vector of a pool is looked for.
+//! The vector of a pool that is searched for.
 
 use crate::numbers::number_at;
 use job_bodies::{Action, Class, Plan, Pool};
 use weights::class_got;
 
-/// Where the jobs of the pool have to weigh at least 1.
+/// The states in which the jobs of the pool must weigh at least 1.
 #[derive(Clone, Copy)]
 pub(crate) enum Heavy<'a> {
     /// While they are queued, as in a standing vector.
     WhileQueued,
     /// At each get of a job of a class that reaches this rank, as in a blocked vector.
     AtGets {
-        /// How high each class reaches.
+        /// The reach of each class.
         reach: &'a [u64],
         rank: u64,
     },
-    /// Everywhere, also when they are done, as in a lifetime vector. A get then gives nothing back, and no worker weighs
-    /// anything.
+    /// In every state, including done, as in a lifetime vector. A get then returns no weight, and
+    /// workers have no weight.
     Everywhere,
 }
 
-/// Whose workers may weigh something, so that jobs weigh less.
+/// The pools whose workers can have weight, so that their jobs weigh less.
 #[derive(Clone, Copy, PartialEq, Eq)]
 pub(crate) enum Lenders {
-    /// Each pool's.
+    /// All pools.
     All,
-    /// Those of each pool but the one whose vector it is.
+    /// All pools except the one whose vector it is.
     Others,
-    /// No pool's.
+    /// No pool.
     Nobody,
 }
 
-/// A vector of a pool that is looked for.
+/// A search target: a vector of a pool.
 #[derive(Clone, Copy)]
 pub(crate) struct Target<'a> {
     /// The pool's number.
     pub(crate) pool: usize,
-    /// Where its jobs weigh at least 1.
+    /// The states in which its jobs weigh at least 1.
     pub(crate) heavy: Heavy<'a>,
-    /// The most that the total may be.
+    /// The largest allowed total.
     pub(crate) limit: u64,
-    /// Whose workers may weigh something.
+    /// The pools whose workers can have weight.
     pub(crate) lenders: Lenders,
-    /// The maximum of each pool, where it is not the plan's.
+    /// The maximum of each pool, if it differs from the plan's.
     pub(crate) maxes: Option<&'a [u64]>,
 }
 
 impl<'a> Target<'a> {
-    /// The pool's standing vector, whose total may be so much.
+    /// Creates the target of a standing vector of the pool with a total of at most `limit`.
     pub(crate) fn standing(number: usize, limit: u64) -> Target<'static> {
         Target {
             pool: number,
@@ -58,7 +58,7 @@ impl<'a> Target<'a> {
         }
     }
 
-    /// The pool's lifetime vector, whose total may be so much.
+    /// Creates the target of a lifetime vector of the pool with a total of at most `limit`.
     pub(crate) fn lifetime(number: usize, limit: u64) -> Target<'static> {
         Target {
             pool: number,
@@ -69,8 +69,8 @@ impl<'a> Target<'a> {
         }
     }
 
-    /// The pool's blocked vector, where the pool has this rank and the classes reach as high as told, and its total may be so
-    /// much.
+    /// Creates the target of a blocked vector of the pool for this rank and these reaches, with a
+    /// total of at most `limit`.
     pub(crate) fn blocked(number: usize, limit: u64, reach: &'a [u64], rank: u64) -> Target<'a> {
         Target {
             pool: number,
@@ -81,8 +81,8 @@ impl<'a> Target<'a> {
         }
     }
 
-    /// The same without loans where no total with loans is within the limit: workers that weigh something weigh more than
-    /// nothing.
+    /// Disables loans if no total with loans can be within the limit, which is so for the limit 0:
+    /// workers with weight make it positive.
     pub(crate) fn without_vain_loans(self) -> Target<'a> {
         if self.limit > 0 {
             return self;
@@ -93,7 +93,7 @@ impl<'a> Target<'a> {
         }
     }
 
-    /// Whether workers of the pool may weigh something.
+    /// Returns whether the workers of the pool can have weight.
     pub(crate) fn may_lend(&self, pool: usize) -> bool {
         match self.lenders {
             Lenders::All => true,
@@ -102,7 +102,7 @@ impl<'a> Target<'a> {
         }
     }
 
-    /// How many workers the pool of this number has at most.
+    /// Returns the maximum number of workers of the pool of this number.
     pub(crate) fn max_of(&self, number: usize, pool: &Pool) -> u64 {
         match self.maxes {
             Some(maxes) => number_at(maxes, number),
@@ -110,7 +110,7 @@ impl<'a> Target<'a> {
         }
     }
 
-    /// What all workers weigh together, where each of a pool weighs so much.
+    /// Returns the weight of all workers together, given the weight of a worker of each pool.
     pub(crate) fn workers_weigh(&self, plan: &Plan, workers: &[u64]) -> u64 {
         let mut total = 0u64;
         for (number, pool) in plan.pools().iter().enumerate() {
@@ -120,12 +120,12 @@ impl<'a> Target<'a> {
         total
     }
 
-    /// Whether gets give something back.
+    /// Returns whether gets return weight.
     pub(crate) fn gives_back(&self) -> bool {
         !matches!(self.heavy, Heavy::Everywhere)
     }
 
-    /// The least that a job of the class may weigh while it is queued.
+    /// Returns the least weight of a queued job of the class.
     pub(crate) fn need_queued(&self, class: &Class) -> u64 {
         match self.heavy {
             Heavy::WhileQueued | Heavy::Everywhere => self.one_of(class),
@@ -133,7 +133,7 @@ impl<'a> Target<'a> {
         }
     }
 
-    /// The least that a job of the class may weigh at this action of its body.
+    /// Returns the least weight of a job of the class at this action of its body.
     pub(crate) fn need_at(&self, class: &Class, action: Action) -> u64 {
         match (self.heavy, action) {
             (Heavy::Everywhere, _) => self.one_of(class),
@@ -149,7 +149,7 @@ impl<'a> Target<'a> {
         }
     }
 
-    /// The least that a job of the class may weigh at the end of its body.
+    /// Returns the least weight of a job of the class at the end of its body.
     pub(crate) fn need_at_end(&self, class: &Class) -> u64 {
         match self.heavy {
             Heavy::Everywhere => self.one_of(class),
@@ -157,7 +157,7 @@ impl<'a> Target<'a> {
         }
     }
 
-    /// 1 for a class of the pool, and 0 for another.
+    /// Returns 1 for a class of the pool, and 0 for another one.
     fn one_of(&self, class: &Class) -> u64 {
         if class.pool == self.pool { 1 } else { 0 }
     }

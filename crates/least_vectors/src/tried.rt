@@ -1,4 +1,4 @@
-//! All that is weighed in the search for one vector, so that no workers' weights are weighed twice.
+//! A cache of the sketches that the search for one vector computes, so that none is computed twice.
 
 ghost use Rattle.std.specs.Prelude.{◌<◌, ◌≤◌, IfOk, vec_len};
 
@@ -8,14 +8,14 @@ use crate::target::Target;
 use job_bodies::Plan;
 use std::alloc::{AllocError, Global};
 
-/// What each pool's workers weigh, and what comes of it.
+/// The worker weights of each pool, and the resulting sketch.
 #[derive(Drop)]
 struct Weighing {
     workers: Vec<u64>,
     sketch: Sketch,
 }
 
-/// The target, and all workers' weights that were tried for it.
+/// The target, and the sketches of all worker weights that were tried for it.
 #[derive(Drop)]
 pub(crate) struct Tried<'a> {
     alloc: Global,
@@ -26,7 +26,7 @@ pub(crate) struct Tried<'a> {
 }
 
 impl<'a> Tried<'a> {
-    /// Nothing is tried yet.
+    /// Creates an empty cache.
     pub(crate) fn new(
         alloc: Global,
         plan: &'a Plan,
@@ -42,7 +42,7 @@ impl<'a> Tried<'a> {
         }
     }
 
-    /// Where the sketch of these workers' weights stands. They are weighed unless they were before.
+    /// Returns the index of the sketch for these worker weights. Computes it if it is missing.
     pub(crate) fn place_of(&mut self, workers: &[u64]) -> Result<usize, AllocError>
         ensures stands { IfOk result (λ place. place < vec_len self.new.weighings) }
         ensures kept { vec_len self.old.weighings ≤ vec_len self.new.weighings }
@@ -61,20 +61,21 @@ impl<'a> Tried<'a> {
         Ok(place)
     }
 
-    /// How many classes that nobody submits weigh too much, where the workers weigh so much. Nothing of it is kept.
+    /// Returns how many classes that are never submitted are above the weight limit with these
+    /// worker weights. The result is not cached.
     pub(crate) fn strays(&self, workers: &[u64]) -> Result<usize, AllocError> {
         let sketch = Sketch::of(self.alloc, self.plan, self.levels, self.target, workers)?;
         Ok(sketch.strays)
     }
 
-    /// The sketch at this place.
+    /// Returns the sketch at this index.
     pub(crate) fn sketch(&self, place: usize) -> &Sketch
         requires { place < vec_len self.now.weighings }
     {
         &self.weighings[place].sketch
     }
 
-    /// The sketch at this place, without the others.
+    /// Returns the sketch at this index and drops the others.
     pub(crate) fn into_sketch(mut self, place: usize) -> Sketch
         requires { place < vec_len self.weighings }
     {

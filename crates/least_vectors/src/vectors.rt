@@ -1,4 +1,4 @@
-//! The two vectors that a certificate has of each pool.
+//! The two vectors that a certificate has for each pool.
 
 ghost use Rattle.std.specs.Prelude.{◌<◌, IfOk, IfSome, IsTrue, length};
 ghost use Rattle.weights.specs.Vector.{vector_fits};
@@ -11,11 +11,12 @@ use job_bodies::Plan;
 use std::alloc::{AllocError, Global};
 use weights::{Bound, Vector};
 
-/// The bound of the pool's queue: a standing vector, or where none is found a lifetime vector. None where neither is.
+/// Returns the bound of the pool's queue: a standing vector, or a lifetime vector if no standing
+/// one is found. Returns `None` if neither is found.
 ///
 /// # Errors
 ///
-/// [`AllocError`] where memory runs out.
+/// [`AllocError`] if memory runs out.
 pub fn pool_bound(
     alloc: Global,
     plan: &Plan,
@@ -39,12 +40,11 @@ pub fn pool_bound(
     }
 }
 
-/// The pool's blocked vector, where the pool has this rank and the classes reach as high as told; None where none is
-/// found.
+/// Returns the pool's blocked vector for this rank and these reaches, or `None` if none is found.
 ///
 /// # Errors
 ///
-/// [`AllocError`] where memory runs out.
+/// [`AllocError`] if memory runs out.
 pub fn blocked_vector(
     alloc: Global,
     plan: &Plan,

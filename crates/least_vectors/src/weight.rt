@@ -1,25 +1,25 @@
-//! A number of a vector, as it is found from a body's end back to its beginning.
+//! A number of a vector, computed from the end of a body to its start.
 
 ghost use Rattle.std.specs.Prelude.{◌≡◌, ◌≤◌};
 
-/// The least that an actor may weigh at a point of its body.
+/// The least weight of an actor at a point of its body.
 #[derive(Clone, Copy, PartialEq, Eq)]
 pub(crate) struct Weight {
-    /// The weight, where the end of the body weighs as little as it may.
+    /// The weight if the end of the body has its least weight.
     pub(crate) number: u64,
-    /// How much more the end of the body may weigh without making this heavier.
+    /// The amount by which the end of the body can be heavier without changing this weight.
     pub(crate) slack: u64,
 }
 
 impl Weight {
-    /// At the end of a body.
+    /// Creates the weight at the end of a body.
     pub(crate) fn at_end(number: u64) -> Weight
         ensures { result.number ≡ number }
     {
         Weight { number, slack: 0 }
     }
 
-    /// The same, but not below what is needed.
+    /// Returns the weight raised to at least `need`.
     pub(crate) fn at_least(self, need: u64) -> Weight
         ensures { need ≤ result.number }
     {
@@ -30,7 +30,7 @@ impl Weight {
         }
     }
 
-    /// More by the weight of a job that is submitted.
+    /// Adds the weight of a submitted job.
     pub(crate) fn plus(self, job: u64) -> Weight
         ensures { self.number ≤ result.number }
     {
@@ -40,7 +40,7 @@ impl Weight {
         }
     }
 
-    /// Less by what is given back, but not below 0.
+    /// Subtracts returned weight, but does not go below 0.
     pub(crate) fn less(self, back: u64) -> Weight
         ensures { result.number ≤ self.number }
     {
