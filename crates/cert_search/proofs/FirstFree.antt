@@ -1,4 +1,4 @@
--- The first free pool of a board can be taken.
+-- The first free pool of a board can be claimed.
 use Rattle.std.proofs.Common.{◌≡◌, ℕ, List, Option, Some, None, true, is_some, position, slice_get, refl, sym, ap, ◌∙◌}
 use Rattle.std.proofs.lemmas.Bool.{false≢true}
 use Rattle.std.proofs.lemmas.List.Quantifiers.{position-Some}
@@ -18,7 +18,7 @@ first_is_free spots p is =
     let first = position-Some is_free spots p Free is in
     slice_get-get_or spots p Free first.0 ∙ ap Some (free_alone _ first.1)
 
--- so its claim has a receipt
+-- so its claim gets a receipt
 pub never_refused : {R : Type 0} (spots now : List Spot) (p : ℕ) (receipt : Option R) → now ≡ spots → position is_free spots ≡ Some p
     → is_some receipt ≡ is_some (next_spots now (Claim p)) → receipt ≡ None → ⊥
 never_refused spots now p receipt same is answered none =

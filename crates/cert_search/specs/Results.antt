@@ -1,22 +1,22 @@
--- What the workers of a round owe: one result for each pool that has no rank yet, and no other.
+-- The results of a round: one for each pool without a rank, and no other.
 use Rattle.std.specs.Prelude.{ℕ, Bool, true, false, ◌==◌, ◌&&◌, List, length, count_by, nat_lt}
 use Rattle.std.specs.List.{enumerate_from, list_all}
 use Rattle.cert_search.specs.declared.round.PoolVectors.{PoolVectors}
 
--- how often a pool is to be looked at
+-- the number of results that a pool must have
 abbrev pub wanted : Bool → ℕ
 wanted true = 0
 wanted false = 1
 
--- how many of the results are of pool p
+-- the number of results for pool p
 abbrev pub count_of : List PoolVectors → ℕ → ℕ
 count_of found p = count_by (λ f. f.pool == p) found
 
--- each pool was looked at as often as it was to be
+-- each pool has the right number of results
 abbrev pub each_as_wanted : List Bool → List PoolVectors → Bool
 each_as_wanted has_rank found = list_all (λ entry. count_of found entry.0 == wanted entry.1) (enumerate_from 0 has_rank)
 
--- no result is of a pool that there is not
+-- every result is for a pool of the plan
 abbrev pub all_exist : ℕ → List PoolVectors → Bool
 all_exist pools found = list_all (λ f. nat_lt f.pool pools) found
 

@@ -1,4 +1,4 @@
-//! The board of one round, on which workers take the pools that they look at.
+//! The board of one round, from which workers claim pools.
 
 ghost use Rattle.std.specs.Prelude.{◌≡◌, ◌++◌, ◌∷◌, [], List, true, false, Some, None, IfOk, IfSome, OnErr, IsTrue, is_some, position, slice_get};
 ghost use Rattle.std.specs.List.{list_all};
@@ -11,34 +11,34 @@ use held_machines::{Held, Machine};
 use std::alloc::{AllocError, Global};
 use std::marker::Model;
 
-/// Where a pool stands on the board.
+/// The state of a pool on the board.
 #[derive(Clone, Copy, PartialEq, Eq)]
 pub(crate) enum Spot {
-    /// Nobody has looked at it.
+    /// A pool that no worker has claimed.
     Free,
-    /// A worker looks at it.
+    /// A pool that a worker is looking at.
     Taken,
-    /// It was looked at, in this round or in an earlier one.
+    /// A pool that was looked at, in this round or an earlier one.
     Done,
 }
 
-/// What a worker does at the board.
+/// An action of a worker at the board.
 #[derive(Clone, Copy, PartialEq, Eq)]
 pub(crate) enum BoardEvent {
-    /// Takes a free pool.
+    /// Claims a free pool.
     Claim(usize),
-    /// Gives back a pool that was taken.
+    /// Returns a pool that was claimed.
     Return(usize),
 }
 
-/// Where a pool stands at the start of a round.
+/// Returns the state of a pool at the start of a round.
 fn first_spot(has_rank: bool) -> Spot
     ensures { result ≡ spec.first_spot has_rank }
 {
     if has_rank { Spot::Done } else { Spot::Free }
 }
 
-/// Whether nobody has looked at a pool that stands there.
+/// Returns whether a pool in this state is free.
 fn is_free(spot: Spot) -> bool
     ensures { result ≡ spec.is_free spot }
 {
@@ -48,7 +48,7 @@ fn is_free(spot: Spot) -> bool
     }
 }
 
-/// Whether a pool that stands there was looked at.
+/// Returns whether a pool in this state was looked at.
 fn is_done(spot: Spot) -> bool
     ensures { result ≡ spec.is_done spot }
 {
@@ -58,7 +58,7 @@ fn is_done(spot: Spot) -> bool
     }
 }
 
-/// Where each pool stands.
+/// The state of each pool.
 #[derive(Drop)]
 pub(crate) struct Spots {
     spots: Vec<Spot>,
@@ -74,21 +74,21 @@ impl Model for Spots {
 }
 
 impl Spots {
-    /// The first pool that is free.
+    /// Returns the first free pool.
     fn first_free(&self) -> Option<usize>
         ensures { result ≡ position spec.is_free self.now }
     {
         self.spots.iter().position(|spot| is_free(*spot))
     }
 
-    /// Whether each pool was looked at.
+    /// Returns whether every pool was looked at.
     pub(crate) fn are_done(&self) -> bool
         ensures { result ≡ list_all spec.is_done self.now }
     {
         self.spots.iter().all(|spot| is_done(*spot))
     }
 
-    /// Takes the pool, if it is free.
+    /// Claims the pool if it is free.
     fn claim(&mut self, pool: usize) -> bool
         ensures taken { IsTrue result
             → spec.claimed self.old pool (slice_get self.old pool) ≡ Some self.new }
@@ -105,7 +105,7 @@ impl Spots {
         }
     }
 
-    /// Gives the pool back, if it was taken.
+    /// Returns the pool to the board if it was claimed.
     fn give_back(&mut self, pool: usize) -> bool
         ensures given { IsTrue result
             → spec.returned self.old pool (slice_get self.old pool) ≡ Some self.new }
@@ -123,7 +123,7 @@ impl Spots {
     }
 }
 
-/// The board of a round, in which each pool that has no rank yet is to be looked at once.
+/// The board of a round, in which each pool without a rank is looked at once.
 #[derive(Drop)]
 pub(crate) struct Board {
     /// Whether each pool has a rank from an earlier round.
@@ -163,11 +163,11 @@ impl Machine for Board {
     }
 }
 
-/// Takes the first pool that is free; None where none is.
+/// Claims the first free pool. Returns `None` if there is none.
 ///
 /// # Errors
 ///
-/// [`AllocError`] where memory runs out. Nothing is taken then.
+/// [`AllocError`] if memory runs out. Nothing is claimed then.
 pub(crate) fn claim(board: &mut Held<Board>) -> Result<Option<usize>, AllocError>
     ensures pool { IfOk result (λ taken. taken ≡ position spec.is_free board.old.state) }
     ensures taken { IfOk result (λ taken.
@@ -184,11 +184,12 @@ pub(crate) fn claim(board: &mut Held<Board>) -> Result<Option<usize>, AllocError
     }
 }
 
-/// Gives back a pool, and says whether it was taken. A pool that was not stays as it is.
+/// Returns a pool to the board, and returns whether it was claimed. A pool that was not claimed is
+/// unchanged.
 ///
 /// # Errors
 ///
-/// [`AllocError`] where memory runs out. Nothing is given back then.
+/// [`AllocError`] if memory runs out. The pool stays claimed then.
 pub(crate) fn give_back(board: &mut Held<Board>, pool: usize) -> Result<bool, AllocError>
     ensures possible { IfOk result (λ given. (spots : List Spot) → spec.LeadsTo board.old.machine.has_rank.items board.old.history spots
         → given ≡ is_some (spec.next_spots spots (event.Return pool))) }

@@ -1,4 +1,4 @@
-//! A certificate of which more is known after each round.
+//! A certificate that is completed round by round.
 
 use crate::round::PoolVectors;
 use certificates::{Cert, PoolCert};
@@ -8,7 +8,7 @@ use pool_ranks::Ranks;
 use std::alloc::{AllocError, Global};
 use weights::{Bound, Vector};
 
-/// What is known of one pool.
+/// The known parts of one pool's certificate.
 #[derive(Drop)]
 struct PoolDraft {
     rank: Option<u64>,
@@ -16,14 +16,14 @@ struct PoolDraft {
     blocked: Option<Vector>,
 }
 
-/// What is known of each pool, in plan order.
+/// The known parts of each pool's certificate, in plan order.
 #[derive(Drop)]
 pub(crate) struct Draft {
     pools: Vec<PoolDraft>,
 }
 
 impl Draft {
-    /// Nothing is known of any pool of the plan.
+    /// Creates a draft in which nothing is known.
     pub(crate) fn of(alloc: Global, plan: &Plan) -> Result<Draft, AllocError> {
         let mut pools = Vec::with_capacity(alloc, plan.pools().len())?;
         for _ in plan.pools() {
@@ -36,12 +36,12 @@ impl Draft {
         Ok(Draft { pools })
     }
 
-    /// How many pools have no rank yet.
+    /// Returns how many pools have no rank yet.
     pub(crate) fn unranked(&self) -> usize {
         self.pools.iter().filter(|pool| pool.rank.is_none()).count()
     }
 
-    /// Whether each pool has a rank.
+    /// Returns whether each pool has a rank.
     pub(crate) fn has_rank(&self, alloc: Global) -> Result<Vec<bool>, AllocError> {
         self.pools
             .iter()
@@ -49,7 +49,7 @@ impl Draft {
             .collect(alloc)
     }
 
-    /// The rank of each pool, and this one for a pool that has none yet.
+    /// Returns the rank of each pool, and `rank` for a pool that has none yet.
     pub(crate) fn ranks_or(&self, alloc: Global, rank: u64) -> Result<Vec<u64>, AllocError> {
         self.pools
             .iter()
@@ -57,8 +57,8 @@ impl Draft {
             .collect(alloc)
     }
 
-    /// Notes what was found in a round, and gives its rank to each pool whose blocked vector was found. False where no pool
-    /// gets it, or the first round found no bound for a pool.
+    /// Records the results of a round, and gives its rank to each pool with a blocked vector.
+    /// Returns `false` if no pool gets the rank, or if the first round found no bound for a pool.
     pub(crate) fn note(&mut self, found: Vec<PoolVectors>, rank: u64) -> bool {
         let mut moved = false;
         let mut bounded = true;
@@ -83,7 +83,7 @@ impl Draft {
         moved && bounded
     }
 
-    /// The certificate, if both vectors of each pool are known.
+    /// Returns the certificate, if both vectors of each pool are known.
     pub(crate) fn into_cert(
         self,
         alloc: Global,

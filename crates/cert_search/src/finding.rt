@@ -18,16 +18,16 @@ use std::alloc::{AllocError, Global};
 use std::sync::Wait;
 use std::thread::Threads;
 
-/// Why a search came to no answer.
+/// An error of a search.
 #[derive(Clone, Copy, Debug, PartialEq, Eq)]
 pub enum SearchFault {
     /// Memory ran out, or a thread could not be started.
     Memory,
-    /// In a round a worker took a pool that the plan does not have or gave back one that was not taken, a pool was left on
-    /// the board, or the results are not one for each pool that was to be looked at. No proof knows what workers do under
-    /// a lock, so it is looked for.
+    /// In a round a worker claimed a pool that the plan does not have or returned one that was not
+    /// claimed, a pool was left on the board, or the results are not one for each pool without a
+    /// rank. No proof covers what threads do under a lock, so this is checked at run time.
     Mixed,
-    /// The gate said no to a pool.
+    /// The gate rejected a pool.
     Gate,
 }
 
@@ -39,19 +39,23 @@ impl From<AllocError> for SearchFault {
     }
 }
 
-/// Looks for a certificate of the plan with so many workers, from 1 to 64. Where the rounds find none, it is the steady one, if
-/// that accepts the plan as it is. So None says that this one does not: with sizes that are large enough for it, a plan has a
-/// certificate exactly where it has none of the causes of [`size_causes`]. With smaller ones a plan that is safe may get None.
-/// That the number of workers does not change which certificate is found is shown by tests alone.
+/// Searches for a certificate of the plan with `workers` workers, 1 to 64. If the rounds find none,
+/// it returns the steady certificate if that accepts the plan as it is. So `None` means that the
+/// steady certificate does not accept the plan. With sizes that are large enough for it, a plan has
+/// a certificate exactly when it has none of the causes of [`size_causes`]. With smaller sizes, the
+/// result can be `None` for a safe plan. Tests, and no proof, show that the number of workers does
+/// not change the certificate.
 ///
-/// In each round the workers look at the pools that have no rank yet. A pool whose blocked vector is found gets the round's
-/// number as its rank; in the next round gets are not counted that wait for pools with a rank. A pool whose jobs count the
-/// same gets as in the round before has no blocked vector now either.
+/// In each round the workers look at the pools that have no rank yet. A pool whose blocked vector
+/// is found gets the round's number as its rank. In the next round, gets that wait for pools with a
+/// rank are not counted. A pool whose jobs count the same gets as in the round before has no
+/// blocked vector in this round either.
 ///
 /// # Errors
 ///
-/// [`SearchFault::Memory`] where memory runs out or a thread cannot be started, [`SearchFault::Gate`] where the gate says
-/// no to a pool, and [`SearchFault::Mixed`] where the results of the workers are not as its text says.
+/// [`SearchFault::Memory`] if memory runs out or a thread cannot be started, [`SearchFault::Gate`]
+/// if the gate rejects a pool, and [`SearchFault::Mixed`] if the results of the workers are
+/// inconsistent.
 pub fn search<R: Threads + Wait + Sync, G: PoolGate>(
     rt: &R,
     alloc: Global,
@@ -65,7 +69,7 @@ pub fn search<R: Threads + Wait + Sync, G: PoolGate>(
         (λ found. IfSome found (λ cert. IsTrue (accepted plan.now cert))) }
     ensures steady { IfOk result
         (λ found. IfNone found (accepted plan.now (steady_cert plan.now) ≡ false)) }
-    // Mixed and Gate come only where there is a pool to look at.
+    // Mixed and Gate occur only if there is a pool to look at.
     ensures fault { IfErr result (λ fault. fault ≢ Memory → 0 < length plan.now.pools) }
 {
     if let Some(cert) = looked_for(rt, alloc, plan, workers, gate)? {
@@ -76,7 +80,7 @@ pub fn search<R: Threads + Wait + Sync, G: PoolGate>(
     Ok(steady_where_accepted(alloc, plan)?)
 }
 
-/// What the rounds find, which nobody has tested.
+/// Returns the result of the rounds, which has not been checked.
 fn looked_for<R: Threads + Wait + Sync, G: PoolGate>(
     rt: &R,
     alloc: Global,

@@ -1,6 +1,7 @@
-//! Looks for a certificate of a plan, on workers.
+//! The search for a certificate of a plan, on several threads.
 //!
-//! Nothing that was looked for is trusted: what [`search`] answers went through [`cert_check::accepts`].
+//! The result of the heuristic search is not trusted: what [`search`] returns went through
+//! [`cert_check::accepts`].
 #![tactic(auto)]
 
 mod board;

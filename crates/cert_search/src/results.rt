@@ -1,4 +1,4 @@
-//! What the workers of a round owe: one result for each pool that has no rank yet, and no other.
+//! The check of a round's results: one for each pool without a rank, and no other.
 
 ghost use Rattle.std.specs.Prelude.{◌≡◌, false, IfErr, IfOk, IsTrue};
 ghost use Rattle.cert_search.specs.declared.finding.SearchFault.TheVariants.{Mixed};
@@ -7,11 +7,11 @@ ghost use Rattle.cert_search.specs.Results as spec;
 use crate::SearchFault;
 use crate::round::PoolVectors;
 
-/// The results, if they are one for each pool that has no rank yet, and no other.
+/// Returns the results, if there is one for each pool without a rank, and no other.
 ///
 /// # Errors
 ///
-/// [`SearchFault::Mixed`] just where they are not.
+/// [`SearchFault::Mixed`] exactly if that does not hold.
 pub(crate) fn complete(
     has_rank: &[bool],
     found: Vec<PoolVectors>,
@@ -34,28 +34,28 @@ fn are_complete(has_rank: &[bool], found: &[PoolVectors]) -> bool
     each_as_wanted(has_rank, found) && all_exist(has_rank.len(), found)
 }
 
-/// Whether each pool was looked at as often as it was to be.
+/// Returns whether each pool has the right number of results.
 fn each_as_wanted(has_rank: &[bool], found: &[PoolVectors]) -> bool
     ensures { result ≡ spec.each_as_wanted has_rank.now found.now }
 {
     has_rank.iter().enumerate().all(|(pool, has_rank)| count_of(found, pool) == wanted(*has_rank))
 }
 
-/// How many of the results are of the pool.
+/// Returns how many of the results are for the pool.
 fn count_of(found: &[PoolVectors], pool: usize) -> usize
     ensures { result ≡ spec.count_of found.now pool }
 {
     found.iter().filter(|found| found.pool == pool).count()
 }
 
-/// How often a pool is to be looked at: a pool that has a rank not at all.
+/// Returns how many results a pool must have: none if it has a rank.
 fn wanted(has_rank: bool) -> usize
     ensures { result ≡ spec.wanted has_rank }
 {
     if has_rank { 0 } else { 1 }
 }
 
-/// Whether no result is of a pool past the last.
+/// Returns whether every result is for a pool of the plan.
 fn all_exist(pools: usize, found: &[PoolVectors]) -> bool
     ensures { result ≡ spec.all_exist pools found.now }
 {

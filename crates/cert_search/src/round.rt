@@ -1,4 +1,4 @@
-//! One round of the search, in which a worker looks at one pool after another.
+//! One round of the search, in which each worker looks at pools in turn.
 
 ghost use Rattle.std.specs.Prelude.{◌≡◌, ◌≢◌, ◌<◌, ◌≤◌, IfErr, IfOk, length};
 ghost use Rattle.cert_search.specs.declared.finding.SearchFault.TheVariants.{Memory, Mixed};
@@ -14,31 +14,32 @@ use std::sync::Wait;
 use std::sync::atomic::{AtomicBool, Ordering};
 use weights::{Bound, Vector, class_got};
 
-/// What all workers of a round know.
+/// The data that all workers of a round share.
 #[derive(Clone, Copy)]
 pub(crate) struct Round<'a> {
     pub(crate) plan: &'a Plan,
     pub(crate) levels: &'a Levels,
-    /// How high each class reaches, where a pool without a rank gets the rank of this round.
+    /// The reach of each class if the pools without a rank get the rank of this round.
     pub(crate) reach: &'a [u64],
-    /// The same in the round before. The first round has none, and nothing stands here.
+    /// The reach of each class in the round before. It is empty in the first round.
     pub(crate) reach_before: &'a [u64],
     /// The rank that pools get in this round, which is its number.
     pub(crate) rank: u64,
 }
 
-/// What was found for a pool in a round.
+/// The vectors that were found for a pool in a round.
 #[derive(Drop)]
 pub(crate) struct PoolVectors {
     pub(crate) pool: usize,
-    /// The bound of its queue, which only the first round looks for.
+    /// The bound of its queue, which only the first round searches for.
     pub(crate) bound: Option<Bound>,
     pub(crate) blocked: Option<Vector>,
 }
 
 impl Round<'_> {
-    /// Looks at a pool. Where its jobs count the same gets as in the round before, in which no blocked vector of it was found,
-    /// none is looked for again. [`SearchFault::Mixed`] is a pool that the plan does not have.
+    /// Searches for the vectors of a pool. If its jobs count the same gets as in the round before,
+    /// which found no blocked vector, none is searched for again. Fails with [`SearchFault::Mixed`]
+    /// if the plan does not have the pool.
     fn look_at(&self, alloc: Global, pool: usize) -> Result<PoolVectors, SearchFault>
         ensures named { IfOk result (λ found. found.pool ≡ pool) }
         ensures exists { IfOk result (λ _. pool < length self.now.plan.now.pools) }
@@ -66,7 +67,8 @@ impl Round<'_> {
         })
     }
 
-    /// Whether the jobs of a pool without a rank count the same gets as in the round before. In the first round they do not.
+    /// Returns whether the jobs of a pool without a rank count the same gets as in the round
+    /// before. In the first round the result is `false`.
     fn counts_as_before(&self, pool: usize) -> bool {
         if self.rank == 0 {
             return false;
@@ -79,7 +81,8 @@ impl Round<'_> {
         true
     }
 
-    /// Whether of a job of such a pool with this body the same gets count as in the round before.
+    /// Returns whether a job with this body, of a pool without a rank, counts the same gets as in
+    /// the round before.
     fn has_gets_as_before(&self, body: &[Action]) -> bool {
         let rank_before = self.rank.saturating_sub(1);
         for action in body {
@@ -94,8 +97,9 @@ impl Round<'_> {
         true
     }
 
-    /// Takes a pool from the board, asks the gate, looks at the pool and gives it back, until no pool is free or the round
-    /// is to stop. The board is let go while the gate is asked and the pool is looked at.
+    /// Claims a pool from the board, asks the gate, looks at the pool and returns it, until no pool
+    /// is free or the round must stop. The board is unlocked while the gate is asked and the pool
+    /// is looked at.
     fn look_at_free<R: Wait, G: PoolGate>(
         &self,
         rt: &R,
@@ -126,7 +130,7 @@ impl Round<'_> {
         Ok(found)
     }
 
-    /// What one worker does in the round. Where it meets a fault, the others stop.
+    /// Runs one worker in the round. If it fails, it stops the others.
     pub(crate) fn work<R: Wait, G: PoolGate>(
         &self,
         rt: &R,
@@ -143,7 +147,7 @@ impl Round<'_> {
     }
 }
 
-/// Whether the class reaches the rank.
+/// Returns whether the class reaches the rank.
 fn reaches(reach: &[u64], class: usize, rank: u64) -> bool {
     reach.get(class).copied().unwrap_or(0) >= rank
 }

@@ -1,4 +1,4 @@
-//! What is tried where the rounds find nothing.
+//! The fallback if the rounds find nothing.
 
 ghost use Rattle.std.specs.Prelude.{◌≡◌, false, IfOk, IfSome, IfNone, IsTrue};
 ghost use Rattle.job_bodies.specs.WellFormed.{IsWellFormed};
@@ -13,7 +13,8 @@ use size_causes::cause_of;
 use std::alloc::{AllocError, Global};
 use steady_certificates::steady;
 
-/// The steady certificate of the plan, where it accepts the plan as it is. Where a cause against all sizes holds, none does.
+/// Returns the steady certificate of the plan, if it accepts the plan as it is. If a cause against
+/// all sizes holds, no certificate does.
 pub(crate) fn steady_where_accepted(alloc: Global, plan: &Plan) -> Result<Option<Cert>, AllocError>
     ensures accepted { IfOk result
         (λ found. IfSome found (λ cert. IsTrue (accepted plan.now cert))) }
@@ -26,7 +27,7 @@ pub(crate) fn steady_where_accepted(alloc: Global, plan: &Plan) -> Result<Option
     }
 }
 
-/// The same of a plan in which no class submits itself.
+/// Returns the same for a plan in which no class submits itself.
 fn without_circle(alloc: Global, plan: &Plan) -> Result<Option<Cert>, AllocError>
     requires free { NoCircle plan.now }
     requires well_formed { IsWellFormed plan.now }
@@ -41,7 +42,7 @@ fn without_circle(alloc: Global, plan: &Plan) -> Result<Option<Cert>, AllocError
     }
 }
 
-/// The certificate, where it accepts the plan.
+/// Returns the certificate, if it accepts the plan.
 pub(crate) fn where_accepted(plan: &Plan, cert: Cert) -> Option<Cert>
     ensures accepted { IfSome result (λ cert. IsTrue (accepted plan.now cert)) }
     ensures none { IfNone result (accepted plan.now cert ≡ false) }

@@ -15,13 +15,14 @@ use std::sync::atomic::{AtomicBool, Ordering};
 use std::thread;
 use std::thread::{JoinHandle, Threads};
 
-/// Looks at each pool that has no rank yet with so many workers, of which the calling thread is one, and gives what they found,
-/// in no order.
+/// Looks at each pool without a rank with `workers` workers, including the calling thread. Returns
+/// what they found, in no particular order.
 ///
 /// # Errors
 ///
-/// [`SearchFault::Memory`] where memory runs out or a thread cannot be started, [`SearchFault::Gate`] where the gate says no
-/// to a pool, and [`SearchFault::Mixed`] where the results are not as its text says. All threads have ended then.
+/// [`SearchFault::Memory`] if memory runs out or a thread cannot be started, [`SearchFault::Gate`]
+/// if the gate rejects a pool, and [`SearchFault::Mixed`] if the results are inconsistent. All
+/// threads have ended in each case.
 pub(crate) fn look_at_all<R: Threads + Wait + Sync, G: PoolGate>(
     rt: &R,
     alloc: Global,
@@ -71,7 +72,8 @@ pub(crate) fn look_at_all<R: Threads + Wait + Sync, G: PoolGate>(
     }
 }
 
-/// Waits for each other worker, and puts together what all found. The first one that met a fault tells it.
+/// Joins the other workers and combines all results. Returns the fault of the first worker that
+/// failed.
 fn join_all<R: Threads>(
     rt: &R,
     own: Result<Vec<PoolVectors>, SearchFault>,
@@ -84,7 +86,7 @@ fn join_all<R: Threads>(
     all
 }
 
-/// What two workers found, or the fault that one of them met.
+/// Combines the results of two workers, or returns the fault of one of them.
 fn both(
     first: Result<Vec<PoolVectors>, SearchFault>,
     second: Result<Vec<PoolVectors>, SearchFault>,
