@@ -1,4 +1,4 @@
-//! `sizing`: what the bounded thread pools of a plan do.
+//! `sizing`: finds out whether the thread pools of a plan can refuse a task or starve.
 #![tactic(auto)]
 
 use clap::error::ErrorKind;
@@ -10,7 +10,7 @@ use std::alloc::AllocError;
 use std::process::ExitCode;
 use std::{env, io};
 
-/// The exit status of words that are no text.
+/// The exit status for arguments that are not UTF-8.
 const USAGE: u8 = 2;
 
 fn main(rt: HostRuntime) -> ExitCode {
@@ -33,7 +33,7 @@ fn main(rt: HostRuntime) -> ExitCode {
     }
 }
 
-/// The words of the command line.
+/// Returns the arguments of the command line.
 fn words_of(rt: &HostRuntime) -> io::Result<Vec<String>> {
     let mut words: Vec<String> = Vec::new(rt.alloc());
     for word in env::args(rt)? {
@@ -42,7 +42,7 @@ fn words_of(rt: &HostRuntime) -> io::Result<Vec<String>> {
     Ok(words)
 }
 
-/// The exit status where the words themselves could not be had.
+/// Reports that the arguments could not be read, and returns the exit status.
 fn unread_words(rt: &impl Eprint, kind: io::ErrorKind) -> ExitCode {
     if kind == io::ErrorKind::OutOfMemory {
         return ended(rt, &WordsFault::from(AllocError));
@@ -51,7 +51,8 @@ fn unread_words(rt: &impl Eprint, kind: io::ErrorKind) -> ExitCode {
     ExitCode::from(USAGE)
 }
 
-/// The exit status of a fault, which is told. Where standard error fails too, the status tells it alone.
+/// Reports an error and returns its exit status. If standard error fails too, only the status
+/// reports it.
 fn ended(rt: &impl Eprint, fault: &WordsFault<'_>) -> ExitCode {
     let _ = tell(rt, fault);
     ExitCode::from(fault.code())
