@@ -1,5 +1,6 @@
-//! `plan_reader`: reads the text of a plan, or only its TOML, or only the TOML and JSON of a plan and a certificate.
-//! `bench/read.py` times the first beside the second, and `bench/check.py` times `sizing` beside the third.
+//! `plan_reader`: parses the text of a plan, or only its TOML, or only the TOML and JSON of a plan
+//! and a certificate. `bench/read.py` compares the times of the first two, and `bench/check.py`
+//! compares `sizing` with the third.
 #![tactic(auto)]
 
 ghost use Rattle.std.specs.Prelude.{◌≡◌, ◌≢◌, IsOk, OnOk, IfErr, Err};
@@ -17,7 +18,8 @@ use serde_json::Value;
 use std::alloc::Global;
 use std::{env, io};
 
-/// Reads standard input to its end, and prints `ok` or the first fault of what the word of the command line names.
+/// Reads standard input to its end and parses it as the argument says. Prints `ok` or the first
+/// fault.
 fn main(rt: HostRuntime) -> Result<()> {
     let Some(word) = env::args(&rt)?.nth(1) else {
         bail!("usage: plan_reader plan|toml|texts");
@@ -36,7 +38,7 @@ fn main(rt: HostRuntime) -> Result<()> {
     Ok(())
 }
 
-/// Reads the text as a plan, and lets the plan go.
+/// Parses the text as a plan and drops the plan.
 fn as_plan(alloc: Global, text: &str) -> Result<(), PlanFault>
     ensures ok { OnOk result (IsOk (plan_of text.now)) }
     ensures fault { IfErr result (λ fault. fault ≢ at_text MEMORY → plan_of text.now ≡ Err fault) }
@@ -45,7 +47,7 @@ fn as_plan(alloc: Global, text: &str) -> Result<(), PlanFault>
     Ok(())
 }
 
-/// Reads the text as TOML alone, and lets the table go.
+/// Parses the text as TOML only and drops the table.
 fn as_toml(alloc: Global, text: &str) -> Result<(), PlanFault>
     ensures ok { OnOk result (IsOk (table_of text.now)) }
     ensures fault { IfErr result (λ fault. fault ≢ at_text MEMORY → table_of text.now ≡ Err fault) }
@@ -59,7 +61,7 @@ fn as_toml(alloc: Global, text: &str) -> Result<(), PlanFault>
     }
 }
 
-/// Reads what stands before the last line `%%` as TOML alone, and what stands behind it as JSON alone.
+/// Parses the text before the last line `%%` as TOML and the text after it as JSON.
 fn as_texts(alloc: Global, text: &str) -> Result<(), PlanFault> {
     let Some((plan, cert)) = text.rsplit_once("%%\n") else {
         return Err(PlanFault::at_text(NO_SEPARATOR));
@@ -68,7 +70,7 @@ fn as_texts(alloc: Global, text: &str) -> Result<(), PlanFault> {
     as_json(alloc, cert)
 }
 
-/// Reads the text as JSON alone, and lets the value go.
+/// Parses the text as JSON only and drops the value.
 fn as_json(alloc: Global, text: &str) -> Result<(), PlanFault>
     ensures ok { OnOk result (IsOk (some_or (read text.now) (at_text NOT_JSON))) }
     ensures fault { IfErr result
