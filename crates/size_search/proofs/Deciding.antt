@@ -1,4 +1,4 @@
--- What was found decides whether there are sizes.
+-- The result of the search decides whether there are sizes.
 use Rattle.std.proofs.Common.{◌≡◌, ◌≤◌, subst, arith, inl, inr}
 use Rattle.std.specs.Prelude.{IsTrue}
 use Rattle.std.proofs.lemmas.Bool.{cases_lt}
@@ -30,17 +30,17 @@ sizes_where_sized plan fit cert sized = record {
   accepts = sized.fits.accepts;
 }
 
--- where sizes were found
+-- if sizes were found
 pub decided_where_sized : (plan fit : Plan) (cert : Cert) → IsSized plan cert fit → IsDecided plan (Found fit cert)
 decided_where_sized plan fit cert sized = let sizes = sizes_where_sized plan fit cert sized in (sizes, free_where_sizes plan sizes)
 
--- where none were found of a plan without a cause
+-- if none were found for a plan without a cause
 pub decided_without_cause : (plan : Plan) (found : SizesFound) → IsWithoutCause plan → IsFound plan found → IsDecided plan found
 decided_without_cause plan (Found fit cert) free sized = decided_where_sized plan fit cert sized
 decided_without_cause plan (NotFound (Cause cause)) free holds = beyond plan cause holds
 decided_without_cause plan (NotFound (TooLarge p)) free large = (free, large.1)
 
--- ---- the steady certificate is fitted, but where its total leaves no room
+-- ---- the steady certificate is fitted, unless its total leaves no room
 
 pub too_high_where_not_wide : (plan : Plan) (cert : Cert) → IsWellFormed plan → IsWithoutCause plan → IsTrue (has_small_numbers (steady_vector plan)) → cert ≡ steady_cert plan → NoneFitsWide plan cert → MAX_SIZE ≤ steady_total plan
 too_high_where_not_wide plan cert well free small is none =

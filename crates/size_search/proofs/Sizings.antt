@@ -1,4 +1,4 @@
--- A widened plan, fitted, is the plan with the least sizes for a certificate.
+-- A widened and fitted plan is the plan with the least sizes for a certificate.
 use Rattle.std.proofs.Common.{◌≡◌, ◌≤◌, ◌<◌, ℕ, inl, inr, List, length, refl, ap, sym, ◌∙◌, arith}
 use Rattle.std.specs.Prelude.{IsTrue}
 use Rattle.std.proofs.lemmas.Bool.{cases_lt}
@@ -31,14 +31,14 @@ pool_at-without_maxes plan p = get_or-changed maxless plan.pools p no_pool
 wider_pool : (plan wide : Plan) (p : ℕ) → IsWider plan wide → maxless (pool_at wide p) ≡ maxless (pool_at plan p)
 wider_pool plan wide p wider = sym (pool_at-without_maxes wide p) ∙ (ap (λ (any : Plan). pool_at any p) wider.same_but_maxes ∙ pool_at-without_maxes plan p)
 
--- a plan that is no smaller is no smaller than a wider one
+-- a plan that is no smaller than the declared one is no smaller than a wider one
 no_smaller_than_wider : (plan wide other : Plan) → IsWider plan wide → IsNoSmaller other plan → IsNoSmaller other wide
 no_smaller_than_wider plan wide other wider larger = record {
   core = λ p. omega (arith, larger.core p, ap (λ (pool : Pool). pool.core) (wider_pool plan wide p wider));
   queue = λ p. omega (arith, larger.queue p, ap (λ (pool : Pool). pool.queue) (wider_pool plan wide p wider));
 }
 
--- what is widened again
+-- a plan that is widened twice
 pub widened_again : (plan wide wider : Plan) (cert : Cert) → IsLeastWide plan cert wide → IsLeastWide wide cert wider → IsLeastWide plan cert wider
 widened_again plan wide wider cert first second = record {
   wider = record {
@@ -59,7 +59,7 @@ widened_again plan wide wider cert first second = record {
 
 -- ---- sizes
 
--- what is fitted to a plan that was widened
+-- the plan fitted to a widened plan
 pub sized_where_fitted : (plan wide fit : Plan) (cert : Cert) → IsLeastWide plan cert wide → IsLeastFit wide cert fit → HasLeastCores wide cert fit → IsSized plan cert fit
 sized_where_fitted plan wide fit cert widest found cores = record {
   fits = record {

@@ -1,4 +1,4 @@
--- What the search for sizes decides: sizes exist exactly where no cause holds, but that the steady certificate may be too large.
+-- The search for sizes is a decision: sizes exist exactly if no cause holds, unless the steady certificate is too large.
 use Rattle.job_bodies.specs.Plan.{Plan}
 use Rattle.steady_certificates.specs.Submitted.{IsWithoutCause}
 use Rattle.beyond_sizes.specs.NoSizesHelp.{IsBeyondSizes, HasSizes}

@@ -13,10 +13,10 @@ use Rattle.size_search.specs.declared.found.NoSizes.TheVariants.{Cause, TooLarge
 use Rattle.size_search.specs.declared.found.SizesFound.{SizesFound}
 use Rattle.size_search.specs.declared.found.SizesFound.TheVariants.{Found, NotFound}
 
--- The certificate accepts the plan of these sizes, which differs from the plan in larger sizes alone. Of all such plans that the
--- certificate accepts, none has a smaller max or a smaller core, and of those with these maxes none has a smaller queue. With
--- larger maxes a smaller queue may do: in a lifetime bound the threads beyond the first workers take jobs too. A max that grows
--- is its core.
+-- The certificate accepts the plan with these sizes, which differs from the plan only in larger sizes. Among all such plans
+-- that the certificate accepts, none has a smaller max or a smaller core, and among those with these maxes none has a
+-- smaller queue. With larger maxes a smaller queue can be enough: in a lifetime bound, the threads beyond the first workers
+-- take jobs too. A max that grows equals its core.
 pub record IsSized (plan : Plan) (cert : Cert) (fit : Plan) : Type 0 where
   pub fits : IsWideFit plan cert fit
   pub no_smaller : IsNoSmaller fit plan
@@ -29,8 +29,8 @@ pub record IsSized (plan : Plan) (cert : Cert) (fit : Plan) : Type 0 where
 abbrev pub IsTooLarge : Plan → Type 0
 IsTooLarge plan = (has_small_numbers (steady_vector plan) ≡ false) ⊎ (MAX_SIZE ≤ steady_total plan)
 
--- where sizes were found it is so of them; else a cause against all sizes holds, or a pool is told, and the steady certificate
--- is too large
+-- the result is true of the plan: sizes have these properties; or a cause against all sizes holds; or a pool is named and
+-- the steady certificate is too large
 abbrev pub IsFound : Plan → SizesFound → Type 0
 IsFound plan (Found fit cert) = IsSized plan cert fit
 IsFound plan (NotFound (Cause cause)) = IsCause plan cause

@@ -10,20 +10,21 @@ use certificates::Cert;
 use job_bodies::Plan;
 use std::alloc::Global;
 
-/// A certificate, and what it needs.
+/// A certificate, and the sizes that it needs.
 #[derive(Drop)]
 pub(crate) struct Attempt {
     pub(crate) cert: Cert,
-    /// The core and the maximum that each pool needs.
+    /// The core and maximum that each pool needs.
     pub(crate) threads: Vec<PoolThreads>,
-    /// By how much the plan's sizes have to grow, all together.
+    /// The sum of all increases of the plan's sizes.
     pub(crate) cost: u64,
-    /// The most pools that there were to choose from in a round where none had core enough, before rounds began again.
+    /// The largest number of pools to choose from in a round in which no pool had a large enough
+    /// core, not counting repeated rounds.
     pub(crate) choices: usize,
 }
 
-/// Looks for a certificate from these cores and maximums on. Where no pool has core enough for the first time, so many that
-/// lack less are passed over.
+/// Searches for a certificate, starting with these cores and maximums. In the first round in which
+/// no pool has a large enough core, it skips the `passed_over` pools with the smallest shortfall.
 pub(crate) fn tried(
     alloc: Global,
     known: &mut Remembered,
@@ -43,7 +44,7 @@ pub(crate) fn tried(
     }
 }
 
-/// By how much the sizes of the plan grow, all together.
+/// Returns the sum of all increases of the plan's sizes.
 pub(crate) fn growth(plan: &Plan, fit: &Plan) -> u64 {
     let mut growth = 0u64;
     for (pool, fit) in plan.pools().iter().zip(fit.pools()) {

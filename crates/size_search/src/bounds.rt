@@ -8,8 +8,9 @@ use least_vectors::Kind;
 use std::alloc::Global;
 use weights::Bound;
 
-/// A bound of the pool that misses the least queue, where the pool has these threads and the pools have these maximums: the
-/// standing vector, or else the lifetime one.
+/// Returns the bound of the pool that needs the smaller increase of its queue: the standing vector,
+/// or the lifetime vector if that needs less. `pool_threads` are the threads of this pool, and
+/// `maxes` the maximums of all pools.
 pub(crate) fn bound_of(
     alloc: Global,
     known: &mut Remembered,
@@ -44,7 +45,8 @@ pub(crate) fn bound_of(
     }
 }
 
-/// The queue that the pool needs for so many jobs that are ever made: the threads take as many of them as do not begin idle.
+/// Returns the queue that the pool needs for this number of jobs in its lifetime. The threads take
+/// as many of them as there are threads that do not start idle.
 fn lifetime_queue(pool: &Pool, pool_threads: PoolThreads, jobs: u64) -> u64 {
     let first_workers = if pool.prestart { pool_threads.core } else { 0 };
     jobs.saturating_add(first_workers)

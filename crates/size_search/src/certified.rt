@@ -11,8 +11,8 @@ use pool_ranks::Ranks;
 use std::alloc::{AllocError, Global};
 use weights::Vector;
 
-/// The certificate. Which sizes it needs is found out behind it, from those of the plan on: they may be smaller than the
-/// placing's.
+/// Builds the certificate. The sizes that it needs are computed afterwards from those of the plan,
+/// and can be smaller than those of the placing.
 pub(crate) fn cert_of(
     alloc: Global,
     known: &mut Remembered,
@@ -32,7 +32,7 @@ pub(crate) fn cert_of(
     })
 }
 
-/// The bound and the blocked vector of each pool.
+/// Returns the bound and the blocked vector of each pool.
 fn pool_certs(
     alloc: Global,
     known: &mut Remembered,
@@ -56,8 +56,9 @@ fn pool_certs(
     Ok(pools)
 }
 
-/// The blocked vector that was found for a pool of this rank. How high the classes reach now counts the same gets as in the
-/// round in which the pool got its rank: pools that had none then have no lower one now.
+/// Returns the blocked vector that was found for a pool of this rank. The reach of the classes
+/// counts the same gets as in the round in which the pool got its rank: the pools without a rank at
+/// that time do not have a lower one now.
 fn blocked_of(
     alloc: Global,
     known: &Remembered,

@@ -1,4 +1,4 @@
-//! What a search for sizes comes to.
+//! The results of a search for sizes.
 
 ghost use Rattle.std.specs.Prelude.{◌≡◌, ◌<◌, length};
 
@@ -7,37 +7,38 @@ use job_bodies::Plan;
 use size_causes::Cause;
 use std::alloc::AllocError;
 
-/// What a search for sizes came to.
+/// The result of a search for sizes.
 #[derive(Debug, Drop)]
 pub enum SizesFound {
-    /// The plan with sizes with which the certificate accepts it.
+    /// A plan with new sizes, and a certificate that accepts it.
     Found { plan: Plan, cert: Cert },
-    /// No sizes were found, and why.
+    /// No sizes were found, for this reason.
     NotFound(NoSizes),
 }
 
-/// Why no sizes were found.
+/// The reason why no sizes were found.
 #[derive(Clone, Copy, Debug, PartialEq, Eq)]
 pub enum NoSizes {
-    /// A cause against all sizes, which holds of the plan. It says no more: a plan may be safe for which there is no
-    /// certificate.
+    /// A cause that holds of the plan, and for which no certificate accepts any sizes. The plan can
+    /// still be safe.
     Cause(Cause),
-    /// The first attempt did not get past the pool of this number, and the plan's steady certificate needs sizes above
-    /// 1,000,000, or has a weight above its limit. Other sizes may do.
+    /// The first attempt failed at the pool of this number, and the plan's steady certificate needs
+    /// sizes above 1,000,000 or has a weight above its limit. Other sizes can exist.
     TooLarge(usize),
 }
 
-/// What an attempt did not get past.
+/// The obstacle at which an attempt failed.
 #[derive(Clone, Copy, PartialEq, Eq)]
 pub(crate) enum Obstacle {
     /// A size of the pool of this number.
     Pool(usize),
-    /// Something else.
+    /// Any other obstacle.
     Unknown,
 }
 
 impl Obstacle {
-    /// The pool that is told of it; the first one where it names none. The search is not trusted to name a pool of the plan.
+    /// Returns the pool to report, or the first one if the obstacle names none. The search is not
+    /// trusted to name a pool of the plan.
     pub(crate) fn pool(self, plan: &Plan) -> usize
         requires { 0 < length plan.now.pools }
         ensures { result < length plan.now.pools }
@@ -49,12 +50,12 @@ impl Obstacle {
     }
 }
 
-/// Why an attempt came to nothing.
+/// The reason why an attempt ended without a result.
 #[derive(Drop)]
 pub(crate) enum Halt {
     /// Memory ran out.
     Memory(AllocError),
-    /// There is no certificate that way.
+    /// The attempt found no certificate.
     Obstacle(Obstacle),
 }
 

@@ -1,4 +1,4 @@
-//! Sizes that the search leaves as they are.
+//! Sizes that the search itself does not change again.
 
 ghost use Rattle.std.specs.Prelude.{IfOk};
 ghost use Rattle.steady_certificates.specs.Submitted.{IsWithoutCause};
@@ -15,22 +15,24 @@ use certificates::Cert;
 use job_bodies::Plan;
 use std::alloc::{AllocError, Global};
 
-/// How often it is looked for what sizes that were found lack.
+/// The maximum number of refinement rounds.
 const MAX_TURNS: usize = 4;
 
-/// What the search finds for sizes that it has found.
+/// The result of a search that starts with sizes that were found.
 #[derive(Drop)]
 enum Again {
-    /// A certificate that accepts the plan with them.
+    /// A certificate that accepts the plan with these sizes.
     Same,
-    /// One that needs more.
+    /// A certificate that needs larger sizes.
     More(Cert),
-    /// None.
+    /// No certificate.
     Nothing,
 }
 
-/// These sizes, if the search finds a certificate with them again. Else those that it finds then; in the end those of the
-/// steady certificate, with which it always finds one, or these if that is too large.
+/// Returns these sizes if the search finds a certificate with them again. Otherwise it continues
+/// with the sizes that it finds then. After the last round it returns the sizes of the steady
+/// certificate, with which the search always finds one, or the current sizes if those are too
+/// large.
 pub(crate) fn lasting(
     alloc: Global,
     plan: &Plan,
@@ -61,7 +63,8 @@ pub(crate) fn lasting(
     or_steadily(alloc, plan, fit, cert)
 }
 
-/// What the search finds for the fitted plan. A plan of which no size has grown stays as it is.
+/// Searches for a certificate of the fitted plan. A plan without a larger size keeps its
+/// certificate.
 fn found_again(alloc: Global, plan: &Plan, fit: &Plan) -> Result<Again, AllocError> {
     if growth(plan, fit) == 0 {
         return Ok(Again::Same);
@@ -78,7 +81,7 @@ fn found_again(alloc: Global, plan: &Plan, fit: &Plan) -> Result<Again, AllocErr
     })
 }
 
-/// The least sizes for the steady certificate; what was found where that is too large.
+/// Returns the least sizes for the steady certificate, or the current sizes if those are too large.
 fn or_steadily(alloc: Global, plan: &Plan, fit: Plan, cert: Cert) -> Result<SizesFound, AllocError>
     requires free { IsWithoutCause plan.now }
     requires well_formed { IsWellFormed plan.now }

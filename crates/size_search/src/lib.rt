@@ -1,8 +1,11 @@
-//! Looks for sizes with which a certificate accepts a plan: which numbers to change, and how large they have to be.
+//! The search for sizes with which a certificate accepts a plan: which numbers to change, and how
+//! large they have to be.
 //!
-//! Nothing that was looked for is trusted: what [`search_sizes`] finds went through [`fitted_sizes::fitted`], or through
-//! [`cert_check::accepts`] where the plan stays as it is. So the certificate accepts the plan of those sizes and, of those that
-//! are no smaller than declared, no smaller maximum and no smaller core would do for it, nor with these maximums a smaller queue.
+//! The result of the heuristic search is not trusted. What [`search_sizes`] returns went through
+//! [`fitted_sizes::fitted`], or through [`cert_check::accepts`] if the plan is unchanged. So the
+//! certificate accepts the plan with those sizes. Among sizes that are no smaller than declared,
+//! the certificate accepts no smaller maximum and no smaller core, nor a smaller queue with these
+//! maximums.
 
 #![tactic(auto)]
 

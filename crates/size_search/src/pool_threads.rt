@@ -1,9 +1,9 @@
-//! Cores and maximums of pools, which a search raises.
+//! The cores and maximums of pools, which a search raises.
 
 use job_bodies::{Plan, Pool};
 use std::alloc::{AllocError, Global};
 
-/// How many threads a pool keeps, and how many it may have.
+/// The core and maximum of a pool.
 #[derive(Clone, Copy, PartialEq, Eq)]
 pub(crate) struct PoolThreads {
     pub(crate) core: u64,
@@ -11,7 +11,7 @@ pub(crate) struct PoolThreads {
 }
 
 impl PoolThreads {
-    /// What the pool declares.
+    /// Returns the core and maximum that the pool declares.
     pub(crate) fn of(pool: &Pool) -> PoolThreads {
         PoolThreads {
             core: pool.core,
@@ -19,19 +19,19 @@ impl PoolThreads {
         }
     }
 
-    /// How much core and maximum together lack for so much core.
+    /// Returns the sum of the increases of core and maximum that this core needs.
     pub(crate) fn lack(self, core: u64) -> u64 {
         let max = core.saturating_sub(self.max);
         core.saturating_sub(self.core).saturating_add(max)
     }
 
-    /// By how much core and maximum together are above the others.
+    /// Returns the sum of the amounts by which core and maximum exceed the others.
     pub(crate) fn growth(self, other: PoolThreads) -> u64 {
         let max = self.max.saturating_sub(other.max);
         self.core.saturating_sub(other.core).saturating_add(max)
     }
 
-    /// With so much core at least.
+    /// Returns these threads with at least this core.
     pub(crate) fn raised(self, core: u64) -> PoolThreads {
         PoolThreads {
             core: self.core.max(core),
@@ -40,12 +40,12 @@ impl PoolThreads {
     }
 }
 
-/// What each pool of the plan declares.
+/// Returns the core and maximum that each pool of the plan declares.
 pub(crate) fn declared_threads(alloc: Global, plan: &Plan) -> Result<Vec<PoolThreads>, AllocError> {
     plan.pools().iter().map(PoolThreads::of).collect(alloc)
 }
 
-/// The maximum of each pool.
+/// Returns the maximum of each pool.
 pub(crate) fn maxes_of(alloc: Global, threads: &[PoolThreads]) -> Result<Vec<u64>, AllocError> {
     threads
         .iter()

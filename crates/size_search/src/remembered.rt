@@ -1,4 +1,4 @@
-//! Vectors that were looked for before. Most attempts ask again for what an earlier one asked for.
+//! A cache of vectors. Most attempts ask for vectors that an earlier one asked for.
 
 use crate::found::{Halt, Obstacle};
 use job_bodies::{Action, Plan};
@@ -6,10 +6,11 @@ use least_vectors::{Growing, Kind, Levels, Weighed};
 use std::alloc::{AllocError, Global};
 use weights::class_got;
 
-/// How many vectors are looked for at most, so that a search ends soon. No plan is known that needs a fourth of them.
+/// The maximum number of vectors that are computed, which bounds the time of a search. No known
+/// plan needs a fourth of them.
 const MAX_VECTORS: usize = 32_768;
 
-/// Which vector of a pool was looked for.
+/// The kind of vector of a pool.
 #[derive(PartialEq, Drop)]
 enum Asked {
     Standing,
@@ -17,12 +18,12 @@ enum Asked {
     Blocked {
         /// Whether the pool's jobs count a get of a job of each class.
         counted: Vec<bool>,
-        /// Whether other pools may lend.
+        /// Whether other pools can give weight to their workers.
         lending: bool,
     },
 }
 
-/// All on which a pool's lightest vector depends.
+/// A cache key: everything on which a pool's lightest vector depends.
 #[derive(Drop)]
 struct Question {
     asked: Asked,
@@ -32,7 +33,7 @@ struct Question {
     enough: u64,
 }
 
-/// A vector that was looked for.
+/// A cached vector.
 #[derive(Drop)]
 struct Answered {
     question: Question,
@@ -40,22 +41,24 @@ struct Answered {
 }
 
 impl Answered {
-    /// Whether it answers this question too.
+    /// Returns whether this answers the question too.
     fn answers(&self, question: &Question) -> bool {
         self.question.enough == question.enough
             && self.question.asked == question.asked
             && self.holds_at(&question.maxes)
     }
 
-    /// Whether the answer is the same where the pools have these maximums: those that lent have the same as before. Another
-    /// one would not lend now either, as its workers would weigh no less: it may have a larger maximum.
+    /// Returns whether the answer is the same with these maximums. The pools whose workers got
+    /// weight must have the same ones. The maximums of the others can be larger: their workers
+    /// would weigh no less, so they would not get weight now either.
     fn holds_at(&self, maxes: &[u64]) -> bool {
         self.question.maxes.iter().zip(maxes).enumerate().all(|(pool, (before, now))| before == now
             || (before < now && !self.has_lent(pool)))
     }
 
-    /// Whether the pool lent on the way to the answer. Where there is no vector none did, unless for the sake of a class that
-    /// nobody submits: for that one larger maximums are not tried again.
+    /// Returns whether the workers of the pool got weight in the search for the answer. If there is
+    /// no vector, none did, except for the sake of a class that is never submitted. For such a
+    /// class larger maximums are not tried again.
     fn has_lent(&self, pool: usize) -> bool {
         match &self.answer {
             Some(weighed) => weighed.lenders.contains(&pool),
@@ -64,7 +67,7 @@ impl Answered {
     }
 }
 
-/// What is remembered of a pool.
+/// The cached vectors of a pool.
 #[derive(Drop)]
 struct PoolMemory {
     /// For each class, whether a job of the pool gets jobs of it.
@@ -72,18 +75,18 @@ struct PoolMemory {
     answered: Vec<Answered>,
 }
 
-/// What an answer says, and where it stands.
+/// The total of a cached answer, and its position.
 #[derive(Clone, Copy)]
 pub(crate) struct Look {
     pub(crate) pool: usize,
-    /// The vector's total; the greatest number where there is no vector.
+    /// The vector's total, or the largest number if there is no vector.
     pub(crate) total: u64,
-    /// The answer's place in what is remembered of the pool; None where there is no vector.
+    /// The answer's index in the pool's cache, or `None` if there is no vector.
     place: Option<usize>,
 }
 
 impl Look {
-    /// There is no vector.
+    /// Returns the result without a vector.
     fn nothing(pool: usize) -> Look {
         Look {
             pool,
@@ -93,18 +96,18 @@ impl Look {
     }
 }
 
-/// A plan whose sizes are looked for, and the vectors that were looked for so far.
+/// A plan whose sizes are searched for, with the vectors computed so far.
 #[derive(Drop)]
 pub(crate) struct Remembered<'a> {
     pub(crate) plan: &'a Plan,
     pub(crate) levels: &'a Levels,
     pools: Vec<PoolMemory>,
-    /// How many more vectors may be looked for.
+    /// The number of vectors that can still be computed.
     vectors_left: usize,
 }
 
 impl<'a> Remembered<'a> {
-    /// Nothing is remembered yet.
+    /// Creates an empty cache.
     pub(crate) fn of(
         alloc: Global,
         plan: &'a Plan,
@@ -125,8 +128,8 @@ impl<'a> Remembered<'a> {
         })
     }
 
-    /// The pool's lightest vector of the kind, where the pools have these maximums. Once too many were looked for, only
-    /// those are told that are remembered.
+    /// Returns the pool's lightest vector of this kind for these maximums. Once the limit of
+    /// computed vectors is reached, it returns only cached ones.
     pub(crate) fn lightest(
         &mut self,
         alloc: Global,
@@ -155,7 +158,7 @@ impl<'a> Remembered<'a> {
         Ok(memory.look(pool, memory.answered.len().saturating_sub(1)))
     }
 
-    /// The plan where the pools have these maximums.
+    /// Returns the plan with these maximums.
     pub(crate) fn growing<'b>(&self, maxes: &'b [u64]) -> Growing<'b>
     where
         'a: 'b,
@@ -167,7 +170,7 @@ impl<'a> Remembered<'a> {
         }
     }
 
-    /// What the workers of each pool weigh in an answer's vector.
+    /// Returns the weights of the workers of each pool in the vector of an answer.
     pub(crate) fn workers_at(&self, look: Look) -> Option<&[u64]> {
         let answered = self.pools.get(look.pool)?.answered.get(look.place?)?;
         match &answered.answer {
@@ -204,7 +207,8 @@ impl PoolMemory {
         })
     }
 
-    /// For each class, whether a job of the pool of this rank counts its gets of jobs of the class.
+    /// Returns for each class whether a job of this pool counts its gets of jobs of that class, if
+    /// the pool has this rank.
     fn counted(&self, alloc: Global, reach: &[u64], rank: u64) -> Result<Vec<bool>, AllocError> {
         self.gets
             .iter()
@@ -213,14 +217,14 @@ impl PoolMemory {
             .collect(alloc)
     }
 
-    /// Where the answer to the question stands.
+    /// Returns the index of the answer to the question.
     fn place_of(&self, question: &Question) -> Option<usize> {
         self.answered
             .iter()
             .position(|answered| answered.answers(question))
     }
 
-    /// What the answer at this place says.
+    /// Returns the total of the answer at this index.
     fn look(&self, pool: usize, place: usize) -> Look {
         let mut look = Look::nothing(pool);
         if let Some(answered) = self.answered.get(place) {
@@ -233,7 +237,7 @@ impl PoolMemory {
     }
 }
 
-/// For each class, whether a job of the pool gets jobs of it.
+/// Returns for each class whether a job of the pool gets jobs of it.
 fn gets_of(alloc: Global, plan: &Plan, pool: usize) -> Result<Vec<bool>, AllocError> {
     let mut gets = vec![in alloc; false; plan.classes().len()]?;
     for class in plan.classes() {

@@ -1,4 +1,4 @@
-//! Rounds in which pools get their ranks, while their cores grow.
+//! The rounds in which pools get their ranks while their cores grow.
 
 use crate::found::{Halt, Obstacle};
 use crate::pool_threads::{PoolThreads, maxes_of};
@@ -7,21 +7,22 @@ use job_bodies::MAX_SIZE;
 use least_vectors::{Kind, reach};
 use std::alloc::{AllocError, Global};
 
-/// The pools as far as they have ranks.
+/// The pools, and the ranks that they have so far.
 #[derive(Drop)]
 pub(crate) struct Placing {
-    /// The core and the maximum that each pool has by now.
+    /// The current core and maximum of each pool.
     pub(crate) threads: Vec<PoolThreads>,
     /// The rank and the blocked vector of each pool that has them.
     pub(crate) placed: Vec<Option<(u64, Look)>>,
     /// Whether a maximum has grown.
     pub(crate) has_widened: bool,
-    /// The most pools that there were to choose from in a round where none had core enough; 0 where there was always one.
+    /// The largest number of pools to choose from in a round in which no pool had a large enough
+    /// core, or 0 if there was no such round.
     pub(crate) choices: usize,
 }
 
 impl Placing {
-    /// No pool has a rank.
+    /// Creates a placing without ranks.
     fn at(alloc: Global, threads: Vec<PoolThreads>) -> Result<Placing, AllocError> {
         let placed = vec![in alloc; None; threads.len()]?;
         Ok(Placing {
@@ -32,7 +33,7 @@ impl Placing {
         })
     }
 
-    /// The rank of each pool, and this one for a pool that has none yet.
+    /// Returns the rank of each pool, and `rank` for a pool that has none yet.
     pub(crate) fn ranks_or(&self, alloc: Global, rank: u64) -> Result<Vec<u64>, AllocError> {
         self.placed
             .iter()
@@ -40,7 +41,7 @@ impl Placing {
             .collect(alloc)
     }
 
-    /// The lightest blocked vector that each pool without a rank has in this round.
+    /// Returns the lightest blocked vector in this round of each pool without a rank.
     fn looks(
         &self,
         alloc: Global,
@@ -67,7 +68,7 @@ impl Placing {
         Ok(looks)
     }
 
-    /// Gives the rank to each pool whose core is enough. False where none is.
+    /// Gives the rank to each pool whose core is large enough. Returns `false` if there is none.
     fn place_all(&mut self, looks: &[Look], rank: u64) -> bool {
         let mut any = false;
         for look in looks {
@@ -79,7 +80,8 @@ impl Placing {
         any
     }
 
-    /// Gives the rank to one pool, of those that lack least the one of this number, and the core to it that it lacks.
+    /// Gives the rank to the `choice`-th pool, ordered by shortfall, and raises its core to what it
+    /// needs.
     fn place_one(&mut self, looks: &[Look], rank: u64, choice: usize) -> Result<(), Halt> {
         let Some(look) = self.choice_of(looks, choice) else {
             return Err(Halt::Obstacle(Obstacle::Unknown));
@@ -93,7 +95,7 @@ impl Placing {
         Ok(())
     }
 
-    /// Why no pool can get the core that it lacks.
+    /// Returns why no pool can get the core that it needs.
     fn obstacle_of(&self, looks: &[Look]) -> Obstacle {
         match self.choice_of(looks, 0) {
             Some(look) => Obstacle::Pool(look.pool),
@@ -101,7 +103,7 @@ impl Placing {
         }
     }
 
-    /// The pool before which so many stand where those that lack less stand first.
+    /// Returns the `choice`-th pool, ordered by shortfall.
     fn choice_of(&self, looks: &[Look], choice: usize) -> Option<Look> {
         for look in looks {
             let lack = self.lack(look);
@@ -125,7 +127,7 @@ impl Placing {
         }
     }
 
-    /// How much core and maximum the pool lacks.
+    /// Returns the pool's shortfall of core and maximum together.
     fn lack(&self, look: &Look) -> u64 {
         match self.threads.get(look.pool) {
             Some(pool_threads) => pool_threads.lack(core_for(look)),
@@ -134,12 +136,12 @@ impl Placing {
     }
 }
 
-/// The core that leaves a thread that is not blocked.
+/// Returns the core that leaves one thread that is not blocked.
 fn core_for(look: &Look) -> u64 {
     look.total.saturating_add(1)
 }
 
-/// Those of the looks whose core is within the limit.
+/// Returns the looks whose core is within the limit.
 fn within_limit(alloc: Global, looks: &[Look]) -> Result<Vec<Look>, AllocError> {
     looks
         .iter()
@@ -148,9 +150,10 @@ fn within_limit(alloc: Global, looks: &[Look]) -> Result<Vec<Look>, AllocError> 
         .collect(alloc)
 }
 
-/// Gives each pool a rank and a blocked vector, where the pools have these cores and maximums or larger ones: in each round
-/// to all whose core is enough or, where none is, to the one that lacks least. Where that is so for the first time, so many
-/// that lack less are passed over.
+/// Gives each pool a rank and a blocked vector, starting with these cores and maximums. In each
+/// round, the rank goes to all pools whose core is large enough. If there are none, it goes to the
+/// pool with the smallest shortfall, whose core is raised. The first time that happens, it skips
+/// the `passed_over` pools with the smallest shortfall.
 pub(crate) fn ranked(
     alloc: Global,
     known: &mut Remembered,
@@ -177,8 +180,8 @@ pub(crate) fn ranked(
     Ok(placing)
 }
 
-/// The same with rounds that begin again while maximums grow, since workers that lend weigh more then. In the end no worker
-/// lends, so that it comes to an end.
+/// Repeats the rounds while maximums grow, because workers with a weight then weigh more in total.
+/// In the last turn no worker gets a weight, so that the loop ends.
 pub(crate) fn ranked_at_last(
     alloc: Global,
     known: &mut Remembered,

@@ -22,32 +22,39 @@ use least_vectors::Levels;
 use size_causes::cause_of;
 use std::alloc::{AllocError, Global};
 
-/// How many pools are tried first beside the one that lacks least, and from how many the growth is taken back.
+/// The number of further pools that attempts start with, and the number of pools whose growth is
+/// undone.
 const FURTHER_ATTEMPTS: usize = 3;
 
-/// In a plan with so many pools at most it is taken back from each that has grown, one at a time.
+/// In a plan with at most this many pools, the growth of each pool is undone, one at a time.
 const FEW_POOLS: usize = 8;
 
-/// Looks for sizes with which a certificate accepts the plan, and so that their increases are few and small. Where `first`
-/// accepts the plan as it is, as what a search for a certificate finds, nothing changes.
+/// Searches for sizes with which a certificate accepts the plan, with few and small increases. If
+/// `first` accepts the plan as it is, as the result of a search for a certificate does, nothing
+/// changes.
 ///
-/// In rounds, as in the search for a certificate, pools get ranks and blocked vectors. Where no pool has core enough in a
-/// round, the one that lacks least gets it. The queues follow, and then the sizes are put back to what the certificate
-/// needs. Some further attempts begin with another pool, or without what a pool got; the cheapest one is answered. Where none
-/// finds anything, it is the plan's steady certificate with the least sizes for that. Sizes are answered only if the search
-/// finds a certificate with them again, as far as the steady certificate is not too large.
+/// In rounds, as in the search for a certificate, pools get ranks and blocked vectors. If no pool
+/// has a large enough core in a round, the one with the smallest shortfall gets it. The queues
+/// follow, and then the sizes are reduced to what the certificate needs. Further attempts start
+/// with another pool, or undo the growth of one pool. The cheapest attempt is returned. If none
+/// finds anything, the result is the plan's steady certificate with the least sizes for it. Sizes
+/// are returned only if the search finds a certificate with them again, unless the steady
+/// certificate is too large.
 ///
-/// Where no sizes are found, a cause against all sizes holds of the plan, or the steady certificate is too large. So below the
-/// limits sizes are found exactly where there are some: where no class submits itself, at whatever remove, and no submit is
-/// never got in what a repeating client causes.
+/// If no sizes are found, either a cause holds of the plan for which no sizes are enough, or the
+/// steady certificate is too large. So below the limits, sizes are found exactly when they exist:
+/// no class submits itself, directly or through other classes, and no repeating client causes
+/// submits that are never got.
 ///
-/// That the certificate accepts the plan of these sizes is proved. So is that for this certificate, of sizes that are no
-/// smaller than declared, no smaller maximum and no smaller core would do, nor with these maximums a smaller queue, and that a
-/// maximum that grows is its core. Larger maximums may save queue, and another certificate may need less.
+/// The contract proves that the certificate accepts the plan with these sizes. It also proves that
+/// they are the least for this certificate: among sizes that are no smaller than declared, no
+/// smaller maximum and no smaller core is accepted, nor a smaller queue with these maximums, and a
+/// maximum that grows equals its core. Larger maximums can save queue, and another certificate can
+/// need less.
 ///
 /// # Errors
 ///
-/// [`AllocError`] where memory runs out.
+/// [`AllocError`] if memory runs out.
 pub fn search_sizes(
     alloc: Global,
     plan: &Plan,
@@ -67,7 +74,7 @@ pub fn search_sizes(
     searched(alloc, plan)
 }
 
-/// What the search comes to where no certificate is at hand.
+/// Searches for sizes when no certificate is at hand.
 fn searched(alloc: Global, plan: &Plan) -> Result<SizesFound, AllocError>
     ensures found { IfOk result (IsFound plan.now) }
     ensures decided { IfOk result (IsDecided plan.now) }
@@ -79,7 +86,7 @@ fn searched(alloc: Global, plan: &Plan) -> Result<SizesFound, AllocError>
     Ok(found)
 }
 
-/// Sizes for a plan of which no cause against all sizes holds.
+/// Searches for sizes of a plan that has no cause against all sizes.
 fn without_cause(alloc: Global, plan: &Plan) -> Result<SizesFound, AllocError>
     requires free { IsWithoutCause plan.now }
     requires well_formed { IsWellFormed plan.now }
@@ -91,7 +98,7 @@ fn without_cause(alloc: Global, plan: &Plan) -> Result<SizesFound, AllocError>
     }
 }
 
-/// The plan with the sizes that the rounds found, and their certificate.
+/// Returns the plan with the sizes that the rounds found, and their certificate.
 fn by_rounds(alloc: Global, plan: &Plan) -> Result<Result<(Plan, Cert), Obstacle>, AllocError>
     ensures { IfOk result (λ answer. IfOk answer (λ found. IsSized plan.now found.1 found.0)) }
 {
@@ -105,7 +112,7 @@ fn by_rounds(alloc: Global, plan: &Plan) -> Result<Result<(Plan, Cert), Obstacle
     }
 }
 
-/// A certificate that other sizes make accepted, which nobody has tested.
+/// Returns a certificate that other sizes make acceptable. It has not been checked.
 pub(crate) fn looked_for(alloc: Global, plan: &Plan) -> Result<Result<Cert, Obstacle>, AllocError> {
     let Some(levels) = Levels::of(alloc, plan)? else {
         return Ok(Err(Obstacle::Unknown));
@@ -117,7 +124,7 @@ pub(crate) fn looked_for(alloc: Global, plan: &Plan) -> Result<Result<Cert, Obst
     })
 }
 
-/// The cheapest attempt.
+/// Returns the cheapest attempt.
 fn cheapest(
     alloc: Global,
     known: &mut Remembered,
@@ -129,7 +136,7 @@ fn cheapest(
     }
 }
 
-/// The best attempt from the plan's own sizes on.
+/// Returns the best attempt that starts with the plan's own sizes.
 fn best_from_declared(
     alloc: Global,
     known: &mut Remembered,
@@ -147,8 +154,8 @@ fn best_from_declared(
     Ok(best)
 }
 
-/// The best attempt, or a cheaper one: each of the pools that were raised most is put back to what the plan has, and sizes are
-/// looked for from there on.
+/// Returns the best attempt, or a cheaper one. Each of the pools that were raised most is reset to
+/// the plan's sizes, and another attempt starts from there.
 fn lowered(
     alloc: Global,
     known: &mut Remembered,
@@ -163,7 +170,7 @@ fn lowered(
     Ok(best)
 }
 
-/// The attempt from these sizes on.
+/// Makes an attempt that starts with these sizes.
 fn attempt(
     alloc: Global,
     known: &mut Remembered,
@@ -174,7 +181,7 @@ fn attempt(
     outcome(tried(alloc, known, threads, passed_over))
 }
 
-/// What came of the better of two attempts. Where neither found anything it is the first one.
+/// Returns the better of two attempts, or the first obstacle if both failed.
 fn better(
     first: Result<Attempt, Obstacle>,
     second: Result<Attempt, Obstacle>,
@@ -186,7 +193,7 @@ fn better(
     }
 }
 
-/// The first attempt, unless the second one found something cheaper.
+/// Returns the first attempt, unless the second one is cheaper.
 fn cheaper(first: Attempt, second: Result<Attempt, Obstacle>) -> Attempt {
     if let Ok(second) = second {
         if second.cost < first.cost {
@@ -196,7 +203,7 @@ fn cheaper(first: Attempt, second: Result<Attempt, Obstacle>) -> Attempt {
     first
 }
 
-/// What an attempt came to, where memory did not run out.
+/// Separates running out of memory from the obstacle of an attempt.
 fn outcome(tried: Result<Attempt, Halt>) -> Result<Result<Attempt, Obstacle>, AllocError> {
     match tried {
         Ok(attempt) => Ok(Ok(attempt)),
@@ -205,7 +212,8 @@ fn outcome(tried: Result<Attempt, Halt>) -> Result<Result<Attempt, Obstacle>, Al
     }
 }
 
-/// The pools whose core and maximum have grown most: at most three, of few pools all.
+/// Returns the pools whose core and maximum have grown most: at most three, or all if the plan has
+/// few pools.
 fn most_raised(
     alloc: Global,
     best: &Attempt,
@@ -234,7 +242,7 @@ fn most_raised(
     Ok(raised)
 }
 
-/// What the attempt needs, but with what this pool declares.
+/// Returns the threads that the attempt needs, with this pool reset to its declared ones.
 fn put_back(
     alloc: Global,
     best: &Attempt,

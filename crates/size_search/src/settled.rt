@@ -10,7 +10,7 @@ use fitted_sizes::{Unfit, fitted, widened};
 use job_bodies::Plan;
 use std::alloc::{AllocError, Global};
 
-/// The plan with the least sizes that the certificate needs, or why there are none.
+/// Returns the plan with the least sizes that the certificate needs, or why there are none.
 pub(crate) fn settled(
     alloc: Global,
     plan: &Plan,
@@ -28,8 +28,9 @@ pub(crate) fn settled(
     })
 }
 
-/// The plan with maximums that are widened until they leave room for each core. A wider pool can need another one to be wider.
-/// Where that takes more turns than there are pools, it comes round to a pool again, and no sizes are enough.
+/// Returns the plan with its maximums widened until they leave room for each core. A wider pool can
+/// need another one to be wider. If that takes more turns than there are pools, it returns to a
+/// pool again, and no sizes are enough.
 fn widest(alloc: Global, plan: &Plan, cert: &Cert) -> Result<Result<Plan, Unfit>, AllocError>
     ensures { IfOk result (λ answer. IfOk answer (IsLeastWide plan.now cert.now)) }
 {
@@ -51,7 +52,7 @@ fn widest(alloc: Global, plan: &Plan, cert: &Cert) -> Result<Result<Plan, Unfit>
     Ok(Ok(wide))
 }
 
-/// Whether the pools of both plans have the same maximums.
+/// Returns whether the pools of both plans have the same maximums.
 fn have_same_maxes(plan: &Plan, other: &Plan) -> bool {
     plan.pools()
         .iter()
@@ -59,7 +60,7 @@ fn have_same_maxes(plan: &Plan, other: &Plan) -> bool {
         .all(|(pool, other)| pool.max == other.max)
 }
 
-/// Why the plan was not widened.
+/// Returns why the plan was not widened.
 fn obstacle_of_wide(unfit: Unfit) -> Obstacle {
     match unfit {
         Unfit::Core(pool) => Obstacle::Pool(pool),
@@ -67,7 +68,8 @@ fn obstacle_of_wide(unfit: Unfit) -> Obstacle {
     }
 }
 
-/// Why the widened plan was not fitted. A core that passes its maximum there is not known to pass its limit.
+/// Returns why the widened plan was not fitted. A core above its maximum is not known to be above
+/// the limit of sizes.
 fn obstacle_of_fit(unfit: Unfit) -> Obstacle {
     match unfit {
         Unfit::Queue(pool) => Obstacle::Pool(pool),

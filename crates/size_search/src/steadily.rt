@@ -1,4 +1,4 @@
-//! The least sizes for the steady certificate, where the rounds find nothing.
+//! The least sizes for the steady certificate, for when the rounds find nothing.
 
 ghost use Rattle.std.specs.Prelude.{◌≡◌, ◌≤◌, IfOk, IfSome, IfNone, IsTrue};
 ghost use Rattle.job_bodies.specs.WellFormed.{IsWellFormed};
@@ -17,8 +17,8 @@ use job_bodies::Plan;
 use std::alloc::{AllocError, Global};
 use steady_certificates::steady;
 
-/// The plan with the least sizes that its steady certificate needs. Else that one is too large, and the pool is told that
-/// an attempt did not get past.
+/// Returns the plan with the least sizes that its steady certificate needs. If those are too large,
+/// returns that, with the pool at which an attempt failed.
 pub(crate) fn steadily(
     alloc: Global,
     plan: &Plan,
@@ -34,7 +34,7 @@ pub(crate) fn steadily(
     }
 }
 
-/// The same where this is the certificate.
+/// Returns the least sizes for this steady certificate.
 fn settled_steadily(
     alloc: Global,
     plan: &Plan,
@@ -61,7 +61,8 @@ fn too_large(plan: &Plan, obstacle: Obstacle) -> SizesFound
     SizesFound::NotFound(NoSizes::TooLarge(obstacle.pool(plan)))
 }
 
-/// The plan with the least sizes for its steady certificate; None where its total leaves no room below the limit.
+/// Returns the plan with the least sizes for its steady certificate, or `None` if its total leaves
+/// no room below the limit.
 fn least_steadily(alloc: Global, plan: &Plan, cert: &Cert) -> Result<Option<Plan>, AllocError>
     requires free { IsWithoutCause plan.now }
     requires well_formed { IsWellFormed plan.now }
@@ -70,14 +71,15 @@ fn least_steadily(alloc: Global, plan: &Plan, cert: &Cert) -> Result<Option<Plan
     ensures sized { IfOk result (λ found. IfSome found (IsSized plan.now cert.now)) }
     ensures none { IfOk result (λ found. IfNone found (MAX_SIZE ≤ steady_total plan.now)) }
 {
-    // Workers weigh nothing in it: so its total stays, and once is enough.
+    // Workers have weight 0 in the steady certificate, so its total does not change, and widening
+    // once is enough.
     match widened(alloc, plan, cert)? {
         Ok(wide) => least_wide(alloc, plan, wide, cert),
         Err(_unfit) => Ok(None),
     }
 }
 
-/// The same where the maximums are widened.
+/// Returns the least sizes for the plan with widened maximums.
 fn least_wide(
     alloc: Global,
     plan: &Plan,

@@ -1,4 +1,4 @@
--- What was found so far has the least sizes for its certificate.
+-- The current sizes are the least for their certificate.
 use Rattle.size_search.specs.Sized.{IsSized}
 use Rattle.size_search.proofs.lasting.lasting.Given as goal
 

@@ -1,4 +1,4 @@
--- No max is larger than need be so far.
+-- No max is larger than necessary so far.
 use Rattle.fitted_sizes.specs.Widened.{IsLeastWide}
 use Rattle.size_search.proofs.settled.widest.Given as goal
 
