@@ -1,4 +1,4 @@
--- Well-formed plans of which the sizes are changed.
+-- Well-formed plans with changed sizes.
 use Rattle.std.proofs.Common.{◌≡◌, ℕ, ◌<◌, ◌≤◌, suc, true, ◌&&◌, List, [], ◌∷◌, length, get_or, map, refl, ap, ap₂, sym, ◌∙◌, arith}
 use Rattle.std.specs.Prelude.{nat_lt}
 use Rattle.std.specs.List.{list_all}
@@ -25,16 +25,16 @@ names-outline plan = map-twice (λ (pool : Pool). pool.name) nameplate plan.pool
 pub length-outline : (plan : Plan) → length (outline plan).pools ≡ length plan.pools
 length-outline plan = length-changed nameplate plan.pools
 
--- ---- lawful pools
+-- ---- well-formed pools
 
--- names alone
+-- their names
 all_named : (pools : List Pool) → list_all is_lawful_pool pools ≡ true → list_all is_lawful_name (map (λ (pool : Pool). pool.name) pools) ≡ true
 all_named [] all = refl
 all_named (pool ∷ pools) all =
     let parts = and_parts (is_lawful_pool pool) (list_all is_lawful_pool pools) all in
     and_from (is_lawful_name pool.name) (list_all is_lawful_name (map (λ (x : Pool). x.name) pools)) (and_parts (is_lawful_name pool.name) (has_lawful_sizes pool) parts.0).0 (all_named pools parts.1)
 
--- names and sizes
+-- from their names and sizes
 all_lawful : (pools : List Pool) → list_all is_lawful_name (map (λ (pool : Pool). pool.name) pools) ≡ true → list_all has_lawful_sizes pools ≡ true → list_all is_lawful_pool pools ≡ true
 all_lawful [] named sized = refl
 all_lawful (pool ∷ pools) named sized =
@@ -42,7 +42,7 @@ all_lawful (pool ∷ pools) named sized =
     let sizes = and_parts (has_lawful_sizes pool) (list_all has_lawful_sizes pools) sized in
     and_from (is_lawful_pool pool) (list_all is_lawful_pool pools) (and_from (is_lawful_name pool.name) (has_lawful_sizes pool) names.0 sizes.0) (all_lawful pools names.1 sizes.1)
 
--- sizes alone
+-- their sizes
 pub all_sized : (pools : List Pool) → list_all is_lawful_pool pools ≡ true → list_all has_lawful_sizes pools ≡ true
 all_sized [] all = refl
 all_sized (pool ∷ pools) all =
@@ -51,7 +51,7 @@ all_sized (pool ∷ pools) all =
 
 -- ---- the plan
 
--- a plan that differs in sizes alone is well-formed, where those are lawful
+-- a plan that differs only in sizes is well-formed if those are valid
 pub well_formed_changed : (plan other : Plan) → IsWellFormed plan → outline other ≡ outline plan → list_all has_lawful_sizes other.pools ≡ true → IsWellFormed other
 well_formed_changed plan other well same sized =
     let names : map (λ (pool : Pool). pool.name) other.pools ≡ map (λ (pool : Pool). pool.name) plan.pools =
@@ -81,7 +81,7 @@ well_formed_changed plan other well same sized =
         list_all-agree (is_lawful_client other) (is_lawful_client plan) other.clients (λ client. ap (λ (all : List Class). is_lawful_name client.name && is_within 1 MAX_SIZE client.count && is_lawful_body (length all) client.body) classes)
         ∙ ap (list_all (is_lawful_client plan)) clients
 
--- plans of one shape have one outline
+-- plans of the same shape have the same outline
 pub outline_of_shape : (plan other : Plan) → shape other ≡ shape plan → outline other ≡ outline plan
 outline_of_shape plan other same = sym (outline-shape other) ∙ (ap outline same ∙ outline-shape plan)
   where
@@ -90,7 +90,7 @@ outline_of_shape plan other same = sym (outline-shape other) ∙ (ap outline sam
 
 -- ---- sizes
 
--- what lawful sizes say
+-- the ranges of valid sizes
 pub record HasSizes (pool : Pool) : Type 0 where
   pub core : 1 ≤ pool.core
   pub max : pool.core ≤ pool.max
@@ -123,7 +123,7 @@ lawful_from_sizes pool sizes =
 pub sizes_at : (plan : Plan) (p : ℕ) → IsWellFormed plan → p < length plan.pools → HasSizes (pool_at plan p)
 sizes_at plan p well inside = has_sizes (pool_at plan p) (list_all_at_In has_lawful_sizes (all_sized plan.pools well.pools) (In-get_or plan.pools p no_pool inside))
 
--- lawful sizes at each place
+-- from valid sizes at each index
 pub sized_from_places : (pools : List Pool) → ((p : ℕ) → p < length pools → HasSizes (get_or pools p no_pool)) → list_all has_lawful_sizes pools ≡ true
 sized_from_places [] each = refl
 sized_from_places (pool ∷ pools) each =

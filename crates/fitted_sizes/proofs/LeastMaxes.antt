@@ -21,7 +21,7 @@ use Rattle.fitted_sizes.proofs.LeastSizes.{raised_at, raised_past}
 
 -- ---- totals grow with the maxes
 
--- what the workers of all pools weigh, from the pool of this number on
+-- the weight of the workers of all pools from the pool of this number
 abbrev workers_total : Vector → ℕ → List Pool → ℕ
 workers_total v n pools = sum_by (λ (entry : ℕ × Pool). workers_weight v entry.0 * entry.1.max) (enumerate_from n pools)
 
@@ -35,7 +35,7 @@ workers_total-grows v n (pool ∷ pools) (other ∷ others) long grows =
     let first = mul-le-mul_left (workers_weight v n) (grows 0) in
     omega (arith, sum_by-cons term (n, pool) (enumerate_from (n + 1) pools), sum_by-cons term (n, other) (enumerate_from (n + 1) others))
 
--- where only sizes differ and no max falls, no total falls
+-- if only sizes differ and no max is smaller, no total is smaller
 pub total-grows : (plan other : Plan) (v : Vector) → outline other ≡ outline plan → ((p : ℕ) → (pool_at plan p).max ≤ (pool_at other p).max) → total plan v ≤ total other v
 total-grows plan other v same grows =
     let as_many : length other.pools ≡ length plan.pools = sym (length-outline other) ∙ (ap (λ (any : Plan). length any.pools) same ∙ length-outline plan) in
@@ -82,7 +82,7 @@ maxes_least plan other cert fits = record {
           omega arith
     ]
 
--- ---- what callers get
+-- ---- postconditions
 
 widened-without_maxes : (plan : Plan) (cert : Cert) → without_maxes (widened plan cert) ≡ without_maxes plan
 widened-without_maxes plan cert =
@@ -125,7 +125,7 @@ widened_maxes_are_least = record {
   maxes = λ plan other cert fits. maxes_least plan other cert fits;
 }
 
--- ---- plans that the widened one is to be
+-- ---- plans that fit the widened one
 
 pub length-widened : (plan : Plan) (cert : Cert) → length (widened plan cert).pools ≡ length plan.pools
 length-widened plan cert = length-numbered (λ (entry : ℕ × Pool). with_max plan (pool_cert_at cert entry.0).blocked entry.1) 0 plan.pools
@@ -137,7 +137,7 @@ wide_fit_fits plan other cert fits =
     ∙ (sym (ap (λ (any : Plan). cert_fits any cert) fits.same_outline)
     ∙ (cert_fits-pools other (outline other).pools cert (length-outline other) ∙ (and_parts (cert_fits other cert) (is_nil (failing other cert)) fits.accepts).0))
 
--- no max passes the limit
+-- no max is above the limit
 pub wide_fit_has_room : (plan other : Plan) (cert : Cert) (p : ℕ) → IsWideFit plan cert other → p < length (widened plan cert).pools → (pool_at (widened plan cert) p).max ≤ MAX_SIZE
 wide_fit_has_room plan other cert p fits there =
     let as_many : length other.pools ≡ length plan.pools = sym (length-outline other) ∙ (ap (λ (any : Plan). length any.pools) fits.same_outline ∙ length-outline plan) in

@@ -19,9 +19,9 @@ use Rattle.fitted_sizes.proofs.Numbered.{numbered_at, numbered_past, map-numbere
 use Rattle.fitted_sizes.proofs.TotalRows.{TotalsHold, hold_but_totals, fails_only_at_totals_from, at_totals_where_accepted, totals_where_accepted, accepted_from_totals, same_in_shape, hold_in_shape}
 use Rattle.fitted_sizes.proofs.Changes.{well_formed_changed, outline_of_shape, HasSizes, sizes_at, sized_from_places}
 
--- ---- plans of one shape
+-- ---- plans of the same shape
 
--- they have as many pools, the same totals, and pools that differ in core and queue alone
+-- they have equally many pools, the same totals, and pools that differ only in core and queue
 pub record HasShape (plan other : Plan) : Type 0 where
   pub as_many : length other.pools ≡ length plan.pools
   pub total : (v : Vector) → total other v ≡ total plan v
@@ -51,7 +51,7 @@ pub raised_past : (plan : Plan) (cert : Cert) (p : ℕ) → length plan.pools �
 raised_past plan cert p past =
     numbered_past (λ (entry : ℕ × Pool). raised_pool plan (pool_cert_at cert entry.0) entry.1) 0 plan.pools p no_pool past ∙ sym (get_or_past plan.pools p no_pool past)
 
--- no size falls
+-- no size is smaller
 pub raised_no_smaller : (plan : Plan) (cert : Cert) → IsNoSmaller (raised plan cert) plan
 raised_no_smaller plan cert = record { core = λ p. (at_pool p).0; queue = λ p. (at_pool p).1 }
   where
@@ -67,9 +67,9 @@ raised_no_smaller plan cert = record { core = λ p. (at_pool p).0; queue = λ p.
           (omega arith, omega arith)
     ]
 
--- ---- what a pool has room for
+-- ---- the room that a pool has
 
--- what the total of a bound is compared with
+-- the limit of the bound's total
 abbrev pool_limit : Bound → Pool → ℕ
 pool_limit (Standing v) pool = pool.queue
 pool_limit (Lifetime v) pool = lifetime_limit pool
@@ -78,7 +78,7 @@ bound_limit-pool : (plan : Plan) (p : ℕ) (bound : Bound) → bound_limit plan 
 bound_limit-pool plan p (Standing v) = refl
 bound_limit-pool plan p (Lifetime v) = refl
 
--- a queue that makes room for a total t, beside m threads of which f are the first workers
+-- a queue that makes room for a total t, next to m threads of which f are the first workers
 queue_makes_room : (t q m f : ℕ) → t ≤ max q (t + f - m) + m - f
 queue_makes_room t q m f = omega arith
 
@@ -114,7 +114,7 @@ record HasRoom (plan : Plan) (cert : PoolCert) (pool other : Pool) : Type 0 wher
   bound : total plan (bound_vector cert.bound) ≤ pool_limit cert.bound other
   blocked : total plan cert.blocked ≤ other.core - 1
 
--- the first workers grow with the core, and are no more
+-- the first workers grow with the core, and are at most the core
 cond-le : (a b : Bool) (m n : ℕ) → b ≡ a → m ≤ n → cond a m 0 ≤ cond b n 0
 cond-le true true m n same less = less
 cond-le true false m n same less = absurd cc
@@ -178,7 +178,7 @@ raised_least plan other cert fits = record { core = λ p. (at_pool p).0; queue =
           (omega (arith, fits.no_smaller.core p), omega (arith, fits.no_smaller.queue p))
     ]
 
--- where a plan fits, the raised one has lawful sizes
+-- if a plan fits, the raised one has valid sizes
 raised_sized : (plan other : Plan) (cert : Cert) → IsWellFormed plan → IsFit plan cert other → list_all has_lawful_sizes (raised plan cert).pools ≡ true
 raised_sized plan other cert well fits = sized_from_places (raised plan cert).pools each
   where
@@ -200,7 +200,7 @@ raised_sized plan other cert well fits = sized_from_places (raised plan cert).po
 
 -- ---- the fitted plan
 
--- what is fitted is the raised plan
+-- the fitted plan is the raised plan
 record IsRaised (plan : Plan) (cert : Cert) (fit : Plan) : Type 0 where
   only_at_totals : fails_only_at_totals plan cert ≡ true
   sized : list_all has_lawful_sizes (raised plan cert).pools ≡ true
@@ -222,7 +222,7 @@ pub fitted_from : (plan : Plan) (cert : Cert) → fails_only_at_totals plan cert
 fitted_from plan cert only_at_totals sized =
     ap (λ (b : Bool). cond b (Some (raised plan cert)) None) (and_from (fails_only_at_totals plan cert) (list_all has_lawful_sizes (raised plan cert).pools) only_at_totals sized)
 
--- a raised plan of lawful sizes
+-- a raised plan with valid sizes is well-formed
 pub raised_is_well_formed : (plan : Plan) (cert : Cert) → IsWellFormed plan → list_all has_lawful_sizes (raised plan cert).pools ≡ true → IsWellFormed (raised plan cert)
 raised_is_well_formed plan cert well sized = well_formed_changed plan (raised plan cert) well (outline_of_shape plan (raised plan cert) (raised-shape plan cert)) sized
 
@@ -233,7 +233,7 @@ fits_raised plan cert well of_plan = record {
   accepts = accepted_from_totals (raised plan cert) cert (hold_in_shape plan (raised plan cert) cert (raised-shape plan cert) (hold_but_totals plan cert of_plan.only_at_totals)) (raised_totals plan cert);
 }
 
--- where a plan fits, only totals fail
+-- if a plan fits, only totals fail
 only_at_totals_where_fit : (plan other : Plan) (cert : Cert) → shape other ≡ shape plan → accepted other cert ≡ true → fails_only_at_totals plan cert ≡ true
 only_at_totals_where_fit plan other cert same is_accepted =
     fails_only_at_totals_from plan cert (hold_in_shape other plan cert (sym same) (hold_but_totals other cert (at_totals_where_accepted other cert is_accepted)))
@@ -258,13 +258,13 @@ fitted_sizes_are_least = record {
   none = λ plan cert well none. none_fits plan cert well none;
 }
 
--- what a caller of `fitted` gets
+-- the postcondition of `fitted`
 pub least_fit : (plan fit : Plan) (cert : Cert) → IsWellFormed plan → fitted plan cert ≡ Some fit → IsLeastFit plan cert fit
 least_fit plan fit cert well e = record { fits = fitted_fits plan fit cert well e; least = λ other fits. fitted_is_least plan fit other cert e fits }
 
 -- ---- an accepted plan
 
--- a pool that has room stays as it is
+-- a pool that has room does not change
 stays : (plan : Plan) (cert : PoolCert) (pool : Pool) → HasRoom plan cert pool pool → raised_pool plan cert pool ≡ pool
 stays plan cert pool room =
     let core : (raised_pool plan cert pool).core ≡ pool.core = omega (arith, least_core plan cert pool pool room) in

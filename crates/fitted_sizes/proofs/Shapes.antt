@@ -1,4 +1,4 @@
--- What a plan says apart from its cores and queues: it is what its shape says.
+-- The properties of a plan that do not depend on its cores and queues: its shape has the same ones.
 use Rattle.std.proofs.Common.{◌≡◌, ℕ, ◌+◌, ◌*◌, zero, suc, Bool, ◌&&◌, List, [], ◌∷◌, ◌++◌, length, get_or, map, flat_map, sum_by, refl, ap, ap₂, ◌∙◌}
 use Rattle.std.specs.Prelude.{◌==◌}
 use Rattle.std.specs.List.{enumerate_from, list_all}
@@ -22,27 +22,27 @@ use Rattle.fitted_sizes.specs.Fitted.{shape}
 
 -- ---- lists
 
--- functions that agree give the same list
+-- equal functions give the same list
 pub map-agree : {X Y : Type 0} (f g : X → Y) (xs : List X) → ((x : X) → f x ≡ g x) → map f xs ≡ map g xs
 map-agree f g [] same = refl
 map-agree f g (x ∷ xs) same = ap₂ (λ y ys. y ∷ ys) (same x) (map-agree f g xs same)
 
--- tests that agree pass on the same lists
+-- equal tests pass on the same lists
 pub list_all-agree : {X : Type 0} (f g : X → Bool) (xs : List X) → ((x : X) → f x ≡ g x) → list_all f xs ≡ list_all g xs
 list_all-agree f g [] same = refl
 list_all-agree f g (x ∷ xs) same = ap₂ (λ a b. a && b) (same x) (list_all-agree f g xs same)
 
--- a list that was changed has as many elements
+-- a map keeps the length
 pub length-changed : {X Y : Type 0} (f : X → Y) (xs : List X) → length (map f xs) ≡ length xs
 length-changed f [] = refl
 length-changed f (x ∷ xs) = ap suc (length-changed f xs)
 
--- what is made of the numbers alone
+-- a map that uses only the indices
 numbers-map : {X Y Z : Type 0} (f : ℕ → Z) (g : X → Y) (n : ℕ) (xs : List X) → map (λ (entry : ℕ × Y). f entry.0) (enumerate_from n (map g xs)) ≡ map (λ (entry : ℕ × X). f entry.0) (enumerate_from n xs)
 numbers-map f g n [] = refl
 numbers-map f g n (x ∷ xs) = ap (λ ys. f n ∷ ys) (numbers-map f g (n + 1) xs)
 
--- a sum over numbered elements that were changed
+-- a sum over indexed elements of a mapped list
 pub sum_by-changed : {X Y : Type 0} (f : ℕ × Y → ℕ) (g : X → Y) (n : ℕ) (xs : List X) → sum_by f (enumerate_from n (map g xs)) ≡ sum_by (λ (entry : ℕ × X). f (entry.0, g entry.1)) (enumerate_from n xs)
 sum_by-changed f g n xs = ap (sum_by f) (enumerated-map g n xs) ∙ sum_by-map f (λ entry. (entry.0, g entry.1)) (enumerate_from n xs)
   where
@@ -56,7 +56,7 @@ sum_by-changed f g n xs = ap (sum_by f) (enumerated-map g n xs) ∙ sum_by-map f
 abbrev pub bare : Pool → Pool
 bare pool = record pool { core = 0; queue = 0 }
 
--- the element at a place of a changed list
+-- the element at an index of a mapped list
 pub get_or-changed : {X Y : Type 0} (f : X → Y) (xs : List X) (i : ℕ) (d : X) → get_or (map f xs) i (f d) ≡ f (get_or xs i d)
 get_or-changed f [] i d = refl
 get_or-changed f (x ∷ xs) zero d = refl
@@ -79,7 +79,7 @@ pub rows-shape : (at_get : AtGet) (plan : Plan) (v : Vector) → rows at_get (sh
 rows-shape GivesBack plan v = refl
 rows-shape GivesNothing plan v = refl
 
--- ---- what bounds a pool, but for the total
+-- ---- the bound of a pool, without the total
 
 abbrev pub bound_body : Plan → ℕ → Bound → List Row
 bound_body plan p (Standing v) = rows GivesBack plan v ++ map (λ entry. row S1 (place.Class entry.0) 1 (queued_weight v entry.0)) (classes_of plan p)
@@ -95,7 +95,7 @@ bound_body-shape plan p (Lifetime v) =
     (λ (workers : List Row). workers ++ rows GivesNothing plan v ++ flat_map (λ entry. map (λ weight. row L2 (place.Class entry.0) 1 weight) (class_weights v entry.0)) (classes_of plan p))
     (numbers-map (λ q. row L1 (place.Worker q) (workers_weight v q) 0) bare 0 plan.pools)
 
--- ---- what bounds its blocked jobs, but for the total
+-- ---- the bound of a pool's blocked jobs, without the total
 
 abbrev pub blocked_body : Plan → Ranks → ℕ → Vector → List Row
 blocked_body plan ranks p v = rows GivesBack plan v ++ flat_map (λ entry. counted_rows (is_counted plan ranks) v entry.0 entry.1) (classes_of plan p)
@@ -103,12 +103,12 @@ blocked_body plan ranks p v = rows GivesBack plan v ++ flat_map (λ entry. count
 pub blocked_body-shape : (plan : Plan) (ranks : Ranks) (p : ℕ) (v : Vector) → blocked_body (shape plan) ranks p v ≡ blocked_body plan ranks p v
 blocked_body-shape plan ranks p v = refl
 
--- ---- what fits
+-- ---- fitting a plan
 
 vector_fits-pools : (plan : Plan) (pools : List Pool) (v : Vector) → length pools ≡ length plan.pools → vector_fits (record plan { pools = pools }) v ≡ vector_fits plan v
 vector_fits-pools plan pools v as_many = rw as_many refl
 
--- a certificate sees but the number of pools
+-- a certificate depends only on the number of pools
 pub cert_fits-pools : (plan : Plan) (pools : List Pool) (cert : Cert) → length pools ≡ length plan.pools → cert_fits (record plan { pools = pools }) cert ≡ cert_fits plan cert
 cert_fits-pools plan pools cert as_many =
     let other = record plan { pools = pools } in

@@ -1,4 +1,4 @@
--- No total is so large that a sum of it could wrap.
+-- Totals are small enough that their sums do not overflow.
 use Rattle.std.proofs.Common.{◌≡◌, ◌≤◌, ◌+◌, ◌*◌, ℕ, true, ◌&&◌, List, [], ◌∷◌, length, sum_by, arith}
 use Rattle.std.specs.List.{list_all, enumerate_from}
 use Rattle.std.proofs.lemmas.Bool.{and_parts}

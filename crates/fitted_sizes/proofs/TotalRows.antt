@@ -1,4 +1,4 @@
--- The conditions of a certificate apart from its totals, and its totals.
+-- The conditions of a certificate, divided into its totals and the others.
 use Rattle.std.proofs.Common.{◌≡◌, ℕ, ◌<◌, ◌≤◌, ◌-◌, ⊎_elim, Bool, true, false, cond, not, ◌&&◌, ltb, List, [], ◌∷◌, ◌++◌, length, map, filter, flat_map, refl, ap, ap₂, sym, subst, ◌∙◌, arith}
 use Rattle.std.specs.List.{enumerate_from, list_all}
 use Rattle.std.proofs.lemmas.Bool.{and_parts, and_from, ltb-false, le-ltb, cases_Bool, false≢true}
@@ -34,9 +34,9 @@ use Rattle.headline.proofs.Faults.{pool_numbers, accepted_from_parts}
 use Rattle.fitted_sizes.specs.Fitted.{is_total, fails_only_at_totals, shape}
 use Rattle.fitted_sizes.proofs.Shapes.{length-shape, bound_body, bound_body-shape, blocked_body, blocked_body-shape, cert_fits-shape}
 
--- ---- rows that are of no total
+-- ---- rows that are not totals
 
--- none of the rows is of a total
+-- none of the rows is a total
 abbrev OfNoTotal : List Row → Type 0
 OfNoTotal rows = list_all (λ x. not (is_total x.place)) rows ≡ true
 
@@ -52,7 +52,7 @@ of_no_total-flat_map : {X : Type 0} (f : X → List Row) (xs : List X) → ((x :
 of_no_total-flat_map f [] each = refl
 of_no_total-flat_map f (x ∷ xs) each = of_no_total-append (f x) (flat_map f xs) (each x) (of_no_total-flat_map f xs each)
 
--- at an action
+-- the row of an action
 of_action : (at_get : AtGet) (plan : Plan) (v : Vector) (weight : ℕ → ℕ) (place_at : ℕ → Place) (body : List Action) (i : ℕ) (action : Action) → is_total (place_at i) ≡ false
     → is_total (action_row at_get plan v weight place_at body i action).place ≡ false
 of_action at_get plan v weight place_at body i (Work u) other = other
@@ -81,7 +81,7 @@ of_rows at_get plan v =
     (of_no_total-flat_map (λ (entry : ℕ × Class). class_rows at_get plan v entry.0 entry.1) (enumerate_from 0 plan.classes) (λ entry. of_class at_get plan v entry.0 entry.1))
     (of_no_total-flat_map (λ (entry : ℕ × Client). client_rows at_get plan v entry.0 entry.1) (enumerate_from 0 plan.clients) (λ entry. of_client at_get plan v entry.0 entry.1))
 
--- of a bound, but for its total
+-- the rows of a bound, without its total
 of_bound : (plan : Plan) (p : ℕ) (bound : Bound) → OfNoTotal (bound_body plan p bound)
 of_bound plan p (Standing v) =
     of_no_total-append (rows GivesBack plan v) _ (of_rows GivesBack plan v) (of_no_total-map (λ (entry : ℕ × Class). row S1 (place.Class entry.0) 1 (queued_weight v entry.0)) (classes_of plan p) (λ entry. refl))
@@ -92,7 +92,7 @@ of_bound plan p (Lifetime v) =
     (of_no_total-flat_map (λ (entry : ℕ × Class). map (λ weight. row L2 (place.Class entry.0) 1 weight) (class_weights v entry.0)) (classes_of plan p)
     (λ entry. of_no_total-map (λ weight. row L2 (place.Class entry.0) 1 weight) (class_weights v entry.0) (λ weight. refl)))
 
--- of a blocked vector, but for its total
+-- the rows of a blocked vector, without its total
 of_blocked : (plan : Plan) (ranks : Ranks) (p : ℕ) (v : Vector) → OfNoTotal (blocked_body plan ranks p v)
 of_blocked plan ranks p v =
     of_no_total-append (rows GivesBack plan v) _ (of_rows GivesBack plan v)
@@ -137,7 +137,7 @@ total_holds plan p (Lifetime v) within = within
 abbrev blocked_total : Plan → ℕ → Vector → Row
 blocked_total plan p v = row B2 place.Total (total plan v) ((pool_at plan p).core - 1)
 
--- ---- all conditions but the totals, and the totals
+-- ---- all conditions except the totals, and the totals
 
 pub record HoldButTotals (plan : Plan) (cert : Cert) : Type 0 where
   pub fits : cert_fits plan cert ≡ true
@@ -149,9 +149,9 @@ pub record TotalsHold (plan : Plan) (cert : Cert) : Type 0 where
   pub bounds : (p : ℕ) → p < length plan.pools → total plan (bound_vector (pool_cert_at cert p).bound) ≤ bound_limit plan p (pool_cert_at cert p).bound
   pub blocked : (p : ℕ) → p < length plan.pools → total plan (pool_cert_at cert p).blocked ≤ (pool_at plan p).core - 1
 
--- ---- where only totals fail
+-- ---- if only totals fail
 
--- rows that are of no total hold, where no condition fails but totals
+-- rows that are not totals hold if only totals fail
 hold_elsewhere : (plan : Plan) (cert : Cert) (part : Section) (rows : List Row) → list_all (λ note. is_total note.place) (failing plan cert) ≡ true → OfNoTotal rows
     → ((x : Row) → In x rows → In (note part x) (conditions plan cert)) → AllHold rows
 hold_elsewhere plan cert part rows only_totals of_none among x i =
@@ -187,14 +187,14 @@ hold_but_totals plan cert only_totals =
           (λ x i. pool_inside plan cert p (note part x) inside (In-append_right of_bound (In-map (note part) (In-append_left (blocked_total plan p pool.blocked ∷ []) i))));
     }
 
--- a note that fails is no note of rows that hold
+-- a note that fails is not a note of rows that hold
 fails_not : (part : Section) (rows : List Row) (n : Note) → AllHold rows → ltb n.right n.left ≡ true → In n (in_section part rows) → is_total n.place ≡ true
 fails_not part rows n hold wrong i =
     let found = In-map_from (note part) rows i in
     let right : ltb n.right n.left ≡ false = subst (λ (y : Note). ltb y.right y.left ≡ false) found.2 (le-ltb found.0.right found.0.left (hold found.0 found.1)) in
     absurd (false≢true (sym right ∙ wrong))
 
--- nor, where it is of no total, of such rows with a total behind them
+-- if it is not a total, it is not a note of such rows with a total appended either
 fails_at_total : (part : Section) (rows : List Row) (t : Row) (n : Note) → AllHold rows → is_total t.place ≡ true → ltb n.right n.left ≡ true → In n (in_section part (rows ++ t ∷ [])) → is_total n.place ≡ true
 fails_at_total part rows t n hold at_total wrong i =
     let found = In-map_from (note part) (rows ++ t ∷ []) i in
@@ -232,7 +232,7 @@ fails_only_at_totals_from plan cert hold =
         of_pool n found.0.0 (omega (arith, within.1)) wrong found.2)
         (In-append_cases (in_section section.Ranks (rank_rows plan cert.ranks)) (flat_map conditions_of numbered) i)
 
--- ---- what is accepted
+-- ---- accepted plans
 
 pub at_totals_where_accepted : (plan : Plan) (cert : Cert) → accepted plan cert ≡ true → fails_only_at_totals plan cert ≡ true
 at_totals_where_accepted plan cert is_accepted =
@@ -259,7 +259,7 @@ totals_where_accepted plan cert is_accepted =
           hold (blocked_total plan p pool.blocked) (In-append_right (blocked_body plan cert.ranks p pool.blocked) here);
     }
 
--- rows that hold, and a total behind them that does
+-- rows that hold, with a total appended that holds
 hold_with : (rows : List Row) (t : Row) → AllHold rows → t.left ≤ t.right → AllHold (rows ++ t ∷ [])
 hold_with rows t hold within x i = ⊎_elim (λ before. hold x before) (λ (last : x ≡ t). subst (λ (y : Row). y.left ≤ y.right) (sym last) within) (In-push_cases rows t i)
 
@@ -275,7 +275,7 @@ accepted_from_totals plan cert hold totals =
 
 -- ---- a plan of the same shape
 
--- what a plan of another shape says, where it is what its shape says
+-- a property of a plan carries over to a plan of the same shape if it depends only on the shape
 pub same_in_shape : {Y : Type 0} (says : Plan → Y) (plan other : Plan) → ((any : Plan) → says (shape any) ≡ says any) → shape other ≡ shape plan → says other ≡ says plan
 same_in_shape says plan other of_shape same = sym (of_shape other) ∙ (ap says same ∙ of_shape plan)
 

@@ -1,4 +1,4 @@
--- A plan is fitted, or there is a reason why not.
+-- Either a plan is fitted, or there is a reason why not.
 use Rattle.std.proofs.Common.{◌≡◌, ◌≤◌, ◌<◌, ◌+◌, ◌⊎◌, ℕ, zero, suc, inl, inr, Bool, true, false, cond, not, ◌&&◌, ◌||◌, ltb, List, [], ◌∷◌, length, get_or, Option, Some, None, refl, sym, ap, ap₂, subst, ◌∙◌, arith}
 use Rattle.std.specs.List.{enumerate_from, find, list_all}
 use Rattle.std.specs.Option.{option_or, option_map}
@@ -21,12 +21,12 @@ use Rattle.fitted_sizes.proofs.LeastMaxes.{length-widened, widened-outline, wide
 
 -- ---- the first reason
 
--- where the first of two answers is none, the second decides
+-- if the result of two options is None, both are
 or_parts : {X : Type 0} (first second : Option X) → option_or first second ≡ None → (first ≡ None) × (second ≡ None)
 or_parts None second none = (refl, none)
 or_parts (Some x) second none = absurd cc
 
--- where there is none, no pool is unfit
+-- if there is no reason, no pool is unfit
 each_not_unfit : (n : ℕ) (pools : List Pool) → first_unfit (enumerate_from n pools) ≡ None → (p : ℕ) → p < length pools → unfit_pool (n + p) (get_or pools p no_pool) ≡ None
 each_not_unfit n [] none p inside = absurd (omega arith)
 each_not_unfit n (pool ∷ pools) none zero inside =
@@ -37,12 +37,12 @@ each_not_unfit n (pool ∷ pools) none (suc p) inside =
     subst (λ (j : ℕ). unfit_pool j (get_or pools p no_pool) ≡ None) place
     (each_not_unfit (n + 1) pools (or_parts (unfit_pool n pool) (first_unfit (enumerate_from (n + 1) pools)) none).1 p (omega arith))
 
--- where no pool is unfit, there is none
+-- if no pool is unfit, there is no reason
 all_not_unfit : (n : ℕ) (pools : List Pool) → ((p q : ℕ) → p < length pools → unfit_pool q (get_or pools p no_pool) ≡ None) → first_unfit (enumerate_from n pools) ≡ None
 all_not_unfit n [] each = refl
 all_not_unfit n (pool ∷ pools) each = ap₂ option_or (each 0 n (omega arith)) (all_not_unfit (n + 1) pools (λ p q inside. each (suc p) q (omega arith)))
 
--- what a reason is made of
+-- the parts of a reason
 fit_parts : (fits : Bool) (reason : Option Unfit) → cond fits reason (Some Shape) ≡ None → (fits ≡ true) × (reason ≡ None)
 fit_parts true reason none = (refl, none)
 fit_parts false reason none = absurd cc
@@ -51,7 +51,7 @@ no_condition : (found : Option Note) → option_map Condition found ≡ None →
 no_condition None none = refl
 no_condition (Some note) none = absurd cc
 
--- ---- the first condition that fails elsewhere
+-- ---- the first other condition that fails
 
 all_pass : {X : Type 0} (test : X → Bool) (xs : List X) → find (λ x. not (test x)) xs ≡ None → list_all test xs ≡ true
 all_pass test [] none = refl
@@ -69,7 +69,7 @@ none_found {X} test (x ∷ xs) all =
 
 -- ---- sizes
 
--- a pool that is not unfit has its core within max, and max and queue within their limit
+-- a pool that is not unfit has its core within its max, and its max and queue within the limit
 record IsWithin (pool : Pool) : Type 0 where
   core : pool.core ≤ pool.max
   max : pool.max ≤ MAX_SIZE
@@ -85,7 +85,7 @@ within p pool none = at_tests (ltb pool.max pool.core) refl (ltb MAX_SIZE pool.m
     at_tests false is false more true also e = absurd cc
     at_tests false is false more false also e = record { core = ltb-false pool.max pool.core is; max = ltb-false MAX_SIZE pool.max more; queue = ltb-false MAX_SIZE pool.queue also }
 
--- and a pool with lawful sizes is not unfit
+-- a pool with valid sizes is not unfit
 lawful_fits : (p : ℕ) (pool : Pool) → has_lawful_sizes pool ≡ true → unfit_pool p pool ≡ None
 lawful_fits p pool lawful =
     let sizes = has_sizes pool lawful in
@@ -107,7 +107,7 @@ not_unfit plan cert none =
     let parts = or_parts (option_map Condition (failing_elsewhere plan cert)) sizes whole.1 in
     record { fits = whole.0; elsewhere = no_condition (failing_elsewhere plan cert) parts.0; sizes = parts.1 }
 
--- then the raised plan has lawful sizes
+-- then the raised plan has valid sizes
 sized : (plan : Plan) (cert : Cert) → IsWellFormed plan → NotUnfit plan cert → list_all has_lawful_sizes (raised plan cert).pools ≡ true
 sized plan cert well found = sized_from_places (raised plan cert).pools each
   where
@@ -136,7 +136,7 @@ fitted_where_not_unfit plan cert well none =
 pub well_formed_where_not_unfit : (plan : Plan) (cert : Cert) → IsWellFormed plan → why_unfit plan cert ≡ None → IsWellFormed (raised plan cert)
 well_formed_where_not_unfit plan cert well none = raised_is_well_formed plan cert well (sized plan cert well (not_unfit plan cert none))
 
--- where there is a fitted plan, there is no reason
+-- if there is a fitted plan, there is no reason
 not_unfit_where_fitted : (plan : Plan) (cert : Cert) → fails_only_at_totals plan cert ≡ true → list_all has_lawful_sizes (raised plan cert).pools ≡ true → why_unfit plan cert ≡ None
 not_unfit_where_fitted plan cert only_totals all_sized =
     let parts = and_parts (cert_fits plan cert) (list_all (λ note. is_total note.place) (failing plan cert)) only_totals in
@@ -145,7 +145,7 @@ not_unfit_where_fitted plan cert only_totals all_sized =
     ap (λ (fits : Bool). cond fits (option_or (option_map Condition (failing_elsewhere plan cert)) (first_unfit (enumerate_from 0 pools))) (Some Shape)) parts.0
     ∙ ap₂ (λ (found : Option Note) (sizes : Option Unfit). option_or (option_map Condition found) sizes) (none_found (λ (note : Note). is_total note.place) (failing plan cert) parts.1) none
 
--- so where there is a reason, there is no fitted plan
+-- so if there is a reason, there is no fitted plan
 pub none_where_unfit : (plan : Plan) (cert : Cert) (unfit : Unfit) → why_unfit plan cert ≡ Some unfit → fitted plan cert ≡ None
 none_where_unfit plan cert unfit some =
     let only_totals = fails_only_at_totals plan cert in
@@ -156,7 +156,7 @@ none_where_unfit plan cert unfit some =
     let none = not_unfit_where_fitted plan cert parts.0 parts.1 in
     absurd cc))
 
--- what a caller of `fitted` gets
+-- the postcondition of `fitted`
 pub least_where_not_unfit : (plan : Plan) (cert : Cert) → IsWellFormed plan → why_unfit plan cert ≡ None → IsLeastFit plan cert (raised plan cert)
 least_where_not_unfit plan cert well none = least_fit plan (raised plan cert) cert well (fitted_where_not_unfit plan cert well none)
 
@@ -165,7 +165,7 @@ none_fits_where_unfit plan cert unfit well some = none_fits plan cert well (none
 
 -- ---- the widened plan
 
--- the sizes of its pools are lawful, but for a max above the limit
+-- the sizes of its pools are valid, except for a max above the limit
 widened_sizes : (plan : Plan) (cert : Cert) (p : ℕ) → IsWellFormed plan → p < length (widened plan cert).pools → (pool_at (widened plan cert) p).max ≤ MAX_SIZE → HasSizes (pool_at (widened plan cert) p)
 widened_sizes plan cert p well there small =
     let inside : p < length plan.pools = subst (λ (n : ℕ). p < n) (length-widened plan cert) there in
@@ -182,13 +182,13 @@ widened_sizes plan cert p well there small =
       most_queue = omega (arith, declared.most_queue);
     }
 
--- what the code finds, where the certificate fits
+-- the code's result, if the certificate fits
 pub why_not_widened_is : (plan : Plan) (cert : Cert) (pools : List Pool) (found : Option Unfit) → cert_fits plan cert ≡ true → pools ≡ (widened plan cert).pools → found ≡ first_unfit (enumerate_from 0 pools) → why_not_widened plan cert ≡ found
 why_not_widened_is plan cert pools found fits is e =
     ap (λ (fit : Bool). cond fit (first_unfit (enumerate_from 0 (widened plan cert).pools)) (Some Shape)) fits
     ∙ (ap (λ (ps : List Pool). first_unfit (enumerate_from 0 ps)) (sym is) ∙ sym e)
 
--- where there is no reason, the widened plan is well-formed
+-- if there is no reason, the widened plan is well-formed
 pub widened_is_well_formed : (plan : Plan) (cert : Cert) → IsWellFormed plan → why_not_widened plan cert ≡ None → IsWellFormed (widened plan cert)
 widened_is_well_formed plan cert well none =
     well_formed_changed plan (widened plan cert) well (widened-outline plan cert) (sized_from_places (widened plan cert).pools each)
@@ -198,7 +198,7 @@ widened_is_well_formed plan cert well none =
         let whole = fit_parts (cert_fits plan cert) (first_unfit (enumerate_from 0 (widened plan cert).pools)) none in
         widened_sizes plan cert p well there (within (0 + p) (pool_at (widened plan cert) p) (each_not_unfit 0 (widened plan cert).pools whole.1 p there)).max
 
--- where there is one, no sizes will do
+-- if there is a reason, no sizes are enough
 pub none_fits_where_not_widened : (plan : Plan) (cert : Cert) (unfit : Unfit) → IsWellFormed plan → why_not_widened plan cert ≡ Some unfit → NoneFitsWide plan cert
 none_fits_where_not_widened plan cert unfit well some other fits =
     let pools = (widened plan cert).pools in
@@ -207,9 +207,9 @@ none_fits_where_not_widened plan cert unfit well some other fits =
     ap (λ (fit : Bool). cond fit (first_unfit (enumerate_from 0 pools)) (Some Shape)) (wide_fit_fits plan other cert fits) ∙ none in
     absurd cc
 
--- ---- a core that is told
+-- ---- a core as the reason
 
--- it is that of the pool, whose core is above max, or whose max is above the limit
+-- the core of the pool is above its max, or its max is above the limit
 record IsAbove (p : ℕ) (pool : Pool) (told : ℕ) : Type 0 where
   number : p ≡ told
   above : (pool.max < pool.core) ⊎ (MAX_SIZE < pool.max)
@@ -224,7 +224,7 @@ core_above p pool told some = at_tests (ltb pool.max pool.core) refl (ltb MAX_SI
     at_tests false is false more true e = absurd cc
     at_tests false is false more false e = absurd cc
 
--- the pool at this place of the list has it
+-- the pool at this index of the list is the one with that core
 record IsToldAt (n : ℕ) (pools : List Pool) (told : ℕ) : Type 0 where
   place : ℕ
   inside : place < length pools
@@ -252,13 +252,13 @@ told_at n (pool ∷ pools) told some = at_first (unfit_pool n pool) refl (λ res
     at_first (Some unfit) is rest e =
         record { place = 0; inside = omega arith; is_above = subst (λ (j : ℕ). IsAbove j pool told) first_place (core_above n pool told (is ∙ e)) }
 
--- it comes of the sizes
+-- the reason is about sizes
 of_sizes : (fits : Bool) (found : Option Note) (sizes : Option Unfit) (told : ℕ) → cond fits (option_or (option_map Condition found) sizes) (Some Shape) ≡ Some (Core told) → sizes ≡ Some (Core told)
 of_sizes true None sizes told some = some
 of_sizes true (Some note) sizes told some = absurd cc
 of_sizes false found sizes told some = absurd cc
 
--- so more core than max is needed there
+-- so a core above the max is needed there
 pub told_cores_need_larger_maxes : ToldCoresNeedLargerMaxes
 told_cores_need_larger_maxes plan other cert p well some fits =
     let pools = (raised plan cert).pools in

@@ -1,4 +1,4 @@
--- What is fitted to small plans, computed from the definitions alone.
+-- The fitted plans of small examples, computed from the definitions.
 use Rattle.std.proofs.Common.{◌≡◌, ℕ, [], ◌∷◌, Some, None, true, false, refl}
 use Rattle.job_bodies.specs.Plan.{Plan}
 use Rattle.weights.specs.declared.bound.Bound.TheVariants.{Lifetime}
@@ -16,22 +16,22 @@ use Rattle.fitted_sizes.specs.Unfit.{why_unfit, why_not_widened}
 
 -- ---- queues
 
--- two clients want a queue of two
+-- two clients need a queue of two
 pub two_clients : fitted (one_pool 1 1 1 2) (standing_cert 1) ≡ Some (one_pool 1 1 2 2)
 two_clients = refl
 
--- a larger queue stays as it is, and the least queue of all is two
+-- a larger queue does not change, and the least queue of all is two
 pub larger_queue : fitted (one_pool 1 1 9 2) (standing_cert 1) ≡ Some (one_pool 1 1 9 2)
 larger_queue = refl
 
 pub larger_queue_smallest : fitted (smallest (one_pool 1 1 9 2)) (standing_cert 1) ≡ Some (one_pool 1 1 2 2)
 larger_queue_smallest = refl
 
--- three inner jobs want a queue of three
+-- three inner jobs need a queue of three
 pub three_in_two : fitted (fan_out 2) fan_out_cert ≡ Some (fan_out 3)
 three_in_two = refl
 
--- a million clients of the greatest weight want more than any queue
+-- a million clients with the greatest weight need more than the largest queue
 pub large_weights : why_unfit (one_pool 1 1 2 1000000) (standing_cert 1000000000) ≡ Some (Queue 0)
 large_weights = refl
 
@@ -40,7 +40,7 @@ large_weights_fitted = refl
 
 -- ---- other conditions
 
--- no size ends what repeats
+-- no size bounds submits that repeat forever
 pub fire_and_forget : fitted (forgetting true) forgetting_cert ≡ None
 fire_and_forget = refl
 
@@ -56,7 +56,7 @@ other_shape_widened = refl
 
 -- ---- cores
 
--- an outer job and its inner one want two threads, where max leaves room for them
+-- an outer job and its inner one need two threads, if max leaves room for them
 pub nested_two_of_eight : fitted (nested 1 8 false) nested_cert ≡ Some (nested 2 8 false)
 nested_two_of_eight = refl
 
@@ -66,7 +66,7 @@ nested_one_worker = refl
 pub nested_one_worker_unfit : why_unfit (nested 1 1 false) nested_cert ≡ Some (Core 0)
 nested_one_worker_unfit = refl
 
--- the second of two pools wants a thread more
+-- the second of two pools needs one more thread
 pub cross_pools : fitted (two_pools 1) two_pools_cert ≡ None
 cross_pools = refl
 
@@ -86,17 +86,17 @@ cross_pools_widened = refl
 pub lifetime_over : fitted (one_pool_once 2 2 1 4 false) lifetime_cert ≡ Some (one_pool_once 2 2 2 4 false)
 lifetime_over = refl
 
--- threads that were started beforehand take no job, so the queue takes all three
+-- prestarted threads take no job, so the queue takes all three
 pub lifetime_prestarted : fitted (one_pool_once 2 2 1 3 true) lifetime_cert ≡ Some (one_pool_once 2 2 3 3 true)
 lifetime_prestarted = refl
 
--- with a core of one, the second thread is started by a job
+-- with a core of one, a job starts the second thread
 pub lifetime_prestarted_smallest : fitted (smallest (one_pool_once 2 2 1 3 true)) lifetime_cert ≡ Some (one_pool_once 1 2 2 3 true)
 lifetime_prestarted_smallest = refl
 
--- ---- one condition that fails, and two numbers to change
+-- ---- one failing condition and two numbers to change
 
--- a prestarted pool of two threads at most, and a client that asks once for an outer job, which asks for an inner one
+-- a prestarted pool of at most two threads, and a client that submits one outer job, which submits an inner one
 abbrev nested_once : ℕ → ℕ → Plan
 nested_once core queue = record {
   pools = a_pool 112 core 2 queue true ∷ [];
@@ -104,7 +104,7 @@ nested_once core queue = record {
   clients = clients 99 1 false (asks 0) ∷ [];
 }
 
--- two jobs are ever made, and the outer one alone is ever blocked
+-- at most two jobs are made, and only the outer one can be blocked
 abbrev nested_once_cert : Cert
 nested_once_cert = record {
   pools =
@@ -115,10 +115,10 @@ nested_once_cert = record {
   ranks = nested_ranks;
 }
 
--- the core alone is too small
+-- only the core is too small
 pub nested_once_fails : failing (nested_once 1 1) nested_once_cert ≡ note (section.Blocked 0) (row B2 place.Total 1 0) ∷ []
 nested_once_fails = refl
 
--- with a second thread that is started beforehand, no job starts it, and the queue takes one more
+-- with a second prestarted thread, no job starts it, and the queue takes one more
 pub nested_once_fitted : fitted (nested_once 1 1) nested_once_cert ≡ Some (nested_once 2 2)
 nested_once_fitted = refl

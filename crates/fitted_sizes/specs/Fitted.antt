@@ -1,4 +1,4 @@
--- Which numbers to change: the least cores and queues with which a certificate accepts a plan.
+-- The least cores and queues with which a certificate accepts a plan.
 use Rattle.std.specs.Prelude.{◌≡◌, ◌≤◌, ℕ, ◌+◌, ◌-◌, max, Bool, true, false, ◌&&◌, if◌then◌else◌, map, Option, Some, None, IsTrue}
 use Rattle.std.specs.List.{list_all, enumerate_from}
 use Rattle.job_bodies.specs.Plan.{Pool, Plan, pool_at, first_workers}
@@ -13,18 +13,18 @@ use Rattle.certificates.specs.Cert.{PoolCert, Cert, pool_cert_at, cert_fits}
 use Rattle.headline.specs.Conditions.{failing}
 use Rattle.headline.specs.Accepted.{accepted}
 
--- ---- what a certificate needs of a pool
+-- ---- the sizes that a certificate needs of a pool
 
--- B2: more core than jobs can be blocked
+-- rule B2: a core larger than the number of jobs that can be blocked
 abbrev pub core_needed : Plan → Vector → ℕ
 core_needed plan v = total plan v + 1
 
--- S2 or L3: a queue for the total, but of a lifetime total for what the threads beyond the first workers leave
+-- rules S2 and L3: a queue for the total; for a lifetime total, the threads beyond the first workers take some of it
 abbrev pub queue_needed : Plan → Bound → Pool → ℕ
 queue_needed plan (Standing v) pool = total plan v
 queue_needed plan (Lifetime v) pool = total plan v + first_workers pool - pool.max
 
--- ---- the plan with sizes raised to that
+-- ---- the plan with raised sizes
 
 abbrev pub with_core : Plan → Vector → Pool → Pool
 with_core plan v pool = record pool { core = max pool.core (core_needed plan v) }
@@ -32,7 +32,7 @@ with_core plan v pool = record pool { core = max pool.core (core_needed plan v) 
 abbrev pub with_queue : Plan → Bound → Pool → Pool
 with_queue plan bound pool = record pool { queue = max pool.queue (queue_needed plan bound pool) }
 
--- the core first, since a prestarted pool with more core can need more queue
+-- the core first, since a prestarted pool with a larger core can need a larger queue
 abbrev pub raised_pool : Plan → PoolCert → Pool → Pool
 raised_pool plan cert pool = with_queue plan cert.bound (with_core plan cert.blocked pool)
 
@@ -40,7 +40,7 @@ raised_pool plan cert pool = with_queue plan cert.bound (with_core plan cert.blo
 abbrev pub raised : Plan → Cert → Plan
 raised plan cert = record plan { pools = map (λ entry. raised_pool plan (pool_cert_at cert entry.0) entry.1) (enumerate_from 0 plan.pools) }
 
--- a total, which is compared with what a pool's sizes leave
+-- a total, which is compared with a pool's sizes
 abbrev pub is_total : Place → Bool
 is_total Total = true
 is_total _ = false
@@ -49,11 +49,11 @@ is_total _ = false
 abbrev pub fails_only_at_totals : Plan → Cert → Bool
 fails_only_at_totals plan cert = cert_fits plan cert && list_all (λ note. is_total note.place) (failing plan cert)
 
--- the raised plan; None where another condition fails, or where a core would pass its pool's max or a queue its limit
+-- the raised plan; None if another condition fails, or if a core would be above its pool's max or a queue above its limit
 abbrev pub fitted : Plan → Cert → Option Plan
 fitted plan cert = if fails_only_at_totals plan cert && list_all has_lawful_sizes (raised plan cert).pools then Some (raised plan cert) else None
 
--- ---- what it is
+-- ---- its properties
 
 -- the plan with this number as each core and each queue
 abbrev pub with_sizes : ℕ → Plan → Plan
@@ -63,17 +63,17 @@ with_sizes n plan = record plan { pools = map (λ (pool : Pool). record pool { c
 abbrev pub shape : Plan → Plan
 shape plan = with_sizes 0 plan
 
--- no core and no queue of the other plan is below this one's
+-- no core and no queue of the other plan is smaller than in this one
 pub record IsNoSmaller (other plan : Plan) : Type 0 where
   pub core : (p : ℕ) → (pool_at plan p).core ≤ (pool_at other p).core
   pub queue : (p : ℕ) → (pool_at plan p).queue ≤ (pool_at other p).queue
 
--- the other plan differs from this one in cores and queues alone
+-- the other plan differs from this one only in cores and queues
 pub record IsResized (plan other : Plan) : Type 0 where
   pub well_formed : IsWellFormed other
   pub same_shape : shape other ≡ shape plan
 
--- the certificate accepts the other plan, which differs from this one in larger cores and queues alone
+-- the certificate accepts the other plan, which differs from this one only in larger cores and queues
 pub record IsFit (plan : Plan) (cert : Cert) (other : Plan) : Type 0 where
   pub resized : IsResized plan other
   pub no_smaller : IsNoSmaller other plan
@@ -88,28 +88,28 @@ pub record IsLeastFit (plan : Plan) (cert : Cert) (fit : Plan) : Type 0 where
 abbrev pub NoneFits : Plan → Cert → Type 0
 NoneFits plan cert = (other : Plan) → ¬ IsFit plan cert other
 
--- the fitted plan fits, and none that fits has a smaller core or queue; where there is no fitted plan none fits
+-- the fitted plan fits, and none that fits has a smaller core or queue; if there is no fitted plan, none fits
 pub record FittedSizesAreLeast : Type 0 where
   pub fits : (plan fit : Plan) (cert : Cert) → IsWellFormed plan → fitted plan cert ≡ Some fit → IsFit plan cert fit
   pub least : (plan fit other : Plan) (cert : Cert) → fitted plan cert ≡ Some fit → IsFit plan cert other → IsNoSmaller other fit
   pub none : (plan : Plan) (cert : Cert) → IsWellFormed plan → fitted plan cert ≡ None → NoneFits plan cert
 
--- where the certificate accepts the plan there is nothing to change
+-- if the certificate accepts the plan, nothing changes
 abbrev pub AcceptedPlansFit : Type 0
 AcceptedPlansFit = (plan : Plan) (cert : Cert) → IsWellFormed plan → IsTrue (accepted plan cert) → fitted plan cert ≡ Some plan
 
--- an accepted plan stays accepted with other cores and queues, where no core falls, nor the limit of a bound
+-- an accepted plan stays accepted with other cores and queues, if no core is smaller, nor the limit of a bound
 abbrev pub LargerSizesAreAccepted : Type 0
 LargerSizesAreAccepted = (plan other : Plan) (cert : Cert) → shape other ≡ shape plan → IsTrue (accepted plan cert) → ((p : ℕ) → (pool_at plan p).core ≤ (pool_at other p).core)
     → ((p : ℕ) → bound_limit plan p (pool_cert_at cert p).bound ≤ bound_limit other p (pool_cert_at cert p).bound) → IsTrue (accepted other cert)
 
--- ---- whatever sizes the plan declares
+-- ---- for any declared sizes
 
 -- the plan with cores and queues of 1
 abbrev pub smallest : Plan → Plan
 smallest plan = with_sizes 1 plan
 
--- what is fitted to the smallest plan has the least sizes of all with which the certificate accepts the plan
+-- the plan fitted to the smallest plan has the least sizes of all with which the certificate accepts the plan
 pub record SmallestFitIsLeast : Type 0 where
   pub fits : (plan fit : Plan) (cert : Cert) → IsWellFormed plan → fitted (smallest plan) cert ≡ Some fit → IsResized plan fit × IsTrue (accepted fit cert)
   pub least : (plan fit other : Plan) (cert : Cert) → fitted (smallest plan) cert ≡ Some fit → IsResized plan other → IsTrue (accepted other cert) → IsNoSmaller other fit

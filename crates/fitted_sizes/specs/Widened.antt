@@ -1,4 +1,4 @@
--- Where a core would pass its max: maxes that leave room for the cores that a certificate needs.
+-- Maxes that leave room for the cores that a certificate needs, for when a core would be above its max.
 use Rattle.std.specs.Prelude.{◌≡◌, ◌≤◌, ◌<◌, ℕ, max, map, length, IsTrue}
 use Rattle.std.specs.List.{enumerate_from}
 use Rattle.job_bodies.specs.Plan.{Pool, Plan, pool_at}
@@ -11,7 +11,7 @@ use Rattle.fitted_sizes.specs.Fitted.{core_needed, IsNoSmaller}
 abbrev pub with_max : Plan → Vector → Pool → Pool
 with_max plan v pool = record pool { max = max pool.max (core_needed plan v) }
 
--- each max that is below the core that the certificate needs is raised to it; where totals grow by that, more may be needed
+-- each max that is below the core that the certificate needs is raised to it; if that increases totals, more can be needed
 abbrev pub widened : Plan → Cert → Plan
 widened plan cert = record plan { pools = map (λ entry. with_max plan (pool_cert_at cert entry.0).blocked entry.1) (enumerate_from 0 plan.pools) }
 
@@ -19,14 +19,14 @@ widened plan cert = record plan { pools = map (λ entry. with_max plan (pool_cer
 abbrev pub outline : Plan → Plan
 outline plan = record plan { pools = map (λ (pool : Pool). record pool { core = 0; max = 0; queue = 0 }) plan.pools }
 
--- the certificate accepts the other plan, which differs from this one in its sizes alone, and has no smaller max
+-- the certificate accepts the other plan, which differs from this one only in its sizes, and has no smaller max
 pub record IsWideFit (plan : Plan) (cert : Cert) (other : Plan) : Type 0 where
   pub well_formed : IsWellFormed other
   pub same_outline : outline other ≡ outline plan
   pub no_smaller_max : (p : ℕ) → (pool_at plan p).max ≤ (pool_at other p).max
   pub accepts : IsTrue (accepted other cert)
 
--- no such plan that has no smaller core or queue either has a smaller core than the fit: a larger max saves no core
+-- no such plan whose cores and queues are no smaller has a smaller core than the fit: a larger max saves no core
 abbrev pub HasLeastCores : Plan → Cert → Plan → Type 0
 HasLeastCores plan cert fit = (other : Plan) → IsWideFit plan cert other → IsNoSmaller other plan → (p : ℕ) → (pool_at fit p).core ≤ (pool_at other p).core
 
@@ -34,19 +34,19 @@ HasLeastCores plan cert fit = (other : Plan) → IsWideFit plan cert other → I
 abbrev pub NoneFitsWide : Plan → Cert → Type 0
 NoneFitsWide plan cert = (other : Plan) → ¬ IsWideFit plan cert other
 
--- ---- what it is
+-- ---- its properties
 
 -- the plan without its maxes
 abbrev pub without_maxes : Plan → Plan
 without_maxes plan = record plan { pools = map (λ (pool : Pool). record pool { max = 0 }) plan.pools }
 
--- the other plan differs from this one in larger maxes alone
+-- the other plan differs from this one only in larger maxes
 pub record IsWider (plan other : Plan) : Type 0 where
   pub same_but_maxes : without_maxes other ≡ without_maxes plan
   pub no_smaller_max : (p : ℕ) → (pool_at plan p).max ≤ (pool_at other p).max
 
--- it differs in larger maxes alone, and none of them is larger than need be: what fits the plan fits the wide one, and a max
--- that grew is needed for the core of its own pool
+-- it differs only in larger maxes, and none is larger than necessary: what fits the plan fits the wide one, and a max that
+-- grew is needed for the core of its own pool
 pub record IsLeastWide (plan : Plan) (cert : Cert) (wide : Plan) : Type 0 where
   pub wider : IsWider plan wide
   pub least : (other : Plan) → IsWideFit plan cert other → IsWideFit wide cert other

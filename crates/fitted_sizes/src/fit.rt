@@ -20,7 +20,8 @@ use refusal_notes::notes;
 use std::alloc::{AllocError, Global};
 use weights::{Bound, Place, Vector};
 
-/// The core that a pool needs, given its blocked vector: one more than the jobs that can be blocked.
+/// Returns the core that a pool with this blocked vector needs: one more than the jobs that can be
+/// blocked.
 pub(crate) fn core_needed(plan: &Plan, blocked: &Vector) -> u64
     requires well_formed { IsWellFormed plan.now }
     requires fits { IsTrue (vector_fits plan.now blocked.now) }
@@ -29,7 +30,8 @@ pub(crate) fn core_needed(plan: &Plan, blocked: &Vector) -> u64
     blocked.total(plan) + 1
 }
 
-/// The queue that a pool of these sizes needs. In a lifetime bound the threads beyond the first workers take jobs too.
+/// Returns the queue that a pool with these sizes needs. For a lifetime bound, the threads beyond
+/// the first workers take jobs too.
 fn queue_needed(plan: &Plan, bound: &Bound, pool: &Pool) -> u64
     requires well_formed { IsWellFormed plan.now }
     requires fits { IsTrue (vector_fits plan.now (bound_vector bound.now)) }
@@ -45,8 +47,8 @@ fn queue_needed(plan: &Plan, bound: &Bound, pool: &Pool) -> u64
     }
 }
 
-/// The pool of this number with its core raised to what the certificate needs, and then its queue: a prestarted pool with
-/// more core can need more queue.
+/// Returns the pool of this number with its core raised to what the certificate needs, and then its
+/// queue: a prestarted pool with a larger core can need a larger queue.
 fn raised_pool(alloc: Global, plan: &Plan, cert: &Cert, number: usize) -> Result<Pool, AllocError>
     requires fits { IsTrue (cert_fits plan.now cert.now) }
     requires number { number < length plan.now.pools }
@@ -73,14 +75,14 @@ fn raised_pools(alloc: Global, plan: &Plan, cert: &Cert) -> Result<Vec<Pool>, Al
     Ok(pools)
 }
 
-/// Whether it is a total, which is compared with what a pool's sizes leave.
+/// Returns whether the place is a total, which is compared with a pool's sizes.
 fn is_total(place: Place) -> bool
     ensures { result ≡ spec.is_total place }
 {
     matches!(place, Place::Total)
 }
 
-/// The first of the notes that is of no total.
+/// Returns the first note that is not about a total.
 fn first_elsewhere(notes: &[Note]) -> Option<Note>
     ensures { result ≡ find (λ note. not (spec.is_total note.place)) notes.now }
 {
@@ -92,7 +94,7 @@ fn first_elsewhere(notes: &[Note]) -> Option<Note>
     None
 }
 
-/// The first condition that fails and that no core and no queue changes.
+/// Returns the first failing condition that does not depend on cores and queues.
 fn failing_elsewhere(alloc: Global, plan: &Plan, cert: &Cert) -> Result<Option<Note>, AllocError>
     requires { IsTrue (cert_fits plan.now cert.now) }
     ensures { IfOk result (λ found. found ≡ failing_elsewhere plan.now cert.now) }
@@ -101,7 +103,7 @@ fn failing_elsewhere(alloc: Global, plan: &Plan, cert: &Cert) -> Result<Option<N
     Ok(first_elsewhere(&failing))
 }
 
-/// Why the plan has no fitted plan, given the pools that its own are raised to.
+/// Returns why the plan has no fitted plan, given its raised pools.
 fn unfit(
     alloc: Global,
     plan: &Plan,
@@ -118,14 +120,14 @@ fn unfit(
     }
 }
 
-/// The plan with each core and each queue that is below what the certificate needs raised to it: the least cores and
-/// queues, of those no smaller than the plan's, with which the certificate accepts the plan. An accepted plan is answered as
-/// it is. With larger maximums no smaller core would do either. Where there are no such cores and queues it hands the plan
-/// back, and says why.
+/// Returns the plan with each core and each queue raised to what the certificate needs: the least
+/// cores and queues, among those no smaller than the plan's, with which the certificate accepts the
+/// plan. A plan that is already accepted is returned unchanged. Larger maximums would not allow a
+/// smaller core. If there are no such cores and queues, returns the plan and the reason.
 ///
 /// # Errors
 ///
-/// [`AllocError`] where memory runs out.
+/// [`AllocError`] if memory runs out.
 pub fn fitted(
     alloc: Global,
     plan: Plan,
@@ -173,12 +175,12 @@ fn smallest_pools(alloc: Global, plan: &Plan) -> Result<Vec<Pool>, AllocError>
     Ok(small)
 }
 
-/// The plan with each core and each queue 1. What is fitted to it has the least cores and queues of all with which the
-/// certificate accepts the plan, whatever sizes the plan declares.
+/// Returns the plan with each core and each queue set to 1. Fitting that plan gives the least cores
+/// and queues of all with which the certificate accepts the plan, whatever sizes the plan declares.
 ///
 /// # Errors
 ///
-/// [`AllocError`] where memory runs out.
+/// [`AllocError`] if memory runs out.
 pub fn smallest(alloc: Global, plan: &Plan) -> Result<Plan, AllocError>
     ensures { IfOk result (λ small. small ≡ spec.smallest plan.now) }
 {

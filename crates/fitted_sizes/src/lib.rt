@@ -1,7 +1,7 @@
-//! Which numbers of a plan to change: the least cores and queues with which a certificate accepts it.
+//! The least cores and queues with which a certificate accepts a plan.
 //!
-//! [`fitted`] answers the plan with those sizes, or why no cores and queues will do. What is least is so for this one
-//! certificate: another one may need less.
+//! [`fitted`] returns the plan with those sizes, or the reason why no cores and queues are enough.
+//! The sizes are the least for this certificate; another one can need less.
 #![tactic(auto)]
 
 mod fit;

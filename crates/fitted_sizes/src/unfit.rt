@@ -1,4 +1,4 @@
-//! Why a plan cannot be fitted.
+//! The reasons why a plan cannot be fitted.
 
 ghost use Rattle.std.specs.Prelude.{◌≡◌};
 ghost use Rattle.std.specs.List.{enumerate_from};
@@ -7,20 +7,22 @@ ghost use Rattle.fitted_sizes.specs.Unfit as spec;
 use headline::Note;
 use job_bodies::{MAX_SIZE, Pool};
 
-/// Why no cores and queues make a plan one that a certificate accepts.
+/// The reason why a certificate accepts a plan with no cores and queues.
 #[derive(Clone, Copy, Debug, PartialEq, Eq)]
 pub enum Unfit {
     /// The certificate has another shape than the plan.
     Shape,
-    /// This condition fails, which no core and no queue changes. It is the first such condition.
+    /// This condition fails, and it does not depend on cores and queues. It is the first such
+    /// condition.
     Condition(Note),
-    /// The core of the pool of this number would pass the pool's maximum, or where that may be raised, 1,000,000.
+    /// The core of the pool of this number would be above the pool's maximum or, if maximums can be
+    /// raised, above 1,000,000.
     Core(usize),
-    /// The queue of the pool of this number would pass 1,000,000.
+    /// The queue of the pool of this number would be above 1,000,000.
     Queue(usize),
 }
 
-/// Why a pool whose sizes were raised is not lawful, if it is not. A maximum is raised for a core.
+/// Returns why a pool with raised sizes is invalid, if it is. A maximum was raised for a core.
 fn unfit_pool(number: usize, pool: &Pool) -> Option<Unfit>
     ensures { result ≡ spec.unfit_pool number pool.now }
 {
@@ -33,7 +35,7 @@ fn unfit_pool(number: usize, pool: &Pool) -> Option<Unfit>
     }
 }
 
-/// Why the first of these pools that is not lawful is not.
+/// Returns why the first invalid pool of the list is invalid.
 pub(crate) fn unfit_pools(pools: &[Pool]) -> Option<Unfit>
     ensures { result ≡ spec.first_unfit (enumerate_from 0 pools.now) }
 {

@@ -14,7 +14,7 @@ use certificates::Cert;
 use job_bodies::{Plan, Pool};
 use std::alloc::{AllocError, Global};
 
-/// The pool of this number with its maximum raised to the core that the certificate needs.
+/// Returns the pool of this number with its maximum raised to the core that the certificate needs.
 fn widened_pool(alloc: Global, plan: &Plan, cert: &Cert, number: usize) -> Result<Pool, AllocError>
     requires fits { IsTrue (cert_fits plan.now cert.now) }
     requires number { number < length plan.now.pools }
@@ -40,16 +40,17 @@ fn widened_pools(alloc: Global, plan: &Plan, cert: &Cert) -> Result<Vec<Pool>, A
     Ok(pools)
 }
 
-/// The plan with each maximum that is below the core that the certificate needs raised to it, which leaves room for that
-/// core. No maximum is raised without need: all sizes with which the certificate accepts the plan, and whose maximums are no
-/// smaller than the plan's, have at least these maximums. Where the totals grow by that, the certificate may need more.
+/// Returns the plan with each maximum raised to the core that the certificate needs. Each raise is
+/// necessary: all sizes with which the certificate accepts the plan, and whose maximums are no
+/// smaller than the plan's, have at least these maximums. If the raises increase totals, the
+/// certificate can need more.
 ///
-/// Where the certificate has another shape than the plan, or a core above 1,000,000 is needed, there are no such sizes, and
-/// it says why.
+/// If the certificate has another shape than the plan, or needs a core above 1,000,000, there are
+/// no such sizes, and the reason is returned.
 ///
 /// # Errors
 ///
-/// [`AllocError`] where memory runs out.
+/// [`AllocError`] if memory runs out.
 pub fn widened(alloc: Global, plan: &Plan, cert: &Cert) -> Result<Result<Plan, Unfit>, AllocError>
     ensures widened { IfOk result
         (λ answer. IfOk answer (λ wide. wide ≡ spec.widened plan.now cert.now)) }

@@ -1,4 +1,4 @@
--- The notes from this one on decide.
+-- The result depends on the notes from this one.
 use Rattle.std.proofs.Common.{◌≡◌, not, drop}
 use Rattle.std.specs.List.{find}
 use Rattle.headline.specs.declared.note.Note.{Note}

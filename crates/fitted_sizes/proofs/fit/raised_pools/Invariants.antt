@@ -1,4 +1,4 @@
--- The pools so far and those that the others are raised to are all.
+-- The pools so far and the raised remaining ones are all pools.
 use Rattle.std.proofs.Common.{◌≡◌, ◌++◌}
 use Rattle.certificates.specs.Cert.{pool_cert_at}
 use Rattle.fitted_sizes.specs.Fitted.{raised_pool, raised}

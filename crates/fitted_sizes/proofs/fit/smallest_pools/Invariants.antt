@@ -1,4 +1,4 @@
--- The pools before this one were made small.
+-- The list has the smallest form of each pool before this one.
 use Rattle.std.proofs.Common.{◌≡◌, map, take}
 use Rattle.job_bodies.specs.Plan.{Pool}
 use Rattle.fitted_sizes.proofs.fit.smallest_pools.Given as goal

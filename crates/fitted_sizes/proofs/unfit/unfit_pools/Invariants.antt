@@ -1,4 +1,4 @@
--- The pools from this one on decide.
+-- The result depends on the pools from this one.
 use Rattle.std.proofs.Common.{◌≡◌}
 use Rattle.fitted_sizes.proofs.Loops.{rest_unfit}
 use Rattle.fitted_sizes.proofs.unfit.unfit_pools.Given as goal

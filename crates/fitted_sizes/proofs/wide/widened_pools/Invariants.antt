@@ -1,4 +1,4 @@
--- The pools so far and those that the others are widened to are all.
+-- The pools so far and the widened remaining ones are all pools.
 use Rattle.std.proofs.Common.{◌≡◌, ◌++◌}
 use Rattle.certificates.specs.Cert.{pool_cert_at}
 use Rattle.fitted_sizes.specs.Widened.{with_max, widened}
