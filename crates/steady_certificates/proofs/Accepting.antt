@@ -1,4 +1,4 @@
--- The steady certificate is accepted where the sizes are enough.
+-- The steady certificate is accepted if the sizes are enough.
 use Rattle.std.proofs.Common.{◌≡◌, ℕ, zero, ◌-◌, ◌<◌, ◌≤◌, ⊎_elim, Bool, true, false, ◌&&◌, ltb, List, [], ◌∷◌, ◌++◌, length, map, filter, flat_map, slice_get, Some, refl, sym, ap, subst, ◌∙◌, arith}
 use Rattle.std.specs.Prelude.{◌==◌}
 use Rattle.std.specs.List.{enumerate_from}
@@ -55,7 +55,7 @@ steady_ranks_laws plan is_ordered free = record {
   sinks = λ k i j at. levels_sink plan is_ordered free.no_circle k j (In-slice_get (class_at plan k).body i (Submit j) at);
 }
 
--- ---- all rows but those of totals
+-- ---- all rows except those of totals
 
 abbrev standing_body : Plan → ℕ → Vector → List Row
 standing_body plan p v = rows GivesBack plan v ++ map (λ (entry : ℕ × Class). row S1 (place.Class entry.0) 1 (queued_weight v entry.0)) (classes_of plan p)

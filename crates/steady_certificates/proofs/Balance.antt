@@ -1,4 +1,5 @@
--- What an actor weighs and what it has open come to its end, where each job that it submits gives back what it cost.
+-- The weight of an actor and of its open jobs together equals its weight at the end, if each job that it submits returns
+-- what it cost.
 use Rattle.std.proofs.Common.{◌≡◌, ℕ, zero, suc, ◌+◌, ◌-◌, ◌<◌, ◌≤◌, max, Bool, true, cond, List, [], ◌∷◌, length, drop, get_or, slice_get, Option, Some, None, refl, sym, ap, subst, ◌∙◌, arith}
 use Rattle.std.proofs.Math.Seq.{drop-length}
 use Rattle.std.proofs.lemmas.Bool.{false≢true}
@@ -12,7 +13,7 @@ use Rattle.steady_certificates.specs.Steady.{open_weight, most, weight_at, weigh
 use Rattle.steady_certificates.proofs.Sums.{le-greatest}
 use Rattle.steady_certificates.proofs.Opened.{rest_at, open-start, open-end, open-work, open-submit, open-get}
 
--- each job that the body submits is got, and weighs as much done as it weighs queued
+-- each job that the body submits is got, and weighs as much done as queued
 pub record GivesAllBack (plan : Plan) (v : Vector) (body : List Action) : Type 0 where
   pub got : (i k : ℕ) → slice_get body i ≡ Some (Submit k) → is_got body i ≡ true
   pub same : (i k : ℕ) → slice_get body i ≡ Some (Submit k) → done_weight plan v k ≡ queued_weight v k
@@ -41,7 +42,7 @@ pub weights-length : (plan : Plan) (v : Vector) (least : ℕ) (body : List Actio
 weights-length plan v least body last [] = refl
 weights-length plan v least body last (x ∷ rest) = let longer = weights-length plan v least body last rest in omega arith
 
--- none is below the least
+-- no weight is below the least
 pub least-le : (plan : Plan) (v : Vector) (least : ℕ) (body : List Action) (last : ℕ) (rest : List Action) → least ≤ last → least ≤ weight_at plan v least body last rest
 least-le plan v least body last [] enough = enough
 least-le plan v least body last (Work u ∷ rest) enough = least-le plan v least body last rest enough
@@ -83,7 +84,7 @@ balance plan v least body last lawful back enough zero i at =
 balance plan v least body last lawful back enough (suc n) i at =
     before_action plan v least body last lawful back enough i (omega (arith, at)) (balance plan v least body last lawful back enough n (suc i) (omega (arith, at)))
 
--- so it begins with what it ends with
+-- so the weight at the start is that at the end
 pub begins_as_it_ends : (plan : Plan) (v : Vector) (least : ℕ) (body : List Action) (last : ℕ) → IsLawful plan body → GivesAllBack plan v body → most v body + least ≤ last → weight_at plan v least body last body ≡ last
 begins_as_it_ends plan v least body last lawful back enough =
     let all = balance plan v least body last lawful back enough (length body) 0 (omega arith) in

@@ -1,4 +1,4 @@
--- Where no class submits itself, none stands deeper than there are classes.
+-- If no class submits itself, every level is below the number of classes.
 use Rattle.std.proofs.Common.{◌≡◌, ℕ, zero, suc, ◌+◌, ◌<◌, ◌≤◌, max, Bool, true, false, ◌||◌, cond, eqb, List, [], ◌∷◌, length, map, get_or, ⊎_elim, refl, sym, ap, ap₂, subst, ◌∙◌, arith}
 use Rattle.std.proofs.lemmas.Bool.{false≢true, cases_lt, cases_Bool, eqb-true, eq-eqb, or_cases}
 use Rattle.numbered_lists.specs.In.{In, here, there}
@@ -12,11 +12,11 @@ use Rattle.steady_certificates.specs.Steady.{sum_below, level_above, levels_with
 use Rattle.steady_certificates.proofs.Sums.{sum_below_ones, sum_below-le-at}
 use Rattle.steady_certificates.proofs.Opened.{place_in}
 
--- how deep a class stands where submits are followed so many deep
+-- the level of a class when submits are followed n steps
 abbrev pub level_of : Plan → ℕ → ℕ → ℕ
 level_of plan n k = get_or (levels_within plan n) k 0
 
--- ---- what a body submits
+-- ---- the submits of a body
 
 no_less : (levels : List ℕ) (x : Action) (rest : List Action) → level_above levels rest ≤ level_above levels (x ∷ rest)
 no_less levels (Work u) rest = omega arith
@@ -31,7 +31,7 @@ submits_below levels {k} (here {xs = rest}) =
     omega (arith, step)
 submits_below levels (there {y = x} {xs = rest} at) = omega (arith, submits_below levels at, no_less levels x rest)
 
--- a body that stands above another one submits it
+-- a body that is above a level submits a class of that level
 record Submits (levels : List ℕ) (body : List Action) (n : ℕ) : Type 0 where
   class : ℕ
   at : In (Submit class) body
@@ -48,7 +48,7 @@ one_as_high levels (Submit k ∷ rest) n high =
     (cases_lt n (get_or levels k 0 + 1))
 one_as_high levels (Get t ∷ rest) n high = let found = one_as_high levels rest n high in record { class = found.class; at = there found.at; high = found.high }
 
--- only the levels of what the body submits matter
+-- only the levels of the classes that the body submits matter
 pub level_above-agree : (known others : List ℕ) (body : List Action) → ((k : ℕ) → In (Submit k) body → get_or known k 0 ≡ get_or others k 0) → level_above known body ≡ level_above others body
 level_above-agree known others [] same = refl
 level_above-agree known others (Work u ∷ rest) same = level_above-agree known others rest (λ k at. same k (there at))
@@ -64,16 +64,16 @@ get_or-changed f (x ∷ xs) (suc i) d = get_or-changed f xs i d
 pub level-step : (plan : Plan) (n k : ℕ) → level_of plan (suc n) k ≡ level_above (levels_within plan n) (class_at plan k).body
 level-step plan n k = get_or-changed (λ (class : Class). level_above (levels_within plan n) class.body) plan.classes k no_class
 
--- ---- no class stands as deep as there are classes
+-- ---- every level is below the number of classes
 
 abbrev one_if : Bool → ℕ
 one_if b = cond b 1 0
 
--- how many of the plan's classes were met
+-- the number of the plan's classes that were met
 abbrev how_many : Plan → (ℕ → Bool) → ℕ
 how_many plan met = sum_below (λ j. one_if (met j)) (length plan.classes)
 
--- one more was
+-- one more class was met
 abbrev with_class : ℕ → (ℕ → Bool) → ℕ → Bool
 with_class k met j = eqb j k || met j
 
@@ -94,7 +94,7 @@ one_more plan k met inside new =
     let behind : one_if (with_class k met k) ≡ 1 = ap (λ (b : Bool). one_if (b || met k)) (eq-eqb k k refl) in
     sum_below-le-at (λ j. one_if (met j)) (λ j. one_if (with_class k met j)) (length plan.classes) k 1 inside (λ j. no_fewer (eqb j k) (met j)) (omega (arith, before, behind))
 
--- each class that was met submits this one, at whatever remove
+-- each class that was met submits this one, directly or through other classes
 abbrev AllSubmit : Plan → (ℕ → Bool) → ℕ → Type 0
 AllSubmit plan met k = (j : ℕ) → met j ≡ true → IsSubmitted plan ((class_at plan j).body ∷ []) k
 
@@ -105,7 +105,7 @@ all_submit plan met k j each at i is_met =
     (λ (earlier : met i ≡ true). follows (each i earlier) at)
     (or_cases (eqb i k) (met i) is_met)
 
--- so many classes were met, and this one stands as deep as there are others
+-- this class has at least the level n, and enough classes were met
 deep_circle : (plan : Plan) → IsOrdered plan → NoCircle plan → (n k : ℕ) (met : ℕ → Bool) → k < length plan.classes → n ≤ level_of plan n k → length plan.classes ≤ how_many plan met + n → AllSubmit plan met k → ⊥
 deep_circle plan ordered none zero k met inside deep many each =
     ⊎_elim
@@ -131,7 +131,7 @@ shallow plan ordered none k inside =
     (λ (deep : length plan.classes ≤ level_of plan (length plan.classes) k). absurd (deep_circle plan ordered none (length plan.classes) k (λ j. false) inside deep (omega arith) (λ j is_met. absurd (false≢true is_met))))
     (cases_lt (level_of plan (length plan.classes) k) (length plan.classes))
 
--- ---- so the levels are settled
+-- ---- so the levels are stable
 
 settled_below : (plan : Plan) (n k : ℕ) → level_of plan n k < n → level_of plan (suc n) k ≡ level_of plan n k
 settled_below plan zero k low = absurd (omega (arith, low))
@@ -141,7 +141,7 @@ settled_below plan (suc n) k low =
     ∙ (level_above-agree (levels_within plan (suc n)) (levels_within plan n) body (λ j at. settled_below plan n j (omega (arith, low, level-step plan n k, submits_below (levels_within plan n) at)))
     ∙ sym (level-step plan n k))
 
--- what a class submits stands on a lower level
+-- the classes that a class submits have lower levels
 pub levels_sink : (plan : Plan) → IsOrdered plan → NoCircle plan → (k j : ℕ) → In (Submit j) (class_at plan k).body → get_or (steady_levels plan) j 0 + 1 ≤ get_or (steady_levels plan) k 0
 levels_sink plan ordered none k j at =
     let place = place_in at in

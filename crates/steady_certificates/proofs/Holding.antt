@@ -1,4 +1,4 @@
--- Where the laws of a vector hold, and those of ranks, their rows do.
+-- If the laws of a vector and of ranks hold, so do their rows.
 use Rattle.std.proofs.Common.{◌≡◌, ℕ, suc, ◌+◌, ◌<◌, ◌≤◌, Bool, true, false, cond, List, [], ◌∷◌, length, flat_map, slice_get, Some, ⊎_elim, refl, sym, ap, subst, ◌∙◌, arith}
 use Rattle.std.specs.List.{enumerate_from}
 use Rattle.std.proofs.lemmas.Option.{slice_get_within, get_or_from_slice_get}
@@ -19,7 +19,7 @@ use Rattle.weight_laws.proofs.VectorLaws.{BodyLaws, VectorLaws}
 use Rattle.pool_ranks.specs.Ranks.{Ranks, rank_rows_of_action, rank_rows_of_class, rank_rows}
 use Rattle.starvation_laws.proofs.RankLaws.{RankLaws}
 
--- an element with its number stands at that place
+-- an element of an enumerated list is the one at its index
 pub numbered : {X : Type 0} (n : ℕ) (xs : List X) (entry : ℕ × X) → In entry (enumerate_from n xs) → (i : ℕ) × (entry.0 ≡ n + i) × (slice_get xs i ≡ Some entry.1)
 numbered n [] entry at = absurd (not_In_nil at)
 numbered {X} n (x ∷ xs) entry at =
@@ -33,7 +33,7 @@ numbered {X} n (x ∷ xs) entry at =
     (suc found.0, omega (arith, found.1), found.2))
     (In-cons_cases at)
 
--- as its number says
+-- the same for an enumeration from 0
 pub at_number : {X : Type 0} (xs : List X) (entry : ℕ × X) → In entry (enumerate_from 0 xs) → slice_get xs entry.0 ≡ Some entry.1
 at_number xs entry at =
     let found = numbered 0 xs entry at in

@@ -1,4 +1,4 @@
--- What an action does to what is open.
+-- The effect of an action on the weight of open jobs.
 use Rattle.std.proofs.Common.{◌≡◌, ℕ, zero, suc, ◌+◌, ◌-◌, ◌≤◌, Bool, true, false, ◌||◌, cond, List, [], ◌∷◌, length, drop, slice_get, Option, Some, None, refl, sym, ap, ap₂, ◌∙◌, arith, zero-add}
 use Rattle.std.proofs.Math.Seq.{drop-cons, drop-length}
 use Rattle.std.proofs.lemmas.Bool.{false≢true, false_from_ne_true, eqb-true, eq-eqb}
@@ -15,12 +15,12 @@ use Rattle.steady_certificates.proofs.Sums.{sum_below-agree, sum_below_zero, sum
 
 -- ---- the rest of a body
 
--- where an action stands
+-- the index of an action
 pub place_in : {X : Type 0} {x : X} {xs : List X} → In x xs → (i : ℕ) × (slice_get xs i ≡ Some x)
 place_in here = (0, refl)
 place_in (there at) = let found = place_in at in (suc found.0, found.1)
 
--- the rest begins with the action that stands there
+-- the rest begins with the action at this index
 pub rest_at : (body : List Action) (i : ℕ) (x : Action) → slice_get body i ≡ Some x → drop i body ≡ x ∷ drop (suc i) body
 rest_at body i x at =
     drop-cons body i x (slice_get_within body i x at) ∙ ap (λ (y : Action). y ∷ drop (suc i) body) (get_or_from_slice_get body i x x at)
@@ -32,7 +32,7 @@ slice_get-drop (suc i) (x ∷ xs) j =
     let number : suc i + j ≡ suc (i + j) = omega arith in
     slice_get-drop i xs j ∙ sym (ap (slice_get (x ∷ xs)) number)
 
--- a get at i or later
+-- a get at position i or later
 record IsGotFrom (body : List Action) (i s : ℕ) : Type 0 where
   pub position : ℕ
   pub late : i ≤ position
@@ -64,14 +64,14 @@ same_bools true b first second = sym (first refl)
 same_bools false true first second = absurd (false≢true (second refl))
 same_bools false false first second = refl
 
--- all gets of a submit stand behind it
+-- all gets of a submit come after it
 pub got_behind : (plan : Plan) (body : List Action) (s : ℕ) → IsLawful plan body → is_got (drop (suc s) body) s ≡ is_got body s
 got_behind plan body s lawful =
     same_bools (is_got (drop (suc s) body) s) (is_got body s)
     (λ later. let found = got_from body (suc s) s later in got_late body 0 s found.position (omega arith) found.is_get)
     (λ passes. let found = got_from body 0 s passes in got_late body (suc s) s found.position (omega (arith, lawful.behind found.position s found.is_get)) found.is_get)
 
--- behind its get there is none
+-- no further get comes after its get
 none_behind : (plan : Plan) (body : List Action) (i t : ℕ) → IsLawful plan body → slice_get body i ≡ Some (Get t) → is_got (drop (suc i) body) t ≡ false
 none_behind plan body i t lawful is_get =
     false_from_ne_true (is_got (drop (suc i) body) t)
@@ -86,18 +86,18 @@ cond_same false n = refl
 is_got_now : (body : List Action) (i s : ℕ) (x : Action) → slice_get body i ≡ Some x → is_got (drop i body) s ≡ gets s x || is_got (drop (suc i) body) s
 is_got_now body i s x at = ap (λ (rest : List Action). is_got rest s) (rest_at body i x at)
 
--- an action that does not get a submit leaves it as it was
+-- an action that does not get a submit leaves its term unchanged
 stays : (v : Vector) (body : List Action) (i s : ℕ) (x : Action) → slice_get body i ≡ Some x → gets s x ≡ false → awaited_weight v body (suc i) s ≡ awaited_weight v body i s
 stays v body i s x at not_got =
     let same : is_got (drop i body) s ≡ is_got (drop (suc i) body) s = is_got_now body i s x at ∙ ap (λ (b : Bool). b || is_got (drop (suc i) body) s) not_got in
     ap (λ (b : Bool). cond b (submitted_weight v (slice_get body s)) 0) (sym same)
 
--- one that submits nothing opens nothing
+-- an action that submits nothing opens no job
 opens_nothing : (v : Vector) (body : List Action) (i : ℕ) (x : Action) → slice_get body i ≡ Some x → submitted_weight v (Some x) ≡ 0 → awaited_weight v body (suc i) i ≡ 0
 opens_nothing v body i x at nothing =
     ap (λ (n : ℕ). cond (is_got (drop (suc i) body) i) n 0) (ap (submitted_weight v) at ∙ nothing) ∙ cond_same (is_got (drop (suc i) body) i) 0
 
--- ---- what is open behind an action
+-- ---- the weight of open jobs after an action
 
 pub open-start : (v : Vector) (body : List Action) → open_weight v body 0 ≡ 0
 open-start v body = refl

@@ -1,4 +1,4 @@
--- What the loops over a body reckon.
+-- The values that the loops over a body compute.
 use Rattle.std.proofs.Common.{◌≡◌, ℕ, zero, suc, ◌+◌, ◌-◌, ◌*◌, ◌<◌, ◌≤◌, max, Bool, true, false, cond, List, [], ◌∷◌, ◌++◌, length, drop, reverse, get_or, slice_get, Option, Some, None, refl, sym, ap, ◌∙◌, arith}
 use Rattle.std.proofs.lemmas.List.{reverse-append, length-drop}
 use Rattle.std.proofs.lemmas.Option.{slice_get-get_or}
@@ -13,7 +13,7 @@ use Rattle.steady_certificates.specs.Steady.{sum_below, greatest_upto, submitted
 use Rattle.steady_certificates.proofs.Opened.{rest_at, open-work, open-submit, open-get}
 use Rattle.steady_certificates.proofs.Depths.{level-step}
 
--- ---- what is open
+-- ---- open jobs
 
 next : {X : Type 0} (f : ℕ → X) (i : ℕ) → f (i + 1) ≡ f (suc i)
 next f i = let number : i + 1 ≡ suc i = omega arith in ap f number
@@ -104,7 +104,7 @@ level-le plan (suc n) k = omega (arith, level-step plan n k, above-le (levels_wi
         omega (arith, step, each j, above-le levels rest m each)
     above-le levels (Get t ∷ rest) m each = above-le levels rest m each
 
--- ---- answers
+-- ---- contracts
 
 pub at_position : (body : List Action) (i : ℕ) (x : Action) → i < length body → get_or body i (Work 0) ≡ x → slice_get body i ≡ Some x
 at_position body i x inside is = slice_get-get_or body i (Work 0) inside ∙ ap Some is

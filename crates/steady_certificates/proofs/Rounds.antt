@@ -1,4 +1,4 @@
--- The rows of the steady vector are made of that vector itself.
+-- The rows of the steady vector follow from that vector itself.
 use Rattle.std.proofs.Common.{◌≡◌, ℕ, zero, suc, ◌+◌, ◌-◌, ◌<◌, ◌≤◌, max, cond, List, [], ◌∷◌, ◌++◌, length, drop, get_or, slice_get, Option, Some, None, refl, sym, ap, ap₂, ◌∙◌, arith}
 use Rattle.std.proofs.lemmas.List.{get_or-map, get_or_append_left}
 use Rattle.std.proofs.Math.Seq.{get_or-append_seam}
@@ -17,9 +17,9 @@ use Rattle.steady_certificates.proofs.Opened.{place_in}
 use Rattle.steady_certificates.proofs.Balance.{submit_of, weights-at, weights-length}
 use Rattle.steady_certificates.proofs.Depths.{shallow, levels_sink}
 
--- ---- a body's weights are those of what it submits
+-- ---- the weights of a body depend only on the classes that it submits
 
--- both vectors weigh the classes the same that the body submits
+-- both vectors give the same weights to the classes that the body submits
 pub record WeighTheSame (v w : Vector) (body : List Action) : Type 0 where
   pub rows : (k : ℕ) → In (Submit k) body → class_weights v k ≡ class_weights w k
 
@@ -79,7 +79,7 @@ client_row-agree plan v w client lawful same =
     weights_from-agree plan v w 0 client.body (client_end v client) client.body lawful same (whole client.body)
     ∙ ap (λ (n : ℕ). weights_from plan w 0 client.body (cond client.repeat n 0) client.body) (most-agree v w client.body same)
 
--- ---- the rounds are settled
+-- ---- the rounds are stable
 
 row-step : (plan : Plan) (n k : ℕ) → k < length plan.classes → class_weights (jobs_within plan (suc n)) k ≡ class_row plan (jobs_within plan n) (class_at plan k).body
 row-step plan n k inside = get_or-map (λ (class : Class). class_row plan (jobs_within plan n) class.body) plan.classes k no_class [] inside
@@ -95,7 +95,7 @@ settled_at plan ordered none (suc n) k inside low =
     } in
     row-step plan (suc n) k inside ∙ (class_row-agree plan (jobs_within plan (suc n)) (jobs_within plan n) (class_at plan k).body lawful same ∙ sym (row-step plan n k inside))
 
--- ---- so each row is what the vector itself makes of its body
+-- ---- so each row follows from the vector itself
 
 pub class_is : (plan : Plan) → IsOrdered plan → NoCircle plan → (k : ℕ) → k < length plan.classes → class_weights (steady_vector plan) k ≡ class_row plan (steady_vector plan) (class_at plan k).body
 class_is plan ordered none k inside =
@@ -140,7 +140,7 @@ class_numbers plan v k is = record { queued = ap (λ (row : List ℕ). get_or ro
         ∙ (ap (λ (n : ℕ). get_or (class_row plan v body) n 0) number
         ∙ get_or-append_seam middle (job_end v body) [] 0)
 
--- and of a kind of clients
+-- of a kind of clients
 pub client_numbers : (plan : Plan) (v : Vector) (c i : ℕ) → client_weights v c ≡ client_row plan v (client_at plan c) → i ≤ length (client_at plan c).body
     → client_weight v c i ≡ weight_at plan v 0 (client_at plan c).body (client_end v (client_at plan c)) (drop i (client_at plan c).body)
 client_numbers plan v c i is within =

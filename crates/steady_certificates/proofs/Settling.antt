@@ -28,7 +28,7 @@ with_row v m row = record v { classes = set v.classes m row }
 
 -- ---- one class
 
--- its row is its steady row
+-- the computed row is its steady row
 row_is : (plan : Plan) (v : Vector) (n m : ℕ) → IsOrdered plan → NoCircle plan → IsSettled plan v n m → level_at plan m ≡ n → m < length plan.classes
     → class_row plan v (class_at plan m).body ≡ class_weights (steady_vector plan) m
 row_is plan v n m ordered none settled of_level inside =
@@ -62,7 +62,7 @@ same_or_not k m =
     (λ (no_less : m ≤ k). ⊎_elim (λ (more : m < k). inr (λ e. omega (arith, e, more))) (λ (no_more : k ≤ m). inl (omega (arith, no_less, no_more))) (cases_lt m k))
     (cases_lt k m)
 
--- it gets it
+-- the class gets it
 pub settled_put : (plan : Plan) (v : Vector) (n m : ℕ) → IsOrdered plan → NoCircle plan → IsSettled plan v n m → level_at plan m ≡ n → m < length plan.classes
     → list_all is_small (class_row plan v (class_at plan m).body) ≡ true → IsSettled plan (with_row v m (class_row plan v (class_at plan m).body)) n (m + 1)
 settled_put plan v n m ordered none settled of_level inside small = record {
@@ -92,7 +92,7 @@ settled_put plan v n m ordered none settled of_level inside small = record {
         not_yet : (j l : ℕ) → j < l + 1 → (j ≡ l → ⊥) → j < l
         not_yet j l within differs = ⊎_elim (λ (less : j < l). less) (λ (more : l ≤ j). absurd (differs (omega (arith, within, more)))) (cases_lt j l)
 
--- or it is of another level
+-- or the class has another level
 pub settled_skip : (plan : Plan) (v : Vector) (n m : ℕ) → IsSettled plan v n m → (level_at plan m ≡ n → ⊥) → IsSettled plan v n (m + 1)
 settled_skip plan v n m settled other = record {
   as_many = settled.as_many;
@@ -108,7 +108,7 @@ settled_skip plan v n m settled other = record {
         (λ (more : m ≤ k). let is : m ≡ k = omega (arith, within, more) in absurd (other (ap (level_at plan) is ∙ of_level)))
         (cases_lt k m)
 
--- a level is done
+-- a level is complete
 pub settled_next : (plan : Plan) (v : Vector) (n m : ℕ) → IsSettled plan v n m → length plan.classes ≤ m → IsSettled plan v (n + 1) 0
 settled_next plan v n m settled all = record {
   as_many = settled.as_many;
@@ -123,7 +123,7 @@ settled_next plan v n m settled all = record {
       which);
 }
 
--- ---- all of them
+-- ---- all classes
 
 pub settled_all : (plan : Plan) (v : Vector) → IsOrdered plan → NoCircle plan → IsSettled plan v (length plan.classes) 0 → v.classes ≡ (jobs plan).classes
 settled_all plan v ordered none settled = same_by_slice_get v.classes (jobs plan).classes (λ k. at_each k (cases_lt k (length plan.classes)))
@@ -180,7 +180,7 @@ pub heavy_unless_fit : (plan : Plan) → IsOrdered plan → NoCircle plan → ve
 heavy_unless_fit plan ordered none unfit =
     false_from_ne_true (has_small_numbers (steady_vector plan)) (λ small. false≢true (sym unfit ∙ vector_is_fit plan ordered none small))
 
--- ---- what loops read
+-- ---- values read in loops
 
 pub class_here : (plan : Plan) (items : List Class) (k : ℕ) (class : Class) → items ≡ plan.classes → k < length plan.classes → class ≡ get_or items k class → class ≡ class_at plan k
 class_here plan items k class same inside read =
@@ -203,7 +203,7 @@ heavy_here plan v n m ordered none settled of_level inside heavy =
     let row : list_all is_small (class_weights all m) ≡ true = list_all_at_In (list_all is_small) rows (In-get_or all.classes m [] there_is) in
     false≢true (sym heavy ∙ (ap (list_all is_small) (row_is plan v n m ordered none settled of_level inside) ∙ row)))
 
--- ---- the beginning
+-- ---- the start
 
 pub settled_none : (plan : Plan) (v : Vector) → v.workers ≡ [] → v.clients ≡ [] → v.classes ≡ replicate (length plan.classes) [] → IsSettled plan v 0 0
 settled_none plan v workers clients are = record {

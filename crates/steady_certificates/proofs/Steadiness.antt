@@ -1,4 +1,4 @@
--- The steady vector keeps the rules of a vector that gives back.
+-- The steady vector keeps the rules of a vector whose gets return weight.
 use Rattle.std.proofs.Common.{◌≡◌, ℕ, zero, suc, ◌+◌, ◌<◌, ◌≤◌, Bool, true, false, cond, List, [], length, drop, get_or, slice_get, Some, inl, inr, refl, sym, ap, subst, ◌∙◌, arith}
 use Rattle.std.proofs.Math.Seq.{drop-length}
 use Rattle.std.proofs.lemmas.Bool.{cases_lt}
@@ -27,7 +27,7 @@ weight-step plan v least body last i x at =
     let number : suc i ≡ i + 1 = omega arith in
     ap (weight_at plan v least body last) (rest_at body i x at) ∙ ap (λ (n : ℕ). weight_before plan v least body x (weight_at plan v least body last (drop n body))) number
 
--- weights that are made backwards keep the rules of a body
+-- weights that are computed from the end keep the rules of a body
 body_laws_of : (plan : Plan) (v : Vector) (least : ℕ) (body : List Action) (last : ℕ) (weight : ℕ → ℕ) → ((i : ℕ) → i ≤ length body → weight i ≡ weight_at plan v least body last (drop i body)) → BodyLaws GivesBack plan v weight body
 body_laws_of plan v least body last weight is = record {
   work = λ i u at.
@@ -56,7 +56,7 @@ is_client_row plan ordered c inside i within = client_numbers plan (steady_vecto
 no_worker_weighs : (plan : Plan) (p : ℕ) → workers_weight (steady_vector plan) p ≡ 0
 no_worker_weighs plan p = get_or-changed (λ (pool : Pool). 0) plan.pools p no_pool
 
--- a job weighs at least 1 wherever it is
+-- a job weighs at least 1 in every state
 pub queued_weighs : (plan : Plan) → IsOrdered plan → IsWithoutCause plan → (k : ℕ) → k < length plan.classes → 1 ≤ queued_weight (steady_vector plan) k
 queued_weighs plan ordered free k inside =
     let body = (class_at plan k).body in
@@ -69,7 +69,7 @@ job_weighs plan ordered free k i inside within =
     let v = steady_vector plan in
     omega (arith, (is_class_row plan ordered free k inside).position i within, least-le plan v 1 body (job_end v body) (drop i body) (omega arith))
 
--- ---- what repeating clients cause gives all back
+-- ---- the jobs that repeating clients cause return all their weight
 
 got_or : (b : Bool) → (b ≡ false → ⊥) → b ≡ true
 got_or true wrong = refl
@@ -78,7 +78,7 @@ got_or false wrong = absurd (wrong refl)
 never_got : (body : List Action) (i k : ℕ) → slice_get body i ≡ Some (Submit k) → is_got body i ≡ false → IsNeverGot body i
 never_got body i k at none = record { is_submit = ap submits at; not_got = none }
 
--- such a job weighs done what it weighs queued, level by level
+-- such a job weighs as much done as queued, level by level
 done_as_queued : (plan : Plan) → IsOrdered plan → IsWithoutCause plan → (n k : ℕ) → k < length plan.classes → get_or (steady_levels plan) k 0 < n → IsSubmitted plan (repeated_bodies plan) k
     → done_weight plan (steady_vector plan) k ≡ queued_weight (steady_vector plan) k
 done_as_queued plan ordered free zero k inside low known = absurd (omega (arith, low))

@@ -19,14 +19,14 @@ sum_below-agree f g (suc n) same =
     let of_g : sum_below g (suc n) ≡ sum_below g n + g n = refl in
     omega (arith, of_f, of_g, same n (omega arith), sum_below-agree f g n (λ s below. same s (omega (arith, below))))
 
--- where all terms are 0, so is the sum
+-- if all terms are 0, so is the sum
 pub sum_below_zero : (f : ℕ → ℕ) (n : ℕ) → ((s : ℕ) → s < n → f s ≡ 0) → sum_below f n ≡ 0
 sum_below_zero f zero each = refl
 sum_below_zero f (suc n) each =
     let of_f : sum_below f (suc n) ≡ sum_below f n + f n = refl in
     omega (arith, of_f, each n (omega arith), sum_below_zero f n (λ s below. each s (omega (arith, below))))
 
--- where the term at t alone differs, the sum differs by as much
+-- if only the term at t differs, the sum differs by the same amount
 pub sum_below-but_one : (f g : ℕ → ℕ) (n t less : ℕ) → t < n → ((s : ℕ) → s < n → (s ≡ t → ⊥) → f s ≡ g s) → f t + less ≡ g t → sum_below f n + less ≡ sum_below g n
 sum_below-but_one f g zero t less inside same at = absurd (omega (arith, inside))
 sum_below-but_one f g (suc n) t less inside same at =
@@ -43,7 +43,7 @@ sum_below-but_one f g (suc n) t less inside same at =
     omega (arith, of_f, of_g, here, front))
     (cases_lt t n)
 
--- where the term at t is smaller, so is the sum
+-- if the term at t is smaller, so is the sum
 pub sum_below-le-at : (f g : ℕ → ℕ) (n t less : ℕ) → t < n → ((s : ℕ) → f s ≤ g s) → f t + less ≤ g t → sum_below f n + less ≤ sum_below g n
 sum_below-le-at f g zero t less inside each at = absurd (omega (arith, inside))
 sum_below-le-at f g (suc n) t less inside each at =
@@ -56,7 +56,7 @@ sum_below-le-at f g (suc n) t less inside each at =
     omega (arith, of_f, of_g, here, sum_below-le f g n each))
     (cases_lt t n)
 
--- as many terms as there are, each at most 1
+-- if each term is at most 1, the sum is at most their number
 pub sum_below_ones : (f : ℕ → ℕ) (n : ℕ) → ((s : ℕ) → f s ≤ 1) → sum_below f n ≤ n
 sum_below_ones f zero each = omega arith
 sum_below_ones f (suc n) each =

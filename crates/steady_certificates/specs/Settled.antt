@@ -1,11 +1,11 @@
--- Vectors of which some classes have their steady rows.
+-- Vectors in which some classes have their steady rows.
 use Rattle.std.specs.Prelude.{◌≡◌, ◌<◌, ◌⊎◌, ℕ, [], length, slice_index}
 use Rattle.job_bodies.specs.Plan.{Plan}
 use Rattle.weights.specs.Vector.{Vector, class_weights}
 use Rattle.steady_certificates.specs.Small.{JobsAreSmall}
 use Rattle.steady_certificates.specs.Steady.{steady_vector, steady_levels}
 
--- so have all classes of a lower level, and those of this one that stand before this class
+-- all classes of a lower level have them, and those of this level with a smaller number
 pub record IsSettled (plan : Plan) (v : Vector) (level number : ℕ) : Type 0 where
   pub as_many : length v.classes ≡ length plan.classes
   pub no_workers : v.workers ≡ []

@@ -1,4 +1,4 @@
--- Vectors whose jobs weigh no more than the limit.
+-- Vectors whose jobs weigh at most the limit.
 use Rattle.std.specs.Prelude.{◌≤◌, ℕ, slice_index}
 use Rattle.job_bodies.specs.declared.limits.TheConstants.{MAX_WEIGHT}
 use Rattle.weights.specs.Vector.{Vector, class_weights}

@@ -1,4 +1,4 @@
--- What a steady certificate is good for.
+-- The acceptance of steady certificates.
 use Rattle.std.specs.Prelude.{◌≡◌, ◌≤◌, ◌<◌, ◌↔◌, ℕ, length, IsTrue}
 use Rattle.numbered_lists.specs.In.{In}
 use Rattle.job_bodies.specs.Plan.{Plan, pool_at}
@@ -16,12 +16,13 @@ use Rattle.steady_certificates.specs.Steady.{steady_vector, steady_total, steady
 abbrev pub AreEnough : Plan → Type 0
 AreEnough plan = (p : ℕ) → p < length plan.pools → (steady_total plan ≤ (pool_at plan p).queue) × (steady_total plan < (pool_at plan p).core)
 
--- the steady certificate fits the plan, no condition fails but of its total, and it is accepted exactly where the sizes are enough
+-- the steady certificate fits the plan, only conditions of its total can fail, and it is accepted exactly if the sizes are
+-- enough
 pub record IsSteadilyAccepted (plan : Plan) : Type 0 where
   pub fits : IsTrue (cert_fits plan (steady_cert plan))
   pub only_totals : (x : Note) → In x (failing plan (steady_cert plan)) → x.place ≡ Total
   pub is_accepted : IsTrue (accepted plan (steady_cert plan)) ↔ AreEnough plan
 
--- so it is where no cause holds, and its weights are within their limit
+-- this holds if no cause holds, and the weights are within their limit
 abbrev pub SteadyCertificatesAccept : Type 0
 SteadyCertificatesAccept = (plan : Plan) → IsWellFormed plan → IsWithoutCause plan → IsTrue (has_small_numbers (steady_vector plan)) → IsSteadilyAccepted plan

@@ -1,25 +1,25 @@
--- Jobs that are submitted, at whatever remove, and never got.
+-- Jobs that are submitted, directly or through other jobs, and never got.
 use Rattle.std.specs.Prelude.{◌≡◌, ℕ, List, [], ◌∷◌, map, filter, slice_get, true, false}
 use Rattle.numbered_lists.specs.In.{In}
 use Rattle.job_bodies.specs.declared.action.Action.{Action}
 use Rattle.job_bodies.specs.declared.action.Action.TheVariants.{Submit}
 use Rattle.job_bodies.specs.Plan.{Client, Plan, class_at, client_at, submits, is_got}
 
--- one of the bodies submits the class, or a class does that is submitted itself
+-- one of the bodies submits the class, or a class that is itself submitted does
 pub data IsSubmitted (plan : Plan) (bodies : List (List Action)) : ℕ → Type 0 where
   begins : {k : ℕ} {body : List Action} → In body bodies → In (Submit k) body → IsSubmitted plan bodies k
   follows : {j k : ℕ} → IsSubmitted plan bodies j → In (Submit k) (class_at plan j).body → IsSubmitted plan bodies k
 
--- the classes that the body submits are
+-- every class that the body submits is submitted
 pub record SubmitsOnly (plan : Plan) (bodies : List (List Action)) (body : List Action) : Type 0 where
   pub submitted : (k : ℕ) → In (Submit k) body → IsSubmitted plan bodies k
 
--- the action at this position is a submit, and no action gets it
+-- the action at this position is a submit that no action gets
 pub record IsNeverGot (body : List Action) (i : ℕ) : Type 0 where
   pub is_submit : submits (slice_get body i) ≡ true
   pub not_got : is_got body i ≡ false
 
--- what clients do that begin again
+-- the bodies of clients that repeat
 abbrev pub repeated_bodies : Plan → List (List Action)
 repeated_bodies plan = map (λ (client : Client). client.body) (filter (λ (client : Client). client.repeat) plan.clients)
 
@@ -31,11 +31,11 @@ pub record NeverGotByJobs (plan : Plan) (k i : ℕ) : Type 0 where
   pub submitted : IsSubmitted plan (repeated_bodies plan) k
   pub never_got : IsNeverGot (class_at plan k).body i
 
--- no class submits itself, at whatever remove
+-- no class submits itself, directly or through other classes
 abbrev pub NoCircle : Plan → Type 0
 NoCircle plan = (k : ℕ) → ¬ IsSubmitted plan ((class_at plan k).body ∷ []) k
 
--- nor is a submit never got in what a repeating client causes
+-- and no repeating client causes a submit that is never got
 pub record IsWithoutCause (plan : Plan) : Type 0 where
   pub no_circle : NoCircle plan
   pub clients_get : (c i : ℕ) → ¬ NeverGotByClients plan c i

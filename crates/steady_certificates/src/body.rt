@@ -1,4 +1,4 @@
-//! What an actor weighs over its body, given what the jobs weigh that it submits.
+//! The weights of an actor over its body, given the weights of the jobs that it submits.
 
 ghost use Rattle.std.specs.Prelude.{◌≡◌, ◌≤◌, ◌<◌, ◌+◌, ◌*◌, IfOk, length, slice_index};
 ghost use Rattle.job_bodies.specs.Lawful.{IsLawful};
@@ -12,7 +12,7 @@ use job_bodies::{Action, Client, Plan, is_got};
 use std::alloc::{AllocError, Global};
 use weights::{Vector, class_got};
 
-/// The number at this place of the class's row; 0 where there is none.
+/// Returns the number at this index of the class's row, or 0 if there is none.
 fn number_of(vector: &Vector, class: usize, place: usize) -> u64
     ensures { result ≡ slice_index (vector_spec.class_weights vector.now class) place }
 {
@@ -23,14 +23,14 @@ fn number_of(vector: &Vector, class: usize, place: usize) -> u64
     }
 }
 
-/// What a job of the class weighs in its queue.
+/// Returns the weight of a queued job of the class.
 fn queued(vector: &Vector, class: usize) -> u64
     ensures { result ≡ vector_spec.queued_weight vector.now class }
 {
     number_of(vector, class, 0)
 }
 
-/// What a job of the class weighs that is done.
+/// Returns the weight of a done job of the class.
 fn done(plan: &Plan, vector: &Vector, class: usize) -> u64
     ensures { result ≡ vector_spec.done_weight plan.now vector.now class }
 {
@@ -41,7 +41,7 @@ fn done(plan: &Plan, vector: &Vector, class: usize) -> u64
     number_of(vector, class, actions + 2)
 }
 
-/// What is open behind the action at this position, where so much is open before it.
+/// Returns the weight of the open jobs after the action at this position, given that before it.
 fn opened(plan: &Plan, vector: &Vector, body: &[Action], position: usize, so_far: u64) -> u64
     requires lawful { IsLawful plan.now body.now }
     requires small { JobsAreSmall vector.now }
@@ -62,7 +62,7 @@ fn opened(plan: &Plan, vector: &Vector, body: &[Action], position: usize, so_far
     }
 }
 
-/// The most that is open at a position of the body.
+/// Returns the largest weight of open jobs at a position of the body.
 fn most(plan: &Plan, vector: &Vector, body: &[Action]) -> u64
     requires lawful { IsLawful plan.now body.now }
     requires small { JobsAreSmall vector.now }
@@ -78,7 +78,7 @@ fn most(plan: &Plan, vector: &Vector, body: &[Action]) -> u64
     most
 }
 
-/// What the actor weighs before the action, if it weighs so much behind it.
+/// Returns the weight of the actor before the action, given its weight after it.
 fn before(
     plan: &Plan,
     vector: &Vector,
@@ -101,7 +101,7 @@ fn before(
     }
 }
 
-/// What the actor weighs at each position of its body, found from its end backwards.
+/// Returns the weight of the actor at each position of its body, computed from its end.
 fn weights(
     alloc: Global,
     plan: &Plan,
@@ -129,7 +129,7 @@ fn weights(
     Ok(weights)
 }
 
-/// What a job of this body weighs queued, at each position, and done.
+/// Returns the weights of a job with this body when queued, at each position, and when done.
 pub(crate) fn class_row(
     alloc: Global,
     plan: &Plan,
@@ -149,7 +149,7 @@ pub(crate) fn class_row(
     Ok(row)
 }
 
-/// What a client weighs at each position of its body.
+/// Returns the weight of a client at each position of its body.
 pub(crate) fn client_row(
     alloc: Global,
     plan: &Plan,

@@ -38,7 +38,7 @@ fn copied(alloc: Global, vector: &Vector) -> Result<Vector, AllocError>
     })
 }
 
-/// The vector; None where a number of it is above the limit.
+/// Returns the vector, or `None` if a number in it is above the limit.
 fn steady_vector(alloc: Global, plan: &Plan, levels: &[u64]) -> Result<Option<Vector>, AllocError>
     requires free { NoCircle plan.now }
     requires levels { levels.now ≡ spec.steady_levels plan.now }
@@ -64,7 +64,7 @@ fn steady_vector(alloc: Global, plan: &Plan, levels: &[u64]) -> Result<Option<Ve
     }))
 }
 
-/// What the certificate says of one pool.
+/// Returns the certificate's part for one pool.
 fn pool_of(alloc: Global, vector: &Vector) -> Result<PoolCert, AllocError>
     ensures { IfOk result (λ pool. pool ≡ spec.pool_of vector.now) }
 {
@@ -73,7 +73,7 @@ fn pool_of(alloc: Global, vector: &Vector) -> Result<PoolCert, AllocError>
     Ok(PoolCert { bound, blocked })
 }
 
-/// What it says of each pool.
+/// Returns the certificate's part for each pool.
 fn pools_of(alloc: Global, plan: &Plan, vector: &Vector) -> Result<Vec<PoolCert>, AllocError>
     ensures { IfOk result (λ pools.
         pools.items ≡ map (λ (pool : plan_spec.Pool). spec.pool_of vector.now) plan.now.pools) }
@@ -85,12 +85,12 @@ fn pools_of(alloc: Global, plan: &Plan, vector: &Vector) -> Result<Vec<PoolCert>
     Ok(pools)
 }
 
-/// The steady certificate of the plan; None just where a number of its vector is above
+/// Returns the steady certificate of the plan, or `None` exactly if a number of its vector is above
 /// [`MAX_WEIGHT`](job_bodies::MAX_WEIGHT).
 ///
 /// # Errors
 ///
-/// [`AllocError`] where memory runs out.
+/// [`AllocError`] if memory runs out.
 pub fn steady(alloc: Global, plan: &Plan) -> Result<Option<Cert>, AllocError>
     // A class that submits itself has no level.
     requires { NoCircle plan.now }

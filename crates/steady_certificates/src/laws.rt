@@ -1,10 +1,11 @@
-//! The law of steady certificates, the contract of a function with nothing to do.
+//! The law of steady certificates, the contract of a function with an empty body.
 
 ghost use Rattle.steady_certificates.specs.SteadyLaws.{SteadyCertificatesAccept};
 
-/// In a plan in which no class submits itself, and no submit is never got in what a repeating client causes, every condition
-/// of the steady certificate holds but those of its total, where its weights are within their limit. So it is accepted exactly
-/// where no queue is smaller than the total, and every core is larger.
+/// States when the steady certificate is accepted. If no class submits itself, no repeating client
+/// causes a submit that is never got, and the weights are within their limit, then every condition
+/// of the certificate holds except those of its total. So it is accepted exactly if no queue is
+/// smaller than the total, and every core is larger.
 pub fn steady_certificates_accept()
     ensures { SteadyCertificatesAccept }
 {}

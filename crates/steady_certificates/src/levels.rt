@@ -1,4 +1,4 @@
-//! How deep classes stand above those that they submit.
+//! The levels of classes above those that they submit.
 
 ghost use Rattle.std.specs.Prelude.{◌≡◌, ◌≤◌, ℕ, IfOk, map, slice_index};
 ghost use Rattle.job_bodies.specs.declared.limits.TheConstants.{MAX_CLASSES};
@@ -9,7 +9,7 @@ ghost use Rattle.steady_certificates.specs.Steady as spec;
 use job_bodies::{Action, Plan};
 use std::alloc::{AllocError, Global};
 
-/// The number at this place of a list, and 0 past its end.
+/// Returns the number at this index of a list, or 0 after its end.
 pub(crate) fn number_at(numbers: &[u64], place: usize) -> u64
     ensures { result ≡ slice_index numbers.now place }
 {
@@ -20,7 +20,7 @@ pub(crate) fn number_at(numbers: &[u64], place: usize) -> u64
     }
 }
 
-/// A level above those of the classes that the body submits.
+/// Returns a level above those of the classes that the body submits.
 fn level_above(levels: &[u64], body: &[Action]) -> u64
     requires { (k : ℕ) → slice_index levels.now k ≤ MAX_CLASSES }
     ensures { result ≡ spec.level_above levels.now body.now }
@@ -34,7 +34,7 @@ fn level_above(levels: &[u64], body: &[Action]) -> u64
     highest
 }
 
-/// The levels where submits are followed one deeper.
+/// Returns the levels when submits are followed one step further.
 fn next_levels(alloc: Global, plan: &Plan, levels: &[u64]) -> Result<Vec<u64>, AllocError>
     requires { (k : ℕ) → slice_index levels.now k ≤ MAX_CLASSES }
     ensures { IfOk result (λ next.
@@ -49,7 +49,7 @@ fn next_levels(alloc: Global, plan: &Plan, levels: &[u64]) -> Result<Vec<u64>, A
     Ok(next)
 }
 
-/// The level of each class.
+/// Returns the level of each class.
 pub(crate) fn steady_levels(alloc: Global, plan: &Plan) -> Result<Vec<u64>, AllocError>
     ensures levels { IfOk result (λ levels. levels.items ≡ spec.steady_levels plan.now) }
     ensures well_formed { IsWellFormed plan.now }

@@ -1,5 +1,5 @@
-//! One certificate that always serves a plan in which no class submits itself, and no submit is never got in what a
-//! repeating client causes: its steady certificate. It wants sizes that are large enough, and nothing else.
+//! The steady certificate, which works for every plan in which no class submits itself and no
+//! repeating client causes a submit that is never got. It needs only sizes that are large enough.
 #![tactic(auto)]
 
 mod body;

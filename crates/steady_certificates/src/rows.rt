@@ -15,7 +15,7 @@ use job_bodies::Plan;
 use std::alloc::{AllocError, Global};
 use weights::{Vector, are_small};
 
-/// Puts a row in the place of the class's.
+/// Replaces the row of the class.
 fn put_row(jobs: &mut Vector, number: usize, row: Vec<u64>)
     requires { number < length jobs.old.classes }
     ensures { jobs.new ≡ record jobs.old { classes = slice_set jobs.old.classes number row.items } }
@@ -23,8 +23,8 @@ fn put_row(jobs: &mut Vector, number: usize, row: Vec<u64>)
     jobs.classes[number] = row;
 }
 
-/// Gives the class of this number, which is of this level, its row; false where a number of the row is above the limit, and
-/// then it has none.
+/// Sets the row of the class of this number, which has this level. Returns `false`, and sets no
+/// row, if a number in it is above the limit.
 fn settle_class(
     alloc: Global,
     plan: &Plan,
@@ -50,7 +50,7 @@ fn settle_class(
     Ok(true)
 }
 
-/// The same, if the class is of this level.
+/// Sets the row of the class, if it has this level.
 fn settle(
     alloc: Global,
     plan: &Plan,
@@ -76,7 +76,7 @@ fn settle(
     }
 }
 
-/// Gives the classes of this level their rows; false where a number is above the limit.
+/// Sets the rows of the classes of this level. Returns `false` if a number is above the limit.
 fn settle_level(
     alloc: Global,
     plan: &Plan,
@@ -101,7 +101,7 @@ fn settle_level(
     Ok(true)
 }
 
-/// A vector with a row for each class, of which none has a number.
+/// Creates a vector with an empty row for each class.
 fn no_jobs(alloc: Global, plan: &Plan) -> Result<Vector, AllocError>
     ensures { IfOk result (λ jobs. IsSettled plan.now jobs 0 0) }
 {
@@ -116,7 +116,8 @@ fn no_jobs(alloc: Global, plan: &Plan) -> Result<Vector, AllocError>
     })
 }
 
-/// The rows of all classes, from the lowest level up; None where a number is above the limit.
+/// Returns the rows of all classes, computed from the lowest level to the highest, or `None` if a
+/// number is above the limit.
 pub(crate) fn jobs_of(
     alloc: Global,
     plan: &Plan,
@@ -139,7 +140,7 @@ pub(crate) fn jobs_of(
     Ok(Some(jobs))
 }
 
-/// The rows of all kinds of clients.
+/// Returns the rows of all kinds of clients.
 pub(crate) fn clients_of(
     alloc: Global,
     plan: &Plan,

@@ -1,4 +1,4 @@
--- What is open here, and the most so far.
+-- The weight of open jobs here, and the largest so far.
 use Rattle.std.proofs.Common.{◌≡◌}
 use Rattle.steady_certificates.specs.Steady.{greatest_upto, open_weight}
 use Rattle.steady_certificates.proofs.body.most.Given as goal

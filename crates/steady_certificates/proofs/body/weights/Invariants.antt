@@ -1,4 +1,4 @@
--- The weights behind this position, the last one first.
+-- The weights after this position, the last one first.
 use Rattle.std.proofs.Common.{◌≡◌, ◌-◌, length, drop, reverse}
 use Rattle.steady_certificates.specs.Steady.{weight_at, weights_from}
 use Rattle.steady_certificates.proofs.body.weights.Given as goal

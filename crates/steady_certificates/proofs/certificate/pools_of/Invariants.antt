@@ -1,4 +1,4 @@
--- As many as pools so far.
+-- One part for each pool so far.
 use Rattle.std.proofs.Common.{◌≡◌, map, take}
 use Rattle.job_bodies.specs.Plan.{Pool}
 use Rattle.steady_certificates.specs.Steady.{pool_of}

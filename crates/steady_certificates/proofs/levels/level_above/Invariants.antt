@@ -1,4 +1,4 @@
--- The highest so far and those behind it are all.
+-- The result is the greater of the highest level so far and those of the remaining actions.
 use Rattle.std.proofs.Common.{◌≡◌, max, drop}
 use Rattle.steady_certificates.specs.Steady.{level_above}
 use Rattle.steady_certificates.proofs.levels.level_above.Given as goal

@@ -1,4 +1,4 @@
--- So many rounds.
+-- The levels after this number of rounds.
 use Rattle.std.proofs.Common.{◌≡◌}
 use Rattle.steady_certificates.specs.Steady.{levels_within}
 use Rattle.steady_certificates.proofs.levels.steady_levels.Given as goal

@@ -1,4 +1,4 @@
--- The levels below this one are settled.
+-- The levels below this one have their rows.
 use Rattle.steady_certificates.specs.Settled.{IsSettled}
 use Rattle.steady_certificates.proofs.rows.jobs_of.Given as goal
 

@@ -1,4 +1,4 @@
--- A row for each class so far, without a number.
+-- An empty row for each class so far.
 use Rattle.std.proofs.Common.{◌≡◌, [], map, replicate}
 use Rattle.steady_certificates.proofs.rows.no_jobs.Given as goal
 

@@ -1,4 +1,4 @@
--- The classes before this one are settled.
+-- The classes before this one have their rows.
 use Rattle.steady_certificates.specs.Settled.{IsSettled}
 use Rattle.steady_certificates.proofs.rows.settle_level.Given as goal
 
