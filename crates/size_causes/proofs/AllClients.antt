@@ -1,4 +1,4 @@
--- What all clients submit themselves.
+-- The classes that all clients submit directly.
 use Rattle.std.proofs.Common.{ℕ, ◌≡◌, ◌+◌, ◌<◌, List, length, ap, subst, ◌∙◌, below_more}
 use Rattle.std.proofs.lemmas.Option.{slice_get_within, get_or_from_slice_get}
 use Rattle.numbered_lists.specs.In.{In}
@@ -18,7 +18,7 @@ pub record AreBegun (plan : Plan) (r : Reached) (number : ℕ) : Type 0 where
 pub is_of_client : (plan : Plan) (c : ℕ) → c < length plan.clients → In (client_at plan c).body (client_bodies plan)
 is_of_client plan c inside = In-map (λ (client : Client). client.body) (In-get_or plan.clients c no_client inside)
 
--- the body of one client more
+-- the body of one more client
 pub covers_one_more : (plan : Plan) (old new : Reached) (number : ℕ) → ((k : ℕ) → Has old k → Has new k) → ((c : ℕ) → c < number → Covers old (client_at plan c).body) → Covers new (client_at plan number).body
     → (c : ℕ) → c < number + 1 → Covers new (client_at plan c).body
 covers_one_more plan old new number kept before this =

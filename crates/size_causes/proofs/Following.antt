@@ -1,4 +1,4 @@
--- Where all that was found is followed, it is what is submitted.
+-- Once all classes that were found are followed, they are exactly those that are submitted.
 use Rattle.std.proofs.Common.{◌≡◌, ℕ, ◌+◌, ◌<◌, ◌≤◌, suc, Bool, true, false, not, get_or, slice_get, Some, count_by, ◌⊎◌, ◌↔◌, inl, inr, ⊎_elim, List, [], ◌∷◌, ◌++◌, length, take, refl, sym, ap, subst, ◌∙◌, arith}
 use Rattle.std.proofs.lemmas.List.{length_push, nil_from_length}
 use Rattle.numbered_lists.specs.In.{In, here, there}
@@ -13,12 +13,12 @@ use Rattle.size_causes.specs.declared.reached.Reached.{Reached}
 use Rattle.steady_certificates.specs.Submitted.{IsSubmitted, begins, follows, repeated_bodies}
 use Rattle.size_causes.specs.Reaching.{Has, Covers, Grows, IsReaching, unfound}
 
--- where an element stands
+-- the index of an element
 pub place_in : {X : Type 0} {x : X} {xs : List X} → In x xs → (i : ℕ) × (slice_get xs i ≡ Some x)
 place_in here = (0, refl)
 place_in (there at) = let found = place_in at in (suc found.0, found.1)
 
--- a class that a body submits is one of the plan
+-- a class that a body submits is a class of the plan
 submits_within : (plan : Plan) (body : List Action) (k : ℕ) → IsLawful plan body → In (Submit k) body → k < length plan.classes
 submits_within plan body k lawful at = let place = place_in at in lawful.submit place.0 k place.1
 
@@ -31,7 +31,7 @@ client_submits_within plan c k well at = submits_within plan (client_at plan c).
 pub covers_more : (a b : Reached) (body : List Action) → ((k : ℕ) → Has a k → Has b k) → Covers a body → Covers b body
 covers_more a b body kept covers = record { found = λ k at. kept k (covers.found k at) }
 
--- one body is covered that begins where the submits are followed
+-- after the step for one of the initial bodies
 pub starts : (plan : Plan) (bodies : List (List Action)) (body : List Action) (old new : Reached) → In body bodies → Grows old new
     → ((k : ℕ) → Has new k → Has old k ⊎ In (Submit k) body) → IsReaching plan bodies old → IsReaching plan bodies new
 starts plan bodies body old new from grows only reaching = record {
@@ -42,7 +42,7 @@ starts plan bodies body old new from grows only reaching = record {
   few = omega (arith, grows.fewer, reaching.few);
 }
 
--- the body of one class is covered that was found
+-- after the step for the body of a class that was found
 pub follows_one : (plan : Plan) (bodies : List (List Action)) (old mid new : Reached) (number : ℕ) → mid.is_found.items ≡ old.is_found.items → old.pending.items ≡ mid.pending.items ++ number ∷ []
     → Grows mid new → Covers new (class_at plan number).body → ((k : ℕ) → Has new k → Has mid k ⊎ In (Submit k) (class_at plan number).body) → IsReaching plan bodies old → IsReaching plan bodies new
 follows_one plan bodies old mid new number same pending grows covers only reaching = record {
@@ -75,27 +75,27 @@ follows_one plan bodies old mid new number same pending grows covers only reachi
 
 -- ---- loops
 
--- one body, as far as its first actions
+-- the first actions of one body
 pub record IsAdded (start r : Reached) (body : List Action) (i : ℕ) : Type 0 where
   pub grows : Grows start r
   pub covers : Covers r (take i body)
   pub only : (k : ℕ) → Has r k → Has start k ⊎ In (Submit k) body
 
--- the bodies of the first clients, where they repeat
+-- the bodies of the first clients that repeat
 pub record AreAdded (plan : Plan) (r : Reached) (number : ℕ) : Type 0 where
   pub reaching : IsReaching plan (repeated_bodies plan) r
   pub covers : (c : ℕ) → c < number → (client_at plan c).repeat ≡ true → Covers r (client_at plan c).body
 
--- ---- in the end
+-- ---- after the loop
 
--- so far: nothing is left, or one less in each round
+-- the state after some rounds: nothing is pending, or one less in each round
 pub record IsFollowed (plan : Plan) (start r : Reached) (rounds : ℕ) : Type 0 where
   pub reaching : (bodies : List (List Action)) → IsReaching plan bodies start → IsReaching plan bodies r
   pub kept : (k : ℕ) → Has start k → Has r k
   pub as_many : length r.is_found.items ≡ length start.is_found.items
   pub fewer : (r.pending.items ≡ []) ⊎ (unfound r + length r.pending.items + rounds ≤ unfound start + length start.pending.items)
 
--- one round more
+-- the step for one more round
 pub followed_further : (plan : Plan) (start r new : Reached) (rounds : ℕ) → IsFollowed plan start r rounds → ((bodies : List (List Action)) → IsReaching plan bodies r → IsReaching plan bodies new)
     → ((k : ℕ) → Has r k → Has new k) → length new.is_found.items ≡ length r.is_found.items
     → (new.pending.items ≡ []) ⊎ (unfound new + length new.pending.items + 1 ≤ unfound r + length r.pending.items) → (r.pending.items ≡ [] → new.pending.items ≡ []) → IsFollowed plan start new (rounds + 1)

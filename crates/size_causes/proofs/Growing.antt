@@ -1,4 +1,4 @@
--- How what was found grows.
+-- The growth of the set of submitted classes.
 use Rattle.std.proofs.Common.{◌≡◌, ℕ, ◌+◌, ◌<◌, Bool, true, false, not, cond, ◌⊎◌, inl, inr, ⊎_elim, List, [], ◌∷◌, ◌++◌, length, get_or, set, count_by, refl, sym, ap, subst, ◌∙◌, arith}
 use Rattle.std.proofs.lemmas.Bool.{cases_eq}
 use Rattle.std.proofs.lemmas.List.{length-set, get_or-set_same, get_or-set_other, length_push}
@@ -8,7 +8,7 @@ use Rattle.numbered_lists.proofs.Members.{In-append_left, In-append_right, In-pu
 use Rattle.size_causes.specs.declared.reached.Reached.{Reached}
 use Rattle.size_causes.specs.Reaching.{Has, Grows}
 
--- ---- one mark more
+-- ---- one more mark
 
 has_after : (marks : List Bool) (k j : ℕ) → k < length marks → get_or marks j false ≡ true → get_or (set marks k true) j false ≡ true
 has_after marks k j inside has =
@@ -31,7 +31,7 @@ unfound-set marks k inside none =
     let zero : counts true ≡ 0 = refl in
     omega (arith, sum_by-set counts marks k true false inside, one, zero)
 
--- ---- what was found
+-- ---- the classes that were found
 
 pub grows_refl : (r : Reached) → Grows r r
 grows_refl r = record {

@@ -1,4 +1,4 @@
--- What there is not past the ends of a plan's lists.
+-- The defaults after the ends of a plan's lists.
 use Rattle.std.proofs.Common.{◌≡◌, ℕ, ◌+◌, ◌<◌, ◌≤◌, true, false, List, [], ◌∷◌, length, filter, get_or, ⊎_elim, sym, ap, subst, ◌∙◌, arith}
 use Rattle.std.proofs.lemmas.Bool.{false≢true, cases_lt}
 use Rattle.std.proofs.lemmas.List.{get_or_past, get_or_default}
@@ -37,7 +37,7 @@ no_client_past plan c i past cause =
     let none : (client_at plan c).repeat ≡ false = ap (λ (client : Client). client.repeat) (get_or_past plan.clients c no_client past) in
     false≢true (sym none ∙ cause.repeats)
 
--- ---- what a loop over the plan's lists reads
+-- ---- the elements that a loop over the plan's lists reads
 
 element_read : {X : Type 0} (items all : List X) (i : ℕ) (item d : X) → items ≡ all → i < length all → item ≡ get_or items i item → item ≡ get_or all i d
 element_read {X} items all i item d same inside read = read ∙ (ap (λ (xs : List X). get_or xs i item) same ∙ get_or_default all i item d inside)
@@ -50,11 +50,11 @@ client_read plan items c client same inside read = element_read items plan.clien
 
 -- ---- clients that repeat
 
--- the body of a client that repeats is one of those
+-- the body of a client that repeats is one of the repeated bodies
 pub is_repeated : (plan : Plan) (c : ℕ) → c < length plan.clients → (client_at plan c).repeat ≡ true → In (client_at plan c).body (repeated_bodies plan)
 is_repeated plan c inside repeats = In-map (λ (client : Client). client.body) (In-filter (λ (client : Client). client.repeat) (In-get_or plan.clients c no_client inside) repeats)
 
--- the bodies of one client more
+-- the body of one more client
 pub covers_next_client : (plan : Plan) (r : Reached) (number : ℕ) → ((c : ℕ) → c < number → (client_at plan c).repeat ≡ true → Covers r (client_at plan c).body)
     → ((client_at plan number).repeat ≡ true → Covers r (client_at plan number).body) → (c : ℕ) → c < number + 1 → (client_at plan c).repeat ≡ true → Covers r (client_at plan c).body
 covers_next_client plan r number before this c within repeats =

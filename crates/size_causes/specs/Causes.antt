@@ -1,11 +1,11 @@
--- Why no sizes help a plan.
+-- The causes for which no sizes are enough.
 use Rattle.std.specs.Prelude.{[], ◌∷◌}
 use Rattle.job_bodies.specs.Plan.{Plan, class_at}
 use Rattle.steady_certificates.specs.Submitted.{IsSubmitted, NeverGotByClients, NeverGotByJobs}
 use Rattle.size_causes.specs.declared.cause.Cause.{Cause}
 use Rattle.size_causes.specs.declared.cause.Cause.TheVariants.{Circle, ClientNeverGets, ClassNeverGets}
 
--- what the cause says of the plan
+-- the plan has this cause
 abbrev pub IsCause : Plan → Cause → Type 0
 IsCause plan (Circle k) = IsSubmitted plan ((class_at plan k).body ∷ []) k
 IsCause plan (ClientNeverGets c i) = NeverGotByClients plan c i

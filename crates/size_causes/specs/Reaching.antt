@@ -1,4 +1,4 @@
--- Classes that are found to be submitted, and of which some were not followed yet.
+-- Sets of submitted classes, some of which were not followed yet.
 use Rattle.std.specs.Prelude.{◌≡◌, ◌≤◌, ◌+◌, ◌⊎◌, ℕ, true, false, not, List, length, count_by, slice_index_or}
 use Rattle.numbered_lists.specs.In.{In}
 use Rattle.job_bodies.specs.declared.action.Action.{Action}
@@ -11,15 +11,15 @@ use Rattle.steady_certificates.specs.Submitted.{IsSubmitted}
 abbrev pub Has : Reached → ℕ → Type 0
 Has r k = slice_index_or r.is_found.items k false ≡ true
 
--- so was each class that the body submits
+-- each class that the body submits was found
 pub record Covers (r : Reached) (body : List Action) : Type 0 where
   pub found : (k : ℕ) → In (Submit k) body → Has r k
 
--- how many classes were not
+-- the number of classes that were not found
 abbrev pub unfound : Reached → ℕ
 unfound r = count_by not r.is_found.items
 
--- classes were added, each of them to be followed
+-- classes were added, and each of them is pending
 pub record Grows (old new : Reached) : Type 0 where
   pub as_many : length new.is_found.items ≡ length old.is_found.items
   pub kept : (k : ℕ) → Has old k → Has new k
@@ -28,7 +28,7 @@ pub record Grows (old new : Reached) : Type 0 where
   pub waiting : (k : ℕ) → In k new.pending.items → In k old.pending.items ⊎ Has new k
   pub fewer : unfound new + length new.pending.items ≡ unfound old + length old.pending.items
 
--- what was found is submitted, and what it submits itself was found, but of those that are to be followed
+-- every class that was found is submitted; the classes that it submits were found too, unless it is pending
 pub record IsReaching (plan : Plan) (bodies : List (List Action)) (r : Reached) : Type 0 where
   pub as_many : length r.is_found.items ≡ length plan.classes
   pub submitted : (k : ℕ) → Has r k → IsSubmitted plan bodies k

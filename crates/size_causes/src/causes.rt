@@ -1,4 +1,4 @@
-//! Which of the causes against all sizes a plan has.
+//! The causes that a plan has.
 
 ghost use Rattle.std.specs.Prelude.{◌≡◌, ◌<◌, ◌↔◌, ℕ, [], ◌∷◌, true, IfOk, IfSome, IfNone, length};
 ghost use Rattle.job_bodies.specs.Plan.{class_at};
@@ -13,11 +13,11 @@ use crate::submitted::submitted_for_ever;
 use job_bodies::{Action, Plan, is_got};
 use std::alloc::{AllocError, Global};
 
-/// A cause against all sizes that the plan has; None exactly where it has none.
+/// Returns a cause for which no sizes are enough, or `None` exactly if the plan has none.
 ///
 /// # Errors
 ///
-/// [`AllocError`] where memory runs out.
+/// [`AllocError`] if memory runs out.
 pub fn cause_of(alloc: Global, plan: &Plan) -> Result<Option<Cause>, AllocError>
     ensures cause { IfOk result (λ found. IfSome found (IsCause plan.now)) }
     ensures none { IfOk result (λ found. IfNone found (IsWithoutCause plan.now)) }
@@ -33,7 +33,7 @@ pub fn cause_of(alloc: Global, plan: &Plan) -> Result<Option<Cause>, AllocError>
     Ok(never_got_by_jobs(plan, &reached))
 }
 
-/// The first class that submits itself, at whatever remove.
+/// Returns the first class that submits itself, directly or through other classes.
 fn circle(alloc: Global, plan: &Plan) -> Result<Option<Cause>, AllocError>
     ensures cause { IfOk result (λ found. IfSome found (IsCause plan.now)) }
     ensures none { IfOk result (λ found. IfNone found (NoCircle plan.now)) }
@@ -47,7 +47,7 @@ fn circle(alloc: Global, plan: &Plan) -> Result<Option<Cause>, AllocError>
     Ok(None)
 }
 
-/// Whether the class submits itself, at whatever remove.
+/// Returns whether the class submits itself, directly or through other classes.
 fn submits_itself(alloc: Global, plan: &Plan, number: usize) -> Result<bool, AllocError>
     requires { number < length plan.now.classes }
     ensures { IfOk result
@@ -60,7 +60,7 @@ fn submits_itself(alloc: Global, plan: &Plan, number: usize) -> Result<bool, All
     Ok(reached.has(number))
 }
 
-/// The first submit of clients that repeat, and never get it.
+/// Returns the first submit of repeating clients that they never get.
 fn never_got_by_clients(plan: &Plan) -> Option<Cause>
     ensures cause { IfSome result (IsCause plan.now) }
     ensures none { IfNone result ((c i : ℕ) → ¬ NeverGotByClients plan.now c i) }
@@ -76,7 +76,7 @@ fn never_got_by_clients(plan: &Plan) -> Option<Cause>
     None
 }
 
-/// The first submit of jobs of the classes that were found, and that never get it.
+/// Returns the first submit that jobs of the reached classes never get.
 fn never_got_by_jobs(plan: &Plan, reached: &Reached) -> Option<Cause>
     requires { (k : ℕ) → Has reached.now k ↔ IsSubmitted plan.now (repeated_bodies plan.now) k }
     ensures cause { IfSome result (IsCause plan.now) }
@@ -93,7 +93,7 @@ fn never_got_by_jobs(plan: &Plan, reached: &Reached) -> Option<Cause>
     None
 }
 
-/// The position of the first submit that no get of the body names.
+/// Returns the position of the first submit that no get of the body names.
 fn submit_without_get(body: &[Action]) -> Option<usize>
     ensures found { IfSome result (IsNeverGot body.now) }
     ensures none { IfNone result ((i : ℕ) → ¬ IsNeverGot body.now i) }

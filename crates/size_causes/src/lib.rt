@@ -1,5 +1,5 @@
-//! Why no sizes help a plan: a class submits itself, or a submit is never got in what a repeating client causes; and which
-//! classes clients submit at all.
+//! The causes for which no sizes are enough: a class submits itself, or a repeating client causes a
+//! submit that is never got. Also the classes that clients submit at all.
 #![tactic(auto)]
 
 mod cause;

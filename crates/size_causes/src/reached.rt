@@ -1,4 +1,4 @@
-//! Which classes of jobs are submitted, at whatever remove.
+//! The classes that are submitted, directly or through other jobs.
 
 ghost use Rattle.std.specs.Prelude.{◌≡◌, ◌<◌, ◌+◌, ◌≤◌, ◌⊎◌, ◌↔◌, ℕ, List, [], ◌∷◌, OnOk, IfOk, length, slice_index_or, false};
 ghost use Rattle.numbered_lists.specs.In.{In};
@@ -12,17 +12,17 @@ ghost use Rattle.size_causes.specs.Reaching.{Has, Covers, Grows, IsReaching, unf
 use job_bodies::{Action, Plan};
 use std::alloc::{AllocError, Global};
 
-/// Classes that are submitted.
+/// A set of classes that are submitted.
 #[derive(Drop)]
 pub(crate) struct Reached {
     /// Whether each class was found.
     is_found: Vec<bool>,
-    /// Those that were found, and whose bodies nobody has looked at.
+    /// The classes that were found and whose bodies were not looked at yet.
     pending: Vec<usize>,
 }
 
 impl Reached {
-    /// No class is submitted.
+    /// Creates an empty set.
     pub(crate) fn nothing(alloc: Global, plan: &Plan) -> Result<Reached, AllocError>
         ensures { IfOk result
             (λ reached. (bodies : List (List Action)) → IsReaching plan.now bodies reached) }
@@ -33,21 +33,21 @@ impl Reached {
         })
     }
 
-    /// Whether the class is submitted.
+    /// Returns whether the class is submitted.
     pub(crate) fn has(&self, class: usize) -> bool
         ensures { result ≡ slice_index_or self.now.is_found.items class false }
     {
         class < self.is_found.len() && self.is_found[class]
     }
 
-    /// Of each class whether it is submitted.
+    /// Returns for each class whether it is submitted.
     pub(crate) fn into_marks(self) -> Vec<bool>
         ensures { result.items ≡ self.is_found.items }
     {
         self.is_found
     }
 
-    /// The class is submitted too.
+    /// Adds the class.
     fn add(&mut self, class: usize) -> Result<(), AllocError>
         requires { class < length self.old.is_found.items }
         ensures grows { OnOk result (Grows self.old self.new) }
@@ -61,7 +61,7 @@ impl Reached {
         Ok(())
     }
 
-    /// The classes that the body submits are submitted too.
+    /// Adds the classes that the body submits.
     pub(crate) fn add_body(&mut self, body: &[Action]) -> Result<(), AllocError>
         requires { (k : ℕ) → In (Submit k) body.now → k < length self.old.is_found.items }
         ensures grows { OnOk result (Grows self.old self.new) }
@@ -77,7 +77,7 @@ impl Reached {
         Ok(())
     }
 
-    /// Looks at the body of one class that was found, where one is left.
+    /// Adds the classes that the body of one pending class submits, if there is one.
     fn follow(&mut self, plan: &Plan) -> Result<(), AllocError>
         requires { length self.old.is_found.items ≡ length plan.now.classes }
         ensures reaching { OnOk result
@@ -99,7 +99,7 @@ impl Reached {
         Ok(())
     }
 
-    /// So are those that jobs of these classes submit, at whatever remove.
+    /// Adds the classes that jobs of these classes submit, directly or through other jobs.
     pub(crate) fn add_all(&mut self, plan: &Plan) -> Result<(), AllocError>
         requires { length self.old.is_found.items ≡ length plan.now.classes }
         ensures submitted { OnOk result ((bodies : List (List Action)) → IsReaching plan.now bodies self.old → ((body : List Action) → In body bodies → Covers self.old body)
@@ -114,7 +114,7 @@ impl Reached {
     }
 }
 
-/// The body of the class; empty where there is none.
+/// Returns the body of the class, or an empty one if there is no such class.
 fn body_at(plan: &Plan, class: usize) -> &[Action]
     ensures body { result.now ≡ (spec.class_at plan.now class).body }
     ensures well_formed { IsWellFormed plan.now }

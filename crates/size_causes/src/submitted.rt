@@ -1,4 +1,4 @@
-//! Which classes clients submit, at whatever remove.
+//! The classes that clients submit, directly or through other jobs.
 
 ghost use Rattle.std.specs.Prelude.{◌↔◌, ℕ, List, IfOk};
 ghost use Rattle.numbered_lists.specs.In.{In};
@@ -11,11 +11,11 @@ use crate::reached::Reached;
 use job_bodies::Plan;
 use std::alloc::{AllocError, Global};
 
-/// Of each class whether it is submitted: by a client, or by a job that one causes, at whatever remove.
+/// Returns for each class whether it is submitted by a client, or by a job that a client causes.
 ///
 /// # Errors
 ///
-/// [`AllocError`] where memory runs out.
+/// [`AllocError`] if memory runs out.
 pub fn submitted_by_clients(alloc: Global, plan: &Plan) -> Result<Vec<bool>, AllocError>
     ensures { IfOk result (λ marks. MarksSubmitted plan.now marks.items) }
 {
@@ -24,7 +24,7 @@ pub fn submitted_by_clients(alloc: Global, plan: &Plan) -> Result<Vec<bool>, All
     Ok(reached.into_marks())
 }
 
-/// The classes that clients submit who repeat, at whatever remove.
+/// Returns the classes that repeating clients submit, directly or through other jobs.
 pub(crate) fn submitted_for_ever(alloc: Global, plan: &Plan) -> Result<Reached, AllocError>
     ensures { IfOk result
         (λ reached. (k : ℕ) → Has reached k ↔ IsSubmitted plan.now (repeated_bodies plan.now) k) }
@@ -34,7 +34,7 @@ pub(crate) fn submitted_for_ever(alloc: Global, plan: &Plan) -> Result<Reached, 
     Ok(reached)
 }
 
-/// The classes that clients submit themselves.
+/// Returns the classes that clients submit directly.
 fn classes_of_clients(alloc: Global, plan: &Plan) -> Result<Reached, AllocError>
     ensures reaching { IfOk result (IsReaching plan.now (client_bodies plan.now)) }
     ensures covers { IfOk result
@@ -48,7 +48,7 @@ fn classes_of_clients(alloc: Global, plan: &Plan) -> Result<Reached, AllocError>
     Ok(reached)
 }
 
-/// The classes that clients submit themselves who repeat.
+/// Returns the classes that repeating clients submit directly.
 fn classes_of_repeating_clients(alloc: Global, plan: &Plan) -> Result<Reached, AllocError>
     ensures reaching { IfOk result (IsReaching plan.now (repeated_bodies plan.now)) }
     ensures covers { IfOk result (λ reached.

@@ -1,4 +1,4 @@
--- So far as clients were looked at.
+-- The bodies of the clients before this one are added.
 use Rattle.size_causes.proofs.AllClients.{AreBegun}
 use Rattle.size_causes.proofs.submitted.classes_of_clients.Given as goal
 

@@ -1,4 +1,4 @@
--- So far as clients were looked at.
+-- The bodies of the clients before this one that repeat are added.
 use Rattle.size_causes.proofs.Following.{AreAdded}
 use Rattle.size_causes.proofs.submitted.classes_of_repeating_clients.Given as goal
 

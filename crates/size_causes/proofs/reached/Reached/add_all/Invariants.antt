@@ -1,4 +1,4 @@
--- After so many rounds.
+-- The state after this number of rounds.
 use Rattle.size_causes.proofs.Following.{IsFollowed}
 use Rattle.size_causes.proofs.reached.Reached.add_all.Given as goal
 

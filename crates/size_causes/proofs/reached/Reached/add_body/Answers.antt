@@ -11,7 +11,7 @@ use Rattle.size_causes.proofs.Following.{covers_more, IsAdded}
 use Rattle.size_causes.proofs.reached.Reached.add_body.Goals as goal
 use Rattle.size_causes.proofs.reached.Reached.add_body.Goals.{in-Submit+in_ok-add, in_default}
 
--- one action more, which submits a class that was found, or none
+-- one more action, which submits a class that was found, or none
 covers_next : (r : Reached) (body : List Action) (i : ℕ) (x : Action) → take (i + 1) body ≡ take i body ++ x ∷ [] → Covers r (take i body) → ((k : ℕ) → x ≡ Submit k → Has r k) → Covers r (take (i + 1) body)
 covers_next r body i x next before of_this = record {
   found = λ k at.

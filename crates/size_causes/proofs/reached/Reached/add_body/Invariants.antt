@@ -1,4 +1,4 @@
--- So far as the body was looked at.
+-- The actions before this one are added.
 use Rattle.size_causes.proofs.Following.{IsAdded}
 use Rattle.size_causes.proofs.reached.Reached.add_body.Given as goal
 
