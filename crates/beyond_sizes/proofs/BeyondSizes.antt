@@ -1,4 +1,4 @@
--- Why no sizes help: what a certificate says, and a cause that holds whatever the sizes.
+-- No sizes are enough: the conditions of a certificate contradict a cause, which does not depend on sizes.
 use Rattle.std.proofs.Common.{◌≡◌, ℕ, ◌<◌, ◌≤◌, true, List, [], ◌∷◌, length, map, filter, get_or, slice_get, IsTrue, subst, sym, ap, arith, refl}
 use Rattle.job_bodies.specs.declared.action.Action.{Action}
 use Rattle.job_bodies.specs.Plan.{Class, Client, Plan, no_class, no_client, class_at, client_at}
@@ -26,13 +26,13 @@ circle plan k submitted other cert well same is_accepted =
     let below = sinks_below other cert.ranks k (cert_laws other cert is_accepted).ranks there in
     omega (arith, below)
 
--- ---- what an accepted certificate says of the jobs of a class
+-- ---- the conditions of an accepted certificate on the jobs of a class
 
 queued_weighs : (plan : Plan) (p : ℕ) (bound : Bound) → BoundLaws plan p bound → (k : ℕ) → k < length plan.classes → (class_at plan k).pool ≡ p → 1 ≤ queued_weight (bound_vector bound) k
 queued_weighs plan p (Standing v) laws = laws.queued
 queued_weighs plan p (Lifetime v) laws = laws.queued
 
--- the bound of their pool: no action makes an actor heavier, and such a job weighs something in the queue
+-- the bound of their pool: no action makes an actor heavier, and such a job has weight in the queue
 record IsBounded (plan : Plan) (cert : Cert) (bound : Bound) (k : ℕ) : Type 0 where
   weighed : IsWeighed (bound_at_get bound) plan (bound_vector bound) cert.ranks
   weighs : 1 ≤ queued_weight (bound_vector bound) k
@@ -49,7 +49,7 @@ bounded plan cert k well is_accepted inside =
       weighs = queued_weighs plan p bound of_bound k inside refl;
     }
 
--- ---- clients that never get what they submit
+-- ---- clients with a submit that is never got
 
 no_client_does : (plan : Plan) (cert : Cert) (c i : ℕ) → IsWellFormed plan → IsTrue (accepted plan cert) → NeverGotByClients plan c i → ⊥
 no_client_does plan cert c i well is_accepted cause =
@@ -65,7 +65,7 @@ client_never_gets plan c i cause other cert well same is_accepted =
     no_client_does other cert c i well is_accepted
     (record { repeats = subst (λ (any : Client). any.repeat ≡ true) client cause.repeats; never_got = subst (λ (any : Client). IsNeverGot any.body i) client cause.never_got })
 
--- ---- and jobs
+-- ---- jobs with a submit that is never got
 
 no_job_does : (plan : Plan) (cert : Cert) (k i : ℕ) → IsWellFormed plan → IsTrue (accepted plan cert) → NeverGotByJobs plan k i → ⊥
 no_job_does plan cert k i well is_accepted cause =

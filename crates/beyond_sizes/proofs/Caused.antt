@@ -1,4 +1,4 @@
--- Where a cause holds no certificate accepts the plan.
+-- If a cause holds, no certificate accepts the plan.
 use Rattle.std.proofs.Common.{◌≡◌, false, refl}
 use Rattle.std.proofs.lemmas.Bool.{false_from_ne_true}
 use Rattle.job_bodies.specs.Plan.{Plan}

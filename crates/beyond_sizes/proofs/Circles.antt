@@ -1,4 +1,4 @@
--- No class of an accepted plan submits itself: what a class submits is of a lower level.
+-- No class of an accepted plan submits itself, because the classes that a class submits have lower levels.
 use Rattle.std.proofs.Common.{◌≡◌, ℕ, suc, ◌<◌, List, [], ◌∷◌, get_or, slice_get, Some, ⊎_elim, refl, sym, subst, arith}
 use Rattle.numbered_lists.specs.In.{In, here, there}
 use Rattle.numbered_lists.proofs.Members.{not_In_nil, In-cons_cases}
@@ -9,7 +9,7 @@ use Rattle.pool_ranks.specs.Ranks.{Ranks, level}
 use Rattle.starvation_laws.proofs.RankLaws.{RankLaws}
 use Rattle.steady_certificates.specs.Submitted.{IsSubmitted, begins, follows}
 
--- where an element stands
+-- the index of an element
 pub position_of : {X : Type 0} {x : X} {xs : List X} → In x xs → (i : ℕ) × (slice_get xs i ≡ Some x)
 position_of here = (0, refl)
 position_of (there at) = let found = position_of at in (suc found.0, found.1)
@@ -20,7 +20,7 @@ submitted_in plan other bodies same (begins from at) = begins from at
 submitted_in plan other bodies same (follows {j = j} {k = k} known at) =
     follows (submitted_in plan other bodies same known) (subst (λ (classes : List Class). In (Submit k) (get_or classes j no_class).body) (sym same) at)
 
--- what a class submits, at whatever remove, is of a lower level
+-- the classes that a class submits, directly or through other classes, have lower levels
 pub sinks_below : (plan : Plan) (ranks : Ranks) (k : ℕ) → RankLaws plan ranks → {j : ℕ} → IsSubmitted plan ((class_at plan k).body ∷ []) j → level ranks j < level ranks k
 sinks_below plan ranks k laws (begins {k = j} {body = body} from at) =
     ⊎_elim

@@ -1,4 +1,4 @@
--- What an actor loses over its body: at each submit what the job weighs queued, but for what its get gives back.
+-- The weight that an actor loses over its body: at each submit the weight of the queued job, minus what its get returns.
 use Rattle.std.proofs.Common.{◌≡◌, ℕ, zero, suc, ◌+◌, ◌-◌, ◌<◌, ◌≤◌, Bool, true, false, ◌||◌, ⊎_elim, List, length, slice_get, Option, Some, None, refl, sym, ap, subst, ◌∙◌, arith}
 use Rattle.std.proofs.lemmas.Bool.{false≢true, false_from_ne_true, both_ways, or_cases, or_left, eqb-true, eq-eqb, cases_lt}
 use Rattle.std.proofs.lemmas.Option.{slice_get_within, slice_get-get_or}
@@ -27,7 +27,7 @@ sum_below-le f g (suc n) each =
     let of_g : sum_below g (suc n) ≡ sum_below g n + g n = refl in
     omega (arith, of_f, of_g, each n, sum_below-le f g n each)
 
--- where the term at t is smaller, so is the sum
+-- if the term at t is smaller, so is the sum
 sum_below-le-at : (f g : ℕ → ℕ) (n t less : ℕ) → t < n → ((s : ℕ) → f s ≤ g s) → f t + less ≤ g t → sum_below f n + less ≤ sum_below g n
 sum_below-le-at f g zero t less inside each at = absurd (omega (arith, inside))
 sum_below-le-at f g (suc n) t less inside each at =
@@ -46,13 +46,13 @@ term-le-sum f n t inside =
     let at : 0 + f t ≤ f t = omega arith in
     omega (arith, sum_below-le-at (λ s. 0) f n t (f t) inside (λ s. omega arith) at)
 
--- ---- which submits are got so far
+-- ---- the submits that were got so far
 
 abbrev gets_at : ℕ → Option Action → Bool
 gets_at s (Some x) = gets s x
 gets_at s None = false
 
--- does an action before position n get the submit at position s?
+-- an action before position n gets the submit at position s
 abbrev got_before : List Action → ℕ → ℕ → Bool
 got_before body zero s = false
 got_before body (suc n) s = gets_at s (slice_get body n) || got_before body n s
@@ -75,7 +75,7 @@ got_from body (suc n) s passes =
     (λ earlier. let found = got_from body n s earlier in record { position = found.position; before = omega (arith, found.before); is_get = found.is_get })
     (or_cases (gets_at s (slice_get body n)) (got_before body n s) passes)
 
--- where no action of the body gets it, none before n does
+-- if no action of the body gets it, none before n does
 not_got_before : (body : List Action) (n s : ℕ) → is_got body s ≡ false → got_before body n s ≡ false
 not_got_before body n s not_got =
     false_from_ne_true (got_before body n s)
@@ -83,9 +83,9 @@ not_got_before body n s not_got =
     let found = got_from body n s passes in
     both_ways (is_got body s) not_got (list_any_at_In (gets s) (In-slice_get body found.position (Get s) found.is_get) (eq-eqb s s refl)))
 
--- ---- what submits cost
+-- ---- the cost of submits
 
--- a submit of class k, once it is got or before
+-- the cost of a submit of class k, with or without its get
 abbrev price : AtGet → Plan → Vector → ℕ → Bool → ℕ
 price at_get plan v k true = queued_weight v k - given_back at_get plan v k
 price at_get plan v k false = queued_weight v k
@@ -96,11 +96,11 @@ cost at_get plan v got (Some (Work u)) = 0
 cost at_get plan v got (Some (Get t)) = 0
 cost at_get plan v got None = 0
 
--- what the submit at position s costs an actor that stands at position n
+-- the cost so far, at position n, of the submit at position s
 abbrev cost_at : AtGet → Plan → Vector → List Action → ℕ → ℕ → ℕ
 cost_at at_get plan v body n s = cost at_get plan v (got_before body n s) (slice_get body s)
 
--- it costs no more later
+-- the cost does not rise later
 price-or : (at_get : AtGet) (plan : Plan) (v : Vector) (k : ℕ) (now before : Bool) → price at_get plan v k (now || before) ≤ price at_get plan v k before
 price-or at_get plan v k false before = le-refl (price at_get plan v k before)
   where
@@ -136,7 +136,7 @@ price-le at_get plan v k false =
 
 -- ---- over a body
 
--- no job that the body submits gives back more than it weighed queued
+-- no job that the body submits returns more than it weighed when queued
 abbrev pub NoneGains : AtGet → Plan → Vector → List Action → Type 0
 NoneGains at_get plan v body = (i k : ℕ) → slice_get body i ≡ Some (Submit k) → given_back at_get plan v k ≤ queued_weight v k
 
@@ -147,7 +147,7 @@ class_submitted (Some (Work u)) passes = absurd (false≢true passes)
 class_submitted (Some (Get t)) passes = absurd (false≢true passes)
 class_submitted None passes = absurd (false≢true passes)
 
--- a get gives back no more than the cost of its submit falls
+-- a get returns at most the decrease of its submit's cost
 get_pays : (at_get : AtGet) (plan : Plan) (v : Vector) (body : List Action) (n t : ℕ) → IsLawful plan body → NoneGains at_get plan v body → slice_get body n ≡ Some (Get t)
     → cost_at at_get plan v body (suc n) t + given_back at_get plan v (class_got body t) ≤ cost_at at_get plan v body n t
 get_pays at_get plan v body n t lawful gains is_get =
@@ -165,7 +165,7 @@ get_pays at_get plan v body n t lawful gains is_get =
     let given : given_back at_get plan v (class_got body t) ≡ given_back at_get plan v k = ap (given_back at_get plan v) names in
     omega (arith, cost_before, cost_behind, given, gains t k submitted.1)
 
--- what the action at position n does
+-- the effect of the action at position n
 step : (at_get : AtGet) (plan : Plan) (v : Vector) (weight : ℕ → ℕ) (body : List Action) (n : ℕ) (x : Action) → IsLawful plan body → BodyLaws at_get plan v weight body → NoneGains at_get plan v body → slice_get body n ≡ Some x
     → weight (suc n) + sum_below (cost_at at_get plan v body (suc n)) (suc n) ≤ weight n + sum_below (cost_at at_get plan v body n) n
 step at_get plan v weight body n x lawful laws gains at = by_action x at
@@ -197,7 +197,7 @@ step at_get plan v weight body n x lawful laws gains at = by_action x at
         let pays = sum_below-le-at new old n t (given_back at_get plan v (class_got body t)) (lawful.behind n t is_get) (cost_later at_get plan v body n) (get_pays at_get plan v body n t lawful gains is_get) in
         omega (arith, one_more, next, free, pays, laws.get n t is_get)
 
--- an actor has lost what its submits cost
+-- an actor has lost the cost of its submits
 lost_so_far : (at_get : AtGet) (plan : Plan) (v : Vector) (weight : ℕ → ℕ) (body : List Action) (n : ℕ) → IsLawful plan body → BodyLaws at_get plan v weight body → NoneGains at_get plan v body → n ≤ length body
     → weight n + sum_below (cost_at at_get plan v body n) n ≤ weight 0
 lost_so_far at_get plan v weight body zero lawful laws gains within =
@@ -211,7 +211,7 @@ lost_so_far at_get plan v weight body (suc n) lawful laws gains within =
 pub never_heavier : (at_get : AtGet) (plan : Plan) (v : Vector) (weight : ℕ → ℕ) (body : List Action) → IsLawful plan body → BodyLaws at_get plan v weight body → NoneGains at_get plan v body → weight (length body) ≤ weight 0
 never_heavier at_get plan v weight body lawful laws gains = omega (arith, lost_so_far at_get plan v weight body (length body) lawful laws gains (omega arith))
 
--- and one with a submit that costs makes it lighter
+-- a body with a submit of positive cost makes it lighter
 lost_by : (at_get : AtGet) (plan : Plan) (v : Vector) (weight : ℕ → ℕ) (body : List Action) (i k : ℕ) → IsLawful plan body → BodyLaws at_get plan v weight body → NoneGains at_get plan v body → slice_get body i ≡ Some (Submit k)
     → 1 ≤ price at_get plan v k (got_before body (length body) i) → weight (length body) < weight 0
 lost_by at_get plan v weight body i k lawful laws gains is_submit costs =
@@ -219,14 +219,14 @@ lost_by at_get plan v weight body i k lawful laws gains is_submit costs =
     let counted = term-le-sum (cost_at at_get plan v body (length body)) (length body) i (slice_get_within body i _ is_submit) in
     omega (arith, costs, costs_at, counted, lost_so_far at_get plan v weight body (length body) lawful laws gains (omega arith))
 
--- as a submit that nobody gets, of a class whose jobs weigh something
+-- such as a submit that is never got, of a class whose jobs have weight
 pub lost_without_get : (at_get : AtGet) (plan : Plan) (v : Vector) (weight : ℕ → ℕ) (body : List Action) (i k : ℕ) → IsLawful plan body → BodyLaws at_get plan v weight body → NoneGains at_get plan v body → slice_get body i ≡ Some (Submit k)
     → is_got body i ≡ false → 1 ≤ queued_weight v k → weight (length body) < weight 0
 lost_without_get at_get plan v weight body i k lawful laws gains is_submit not_got weighs =
     let whole : price at_get plan v k (got_before body (length body) i) ≡ queued_weight v k = ap (price at_get plan v k) (not_got_before body (length body) i not_got) in
     lost_by at_get plan v weight body i k lawful laws gains is_submit (omega (arith, whole, weighs))
 
--- or one whose get gives back less
+-- or one whose get returns less
 pub lost_by_child : (at_get : AtGet) (plan : Plan) (v : Vector) (weight : ℕ → ℕ) (body : List Action) (i k : ℕ) → IsLawful plan body → BodyLaws at_get plan v weight body → NoneGains at_get plan v body → slice_get body i ≡ Some (Submit k)
     → given_back at_get plan v k < queued_weight v k → weight (length body) < weight 0
 lost_by_child at_get plan v weight body i k lawful laws gains is_submit less =

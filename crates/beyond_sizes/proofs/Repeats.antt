@@ -1,4 +1,4 @@
--- No client that repeats loses weight, and so it causes no submit that nobody gets.
+-- A client that repeats loses no weight, so it causes no submit that is never got.
 use Rattle.std.proofs.Common.{◌≡◌, ℕ, zero, suc, ◌<◌, ◌≤◌, true, false, List, length, filter, slice_get, Some, refl, sym, subst, arith}
 use Rattle.std.proofs.lemmas.Option.{get_or_from_slice_get}
 use Rattle.numbered_lists.specs.In.{In}
@@ -50,12 +50,12 @@ none_gains : (at_get : AtGet) (plan : Plan) (v : Vector) (ranks : Ranks) (body :
 none_gains at_get plan v ranks body weighed lawful i k is_submit =
     omega (arith, given_back-le at_get plan v k, never_gains at_get plan v ranks weighed (suc (level ranks k)) k (lawful.submit i k is_submit) (omega arith))
 
--- a job whose body loses weight ends lighter than it was in the queue
+-- a job whose body loses weight is lighter at its end than in the queue
 lighter_at_end : (at_get : AtGet) (plan : Plan) (v : Vector) (ranks : Ranks) (k : ℕ) → IsWeighed at_get plan v ranks → k < length plan.classes → job_weight v k (length (class_at plan k).body) < job_weight v k 0
     → done_weight plan v k < queued_weight v k
 lighter_at_end at_get plan v ranks k weighed inside lost = omega (arith, lost, weighed.vector.begins k inside, weighed.vector.ends k inside)
 
--- so does one that makes a submit that nobody gets
+-- so is one with a submit that is never got
 pub lighter_without_get : (at_get : AtGet) (plan : Plan) (v : Vector) (ranks : Ranks) (k i j : ℕ) → IsWeighed at_get plan v ranks → slice_get (class_at plan k).body i ≡ Some (Submit j) → is_got (class_at plan k).body i ≡ false
     → 1 ≤ queued_weight v j → done_weight plan v k < queued_weight v k
 lighter_without_get at_get plan v ranks k i j weighed is_submit not_got weighs =
@@ -64,7 +64,7 @@ lighter_without_get at_get plan v ranks k i j weighed is_submit not_got weighs =
     lighter_at_end at_get plan v ranks k weighed (class_of_action plan k i (Submit j) is_submit)
     (lost_without_get at_get plan v (job_weight v k) body i j lawful (weighed.vector.classes k) (none_gains at_get plan v ranks body weighed lawful) is_submit not_got weighs)
 
--- and one that submits such a job
+-- so is one that submits such a job
 lighter_by_child : (at_get : AtGet) (plan : Plan) (v : Vector) (ranks : Ranks) (k i j : ℕ) → IsWeighed at_get plan v ranks → slice_get (class_at plan k).body i ≡ Some (Submit j) → done_weight plan v j < queued_weight v j
     → done_weight plan v k < queued_weight v k
 lighter_by_child at_get plan v ranks k i j weighed is_submit lighter =
@@ -75,7 +75,7 @@ lighter_by_child at_get plan v ranks k i j weighed is_submit lighter =
 
 -- ---- clients that repeat
 
--- they make no submit that nobody gets
+-- they make no submit that is never got
 pub repeats_with_gets : (at_get : AtGet) (plan : Plan) (v : Vector) (ranks : Ranks) (c i k : ℕ) → IsWeighed at_get plan v ranks → (client_at plan c).repeat ≡ true → slice_get (client_at plan c).body i ≡ Some (Submit k)
     → is_got (client_at plan c).body i ≡ false → 1 ≤ queued_weight v k → ⊥
 repeats_with_gets at_get plan v ranks c i k weighed repeats is_submit not_got weighs =
@@ -84,7 +84,7 @@ repeats_with_gets at_get plan v ranks c i k weighed repeats is_submit not_got we
     let lost = lost_without_get at_get plan v (client_weight v c) body i k lawful (weighed.vector.clients c) (none_gains at_get plan v ranks body weighed lawful) is_submit not_got weighs in
     omega (arith, lost, weighed.vector.loops c repeats)
 
--- and submit no job that ends lighter than it was in the queue
+-- they submit no job that is lighter at its end than in the queue
 client_submits_none : (at_get : AtGet) (plan : Plan) (v : Vector) (ranks : Ranks) (c i k : ℕ) → IsWeighed at_get plan v ranks → (client_at plan c).repeat ≡ true → slice_get (client_at plan c).body i ≡ Some (Submit k)
     → done_weight plan v k < queued_weight v k → ⊥
 client_submits_none at_get plan v ranks c i k weighed repeats is_submit lighter =
@@ -93,7 +93,7 @@ client_submits_none at_get plan v ranks c i k weighed repeats is_submit lighter 
     let lost = lost_by_child at_get plan v (client_weight v c) body i k lawful (weighed.vector.clients c) (none_gains at_get plan v ranks body weighed lawful) is_submit (omega (arith, lighter, given_back-le at_get plan v k)) in
     omega (arith, lost, weighed.vector.loops c repeats)
 
--- the client whose body it is
+-- the client that has this body
 record IsRepeatedBy (plan : Plan) (body : List Action) : Type 0 where
   client : ℕ
   repeats : (client_at plan client).repeat ≡ true
@@ -113,7 +113,7 @@ repeated_by plan body from =
       same = subst (λ (any : Client). any.body ≡ body) (sym is_client) of_client.2;
     }
 
--- nor do they cause one to be submitted, at whatever remove
+-- nor do they cause such a job, directly or through other jobs
 pub none_is_lighter : (at_get : AtGet) (plan : Plan) (v : Vector) (ranks : Ranks) → IsWeighed at_get plan v ranks → {k : ℕ} → IsSubmitted plan (repeated_bodies plan) k → done_weight plan v k < queued_weight v k → ⊥
 none_is_lighter at_get plan v ranks weighed (begins {k = k} {body = body} from at) lighter =
     let by = repeated_by plan body from in

@@ -1,4 +1,4 @@
--- Where no cause holds, sizes above the steady total will do.
+-- If no cause holds, sizes above the steady total are enough.
 use Rattle.std.proofs.Common.{◌≡◌, ℕ, zero, suc, ◌+◌, ◌-◌, ◌*◌, ◌<◌, ◌≤◌, max, true, ◌&&◌, List, [], ◌∷◌, ◌++◌, length, map, get_or, sum_by, IsTrue, refl, ap, ap₂, ◌∙◌, arith}
 use Rattle.std.specs.List.{list_all, enumerate_from}
 use Rattle.std.proofs.lemmas.Bool.{and_parts, and_from, le-leb}
@@ -27,7 +27,7 @@ pub map-same : {X Y : Type 0} (f g : X → Y) (xs : List X) → ((x : X) → f x
 map-same f g [] same = refl
 map-same f g (x ∷ xs) same = ap₂ (λ (y : _) (ys : List _). y ∷ ys) (same x) (map-same f g xs same)
 
--- ---- the steady vector knows no sizes
+-- ---- the steady vector does not depend on sizes
 
 weight_at-pools : (plan : Plan) (pools : List Pool) (v : Vector) (least : ℕ) (body : List Action) (last : ℕ) (rest : List Action) → weight_at (with_pools plan pools) v least body last rest ≡ weight_at plan v least body last rest
 weight_at-pools plan pools v least body last [] = refl

@@ -1,4 +1,4 @@
--- The steady certificate where the pools have other sizes.
+-- The steady certificate for pools with other sizes.
 use Rattle.std.proofs.Common.{◌≡◌, ℕ, zero, suc, ◌+◌, ◌<◌, ◌≤◌, max, true, List, [], ◌∷◌, length, map, get_or, IsTrue, refl, sym, ap, ap₂, subst, ◌∙◌, arith, inl, inr}
 use Rattle.std.specs.List.{list_all}
 use Rattle.std.proofs.lemmas.Bool.{cases_lt}
@@ -21,7 +21,7 @@ use Rattle.steady_certificates.specs.Steady.{level_above, levels_within, pool_of
 use Rattle.steady_certificates.proofs.Accepting.{accepting}
 use Rattle.beyond_sizes.proofs.SizesExist.{with_pools, clients-pools, jobs_within-pools, small-pools, total-pools, free-pools}
 
--- ---- the certificate knows no sizes
+-- ---- the certificate does not depend on sizes
 
 constants : {X Y : Type 0} (y : Y) (xs zs : List X) → length xs ≡ length zs → map (λ (x : X). y) xs ≡ map (λ (x : X). y) zs
 constants y [] [] same = refl
@@ -69,7 +69,7 @@ accepts_with plan pools well free small as_many enough =
     let of_pool = enough p inside in
     (omega (arith, same, of_pool.0), omega (arith, same, of_pool.1))))
 
--- ---- below the limit of sizes there are such sizes
+-- ---- such sizes exist below the limit
 
 abbrev roomy : ℕ → Pool → Pool
 roomy n pool = record pool { core = n; max = max pool.max n; queue = n }
@@ -126,7 +126,7 @@ some_fit_wide plan well free small low none = none other (record { well_formed =
 abbrev filled : ℕ → Pool → Pool
 filled n pool = record pool { core = max pool.core n; queue = max pool.queue n }
 
--- the plan of these pools, where each maximum has room for a core above the total
+-- the plan with these pools, if each maximum has room for a core above the total
 room_is_left : (plan : Plan) (pools : List Pool) → IsWellFormed (with_pools plan pools) → IsWithoutCause plan → IsTrue (has_small_numbers (steady_vector plan)) → length pools ≡ length plan.pools
     → ((p : ℕ) → p < length pools → steady_total plan < (get_or pools p no_pool).max) → NoneFits (with_pools plan pools) (steady_cert plan) → ⊥
 room_is_left plan pools well free small as_many room none =

@@ -18,7 +18,7 @@ use Rattle.headline.specs.Conditions.{failing}
 use Rattle.headline.specs.Accepted.{accepted, is_nil}
 use Rattle.steady_certificates.specs.Steady.{sum_below, greatest_upto, submitted_weight, awaited_weight, open_weight, most, weight_at, weights_from, client_end, client_row, jobs, jobs_within, steady_vector, steady_total, steady_pool, steady_cert}
 
--- ---- where jobs weigh nothing
+-- ---- vectors in which jobs have no weight
 
 submits_nothing : (x : Option Action) → submitted_weight no_vector x ≡ 0
 submits_nothing (Some (Submit k)) = refl
@@ -128,7 +128,7 @@ no_pools_no_classes plan well none =
 bare_plan : (plan : Plan) → IsWellFormed plan → length plan.pools ≡ 0 → plan ≡ without plan.clients
 bare_plan plan well none = is_without plan (nil_from_length plan.pools none) (no_pools_no_classes plan well none)
 
--- where the steady certificate is too large, there is a pool
+-- if the steady certificate is too large, there is a pool
 pub too_large_for_a_pool : (plan : Plan) → IsWellFormed plan → ((has_small_numbers (steady_vector plan) ≡ false) ⊎ (MAX_SIZE ≤ steady_total plan)) → 0 < length plan.pools
 too_large_for_a_pool plan well large =
     elim (cases_lt 0 (length plan.pools)) [
@@ -143,7 +143,7 @@ too_large_for_a_pool plan well large =
           large
     ]
 
--- where it is accepted, its weights are within the limit
+-- if it is accepted, its weights are within the limit
 pub small_where_accepted : (plan : Plan) → IsWellFormed plan → IsTrue (accepted plan (steady_cert plan)) → has_small_numbers (steady_vector plan) ≡ true
 small_where_accepted plan well is_accepted =
     elim (cases_lt 0 (length plan.pools)) [

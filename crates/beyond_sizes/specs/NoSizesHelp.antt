@@ -1,4 +1,4 @@
--- Plans for which no sizes will do.
+-- Plans for which no sizes are enough.
 use Rattle.std.specs.Prelude.{◌≡◌, ◌<◌, ◌↔◌, ℕ, IsTrue}
 use Rattle.job_bodies.specs.declared.limits.TheConstants.{MAX_SIZE}
 use Rattle.job_bodies.specs.Plan.{Plan}
@@ -12,20 +12,20 @@ use Rattle.steady_certificates.specs.Steady.{steady_vector, steady_total}
 use Rattle.size_causes.specs.declared.cause.Cause.TheVariants.{Circle, ClientNeverGets, ClassNeverGets}
 use Rattle.size_causes.specs.Causes.{IsCause}
 
--- no certificate accepts the plan, nor any plan that differs from it in its sizes alone
+-- no certificate accepts the plan, nor any plan that differs from it only in its sizes
 abbrev pub IsBeyondSizes : Plan → Type 0
 IsBeyondSizes plan = (other : Plan) (cert : Cert) → IsWellFormed other → outline other ≡ outline plan → ¬ IsTrue (accepted other cert)
 
--- so it is where one of these causes holds of the plan
+-- this holds if the plan has one of these causes
 pub record NoSizesHelp : Type 0 where
-  -- a class submits itself, at whatever remove
+  -- a class submits itself, directly or through other classes
   pub circle : (plan : Plan) (k : ℕ) → IsCause plan (Circle k) → IsBeyondSizes plan
   -- clients that repeat never get a job that they submit
   pub client_never_gets : (plan : Plan) (c i : ℕ) → IsCause plan (ClientNeverGets c i) → IsBeyondSizes plan
-  -- jobs do so that clients that repeat cause to be submitted, at whatever remove
+  -- jobs that repeating clients cause never get a job that they submit
   pub class_never_gets : (plan : Plan) (k i : ℕ) → IsCause plan (ClassNeverGets k i) → IsBeyondSizes plan
 
--- ---- and where none of them holds
+-- ---- plans without a cause
 
 -- sizes with which some certificate accepts the plan
 pub record HasSizes (plan : Plan) : Type 0 where
@@ -35,7 +35,7 @@ pub record HasSizes (plan : Plan) : Type 0 where
   pub same_outline : outline other ≡ outline plan
   pub accepts : IsTrue (accepted other cert)
 
--- a plan has sizes exactly where no cause holds of it, if its steady weights are within their limit, and its steady total leaves
--- room below the limit of sizes
+-- a plan has sizes exactly if it has no cause, provided that its steady weights are within their limit, and its steady total
+-- leaves room below the limit of sizes
 abbrev pub SizesExist : Type 0
 SizesExist = (plan : Plan) → IsWellFormed plan → IsTrue (has_small_numbers (steady_vector plan)) → steady_total plan < MAX_SIZE → HasSizes plan ↔ IsWithoutCause plan

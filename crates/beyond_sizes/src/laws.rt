@@ -1,16 +1,19 @@
-//! The laws of plans for which no sizes will do, and of all others, each the contract of a function with nothing to do.
+//! The laws about plans for which no sizes are enough, and about all others. Each is the contract
+//! of a function with an empty body.
 
 ghost use Rattle.beyond_sizes.specs.NoSizesHelp.{NoSizesHelp};
 ghost use Rattle.beyond_sizes.specs.NoSizesHelp.{SizesExist};
 
-/// Where a class submits itself, at whatever remove, or a submit is made for ever that nobody gets, no certificate
-/// accepts the plan, nor any plan that differs from it in sizes alone.
+/// States that no certificate accepts a plan, nor any plan that differs from it only in sizes, if a
+/// class submits itself, directly or through other classes, or if a submit is made forever and
+/// never got.
 pub fn no_sizes_help()
     ensures { NoSizesHelp }
 {}
 
-/// A plan has sizes with which some certificate accepts it exactly where no class submits itself, at whatever remove, and no
-/// submit is never got in what a repeating client causes, if its steady certificate is within the limits.
+/// States that a plan whose steady certificate is within the limits has sizes that some certificate
+/// accepts exactly if no class submits itself, directly or through other classes, and no repeating
+/// client causes a submit that is never got.
 pub fn sizes_exist()
     ensures { SizesExist }
 {}

@@ -1,5 +1,6 @@
-//! Plans for which no sizes will do, whatever the certificate, and that all others have sizes. The statements stand in
-//! `specs/`; nothing here runs, and the functions of `laws` have their contracts alone.
+//! Proofs that some plans have no sizes that a certificate accepts, and that all others have such
+//! sizes. The statements are in `specs/`. This crate has no code to run; the functions of `laws`
+//! only carry the contracts.
 #![tactic(auto)]
 
 mod laws;
