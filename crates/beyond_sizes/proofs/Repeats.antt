@@ -35,7 +35,7 @@ given_back-le GivesNothing plan v k =
 
 -- ---- jobs
 
--- a job weighs no more at its end than in the queue, level by level
+-- a job is not heavier at its end than in the queue, level by level
 never_gains : (at_get : AtGet) (plan : Plan) (v : Vector) (ranks : Ranks) → IsWeighed at_get plan v ranks → (n k : ℕ) → k < length plan.classes → level ranks k < n → done_weight plan v k ≤ queued_weight v k
 never_gains at_get plan v ranks weighed zero k inside low = absurd (omega (arith, low))
 never_gains at_get plan v ranks weighed (suc n) k inside low =

@@ -1,6 +1,6 @@
-//! Proofs that some plans have no sizes that a certificate accepts, and that all others have such
-//! sizes. The statements are in `specs/`. This crate has no code to run; the functions of `laws`
-//! only carry the contracts.
+//! Proofs about plans for which no sizes are enough: no certificate accepts them with any sizes.
+//! Every other plan has sizes that some certificate accepts. The statements are in `specs/`. This
+//! crate has no code to run; the functions of `laws` only carry the contracts.
 #![tactic(auto)]
 
 mod laws;

@@ -167,7 +167,7 @@ impl Machine for Board {
 ///
 /// # Errors
 ///
-/// [`AllocError`] if memory runs out. Nothing is claimed then.
+/// [`AllocError`] if memory runs out. The board is unchanged then.
 pub(crate) fn claim(board: &mut Held<Board>) -> Result<Option<usize>, AllocError>
     ensures pool { IfOk result (λ taken. taken ≡ position spec.is_free board.old.state) }
     ensures taken { IfOk result (λ taken.
@@ -189,7 +189,7 @@ pub(crate) fn claim(board: &mut Held<Board>) -> Result<Option<usize>, AllocError
 ///
 /// # Errors
 ///
-/// [`AllocError`] if memory runs out. The pool stays claimed then.
+/// [`AllocError`] if memory runs out. The board is unchanged then.
 pub(crate) fn give_back(board: &mut Held<Board>, pool: usize) -> Result<bool, AllocError>
     ensures possible { IfOk result (λ given. (spots : List Spot) → spec.LeadsTo board.old.machine.has_rank.items board.old.history spots
         → given ≡ is_some (spec.next_spots spots (event.Return pool))) }

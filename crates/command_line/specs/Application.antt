@@ -38,7 +38,7 @@ explain_shape = (of_both (codes "explain")).top
 abbrev pub number_option : Text → ℕ → ℕ → Rule
 number_option id low high = record (new_rule id) { long = Some id; action = Some Set; parser = Some (parser.Unsigned low high); value_names = 1 }
 
--- how many threads may search
+-- the number of search threads
 abbrev pub workers_option : Rule
 workers_option = record (number_option (codes "workers") 1 MAX_WORKERS) { defaults = decimal DEFAULT_WORKERS ∷ [] }
 
@@ -74,7 +74,7 @@ strict_option = record (new_rule (codes "strict")) { long = Some (codes "strict"
 abbrev pub certificate_option : Rule
 certificate_option = record (new_rule (codes "certificate")) { long = Some (codes "certificate"); action = Some Set; value_names = 1 }
 
--- the options for other output formats than lines
+-- the options for JSON and for Graphviz output
 abbrev pub json_option : Rule
 json_option = record (new_rule (codes "json")) { long = Some (codes "json"); action = Some SetTrue }
 

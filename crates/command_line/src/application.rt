@@ -302,7 +302,7 @@ fn strict<'a>(alloc: Global) -> Arg<'a>
         .help("SAFE with a warning is a no: status 1")
 }
 
-// Create the options for other output formats than lines.
+// Creates the option for JSON output.
 fn json<'a>(alloc: Global) -> Arg<'a>
     ensures rule { rule_of result ≡ json_option }
     ensures local { result.global ≡ false }

@@ -252,7 +252,7 @@ told_at n (pool ∷ pools) told some = at_first (unfit_pool n pool) refl (λ res
     at_first (Some unfit) is rest e =
         record { place = 0; inside = omega arith; is_above = subst (λ (j : ℕ). IsAbove j pool told) first_place (core_above n pool told (is ∙ e)) }
 
--- the reason is about sizes
+-- the reason comes from the sizes
 of_sizes : (fits : Bool) (found : Option Note) (sizes : Option Unfit) (told : ℕ) → cond fits (option_or (option_map Condition found) sizes) (Some Shape) ≡ Some (Core told) → sizes ≡ Some (Core told)
 of_sizes true None sizes told some = some
 of_sizes true (Some note) sizes told some = absurd cc

@@ -58,7 +58,6 @@ impl Growing<'_> {
     /// # Errors
     ///
     /// [`AllocError`] if memory runs out.
-    /// [`AllocError`] where memory runs out.
     pub fn lightest(
         &self,
         alloc: Global,

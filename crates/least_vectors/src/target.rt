@@ -120,7 +120,7 @@ impl<'a> Target<'a> {
         total
     }
 
-    /// Returns whether gets return weight.
+    /// Returns whether a get gives the weight of the got job back to its actor.
     pub(crate) fn gives_back(&self) -> bool {
         !matches!(self.heavy, Heavy::Everywhere)
     }

@@ -115,8 +115,8 @@ without_clients plan = if length plan.pools == 0 then NothingToAsk else NoClient
 abbrev pub oddities_of_parts : Plan → List (Option ℕ) → List Bool → List Oddity
 oddities_of_parts plan needed marks = oddities_of_pools plan needed marks ++ oddities_of_classes plan marks ++ oddities_of_clients plan
 
--- the lints of the plan as a whole, or else of its parts, given the most jobs that each queue holds, as far as known, and
--- the classes that are submitted
+-- the lint of the whole plan, or the lints of its parts if there is none; `needed` has the most jobs that each queue holds,
+-- as far as known, and `marks` the classes that are submitted
 abbrev pub oddities : Plan → List (Option ℕ) → List Bool → List Oddity
 oddities plan needed marks =
     if length plan.clients == 0 then without_clients plan ∷ [] else

@@ -33,7 +33,6 @@ pub struct Faults {
 /// # Errors
 ///
 /// [`AllocError`] if memory runs out.
-/// [`AllocError`] where memory runs out.
 pub fn push_faults(text: &mut String, file: &str, faults: &Faults) -> Result<(), AllocError>
     ensures { Pushes result text.old text.new (spec.faults_text file.now faults.now) }
 {

@@ -3,8 +3,9 @@
 use std::alloc::{AllocError, Global};
 use strsim::osa_distance;
 
-/// Returns the word that is most similar to `written`, if one is similar enough: one that starts
-/// with `written`, or one whose edit distance to it is at most a third of its length, or 1.
+/// Returns the word that is most similar to `written`, if one is similar enough. A word is similar
+/// if it starts with `written`, or if its edit distance is at most a third of the length of
+/// `written`, or 1.
 pub(crate) fn nearest<'w>(
     alloc: Global,
     written: &str,

@@ -32,7 +32,7 @@ const CLASS_KEYS: [&str; 3] = ["name", "pool", "body"];
 
 const CLIENT_KEYS: [&str; 4] = ["name", "count", "repeat", "body"];
 
-/// Returns the keys of such an entry.
+/// Returns the keys that such an entry can have.
 pub(crate) fn keys_of(part: Part) -> &'static [&'static str] {
     match part {
         Part::Text => &["pool", "class", "client"],
@@ -110,7 +110,7 @@ pub(crate) fn unknown_keys(notes: &mut Notes, entry: &PlacedEntry<'_>) -> Result
     Ok(())
 }
 
-/// Returns whether such an entry has this key.
+/// Returns whether such an entry can have this key.
 pub(crate) fn has_key(part: Part, key: &str) -> bool {
     keys_of(part).iter().any(|known| *known == key)
 }

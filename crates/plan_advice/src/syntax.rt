@@ -73,7 +73,8 @@ fn hint_of(line: &str) -> Option<&'static str> {
     value_hint(line)
 }
 
-/// Returns a hint for the header of an entry. A list cannot be written as a table, nor in two ways.
+/// Returns a hint for the header of an entry: it must have two brackets, and the list must not be
+/// written in another way as well.
 fn bracket_hint(line: &str) -> Option<&'static str> {
     match line.split('#').next().unwrap_or("").trim() {
         "[pool]" | "[class]" | "[client]" => {

@@ -56,9 +56,9 @@ fn pool_certs(
     Ok(pools)
 }
 
-/// Returns the blocked vector that was found for a pool of this rank. The reach of the classes
-/// counts the same gets as in the round in which the pool got its rank: the pools without a rank at
-/// that time do not have a lower one now.
+/// Returns the blocked vector that was found for a pool of this rank. The final reaches count the
+/// same gets as those in the round in which the pool got its rank, because every pool that had no
+/// rank then has at least this rank now.
 fn blocked_of(
     alloc: Global,
     known: &Remembered,

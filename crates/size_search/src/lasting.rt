@@ -29,10 +29,10 @@ enum Again {
     Nothing,
 }
 
-/// Returns these sizes if the search finds a certificate with them again. Otherwise it continues
-/// with the sizes that it finds then. After the last round it returns the sizes of the steady
-/// certificate, with which the search always finds one, or the current sizes if those are too
-/// large.
+/// Returns these sizes if the search finds a certificate with them again. Otherwise repeats this
+/// with the sizes that it finds then. If that does not end within the maximum number of rounds,
+/// returns the sizes of the steady certificate, with which the search always finds one, or the
+/// current sizes if those are too large.
 pub(crate) fn lasting(
     alloc: Global,
     plan: &Plan,

@@ -7,7 +7,7 @@ use std::alloc::{AllocError, Global};
 use weights::class_got;
 
 /// The maximum number of vectors that are computed, which bounds the time of a search. No known
-/// plan needs a fourth of them.
+/// plan needs a quarter of them.
 const MAX_VECTORS: usize = 32_768;
 
 /// The kind of vector of a pool.
@@ -41,7 +41,7 @@ struct Answered {
 }
 
 impl Answered {
-    /// Returns whether this answers the question too.
+    /// Returns whether the cached vector also answers this question.
     fn answers(&self, question: &Question) -> bool {
         self.question.enough == question.enough
             && self.question.asked == question.asked

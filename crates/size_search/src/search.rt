@@ -42,9 +42,9 @@ const FEW_POOLS: usize = 8;
 /// certificate is too large.
 ///
 /// If no sizes are found, either a cause holds of the plan for which no sizes are enough, or the
-/// steady certificate is too large. So below the limits, sizes are found exactly when they exist:
-/// no class submits itself, directly or through other classes, and no repeating client causes
-/// submits that are never got.
+/// steady certificate is too large. So below the limits, sizes are found exactly when they exist.
+/// They exist if no class submits itself, directly or through other classes, and no repeating
+/// client causes submits that are never got.
 ///
 /// The contract proves that the certificate accepts the plan with these sizes. It also proves that
 /// they are the least for this certificate: among sizes that are no smaller than declared, no

@@ -27,7 +27,7 @@ use Rattle.sizing_cli.specs.declared.status.Status.TheVariants.{Done, Refused, U
 use Rattle.sizing_cli.specs.Answer.{Answer, fault, input_too_long, no_separator}
 use Rattle.sizing_cli.specs.Bundle.{Bundle, bundle_of}
 
--- ---- what is written
+-- ---- the text and the status
 -- the answer to a recording with this malformed line
 abbrev pub bad_recording : RecordingFault → Answer
 bad_recording found = fault (head BAD_RECORDING ++ (codes " at " ++ fault_text found))
@@ -55,7 +55,7 @@ abbrev pub answer_of : Plan → Conformance → Answer
 answer_of plan (Bad found) = bad_recording found
 answer_of plan (Compared findings) = findings_answer plan findings.items
 
--- ---- what it means
+-- ---- the findings
 -- if there are no findings, the recording conforms and no line of it invalidates that result
 abbrev pub AreAllFindings : Plan → List ℕ → List Finding → Type 0
 AreAllFindings plan recording findings = findings ≡ [] → Conforms plan (lines_of recording) × IsNotVoid (lines_of recording)

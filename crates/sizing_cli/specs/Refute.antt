@@ -93,7 +93,7 @@ pub record IsWitnessBundle (input text : List ℕ) : Type 0 where
   pub bundle : text ≡ whole_lines input ++ (codes "%%" ++ 10 ∷ event_lines_of plan witness)
   pub short : length (event_lines_of plan witness) ≤ MAX_EVENT_BYTES
 
--- ---- the whole
+-- ---- whole inputs
 
 -- the answers for a plan's text if at most `states` states may be searched: that it is safe, if some certificate accepts it;
 -- that it is undecided; or a witness

@@ -106,7 +106,7 @@ MeansSafe (OnThreads (Refute states shown.Story)) input old new = IsSafePlan (wh
 MeansSafe (OnThreads (Refute states shown.Bundle)) input old new = WritesWitness input old new
 MeansSafe (OnThreads (Ask given manner)) input old new = IsSafeAsked given input
 
--- an answer of `ask` leaves this certificate; other tasks leave none
+-- an answer of `ask` leaves this certificate; nothing is promised for other tasks
 abbrev pub IsLeftBy : Task → List ℕ → Answer → Option (List ℕ) → Type 0
 IsLeftBy (Certify workers) input answer left = Unit {0}
 IsLeftBy (Fit wanted) input answer left = Unit {0}

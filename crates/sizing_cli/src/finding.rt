@@ -96,8 +96,8 @@ fn without_certificate(alloc: Global, plan: &Plan) -> Result<PlanFinding, AllocE
     })
 }
 
-/// Decides by the sizes that were found for a plan without a witness. They can be the declared
-/// ones.
+/// Returns the finding for a plan without a witness: safe if the certificate of the sizes that were
+/// found accepts the declared ones, and otherwise undecided.
 fn without_witness(plan: &Plan, sizes: SizesFound) -> PlanFinding
     requires known { IsKnown plan.now sizes }
     requires not_steady { accepted plan.now (steady_cert plan.now) ≡ false }

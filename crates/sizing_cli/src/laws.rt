@@ -3,9 +3,8 @@
 ghost use Rattle.sizing_cli.specs.Laws.{InputsSplitAtTheLastSeparator, NoBundleWithoutASeparator};
 ghost use Rattle.sizing_cli.specs.SafeInput.{YesMeansSafe};
 
-/// States how an input is split into a bundle: whole lines, which are the plan's text, then a line
-/// that is exactly `%%`, then a second part without such a line. An input without that form is not
-/// a bundle.
+/// States that an input is a bundle exactly when it consists of whole lines, which are the plan's
+/// text, then a line that is exactly `%%`, and then a second part without such a line.
 pub fn inputs_split_at_the_last_separator()
     ensures { InputsSplitAtTheLastSeparator }
 {}

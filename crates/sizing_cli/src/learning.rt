@@ -69,8 +69,8 @@ fn told_by_all(alloc: Global, recording: &[u8]) -> Result<Answer, AllocError>
 }
 
 /// Writes the inferred plan. Comments at its head list what the recording shows beyond it. Returns
-/// `None` if a job or a round did not follow its body, or if there are more rounds than the plan
-/// has clients.
+/// `None` if a job or a round did not follow its body, or if there are more rounds of a kind than
+/// the plan allows.
 fn seen_told(alloc: Global, recording: &[u8], seen: &SeenPlan) -> Result<Option<Answer>, AllocError>
     requires no_fault { IsFirstFault (lines_read recording.now) None }
     requires seen { spec.IsSeen (lines_of recording.now) seen.now }

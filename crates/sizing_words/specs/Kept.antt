@@ -5,7 +5,7 @@ use Rattle.command_line.specs.declared.command.Command.{Command}
 use Rattle.sizing_cli.specs.Served.{Leaves}
 use Rattle.sizing_cli.specs.declared.status.Status.{Status}
 
--- whether a certificate may replace this text: its first byte says that it is a JSON object, or it is empty
+-- a certificate may replace this text: it is empty, or its first byte is that of a JSON object
 abbrev pub may_be_certificate : List ℕ → Bool
 may_be_certificate [] = true
 may_be_certificate (byte ∷ bytes) = byte == 123

@@ -34,7 +34,8 @@ const NO_FILE: &str = "<stdin>";
 /// the first holds the plan and the second the text after the line `%%`.
 ///
 /// If the arguments name a file for the certificate that the answer rests on, that file is written
-/// last. A file with other content is not overwritten, which its first byte decides.
+/// last. An existing file is overwritten only if it is empty or starts with `{`, as a certificate
+/// does.
 ///
 /// # Errors
 ///

@@ -78,7 +78,7 @@ weight-bound plan v least body last (Get t ∷ rest) small low =
     let step : weight_at plan v least body last (Get t ∷ rest) ≡ max least (weight_at plan v least body last rest - done_weight plan v (class_got body t)) = refl in
     omega (arith, step, low, weight-bound plan v least body last rest small low)
 
--- ---- weights, backwards
+-- ---- weights, from the end of a body
 
 -- the rest that is one action longer
 pub longer_rest : (body : List Action) (behind position : ℕ) (x : Action) → behind < length body → position ≡ length body - 1 - behind → slice_get body position ≡ Some x → drop (length body - (behind + 1)) body ≡ x ∷ drop (length body - behind) body

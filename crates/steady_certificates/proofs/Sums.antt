@@ -63,7 +63,7 @@ sum_below_ones f (suc n) each =
     let of_f : sum_below f (suc n) ≡ sum_below f n + f n = refl in
     omega (arith, of_f, each n, sum_below_ones f n each)
 
--- ---- the greatest
+-- ---- the greatest term
 
 pub le-greatest : (f : ℕ → ℕ) (n i : ℕ) → i ≤ n → f i ≤ greatest_upto f n
 le-greatest f zero i within =
