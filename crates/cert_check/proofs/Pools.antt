@@ -1,32 +1,32 @@
--- Loops over the numbers of a plan's pools.
+-- Loops over the indices of a plan's pools.
 use Rattle.std.proofs.Common.{◌≡◌, ◌≤◌, ◌<◌, ◌+◌, ℕ, Bool, true, false, ◌&&◌, List, [], ◌∷◌, ◌++◌, length, get_or, drop, map, refl, sym, ap, ◌∙◌, append_assoc}
 use Rattle.std.specs.List.{list_all, enumerate_from}
 use Rattle.std.proofs.lemmas.List.{at_drop_more, at_drop_all, append-nil}
 use Rattle.job_bodies.specs.Plan.{Pool, no_pool}
 
--- the pools from this one on are it and those behind it
+-- the pools from index i on are pool i and those after it
 turn : {Y : Type 0} (F : List (ℕ × Pool) → Y) (pools : List Pool) (i : ℕ) → i < length pools → F (enumerate_from i (drop i pools)) ≡ F ((i, get_or pools i no_pool) ∷ enumerate_from (i + 1) (drop (i + 1) pools))
 turn F pools i inside = at_drop_more (λ (ps : List Pool). F (enumerate_from i ps)) pools i no_pool inside
 
--- the test of the pools from this one on
+-- whether the pools from index i on pass the test
 abbrev pub rest_passes : (ℕ → Bool) → List Pool → ℕ → Bool
 rest_passes test pools i = list_all (λ entry. test entry.0) (enumerate_from i (drop i pools))
 
--- one more pool passes
+-- if pool i passes, the pools after it decide
 pub passes_more : (test : ℕ → Bool) (pools : List Pool) (i : ℕ) (all : Bool) → i < length pools → test i ≡ true → rest_passes test pools i ≡ all → rest_passes test pools (i + 1) ≡ all
 passes_more test pools i all inside passes so_far =
     sym (turn (list_all (λ entry. test entry.0)) pools i inside ∙ ap (λ (b : Bool). b && rest_passes test pools (i + 1)) passes) ∙ so_far
 
--- a pool fails
+-- if pool i fails, the pools from index i on fail
 pub fails_here : (test : ℕ → Bool) (pools : List Pool) (i : ℕ) (all : Bool) → i < length pools → test i ≡ false → rest_passes test pools i ≡ all → false ≡ all
 fails_here test pools i all inside fails so_far =
     sym (turn (list_all (λ entry. test entry.0)) pools i inside ∙ ap (λ (b : Bool). b && rest_passes test pools (i + 1)) fails) ∙ so_far
 
--- all pools have passed
+-- past the last pool, the test has passed
 pub passes_all : (test : ℕ → Bool) (pools : List Pool) (i : ℕ) (all : Bool) → length pools ≤ i → rest_passes test pools i ≡ all → true ≡ all
 passes_all test pools i all past so_far = sym (at_drop_all (λ (ps : List Pool). list_all (λ entry. test entry.0) (enumerate_from i ps)) pools i past) ∙ so_far
 
--- one more pool is tested, where those before it decide together with the rest
+-- the result so far, pool i and the pools after it decide together
 pub decides_more : (test : ℕ → Bool) (pools : List Pool) (i : ℕ) (so_far all : Bool) → i < length pools → (so_far && rest_passes test pools i) ≡ all
     → ((so_far && test i) && rest_passes test pools (i + 1)) ≡ all
 decides_more test pools i so_far all inside before =
@@ -36,7 +36,7 @@ decides_more test pools i so_far all inside before =
     and-assoc true b c = refl
     and-assoc false b c = refl
 
--- all pools have been tested
+-- past the last pool, the result so far is the result of all pools
 pub decides_all : (test : ℕ → Bool) (pools : List Pool) (i : ℕ) (so_far all : Bool) → length pools ≤ i → (so_far && rest_passes test pools i) ≡ all → so_far ≡ all
 decides_all test pools i so_far all past before =
     sym (and-true so_far) ∙ (sym (ap (λ (b : Bool). so_far && b) (at_drop_all (λ (ps : List Pool). list_all (λ entry. test entry.0) (enumerate_from i ps)) pools i past)) ∙ before)
@@ -45,17 +45,17 @@ decides_all test pools i so_far all past before =
     and-true true = refl
     and-true false = refl
 
--- what the pools from this one on give
+-- the values of f at the pools from index i on
 abbrev pub rest_given : {Y : Type 0} → (ℕ → Y) → List Pool → ℕ → List Y
 rest_given f pools i = map (λ entry. f entry.0) (enumerate_from i (drop i pools))
 
--- one more is given
+-- the loop appends the value at pool i
 pub given_more : {Y : Type 0} (f : ℕ → Y) (pools : List Pool) (i : ℕ) (front all : List Y) → i < length pools → front ++ rest_given f pools i ≡ all → (front ++ f i ∷ []) ++ rest_given f pools (i + 1) ≡ all
 given_more {Y} f pools i front all inside so_far =
     append_assoc front (f i ∷ []) (rest_given f pools (i + 1))
     ∙ (sym (ap (λ (ys : List Y). front ++ ys) (turn (map (λ entry. f entry.0)) pools i inside)) ∙ so_far)
 
--- all are given
+-- past the last pool, the list is complete
 pub given_all : {Y : Type 0} (f : ℕ → Y) (pools : List Pool) (i : ℕ) (front all : List Y) → length pools ≤ i → front ++ rest_given f pools i ≡ all → front ≡ all
 given_all {Y} f pools i front all past so_far =
     sym (append-nil front) ∙ (sym (ap (λ (ys : List Y). front ++ ys) (at_drop_all (λ (ps : List Pool). map (λ entry. f entry.0) (enumerate_from i ps)) pools i past)) ∙ so_far)

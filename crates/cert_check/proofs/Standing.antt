@@ -1,4 +1,4 @@
--- Certificates of which the standing vectors are asked about: what is found is what is said, and their plans refuse nothing.
+-- Certificates tested by their standing vectors alone: the test is exact, and a plan that passes it rejects no submit.
 use Rattle.std.proofs.Common.{◌≡◌, ◌<◌, ◌≤◌, ℕ, Bool, true, false, ◌&&◌, not, cond, List, [], ◌∷◌, length, Option, Some, is_some, IsTrue, refl, sym, zero-add}
 use Rattle.std.specs.List.{list_all, enumerate_from}
 use Rattle.std.proofs.lemmas.Bool.{and_from, and_parts, ltb-false}
@@ -20,11 +20,11 @@ use Rattle.headline.proofs.JavaBounded.{bounded_plans_java_refuse_nothing}
 use Rattle.cert_check.specs.Standing.{stands, accepted_standing}
 use Rattle.cert_check.proofs.Pools.{rest_passes, passes_all}
 
--- the row's left is at most its right
+-- the left of the row is at most its right
 abbrev holds : Row → Bool
 holds row = not (fails row)
 
--- no row fails first where all hold
+-- no row is the first to fail if and only if all rows hold
 pub none_first : (rows : List Row) → not (is_some (first_failing rows)) ≡ list_all (λ row. not (fails row)) rows
 none_first [] = refl
 none_first (x ∷ rows) =
@@ -33,7 +33,7 @@ none_first (x ∷ rows) =
       | false ↦ none_first rows
     ]
 
--- what is_none answers
+-- relates the result of is_none to is_some
 pub none_found : (found : Option Row) (answer : Bool) → is_some found ≡ not answer → answer ≡ not (is_some found)
 none_found found true e = rw e refl
 none_found found false e = rw e refl
@@ -46,7 +46,7 @@ stands_hold : (plan : Plan) (p : ℕ) (bound : Bound) → stands plan p bound �
 stands_hold plan p (Standing v) e = λ x i. ltb-false x.right x.left (not_failing (fails x) (list_all_at_In holds e i))
 stands_hold plan p (Lifetime v) e = absurd cc
 
--- where all pools passed the test, the certificate is accepted
+-- if all pools passed the test, the certificate is accepted
 pub passed_all : (plan : Plan) (cert : Cert) (i : ℕ) → IsTrue (cert_fits plan cert) → length plan.pools ≤ i
     → rest_passes (λ p. stands plan p (pool_cert_at cert p).bound) plan.pools i ≡ rest_passes (λ p. stands plan p (pool_cert_at cert p).bound) plan.pools 0 → accepted_standing plan cert ≡ true
 passed_all plan cert i fits past so_far =
@@ -63,10 +63,10 @@ bounds_hold plan cert e p inside =
           (list_all_at_In (λ entry. test entry.0) parts.1 (In-enumerate_from 0 plan.pools p (pool_at plan p) p (slice_get-get_or plan.pools p no_pool inside) (zero-add p))),
     )
 
--- so nothing is refused
+-- then no submit is rejected
 pub standing_refuses_nothing : (plan : Plan) (cert : Cert) → IsWellFormed plan → accepted_standing plan cert ≡ true → RefusesNothing plan
 standing_refuses_nothing plan cert well_formed e = bounded_plans_refuse_nothing plan (λ p. (pool_cert_at cert p).bound) well_formed (bounds_hold plan cert e)
 
--- nor is it in Java's steps
+-- then no submit is rejected in Java's steps either
 pub standing_java_refuses_nothing : (plan : Plan) (cert : Cert) → IsWellFormed plan → accepted_standing plan cert ≡ true → JavaRefusesNothing plan
 standing_java_refuses_nothing plan cert well_formed e = bounded_plans_java_refuse_nothing plan (λ p. (pool_cert_at cert p).bound) well_formed (bounds_hold plan cert e)

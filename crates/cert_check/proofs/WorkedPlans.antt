@@ -1,4 +1,4 @@
--- Small plans and certificates for them, of which the verdicts are computed.
+-- Small plans and certificates for them. proofs/WorkedVerdicts.antt computes their verdicts.
 use Rattle.std.proofs.Common.{ℕ, List, [], ◌∷◌, Bool, true, false}
 use Rattle.job_bodies.specs.declared.action.Action.{Action}
 use Rattle.job_bodies.specs.declared.action.Action.TheVariants.{Work, Submit, Get}
@@ -20,7 +20,7 @@ a_class letter pool body = record { name = letter ∷ []; pool = pool; body = bo
 abbrev pub clients : ℕ → ℕ → Bool → List Action → Client
 clients letter count repeat body = record { name = letter ∷ []; count = count; repeat = repeat; body = body }
 
--- submits a job of this class and gets it
+-- submits a job of this class and gets its result
 abbrev pub asks : ℕ → List Action
 asks class = Submit class ∷ Get 0 ∷ []
 
@@ -33,19 +33,19 @@ works = Work 1 ∷ []
 abbrev pub no_parts : Plan
 no_parts = record { pools = []; classes = []; clients = [] }
 
--- a pool of these sizes, one piece of work to submit to it, and the clients
+-- a plan of this pool, one class whose jobs work, and this client
 abbrev pub one_class : Pool → Client → Plan
 one_class pool client = record { pools = pool ∷ []; classes = a_class 97 0 works ∷ []; clients = client ∷ [] }
 
--- a pool of these sizes (core, maximum, queue) and so many clients that submit one piece of work and wait for it, again and again
+-- a pool of these sizes (core, maximum, queue) and `count` clients that repeatedly submit a job and wait for it
 abbrev pub one_pool : ℕ → ℕ → ℕ → ℕ → Plan
 one_pool core max queue count = one_class (a_pool 112 core max queue false) (clients 99 count true (asks 0))
 
--- the same, where each client asks but once, and the core threads may be started beforehand
+-- the same, if each client runs only once, and with the option to prestart the core threads
 abbrev pub one_pool_once : ℕ → ℕ → ℕ → ℕ → Bool → Plan
 one_pool_once core max queue count prestart = one_class (a_pool 112 core max queue prestart) (clients 99 count false (asks 0))
 
--- one client that submits a piece of work and never waits for it, once or again and again
+-- one client that submits a job and never waits for it, once or repeatedly
 abbrev pub forgetting : Bool → Plan
 forgetting repeat = one_class (a_pool 112 1 1 2 false) (clients 99 1 repeat (Submit 0 ∷ []))
 
@@ -57,7 +57,7 @@ nested core max prestart = record {
   clients = clients 99 1 true (asks 0) ∷ [];
 }
 
--- two threads and this queue, in which an outer job submits three inner ones and then waits for them
+-- two threads and this queue, in which an outer job submits three inner jobs and then waits for them
 abbrev pub fan_out : ℕ → Plan
 fan_out queue = record {
   pools = a_pool 112 2 2 queue false ∷ [];
@@ -65,7 +65,7 @@ fan_out queue = record {
   clients = clients 99 1 true (asks 0) ∷ [];
 }
 
--- a pool in front, whose jobs wait for jobs of a pool behind it
+-- jobs of a first pool wait for jobs of a second one
 abbrev pub front_and_back : Plan
 front_and_back = record {
   pools = a_pool 102 4 4 1000 false ∷ a_pool 98 2 2 4 false ∷ [];
@@ -73,7 +73,7 @@ front_and_back = record {
   clients = clients 99 1000 true (asks 0) ∷ [];
 }
 
--- two pools, of one thread and of so many, whose jobs wait for jobs of the other
+-- a pool of one thread and a pool of the given number, each with jobs that wait for jobs of the other
 abbrev pub two_pools : ℕ → Plan
 two_pools threads = record {
   pools = a_pool 112 1 1 2 false ∷ a_pool 113 threads threads 2 false ∷ [];
@@ -81,7 +81,7 @@ two_pools threads = record {
   clients = clients 117 1 true (asks 0) ∷ clients 119 1 true (asks 2) ∷ [];
 }
 
--- a job waits for another pool, whose job waits for the first pool again
+-- a job of pool p waits for a job of pool q, which waits for a job of pool p
 abbrev pub there_and_back : Plan
 there_and_back = record {
   pools = a_pool 112 1 1 2 false ∷ a_pool 113 2 2 2 false ∷ [];
@@ -97,7 +97,7 @@ weighing workers classes clients = record { workers = workers; classes = classes
 abbrev pub pool_cert : Bound → Vector → PoolCert
 pool_cert bound blocked = record { bound = bound; blocked = blocked }
 
--- the rows of a class and of a client of two actions, and of a class and of a client of one
+-- rows of weights: for a class and a client of two actions, and for a class and a client of one action
 abbrev pub pair_of_zeros : List ℕ
 pair_of_zeros = 0 ∷ 0 ∷ 0 ∷ 0 ∷ 0 ∷ []
 
@@ -110,14 +110,14 @@ one_of_zeros = 0 ∷ 0 ∷ 0 ∷ 0 ∷ []
 abbrev pub one_of_ones : List ℕ
 one_of_ones = 1 ∷ 1 ∷ 1 ∷ 1 ∷ []
 
--- what submits a job and gets it, and has 1 while the job has none
+-- submits a job and gets it: its weight is 0 while the job holds it
 abbrev pub lends : List ℕ
 lends = 1 ∷ 0 ∷ 1 ∷ []
 
 abbrev pub has_nothing : List ℕ
 has_nothing = 0 ∷ 0 ∷ 0 ∷ []
 
--- a job of two actions that does so
+-- a job of two actions with these weights
 abbrev pub job_lends : List ℕ
 job_lends = 1 ∷ 1 ∷ 0 ∷ 1 ∷ 1 ∷ []
 
@@ -126,26 +126,26 @@ job_lends = 1 ∷ 1 ∷ 0 ∷ 1 ∷ 1 ∷ []
 abbrev pub no_parts_cert : Cert
 no_parts_cert = record { pools = []; ranks = record { pools = []; reach = []; levels = [] } }
 
--- of one pool and one class, where no job is ever blocked
+-- one pool and one class whose jobs are never blocked
 abbrev pub one_pool_cert : Bound → ℕ → Cert
 one_pool_cert bound rank = record {
   pools = pool_cert bound (weighing (0 ∷ []) (one_of_zeros ∷ []) (has_nothing ∷ [])) ∷ [];
   ranks = record { pools = rank ∷ []; reach = 0 ∷ []; levels = 0 ∷ [] };
 }
 
--- each client has a weight, or else its job has it
+-- the weight is that of the client, or of its job while there is one
 abbrev pub standing_cert : ℕ → Cert
 standing_cert weight = one_pool_cert (Standing (weighing (0 ∷ []) ((weight ∷ weight ∷ weight ∷ weight ∷ []) ∷ []) ((weight ∷ 0 ∷ weight ∷ []) ∷ []))) 0
 
--- a done job weighs more than one at its end, and the pool ranks above what its jobs reach
+-- a done job weighs more than a job at its end, and the rank of the pool is above what its jobs reach
 abbrev pub faulty_cert : Cert
 faulty_cert = one_pool_cert (Standing (weighing (0 ∷ []) ((1 ∷ 1 ∷ 1 ∷ 2 ∷ []) ∷ []) (lends ∷ []))) 1
 
--- each client makes one job, and a job that was got weighs what it did
+-- each client submits one job, and a job keeps its weight after the get
 abbrev pub lifetime_cert : Cert
 lifetime_cert = one_pool_cert (Lifetime (weighing (0 ∷ []) (one_of_ones ∷ []) ((1 ∷ 0 ∷ 0 ∷ []) ∷ []))) 0
 
--- a job weighs nothing once it is done, since nobody waits for it
+-- a job weighs nothing once it is done, since no get waits for it
 abbrev pub forgetting_cert : Cert
 forgetting_cert = record {
   pools =
@@ -156,11 +156,11 @@ forgetting_cert = record {
   ranks = record { pools = 0 ∷ []; reach = 0 ∷ []; levels = 0 ∷ [] };
 }
 
--- the outer class is of a higher level than the inner one
+-- the level of the outer class is above that of the inner one
 abbrev pub nested_ranks : Ranks
 nested_ranks = record { pools = 0 ∷ []; reach = 0 ∷ 0 ∷ []; levels = 1 ∷ 0 ∷ [] }
 
--- one of the two jobs is queued at most, and the outer one alone is ever blocked
+-- at most one of the two jobs is queued, and only the outer job is ever blocked
 abbrev pub nested_cert : Cert
 nested_cert = record {
   pools =
@@ -171,7 +171,7 @@ nested_cert = record {
   ranks = nested_ranks;
 }
 
--- the outer job has 3, of which it lends 1 to each inner one
+-- the outer job has weight 3, of which each inner job holds 1
 abbrev pub fan_out_cert : Cert
 fan_out_cert = record {
   pools =
@@ -182,7 +182,8 @@ fan_out_cert = record {
   ranks = nested_ranks;
 }
 
--- the clients lend to the jobs in front, and the workers in front to those at the back, which the jobs in front need not count
+-- the clients pass their weight to the jobs of the first pool, and the workers of the first pool to the jobs of the second;
+-- no get of a job of the first pool is counted
 abbrev pub front_and_back_cert : Cert
 front_and_back_cert = record {
   pools =
@@ -196,7 +197,7 @@ front_and_back_cert = record {
   ranks = record { pools = 1 ∷ 0 ∷ []; reach = 1 ∷ 0 ∷ []; levels = 1 ∷ 0 ∷ [] };
 }
 
--- the first pool ranks above what its job waits for, and the second does not
+-- the rank of the first pool is above what its job waits for, and that of the second is not
 abbrev pub two_pools_cert : Cert
 two_pools_cert = record {
   pools =
@@ -210,7 +211,7 @@ two_pools_cert = record {
   ranks = record { pools = 1 ∷ 0 ∷ []; reach = 1 ∷ 0 ∷ 1 ∷ 1 ∷ []; levels = 1 ∷ 0 ∷ 1 ∷ 0 ∷ [] };
 }
 
--- the first job waits for one that reaches as high as its own pool
+-- the first job waits for a job whose reach is the rank of its own pool
 abbrev pub there_and_back_cert : Cert
 there_and_back_cert = record {
   pools =

@@ -1,4 +1,4 @@
--- What a yes means of the texts of a plan and a certificate.
+-- The meaning of a yes for the texts of a plan and a certificate.
 use Rattle.std.proofs.Common.{◌≡◌, ℕ, List, Ok, IsTrue}
 use Rattle.readings.proofs.Steps.{bind_ok}
 use Rattle.job_bodies.specs.Plan.{Plan}
@@ -13,7 +13,7 @@ use Rattle.headline.specs.Accepted.{accepted}
 use Rattle.headline.proofs.Promised.{promises}
 use Rattle.cert_check.specs.Check.{IsSafeWith}
 
--- what is read is well-formed
+-- a plan that was read is well-formed
 pub plans_read_are_well_formed : (bytes : List ℕ) (plan : Plan) → plan_of bytes ≡ Ok plan → IsWellFormed plan
 unfolding plan_of
 plans_read_are_well_formed bytes plan is =
@@ -21,6 +21,6 @@ plans_read_are_well_formed bytes plan is =
     let entries = bind_ok (entries_of document.0) _ _ document.2 in
     well_formed_read entries.0 plan (are_within_limits document.0 entries.0 entries.1) entries.2
 
--- an accepted certificate's text makes its plan safe
+-- the text of an accepted certificate makes its plan safe
 pub safe_with : (plan : Plan) (cert : Cert) (text : List ℕ) → IsWellFormed plan → cert_of text plan ≡ Ok cert → IsTrue (accepted plan cert) → IsSafeWith plan text
 safe_with plan cert text well_formed is_cert is_accepted = record { cert = cert; is_cert = is_cert; promises = promises plan cert well_formed is_accepted }

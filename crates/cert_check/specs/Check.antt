@@ -1,4 +1,4 @@
--- What a check answers to the bytes of a plan and of a certificate, and what a yes means.
+-- The result of a check of the bytes of a plan and a certificate, and the meaning of `yes`.
 use Rattle.std.specs.Prelude.{◌≡◌, ℕ, List, Result, Ok, Err}
 use Rattle.job_bodies.specs.Plan.{Plan}
 use Rattle.job_bodies.specs.declared.fault.PlanFault.{PlanFault}
@@ -19,17 +19,17 @@ abbrev pub checked_plan : List ℕ → Result Plan PlanFault → Result Verdict 
 checked_plan cert_text (Err f) = Err (fault.Plan f)
 checked_plan cert_text (Ok plan) = checked_cert plan (cert_of cert_text plan)
 
--- the plan's first fault, else the certificate's, else the verdict
+-- the first fault of the plan, otherwise the first fault of the certificate, otherwise the verdict
 abbrev pub checked : List ℕ → List ℕ → Result Verdict CheckFault
 checked plan_text cert_text = checked_plan cert_text (plan_of plan_text)
 
--- the text is that of a certificate for the plan, and what it promises of the plan holds
+-- the text is a certificate for the plan, and its promises about the plan hold
 pub record IsSafeWith (plan : Plan) (cert_text : List ℕ) : Type 0 where
   pub cert : Cert
   pub is_cert : cert_of cert_text plan ≡ Ok cert
   pub promises : Promises plan cert
 
--- the texts are those of a plan and of such a certificate for it
+-- the texts are a plan and such a certificate for it
 pub record IsSafeToRun (plan_text cert_text : List ℕ) : Type 0 where
   pub plan : Plan
   pub is_plan : plan_of plan_text ≡ Ok plan

@@ -1,4 +1,4 @@
--- Which parts of a certificate hold.
+-- Whether all conditions of a pool hold.
 use Rattle.std.specs.Prelude.{ℕ, ◌&&◌, not, is_some, Bool}
 use Rattle.job_bodies.specs.Plan.{Plan}
 use Rattle.weights.specs.Row.{first_failing}
@@ -7,7 +7,7 @@ use Rattle.blocked_bounds.specs.Blocked.{blocked_rows}
 use Rattle.pool_ranks.specs.Ranks.{is_counted}
 use Rattle.certificates.specs.Cert.{Cert, pool_cert_at}
 
--- of pool p no row of its bound fails, and none of its blocked vector
+-- of pool p no row of its bound fails, and no row of its blocked vector
 abbrev pub pool_holds : Plan → Cert → ℕ → Bool
 pool_holds plan cert p =
     not (is_some (first_failing (bound_rows plan p (pool_cert_at cert p).bound)))

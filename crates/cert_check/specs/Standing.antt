@@ -1,4 +1,4 @@
--- Certificates whose standing vectors alone are asked about.
+-- The test of the standing vectors of a certificate alone.
 use Rattle.std.specs.Prelude.{ℕ, ◌&&◌, not, Bool, false}
 use Rattle.std.specs.List.{list_all, enumerate_from}
 use Rattle.job_bodies.specs.Plan.{Plan}
@@ -8,11 +8,11 @@ use Rattle.weights.specs.Row.{fails}
 use Rattle.weights.specs.Standing.{standing_rows}
 use Rattle.certificates.specs.Cert.{Cert, cert_fits, pool_cert_at}
 
--- pool p has a standing vector, and each of its rows holds
+-- pool p has a standing vector whose rows all hold
 abbrev pub stands : Plan → ℕ → Bound → Bool
 stands plan p (Standing v) = list_all (λ row. not (fails row)) (standing_rows plan p v)
 stands plan p (Lifetime v) = false
 
--- the certificate fits the plan, and each pool stands
+-- the certificate fits the plan, and each pool has a standing vector whose rows all hold
 abbrev pub accepted_standing : Plan → Cert → Bool
 accepted_standing plan cert = cert_fits plan cert && list_all (λ entry. stands plan entry.0 (pool_cert_at cert entry.0).bound) (enumerate_from 0 plan.pools)

@@ -1,4 +1,4 @@
--- The lines that tell a verdict.
+-- The text of a verdict.
 use Rattle.std.specs.Prelude.{ℕ, Bool, if◌then◌else◌, List, [], ◌∷◌, ◌++◌, codes}
 use Rattle.std.specs.List.{flat_map, enumerate_from}
 use Rattle.std.specs.Fmt.{decimal}
@@ -6,16 +6,16 @@ use Rattle.job_bodies.specs.Plan.{Plan, pool_at}
 use Rattle.cert_check.specs.declared.answer.PoolLine.{PoolLine}
 use Rattle.cert_check.specs.Verdict.{Verdict}
 
--- which vector bounds the pool's queue
+-- names the kind of the vector that bounds the pool's queue
 abbrev pub bound_words : Bool → List ℕ
 bound_words lifetime = if lifetime then codes ": lifetime " else codes ": standing "
 
--- both sides of both bounds
+-- both totals, each with its limit
 abbrev pub sides : PoolLine → List ℕ
 sides line =
     decimal line.standing ++ codes " of " ++ decimal line.queue ++ codes ", blocked " ++ decimal line.blocked ++ codes " of " ++ decimal line.limit ++ 10 ∷ []
 
--- the line of the pool of this name
+-- the line of the pool with this name
 abbrev pub pool_line_text : List ℕ → PoolLine → List ℕ
 pool_line_text name line = codes "pool " ++ name ++ bound_words line.lifetime ++ sides line
 

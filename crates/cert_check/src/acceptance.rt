@@ -1,4 +1,4 @@
-//! Whether a certificate accepts a plan.
+//! The test whether a certificate accepts a plan.
 
 ghost use Rattle.std.specs.Prelude.{◌≡◌, ◌<◌, ◌&&◌, IsTrue, length};
 ghost use Rattle.std.specs.List.{list_all, enumerate_from};
@@ -17,7 +17,7 @@ use job_bodies::Plan;
 use pool_ranks::RanksOf;
 use weights::Bound;
 
-/// Whether the certificate fits the plan and each of its conditions holds. It takes no memory.
+/// Returns whether the certificate fits the plan and all its conditions hold. Allocates nothing.
 pub fn accepts(plan: &Plan, cert: &Cert) -> bool
     ensures exact { result ≡ accepted plan.now cert.now }
     ensures promises { IsTrue result → Promises plan.now cert.now }
@@ -25,7 +25,7 @@ pub fn accepts(plan: &Plan, cert: &Cert) -> bool
     cert.fits(plan) && conditions_hold(plan, cert)
 }
 
-/// Whether each condition of a certificate that fits holds.
+/// Returns whether all conditions of a certificate hold, given that it fits the plan.
 pub(crate) fn conditions_hold(plan: &Plan, cert: &Cert) -> bool
     requires { IsTrue (cert_fits plan.now cert.now) }
     ensures exact { result ≡ is_nil (failing plan.now cert.now) }
@@ -42,7 +42,7 @@ pub(crate) fn conditions_hold(plan: &Plan, cert: &Cert) -> bool
     true
 }
 
-/// Whether each condition of the pool's bound and of its blocked vector holds.
+/// Returns whether all conditions of the pool's bound and of its blocked vector hold.
 pub(crate) fn pool_holds(plan: &Plan, cert: &Cert, pool: usize) -> bool
     requires fits { IsTrue (cert_fits plan.now cert.now) }
     requires pool { pool < length plan.now.pools }
@@ -54,9 +54,11 @@ pub(crate) fn pool_holds(plan: &Plan, cert: &Cert, pool: usize) -> bool
         && blocked_fault(plan, pool, &counted, &of_pool.blocked).is_none()
 }
 
-/// Whether the certificate fits the plan and each pool has a standing vector of which each condition holds, whatever its
-/// blocked vectors and its ranks say. Then no submit is ever refused, also where it is the steps of Java's `execute`. It takes no
-/// memory.
+/// Returns whether the certificate fits the plan and gives each pool a standing vector whose
+/// conditions all hold. Ignores the blocked vectors and the ranks.
+///
+/// If so, no submit is ever rejected, even if each submit takes the separate steps of Java's
+/// `execute`. Allocates nothing.
 pub fn accepts_standing(plan: &Plan, cert: &Cert) -> bool
     ensures exact { result ≡ spec.accepted_standing plan.now cert.now }
     ensures refuses_nothing { IsTrue result → RefusesNothing plan.now }
@@ -81,7 +83,7 @@ fn all_pools_stand(plan: &Plan, cert: &Cert) -> bool
     true
 }
 
-/// Whether the bound is a standing vector of which each condition holds.
+/// Returns whether the bound is a standing vector whose conditions all hold.
 fn stands(plan: &Plan, pool: usize, bound: &Bound) -> bool
     requires fits { IsTrue (vector_fits plan.now (bound_vector bound.now)) }
     requires pool { pool < length plan.now.pools }

@@ -10,7 +10,7 @@ use certificates::Cert;
 use job_bodies::Plan;
 use std::marker::Model;
 
-/// A plan with a certificate that accepts it. Only [`Certified::check`] makes one.
+/// A plan with a certificate that accepts it. Only [`Certified::check`] creates one.
 #[derive(Debug, Drop)]
 pub struct Certified {
     plan: Plan,
@@ -26,11 +26,11 @@ impl Model for Certified {
 }
 
 impl Certified {
-    /// The plan with the certificate, if it accepts the plan. It takes no memory.
+    /// Pairs the plan with the certificate if the certificate accepts the plan. Allocates nothing.
     ///
     /// # Errors
     ///
-    /// Hands both back where the certificate does not accept the plan.
+    /// Returns both arguments if the certificate does not accept the plan.
     pub fn check(plan: Plan, cert: Cert) -> Result<Certified, (Plan, Cert)>
         ensures exact { IsOk result ↔ IsTrue (accepted plan cert) }
         ensures holds { IfOk result (λ certified. certified ≡ record { plan = plan; cert = cert }) }
@@ -44,7 +44,7 @@ impl Certified {
         }
     }
 
-    /// The plan.
+    /// Returns the plan.
     pub fn plan(&self) -> &Plan
         ensures plan { result.now ≡ self.now.plan }
         ensures promises { Promises self.now.plan self.now.cert }
@@ -52,7 +52,7 @@ impl Certified {
         &self.plan
     }
 
-    /// The certificate, which accepts the plan.
+    /// Returns the certificate. It accepts the plan.
     pub fn cert(&self) -> &Cert
         ensures cert { result.now ≡ self.now.cert }
         ensures accepted { IsTrue (accepted self.now.plan self.now.cert) }

@@ -10,16 +10,16 @@ use cert_text::CertFault;
 use job_bodies::PlanFault;
 use std::alloc::{AllocError, Global};
 
-/// Why there is no verdict.
+/// The reason why there is no verdict.
 #[derive(Clone, Copy, Debug, PartialEq, Eq)]
 pub enum CheckFault {
     /// The first fault of the plan's text.
     Plan(PlanFault),
     /// The first fault of the certificate's text.
     Cert(CertFault),
-    /// Memory ran out; nothing else is then said of the texts.
+    /// Out of memory. Says nothing about the texts.
     Memory,
-    /// The gate of a check on threads said no of a pool.
+    /// The gate of a check on threads stopped the check at a pool.
     Gate,
 }
 
@@ -31,20 +31,24 @@ impl From<AllocError> for CheckFault {
     }
 }
 
-/// Reads a plan and a certificate for it, and answers whether the certificate accepts the plan, with both sides of each
-/// bound. Where it says yes, no list of events reaches a state in which a submit was refused, a pool has more threads or
-/// queued jobs than it may, or unfinished jobs wait only for each other; in each reached state with an unfinished job an
-/// event of a job or a taking is possible; and what was begun comes to an end.
+/// Reads a plan and a certificate for it, and returns whether the certificate accepts the plan,
+/// with the totals and limits of each pool.
+///
+/// If the verdict is `yes`, no list of events reaches a state in which a submit was rejected, a
+/// pool has more threads or queued jobs than its limits allow, or unfinished jobs wait only for
+/// each other. In each reached state with an unfinished job, a job can take a step or a worker can
+/// take a job. Work that has begun ends.
 ///
 /// # Errors
 ///
-/// The plan's first fault, else the certificate's. [`CheckFault::Memory`] where memory runs out.
+/// Returns the first fault of the plan or, if the plan has none, of the certificate. Returns
+/// [`CheckFault::Memory`] if memory runs out.
 pub fn check(alloc: Global, plan_text: &[u8], cert_text: &[u8]) -> Result<Verdict, CheckFault>
     ensures verdict { IfOk result
         (λ verdict. spec.checked plan_text.now cert_text.now ≡ Ok verdict) }
     ensures fault { IfErr result
         (λ fault. fault ≢ Memory → spec.checked plan_text.now cert_text.now ≡ Err fault) }
-    // What a yes means.
+    // The meaning of `yes`.
     ensures safe { IfOk result
         (λ verdict. IsTrue verdict.yes → spec.IsSafeToRun plan_text.now cert_text.now) }
 {

@@ -13,11 +13,11 @@ use job_bodies::Plan;
 use std::alloc::{AllocError, Global};
 use weights::Bound;
 
-/// The verdict on a plan and a certificate that fits it.
+/// Returns the verdict on a plan and a certificate that fits it.
 ///
 /// # Errors
 ///
-/// [`AllocError`] where memory runs out.
+/// Returns [`AllocError`] if memory runs out.
 pub fn verdict(alloc: Global, plan: &Plan, cert: &Cert) -> Result<Verdict, AllocError>
     requires { IsTrue (cert_fits plan.now cert.now) }
     ensures verdict { IfOk result (λ verdict. verdict ≡ spec.verdict plan.now cert.now) }
@@ -44,7 +44,7 @@ fn pool_lines(alloc: Global, plan: &Plan, cert: &Cert) -> Result<Vec<PoolLine>, 
     Ok(lines)
 }
 
-/// Both sides of both bounds of the pool.
+/// Returns the totals of the pool's two vectors, with their limits.
 pub(crate) fn pool_line(plan: &Plan, cert: &Cert, pool: usize) -> PoolLine
     requires fits { IsTrue (cert_fits plan.now cert.now) }
     requires pool { pool < length plan.now.pools }

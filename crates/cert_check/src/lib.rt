@@ -1,8 +1,8 @@
-//! Whether a certificate accepts a plan, and what that means: no submit is ever refused, and no jobs wait only for each
-//! other.
+//! The check of a certificate against a plan, and what an accepted certificate guarantees: no
+//! submit is ever rejected, and jobs never wait only for each other.
 //!
-//! [`check`] answers from bytes to a verdict, and its clause `safe` says what a yes means of every state that any list of
-//! events reaches. Nothing is assumed of the certificate or its maker.
+//! [`check`] goes from bytes to a verdict. Its clause `safe` states what a `yes` means for every
+//! state that any list of events reaches. Nothing is assumed about the certificate or its author.
 #![tactic(auto)]
 
 mod acceptance;
@@ -24,7 +24,7 @@ pub use on_threads::check_on;
 pub use pool_gate::PoolGate;
 pub use text::push_verdict;
 
-// What certificates are made of, and their texts.
+// The parts of a certificate, and its text format.
 pub use cert_text::{CertFault, read_cert, write_cert};
 pub use certificates::{Cert, PoolCert};
 pub use headline::{Note, Section};

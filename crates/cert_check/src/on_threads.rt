@@ -1,4 +1,4 @@
-//! The check on several threads, each pool by itself.
+//! The check on several threads, which share the pools.
 
 ghost use Rattle.std.specs.Prelude.{◌≡◌, ◌≢◌, ◌≤◌, ◌<◌, ℕ, slice_index_or, IfOk, IfErr, IfSome, IsTrue, Ok, Err, length, vec_len};
 ghost use Rattle.job_bodies.specs.declared.limits.TheConstants.{MAX_WORKERS};
@@ -19,24 +19,23 @@ use std::alloc::{AllocError, Global};
 use std::thread;
 use std::thread::Threads;
 
-/// What is found of one pool.
+/// The result of the check of one pool.
 #[derive(Clone, Copy)]
 pub(crate) struct PoolCheck {
     pub(crate) pool: usize,
     pub(crate) line: PoolLine,
-    /// Whether each condition of its bound and of its blocked vector holds.
+    /// Whether all conditions of its bound and of its blocked vector hold.
     pub(crate) holds: bool,
 }
 
-/// Answers as [`check`](crate::check) does, and looks at the pools in at most `workers` threads, 1 to
-/// [`MAX_WORKERS`](job_bodies::MAX_WORKERS). Each of them asks
-/// the gate before it looks at a pool, and holds no lock then. Where no thread can be started, the calling one looks at
-/// the pools.
+/// Checks as [`check`](crate::check) does, and distributes the pools over up to `workers` threads,
+/// 1 to [`MAX_WORKERS`](job_bodies::MAX_WORKERS). Each thread asks the gate before it checks a
+/// pool, and holds no lock then. If no thread can be started, the calling thread checks the pools.
 ///
 /// # Errors
 ///
-/// Those of [`check`](crate::check), and [`CheckFault::Gate`] where the gate said no of a pool, which it is asked once both
-/// texts are read.
+/// Returns the errors of [`check`](crate::check), and [`CheckFault::Gate`] if the gate returned
+/// `false` for a pool. The gate is asked only after both texts were read.
 pub fn check_on<R: Threads + Sync, G: PoolGate>(
     rt: &R,
     alloc: Global,
@@ -53,9 +52,9 @@ pub fn check_on<R: Threads + Sync, G: PoolGate>(
         fault ≢ Memory
         → fault ≢ Gate
         → check_spec.checked plan_text.now cert_text.now ≡ Err fault) }
-    // Gate comes only where there is a pool to look at.
+    // Gate is only returned if the plan has a pool.
     ensures gate { IfErr result (λ fault. fault ≡ Gate → IsRead plan_text.now cert_text.now) }
-    // What a yes means.
+    // The meaning of `yes`.
     ensures safe { IfOk result
         (λ verdict. IsTrue verdict.yes → check_spec.IsSafeToRun plan_text.now cert_text.now) }
 {
@@ -85,7 +84,7 @@ fn verdict_on<R: Threads + Sync, G: PoolGate>(
     }
 }
 
-/// Looks at each pool on one of the threads. There is nothing at a pool of which the gate said no.
+/// Checks each pool on one of the threads. The entry of a pool that the gate stopped is `None`.
 fn check_pools<R: Threads + Sync, G: PoolGate>(
     rt: &R,
     alloc: Global,
@@ -103,7 +102,7 @@ fn check_pools<R: Threads + Sync, G: PoolGate>(
     Ok(found)
 }
 
-/// Puts what is found of each pool at its place.
+/// Writes the result of each pool to its index.
 fn fill_places<R: Threads + Sync, G: PoolGate>(
     rt: &R,
     workers: usize,
@@ -132,7 +131,7 @@ fn fill_places<R: Threads + Sync, G: PoolGate>(
     );
 }
 
-/// As many places as there are pools, with nothing in them.
+/// Returns a list of one `None` for each pool.
 fn nothing_found(alloc: Global, pools: usize) -> Result<Vec<Option<PoolCheck>>, AllocError>
     ensures { IfOk result (λ found. vec_len found ≡ pools) }
 {
@@ -141,7 +140,7 @@ fn nothing_found(alloc: Global, pools: usize) -> Result<Vec<Option<PoolCheck>>, 
     Ok(found)
 }
 
-/// Looks at one pool, if the gate lets it.
+/// Checks one pool if the gate allows it, and returns `None` otherwise.
 fn check_pool<G: PoolGate>(plan: &Plan, cert: &Cert, gate: &G, pool: usize) -> Option<PoolCheck>
     requires fits { IsTrue (cert_fits plan.now cert.now) }
     requires pool { pool < length plan.now.pools }
@@ -157,7 +156,8 @@ fn check_pool<G: PoolGate>(plan: &Plan, cert: &Cert, gate: &G, pool: usize) -> O
     })
 }
 
-/// The verdict, of what was found of the pools, in plan order, and of the ranks. None where nothing was found of a pool.
+/// Builds the verdict from the results of the pools, in plan order, and from the ranks. Returns
+/// `None` if the result of a pool is missing.
 fn verdict_of(
     alloc: Global,
     plan: &Plan,

@@ -1,8 +1,8 @@
-//! What is asked before a pool is looked at on a thread.
+//! The hook that a check on threads calls before each pool.
 
-/// Asked by each worker before it looks at a pool, as by a test that wants to know which pools are looked at together, or
-/// by a service that wants to stop. No lock is held while it is asked.
+/// A hook that each worker calls before it checks a pool. A test can use it to observe which pools
+/// are checked concurrently, and a service to stop the check. No lock is held during the call.
 pub trait PoolGate: Sync {
-    /// Whether to look at the pool of this number; a no ends the whole call.
+    /// Returns whether to check the pool with this index. `false` ends the whole check.
     fn begin(&self, pool: usize) -> bool;
 }

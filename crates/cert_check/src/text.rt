@@ -1,4 +1,4 @@
-//! The lines that tell a verdict.
+//! The text of a verdict.
 
 ghost use Rattle.job_bodies.specs.Plan.{pool_at};
 ghost use Rattle.cert_check.specs.Text as spec;
@@ -8,12 +8,12 @@ use crate::{PoolLine, Verdict};
 use job_bodies::Plan;
 use std::alloc::AllocError;
 
-/// Tells a verdict on the plan: `yes` or `no`, and a line for each pool, as
+/// Appends the text of a verdict on the plan: `yes` or `no`, and then a line for each pool such as
 /// `pool pages: standing 2 of 2, blocked 0 of 0`.
 ///
 /// # Errors
 ///
-/// [`AllocError`] where memory runs out.
+/// Returns [`AllocError`] if memory runs out.
 pub fn push_verdict(text: &mut String, plan: &Plan, verdict: &Verdict) -> Result<(), AllocError>
     ensures { Pushes result text.old text.new (spec.verdict_text plan.now verdict.now) }
 {

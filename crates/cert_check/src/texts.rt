@@ -1,4 +1,4 @@
-//! The texts of a plan and of a certificate for it, read one behind the other.
+//! Reading the text of a plan and then that of a certificate for it.
 
 ghost use Rattle.std.specs.Prelude.{◌≡◌, ◌≢◌, IfOk, IfErr, IsTrue, Ok, Err};
 ghost use Rattle.faults.specs.declared.number.TheConstants.{MEMORY};
@@ -41,11 +41,12 @@ impl From<CertFault> for CheckFault {
     }
 }
 
-/// The plan and the certificate for it that two texts are of.
+/// Parses a plan and a certificate for it.
 ///
 /// # Errors
 ///
-/// The plan's first fault, else the certificate's. [`CheckFault::Memory`] where memory runs out.
+/// Returns the first fault of the plan or, if the plan has none, of the certificate. Returns
+/// [`CheckFault::Memory`] if memory runs out.
 pub(crate) fn read_texts(
     alloc: Global,
     plan_text: &[u8],

@@ -1,4 +1,4 @@
--- The pools from this one on decide.
+-- The remaining pools decide the result.
 use Rattle.std.proofs.Common.{◌≡◌, ℕ, Bool}
 use Rattle.certificates.specs.Cert.{pool_cert_at}
 use Rattle.cert_check.specs.Standing.{stands}

@@ -1,4 +1,4 @@
--- The pools from this one on decide.
+-- The remaining pools decide the result.
 use Rattle.std.proofs.Common.{◌≡◌}
 use Rattle.cert_check.specs.Holding.{pool_holds}
 use Rattle.cert_check.proofs.Pools.{rest_passes}

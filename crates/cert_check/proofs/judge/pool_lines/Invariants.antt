@@ -1,4 +1,4 @@
--- The lines so far and those of the other pools are all.
+-- The lines so far, followed by those of the remaining pools, are all lines.
 use Rattle.std.proofs.Common.{◌≡◌, ◌++◌}
 use Rattle.cert_check.specs.Verdict.{pool_line}
 use Rattle.cert_check.proofs.Pools.{rest_given}

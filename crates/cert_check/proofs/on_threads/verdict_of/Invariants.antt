@@ -1,4 +1,5 @@
--- The lines so far and those of the other pools are all, and what was found so far decides together with the other pools.
+-- The lines so far, followed by those of the remaining pools, are all lines, and the result so far and the remaining pools
+-- decide together.
 use Rattle.std.proofs.Common.{◌≡◌, ◌++◌, ◌&&◌}
 use Rattle.headline.specs.Conditions.{failing}
 use Rattle.headline.specs.Accepted.{is_nil}

@@ -1,4 +1,4 @@
--- The text has the lines before this pool behind what it had.
+-- The text is the old text followed by the lines of the pools before this one.
 use Rattle.std.proofs.Common.{◌≡◌, ◌++◌, take}
 use Rattle.std.specs.Prelude.{string_bytes}
 use Rattle.cert_check.specs.Text.{pool_lines_text}
