@@ -1,4 +1,4 @@
--- Lists and objects that are read at the front of a text, one part after another.
+-- Lists and objects that are parsed at the start of a text, part by part.
 use Rattle.std.proofs.Common.{◌≡◌, ℕ, suc, ◌+◌, Bool, true, false, nat_lt, List, [], ◌∷◌, ◌++◌, length, map, refl, sym, ap, ◌∙◌, append_assoc, append-nil, arith}
 use Rattle.std.proofs.lemmas.Bool.{lt-ltb}
 use Rattle.std.proofs.lemmas.List.{map_push, length_push, length-map}
@@ -9,12 +9,12 @@ use Rattle.serde_json.specs.Written.{comma_if, compact_text, items_text}
 use Rattle.cert_text.specs.CertText.{list_data}
 use Rattle.cert_text.specs.Canonical.{BeginsAs}
 
--- elements, with a comma before each that stands behind something, and no bracket at the end
+-- elements without the closing bracket; each has a comma before it, except the first if `later` is false
 abbrev elements_text : Bool → List Data → List ℕ
 elements_text later [] = []
 elements_text later (d ∷ ds) = comma_if later ++ (compact_text d ++ elements_text true ds)
 
--- these elements are read at the front of a list's text, so many
+-- these elements, `count` in number, were parsed at the start of a list's text
 pub record BeginsList {X : Type 0} (made : X → Data) (text : List ℕ) (xs : List X) (count : ℕ) (rest : List ℕ) : Type 0 where
   pub as_many : length xs ≡ count
   pub front : text ≡ 91 ∷ (elements_text false (map made xs) ++ rest)
@@ -36,7 +36,7 @@ ended later (d ∷ ds) =
     append_assoc (comma_if later) (compact_text d ++ elements_text true ds) (93 ∷ [])
     ∙ ap (λ (t : List ℕ). comma_if later ++ t) (append_assoc (compact_text d) (elements_text true ds) (93 ∷ []) ∙ ap (λ (t : List ℕ). compact_text d ++ t) (ended true ds))
 
--- one more is read
+-- after one more element
 pub list_more : {X : Type 0} (made : X → Data) (text : List ℕ) (xs : List X) (x : X) (count : ℕ) (rest element behind : List ℕ) → BeginsList made text xs count rest → rest ≡ comma_if (nat_lt 0 count) ++ element
     → BeginsAs element (made x) behind → BeginsList made text (xs ++ x ∷ []) (count + 1) behind
 list_more made text xs x count rest element behind begins comma here = record {
@@ -53,25 +53,25 @@ list_more made text xs x count rest element behind begins comma here = record {
     regroup : (a b c d : List ℕ) → a ++ (b ++ (c ++ d)) ≡ (a ++ (b ++ c)) ++ d
     regroup a b c d = simp append_assoc
 
--- the whole list is read
+-- after the closing bracket
 pub list_whole : {X : Type 0} (made : X → Data) (text : List ℕ) (xs : List X) (count : ℕ) (rest behind : List ℕ) → BeginsList made text xs count rest → rest ≡ 93 ∷ behind → BeginsAs text (list_data (map made xs)) behind
 list_whole made text xs count rest behind begins closed =
     begins.front ∙ ap (λ (t : List ℕ). 91 ∷ t)
     (ap (λ (t : List ℕ). elements_text false (map made xs) ++ t) closed ∙ (sym (append_assoc (elements_text false (map made xs)) (93 ∷ []) behind) ∙ ap (λ (t : List ℕ). t ++ behind) (ended false (map made xs))))
 
--- the text of a key before its value, as it stands at the front of an object and behind another member
+-- the text of a key before its value, for the first member and for a later one
 abbrev pub first_key : List ℕ → List ℕ
 first_key key = 123 ∷ (quoted key ++ 58 ∷ [])
 
 abbrev pub next_key : List ℕ → List ℕ
 next_key key = 44 ∷ (quoted key ++ 58 ∷ [])
 
--- an object of three keys whose parts are read one after another
+-- an object of three keys whose parts are parsed in order
 pub triple_read : (j k l : List ℕ) (d e f : Data) (text at_d behind_d at_e behind_e at_f behind_f rest : List ℕ) → text ≡ first_key j ++ at_d → BeginsAs at_d d behind_d → behind_d ≡ next_key k ++ at_e
     → BeginsAs at_e e behind_e → behind_e ≡ next_key l ++ at_f → BeginsAs at_f f behind_f → behind_f ≡ 125 ∷ rest → BeginsAs text (object (member j d (member k e (member l f no_members)))) rest
 triple_read j k l d e f text at_d behind_d at_e behind_e at_f behind_f rest a b c p q r s = simp (a, b, c, p, q, r, s, append_assoc)
 
--- and one of two keys, the second of which is read with its value
+-- an object of two keys, of which the second is parsed together with its value
 pub pair_read : (j k : List ℕ) (d e : Data) (text at_d behind_d behind_e rest : List ℕ) → text ≡ first_key j ++ at_d → BeginsAs at_d d behind_d → behind_d ≡ (next_key k ++ compact_text e) ++ behind_e → behind_e ≡ 125 ∷ rest
     → BeginsAs text (object (member j d (member k e no_members))) rest
 pair_read j k d e text at_d behind_d behind_e rest a b c p = simp (a, b, c, p, append_assoc)

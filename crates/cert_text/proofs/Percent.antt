@@ -15,11 +15,11 @@ use Rattle.pool_ranks.specs.Ranks.{Ranks}
 use Rattle.certificates.specs.Cert.{PoolCert, Cert}
 use Rattle.cert_text.specs.CertText.{number_data, list_data, numbers_data, rows_data, vector_data, bounded_data, pool_data, ranks_data, version_number, cert_data, cert_text, has_percent}
 
--- a text with no `%`
+-- a text without `%`
 record IsBare (text : List ℕ) : Type 0 where
   bare : has_percent text ≡ false
 
--- the same of the text of a value, and of a key
+-- a value and a key whose texts have no `%`
 record IsBareData (d : Data) : Type 0 where
   text : IsBare (compact_text d)
 
@@ -66,7 +66,7 @@ numbers_bare numbers = list_bare number_data numbers number_bare
 rows_bare : (rows : List (List ℕ)) → IsBareData (rows_data rows)
 rows_bare rows = list_bare numbers_data rows numbers_bare
 
--- a key with its value, and what stands behind it
+-- a member with its key and value, and the text after it
 member_bare : (front key : List ℕ) (d : Data) (rest : List ℕ) → IsBare front → IsBareKey key → IsBareData d → IsBare rest → IsBare (front ++ (quoted key ++ 58 ∷ (compact_text d ++ rest)))
 member_bare front key d rest before name here behind =
     let tail : IsBare (58 ∷ (compact_text d ++ rest)) = record { bare = (both_bare (compact_text d) rest here.text behind).bare } in
@@ -90,7 +90,7 @@ triple_bare j k l d e f j_bare k_bare l_bare first second third =
     member_bare [] j d _ nothing_bare j_bare first (member_bare (44 ∷ []) k e _ (comma_bare true) k_bare second (member_bare (44 ∷ []) l f _ (comma_bare true) l_bare third end_bare)) in
     record { text = record { bare = inside.bare } }
 
--- the keys
+-- the keys of certificates have no `%`
 record AreBareKeys : Type 0 where
   classes : IsBareKey (codes "classes")
   clients : IsBareKey (codes "clients")

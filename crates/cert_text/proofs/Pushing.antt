@@ -1,4 +1,4 @@
--- Lists and objects that are put behind a text, one part after another.
+-- Lists and objects that are appended to a text, part by part.
 use Rattle.std.proofs.Common.{◌≡◌, ℕ, ◌≤◌, Result, Ok, Err, OnOk, is_ok, cond, Bool, List, [], ◌∷◌, ◌++◌, length, map, drop, codes, decimal, refl, sym, ap, ◌∙◌, append_assoc}
 use Rattle.std.proofs.lemmas.List.{at_drop_all}
 use Rattle.serde_json.specs.Data.{Data, object, member, no_members}
@@ -14,37 +14,37 @@ use Rattle.cert_text.specs.CertText.{number_data, list_data, numbers_data, rows_
 use Rattle.cert_text.specs.Canonical.{bound_text, version_text}
 use Rattle.cert_text.proofs.Fronts.{first_key, next_key}
 
--- the text of the elements from this place on, with the bracket at the end
+-- the text of the elements from index i on, with the closing bracket
 abbrev rest_text : {X : Type 0} → (X → Data) → List X → ℕ → Bool → List ℕ
 rest_text made xs i later = items_text later (items_of (map made (drop i xs)))
 
--- the text so far is the whole but for the elements from this place on
+-- the text so far is the whole text without the elements from index i on
 pub record Grows {X : Type 0} (made : X → Data) (xs : List X) (i : ℕ) (later : Bool) (text whole : List ℕ) : Type 0 where
   pub rest : text ++ rest_text made xs i later ≡ whole
 
--- the bracket behind all elements
+-- after the closing bracket
 pub list_pushed : {X T E : Type 0} (r : Result T E) (made : X → Data) (xs : List X) (i : ℕ) (later : Bool) (text whole end new : List ℕ) → length xs ≤ i → Grows made xs i later text whole → end ≡ 93 ∷ []
     → new ≡ cond (is_ok r) (text ++ end) text → OnOk r (new ≡ whole)
 list_pushed (Ok x) made xs i later text whole end new past so_far is_end pushed =
     pushed ∙ (ap (λ (t : List ℕ). text ++ t) (is_end ∙ sym (at_drop_all (λ (ys : List _). items_text later (items_of (map made ys))) xs i past)) ∙ so_far.rest)
 list_pushed (Err e) made xs i later text whole end new past so_far is_end pushed = tt
 
--- a text behind a text behind an old one
+-- two texts appended in order
 pub both_pushed : {T E : Type 0} (r : Result T E) (old middle new first second : List ℕ) → middle ≡ old ++ first → OnOk r (new ≡ middle ++ second) → OnOk r (new ≡ old ++ (first ++ second))
 both_pushed (Ok x) old middle new first second is_first is_second = is_second ∙ (ap (λ (t : List ℕ). t ++ second) is_first ∙ append_assoc old first second)
 both_pushed (Err e) old middle new first second is_first is_second = tt
 
--- an object of three keys whose parts are put behind an old text, one after another
+-- an object of three keys whose parts are appended in order
 triple_parts : (j k l : List ℕ) (d e f : Data) (old at_d behind_d at_e behind_e at_f behind_f : List ℕ) → at_d ≡ old ++ first_key j → behind_d ≡ at_d ++ compact_text d → at_e ≡ behind_d ++ next_key k
     → behind_e ≡ at_e ++ compact_text e → at_f ≡ behind_e ++ next_key l → behind_f ≡ at_f ++ compact_text f → behind_f ++ 125 ∷ [] ≡ old ++ compact_text (object (member j d (member k e (member l f no_members))))
 triple_parts j k l d e f old at_d behind_d at_e behind_e at_f behind_f a b c p q s = simp (a, b, c, p, q, s, append_assoc)
 
--- and one of two keys, the second of which is put there with its value
+-- an object of two keys, of which the second is appended together with its value
 pair_parts : (j k : List ℕ) (d e : Data) (old at_d behind_d behind_e : List ℕ) → at_d ≡ old ++ first_key j → behind_d ≡ at_d ++ compact_text d → behind_e ≡ behind_d ++ (next_key k ++ compact_text e)
     → behind_e ++ 125 ∷ [] ≡ old ++ compact_text (object (member j d (member k e no_members)))
 pair_parts j k d e old at_d behind_d behind_e a b c = simp (a, b, c, append_assoc)
 
--- the brace behind all members
+-- after the closing brace
 closed : {T E : Type 0} (r : Result T E) (text whole end new : List ℕ) → text ++ 125 ∷ [] ≡ whole → end ≡ 125 ∷ [] → new ≡ cond (is_ok r) (text ++ end) text → OnOk r (new ≡ whole)
 closed (Ok x) text whole end new all is_end pushed = pushed ∙ (ap (λ (t : List ℕ). text ++ t) is_end ∙ all)
 closed (Err e) text whole end new all is_end pushed = tt

@@ -1,4 +1,4 @@
--- Texts as they are written of certificates. A part of one is read at the front of a text, and leaves the rest.
+-- Certificates in canonical form. Each part is parsed at the start of a text, and the rest remains.
 use Rattle.std.specs.Prelude.{◌≡◌, ℕ, ◌≤◌, true, List, ◌++◌, length, slice_get, Some, codes, decimal, IsTrue}
 use Rattle.std.specs.List.{list_all}
 use Rattle.json.specs.Word.{is_space}
@@ -11,32 +11,32 @@ use Rattle.certificates.specs.Cert.{Cert, cert_fits}
 use Rattle.job_bodies.specs.declared.limits.TheConstants.{MAX_CERT_BYTES}
 use Rattle.cert_text.specs.CertText.{vector_data, version_number, cert_text}
 
--- the text of a value stands at the front of a text, and this rest behind it
+-- the text begins with the text of a value, and this is the rest
 abbrev pub BeginsAs : List ℕ → Data → List ℕ → Type 0
 BeginsAs text value rest = text ≡ compact_text value ++ rest
 
--- so many rows, each of as many numbers as there are points at its place
+-- a list of `count` rows, each with the number of points at its index
 abbrev pub AreRows : ℕ → (ℕ → ℕ) → List (List ℕ) → Type 0
 AreRows count points rows = (length rows ≡ count) × ((place : ℕ) (row : List ℕ) → slice_get rows place ≡ Some row → length row ≡ points place)
 
--- a pool's bound and its key, as they stand behind its blocked vector
+-- a pool's bound with its key, in the form that follows its blocked vector
 abbrev pub bound_text : Bound → List ℕ
 bound_text (Standing v) = codes ",\"standing\":" ++ compact_text (vector_data v)
 bound_text (Lifetime v) = codes ",\"lifetime\":" ++ compact_text (vector_data v)
 
--- a certificate's version and its key, as they stand behind its ranks, and the end of its text
+-- a certificate's version with its key, in the form that follows its ranks, and the end of the text
 abbrev pub version_text : Cert → List ℕ
 version_text cert = codes ",\"version\":" ++ (decimal (version_number cert) ++ codes "}")
 
--- nothing but white space stands in the text
+-- the text is only white space
 abbrev pub IsBlank : List ℕ → Type 0
 IsBlank text = list_all is_space text ≡ true
 
--- the text is the certificate's, and what stands behind it is blank
+-- the text is that of the certificate, followed by white space
 abbrev pub IsTextOf : List ℕ → Cert → Type 0
 IsTextOf text cert = (rest : List ℕ) × IsBlank rest × (text ≡ cert_text cert ++ rest)
 
--- a text that is not too long, of a certificate that fits the plan
+-- the text is not too long, and is that of a certificate that fits the plan
 pub record IsCanonical (plan : Plan) (text : List ℕ) (cert : Cert) : Type 0 where
   pub is_text : IsTextOf text cert
   pub short : length text ≤ MAX_CERT_BYTES

@@ -1,4 +1,4 @@
--- The certificate of a text: its length, its JSON, its version, its shape, and then the sizes of its numbers.
+-- The certificate of a text. Checks its length, its JSON, its version, its shape, and then the size of its numbers.
 use Rattle.std.specs.Prelude.{ℕ, nat_le, List, length, Result, Ok}
 use Rattle.std.specs.Str.{is_utf8}
 use Rattle.serde_json.specs.Data.{Data}
@@ -14,22 +14,22 @@ use Rattle.cert_text.specs.Version.{version_of}
 use Rattle.cert_text.specs.Shape.{shape_of}
 use Rattle.cert_text.specs.Sizes.{cert_has_small_numbers}
 
--- bytes that are a text in UTF-8
+-- the bytes if they are UTF-8
 abbrev pub text_of : List ℕ → Result (List ℕ) CertFault
 text_of bytes = holds_or (is_utf8 bytes) (fault NOT_JSON) >>= λ _. Ok bytes
 
--- the value that a text is, as JSON
+-- the JSON value of a text
 abbrev pub json_of : List ℕ → Result Data CertFault
 json_of text = some_or (read text) (fault NOT_JSON)
 
--- the value of bytes that are not too many
+-- the JSON value of bytes, up to the limit of their length
 unfoldable pub document_of : List ℕ → Result Data CertFault
 document_of bytes =
     holds_or (nat_le (length bytes) MAX_CERT_BYTES) (fault CERT_TOO_LONG) >>= λ _.
     text_of bytes >>= λ text.
     json_of text
 
--- the certificate that a value is, for a plan
+-- the certificate that a JSON value represents, for a plan
 unfoldable pub cert_of_value : Data → Plan → Result Cert CertFault
 cert_of_value value plan =
     version_of value >>= λ version.
@@ -37,6 +37,6 @@ cert_of_value value plan =
     holds_or (cert_has_small_numbers cert) (fault WEIGHT_TOO_LARGE) >>= λ _.
     Ok cert
 
--- the certificate that the bytes are the text of, for a plan, or the first fault
+-- the certificate that the bytes represent, for a plan, or the first fault
 unfoldable pub cert_of : List ℕ → Plan → Result Cert CertFault
 cert_of bytes plan = document_of bytes >>= λ value. cert_of_value value plan

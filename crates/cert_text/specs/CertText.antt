@@ -1,4 +1,4 @@
--- The text of a certificate: compact JSON, the keys of each object ascending by their bytes.
+-- The text of a certificate: compact JSON, with the keys of each object in ascending order of their bytes.
 use Rattle.std.specs.Prelude.{ℕ, Bool, nat_eq, if◌then◌else◌, List, map, codes}
 use Rattle.std.specs.List.{list_any}
 use Rattle.serde_json.specs.Data.{Data, number, unsigned, array, object, member, no_members}
@@ -43,7 +43,7 @@ ranks_data ranks =
     (member (codes "pools") (numbers_data ranks.pools)
     (member (codes "reach") (numbers_data ranks.reach) no_members)))
 
--- 2 where some pool has a lifetime vector, and else 1
+-- 2 if a pool has a lifetime vector, and 1 otherwise
 abbrev pub version_number : Cert → ℕ
 version_number cert = if list_any (λ pool. is_lifetime pool.bound) cert.pools then 2 else 1
 

@@ -1,4 +1,4 @@
--- The shape of a certificate's JSON, by its version: what stands at each key, and how many numbers each list has.
+-- The shape of a certificate's JSON in each version: the value at each key, and the length of each list.
 use Rattle.std.specs.Prelude.{List, length, codes, Option, Some, None, Result, Ok}
 use Rattle.serde_json.specs.Data.{Data}
 use Rattle.serde_json.specs.Find.{get}
@@ -18,11 +18,11 @@ use Rattle.cert_text.specs.Vectors.{numbers_of, vector_of}
 unfoldable pub standing_of : Plan → Data → Result Bound CertFault
 standing_of plan pool = value_at (codes "standing") pool >>= λ value. vector_of plan value >>= λ vector. Ok (Standing vector)
 
--- the lifetime vector that a value is
+-- the value as a lifetime vector
 unfoldable pub lifetime_of : Plan → Data → Result Bound CertFault
 lifetime_of plan value = vector_of plan value >>= λ vector. Ok (Lifetime vector)
 
--- what stands at the key of a lifetime vector, or the pool's standing vector
+-- the lifetime vector if its key is present, and the pool's standing vector otherwise
 abbrev pub lifetime_or_standing : Plan → Data → Option Data → Result Bound CertFault
 lifetime_or_standing plan pool (Some value) = lifetime_of plan value
 lifetime_or_standing plan pool None = standing_of plan pool
@@ -32,7 +32,7 @@ abbrev pub bound_of : Version → Plan → Data → Result Bound CertFault
 bound_of One plan pool = standing_of plan pool
 bound_of Two plan pool = lifetime_or_standing plan pool (get (codes "lifetime") pool)
 
--- what stands of one pool: its bound and its blocked vector, and nothing else
+-- the bound and the blocked vector of a pool, which has no other key
 unfoldable pub pool_of : Version → Plan → Data → Result PoolCert CertFault
 pool_of version plan pool =
     check_keys 2 pool >>= λ _.
@@ -51,7 +51,7 @@ ranks_of plan value =
     value_at (codes "levels") value >>= λ levels. numbers_of (length plan.classes) levels >>= λ levels.
     Ok (record { pools = pools; reach = reach; levels = levels })
 
--- the certificate of a value, whose third key is its version
+-- the certificate of a value; its third key is the version
 unfoldable pub shape_of : Version → Plan → Data → Result Cert CertFault
 shape_of version plan value =
     check_keys 3 value >>= λ _.

@@ -1,4 +1,4 @@
--- The numbers of a certificate are none of them above the limit.
+-- The limit on the numbers of a certificate.
 use Rattle.std.specs.Prelude.{Bool, ◌&&◌}
 use Rattle.std.specs.List.{list_all}
 use Rattle.weights.specs.Vector.{is_small, has_small_numbers}

@@ -1,4 +1,5 @@
--- The parts of a certificate's JSON: whole numbers, lists of a known length, and objects with known keys. The fault of each is the same.
+-- The parts of a certificate's JSON: unsigned integers, lists of a known length, and objects with known keys. All have the
+-- same fault.
 use Rattle.std.specs.Prelude.{ℕ, suc, ◌==◌, List, [], ◌∷◌, length, option_map, option_and_then, Option, Result, Ok}
 use Rattle.serde_json.specs.Data.{Data, Items, no_items, item, Members, no_members, member}
 use Rattle.serde_json.specs.Find.{get, as_number, as_u64, as_array, as_object}
@@ -9,11 +10,11 @@ use Rattle.cert_text.specs.declared.fault.CertFault.{CertFault}
 abbrev pub fault : ℕ → CertFault
 fault number = record { number = number }
 
--- the fault of every part that is not as it is to be
+-- the fault of a part with the wrong shape
 abbrev pub wrong_shape : CertFault
 wrong_shape = fault WRONG_SHAPE
 
--- a whole number of 64 bits that is not negative
+-- an unsigned 64-bit integer
 abbrev pub number_of : Data → Result ℕ CertFault
 number_of value = some_or (option_and_then as_u64 (as_number value)) wrong_shape
 
@@ -26,24 +27,24 @@ elements (item value rest) = value ∷ elements rest
 abbrev pub as_list : Data → Option (List Data)
 as_list value = option_map elements (as_array value)
 
--- the elements of a list of so many
+-- the elements of a list of length `count`
 unfoldable pub elements_of : ℕ → Data → Result (List Data) CertFault
 elements_of count value =
     some_or (as_list value) wrong_shape >>= λ values.
     holds_or (length values == count) wrong_shape >>= λ _.
     Ok values
 
--- how many members an object has
+-- the number of members of an object
 abbrev pub count_members : Members → ℕ
 count_members no_members = 0
 count_members (member key value rest) = suc (count_members rest)
 
--- the value is an object of so many keys
+-- the value is an object with `count` keys
 unfoldable pub check_keys : ℕ → Data → Result (Unit {0}) CertFault
 check_keys count value =
     some_or (as_object value) wrong_shape >>= λ members.
     holds_or (count_members members == count) wrong_shape
 
--- what stands at a key
+-- the value at a key
 abbrev pub value_at : List ℕ → Data → Result Data CertFault
 value_at key value = some_or (get key value) wrong_shape

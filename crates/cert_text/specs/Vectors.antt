@@ -1,4 +1,4 @@
--- A vector of a certificate's text: numbers for the workers, and rows for the classes and the kinds of clients.
+-- A vector of a certificate's text: numbers for the workers, and rows for the classes and for the kinds of client.
 use Rattle.std.specs.Prelude.{ℕ, ◌+◌, List, length, codes, Result, Ok}
 use Rattle.serde_json.specs.Data.{Data}
 use Rattle.readings.specs.Reading.{◌>>=◌, read_each}
@@ -7,7 +7,7 @@ use Rattle.weights.specs.Vector.{Vector}
 use Rattle.cert_text.specs.declared.fault.CertFault.{CertFault}
 use Rattle.cert_text.specs.Values.{number_of, elements_of, check_keys, value_at}
 
--- so many numbers
+-- a list of `count` numbers
 unfoldable pub numbers_of : ℕ → Data → Result (List ℕ) CertFault
 numbers_of count value = elements_of count value >>= λ values. read_each (λ _. number_of) 0 values
 
@@ -23,7 +23,7 @@ client_points plan c = length (client_at plan c).body + 1
 unfoldable pub class_rows : Plan → Data → Result (List (List ℕ)) CertFault
 class_rows plan value = elements_of (length plan.classes) value >>= λ rows. read_each (λ k. numbers_of (class_points plan k)) 0 rows
 
--- a row of numbers for each kind of clients
+-- a row of numbers for each kind of client
 unfoldable pub client_rows : Plan → Data → Result (List (List ℕ)) CertFault
 client_rows plan value = elements_of (length plan.clients) value >>= λ rows. read_each (λ c. numbers_of (client_points plan c)) 0 rows
 

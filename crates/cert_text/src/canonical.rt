@@ -1,6 +1,7 @@
-//! Certificates from texts as [`write_cert`](crate::write_cert) writes them, with no tree of JSON between.
+//! A fast parser for certificates in the exact form that [`write_cert`](crate::write_cert) writes.
+//! It builds no JSON tree.
 //!
-//! Nearly every text is one. Of any other nothing is said here: it is read as JSON.
+//! Nearly every text has this form. Any other text is rejected here and then parsed as JSON.
 
 ghost use Rattle.std.specs.Prelude.{◌≡◌, ◌++◌, IfOk, IsTrue, length, map};
 ghost use Rattle.std.specs.List.{list_all};
@@ -23,7 +24,7 @@ use pool_ranks::Ranks;
 use std::alloc::Global;
 use weights::Bound;
 
-/// The bound that stands behind a pool's blocked vector.
+/// Parses the bound that follows a pool's blocked vector, and returns it with the rest of the text.
 fn leading_bound<'a>(
     alloc: Global,
     plan: &Plan,
@@ -101,7 +102,8 @@ fn leading_ranks<'a>(
     Ok((ranks, rest))
 }
 
-/// What stands behind the version that the certificate needs.
+/// Strips the version that the certificate needs, with its key and the closing brace, and returns
+/// the rest.
 fn behind_version<'a>(cert: &Cert, text: &'a [u8]) -> Result<&'a [u8], CanonicalError>
     ensures { IfOk result (λ rest. text.now ≡ version_text cert.now ++ rest.now) }
 {
@@ -112,7 +114,7 @@ fn behind_version<'a>(cert: &Cert, text: &'a [u8]) -> Result<&'a [u8], Canonical
     }
 }
 
-/// The certificate at the front of a text, and what stands behind it.
+/// Parses a certificate at the start of a text, and returns it with the rest.
 fn leading_cert<'a>(
     alloc: Global,
     plan: &Plan,
@@ -142,7 +144,7 @@ fn is_blank(text: &[u8]) -> bool
     text.iter().all(|byte| is_space(*byte))
 }
 
-/// The certificate whose text this is, for this plan, also with white space behind it.
+/// Parses a certificate for this plan. White space may follow it.
 pub fn canonical_cert(alloc: Global, text: &[u8], plan: &Plan) -> Result<Cert, CanonicalError>
     ensures { IfOk result (IsCanonical plan.now text.now) }
 {

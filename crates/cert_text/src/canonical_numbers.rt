@@ -1,4 +1,4 @@
-//! Numbers at the front of a text, as they are written of a certificate.
+//! Parsers for numbers in canonical form at the start of a text.
 
 ghost use Rattle.std.specs.Prelude.{◌≡◌, ◌<◌, ◌+◌, ◌∷◌, ◌++◌, [], length, nat_lt, decimal, IfOk, IfSome, IsTrue, vec_len, vec_capacity};
 ghost use Rattle.std.specs.List.{list_all};
@@ -11,19 +11,20 @@ use job_bodies::MAX_WEIGHT;
 use readings::ReadError;
 use std::alloc::Global;
 
-/// The text is not as it is written of a certificate. Nothing more is said of it.
+/// The fault of a text that is not in the form that `write_cert` writes. It gives no further
+/// reason.
 #[derive(Clone, Copy, PartialEq, Eq)]
 pub struct NotCanonical;
 
-/// Why a part of a text gave nothing: memory ran out, or the text is not as it is written.
+/// The error of a canonical parser: out of memory, or a text that is not in canonical form.
 pub type CanonicalError = ReadError<NotCanonical>;
 
-/// The error of any text that is not as it is written.
+/// Returns the error for a text that is not in canonical form.
 pub fn not_canonical() -> CanonicalError {
     ReadError::Fault(NotCanonical)
 }
 
-/// What stands behind this front of a text.
+/// Strips a prefix and returns the rest.
 pub fn behind<'a>(text: &'a [u8], front: &[u8]) -> Result<&'a [u8], CanonicalError>
     ensures { IfOk result (λ rest. text.now ≡ front.now ++ rest.now) }
 {
@@ -33,7 +34,7 @@ pub fn behind<'a>(text: &'a [u8], front: &[u8]) -> Result<&'a [u8], CanonicalErr
     }
 }
 
-/// What stands behind this first byte of a text.
+/// Strips the first byte and returns the rest.
 #[inline(always)]
 pub fn behind_byte(text: &[u8], byte: u8) -> Result<&[u8], CanonicalError>
     ensures { IfOk result (λ rest. text.now ≡ byte ∷ rest.now) }
@@ -44,7 +45,8 @@ pub fn behind_byte(text: &[u8], byte: u8) -> Result<&[u8], CanonicalError>
     }
 }
 
-/// What stands behind the comma before the element at this place of a list: nothing is before the first one.
+/// Strips the comma before the list element at index `place` and returns the rest. The first
+/// element has no comma.
 #[inline(always)]
 pub fn behind_comma(text: &[u8], place: usize) -> Result<&[u8], CanonicalError>
     ensures { IfOk result (λ rest. text.now ≡ comma_if (nat_lt 0 place) ++ rest.now) }
@@ -56,7 +58,8 @@ pub fn behind_comma(text: &[u8], place: usize) -> Result<&[u8], CanonicalError>
     }
 }
 
-/// An empty list with room for so many elements. None is made that the text is too short for.
+/// Creates an empty list with room for `count` elements. Fails if the text has fewer than `count`
+/// bytes, so that a short text never causes a large allocation.
 pub fn list_for<T>(alloc: Global, count: usize, text: &[u8]) -> Result<Vec<T>, CanonicalError>
     ensures items { IfOk result (λ list. list.items ≡ []) }
     ensures len { IfOk result (λ list. vec_len list ≡ 0) }
@@ -79,7 +82,7 @@ fn leading_digit(text: &[u8]) -> Option<(u64, &[u8])>
     }
 }
 
-/// The number whose digits stand at the front of a text, and what stands behind them.
+/// Parses a number at the start of a text, and returns it with the rest.
 #[inline(always)]
 fn leading_number(text: &[u8]) -> Result<(u64, &[u8]), CanonicalError>
     ensures text { IfOk result (λ read. text.now ≡ decimal read.0 ++ read.1.now) }
@@ -103,7 +106,7 @@ fn leading_number(text: &[u8]) -> Result<(u64, &[u8]), CanonicalError>
     Ok((value, rest))
 }
 
-/// So many numbers of a list at the front of a text, and what stands behind it.
+/// Parses a list of `count` numbers at the start of a text, and returns it with the rest.
 pub fn leading_numbers(
     alloc: Global,
     count: usize,

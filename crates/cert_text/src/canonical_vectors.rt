@@ -1,4 +1,4 @@
-//! Vectors at the front of a text, as they are written of a certificate.
+//! Parsers for vectors in canonical form at the start of a text.
 
 ghost use Rattle.std.specs.Prelude.{◌≡◌, IfOk, IsTrue, length, map};
 ghost use Rattle.std.specs.List.{list_all};
@@ -15,7 +15,7 @@ use job_bodies::Plan;
 use std::alloc::Global;
 use weights::Vector;
 
-/// A row for each class.
+/// Parses a row for each class.
 fn leading_class_rows<'a>(
     alloc: Global,
     plan: &Plan,
@@ -41,7 +41,7 @@ fn leading_class_rows<'a>(
     Ok((rows, behind_byte(rest, b']')?))
 }
 
-/// A row for each kind of clients.
+/// Parses a row for each kind of client.
 fn leading_client_rows<'a>(
     alloc: Global,
     plan: &Plan,
@@ -67,7 +67,7 @@ fn leading_client_rows<'a>(
     Ok((rows, behind_byte(rest, b']')?))
 }
 
-/// The vector at the front of a text, and what stands behind it.
+/// Parses a vector at the start of a text, and returns it with the rest.
 pub fn leading_vector<'a>(
     alloc: Global,
     plan: &Plan,

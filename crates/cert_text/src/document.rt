@@ -1,4 +1,4 @@
-//! The JSON that the bytes of a certificate's text are.
+//! The JSON value of a certificate's text.
 
 ghost use Rattle.readings.specs.Given.{Gives};
 ghost use Rattle.serde_json.specs.View.{view};
@@ -11,7 +11,7 @@ use readings::ReadError;
 use serde_json::Value;
 use std::alloc::Global;
 
-/// The value that the bytes are.
+/// Parses the bytes as JSON.
 #[tactic(auto, unfolding(crate::specs::CertOf::document_of))]
 pub fn document_of(alloc: Global, bytes: &[u8]) -> Result<Value, CertError>
     ensures { Gives view result (spec.document_of bytes.now) }

@@ -1,4 +1,4 @@
-//! Why the text of a certificate is refused.
+//! The faults of a certificate's text.
 
 ghost use Rattle.std.specs.Prelude.{◌≡◌, Some};
 ghost use Rattle.faults.specs.Name.{head};
@@ -13,11 +13,11 @@ use std::fmt;
 /// The first fault of a certificate's text.
 #[derive(Clone, Copy, Debug, PartialEq, Eq)]
 pub struct CertFault {
-    /// The fault's number: 30 to 34, or 20 where memory ran out.
+    /// The fault's number: 30 to 34, or 20 if memory ran out.
     pub number: u8,
 }
 
-/// Writes the fault's number and name, as `fault 31 WrongShape`.
+/// Formats the fault's number and name, such as `fault 31 WrongShape`.
 impl fmt::Display for CertFault {
     ghost output = { λ fault. Some (head fault.number) };
 
@@ -29,17 +29,17 @@ impl fmt::Display for CertFault {
 
 impl std::error::Error for CertFault {}
 
-/// Why a part of a certificate's text gave nothing: memory ran out, or the first fault.
+/// The error of a parser of a certificate's text: out of memory, or the first fault.
 pub type CertError = ReadError<CertFault>;
 
-/// The fault of this number.
+/// Returns the fault with this number.
 pub fn fault(number: u8) -> CertError
     ensures { result ≡ Fault (spec.fault number) }
 {
     ReadError::Fault(CertFault { number })
 }
 
-/// The fault of every part that is not as it is to be.
+/// Returns the fault of a part with the wrong shape.
 pub fn wrong_shape() -> CertError
     ensures { result ≡ Fault spec.wrong_shape }
 {

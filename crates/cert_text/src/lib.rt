@@ -1,7 +1,8 @@
-//! The text of a certificate: a JSON object, of one of two versions.
+//! The text format of certificates: a JSON object in one of two versions.
 //!
-//! [`read_cert`] gives what the definition `cert_of` in `specs/` gives: a certificate that fits the plan, or the first
-//! fault. [`write_cert`] gives the text that reads back to the certificate.
+//! [`read_cert`] returns the value of the definition `cert_of` in `specs/`: a certificate that fits
+//! the plan, or the first fault. [`write_cert`] writes a text that reads back to the same
+//! certificate.
 #![tactic(auto)]
 
 mod canonical;

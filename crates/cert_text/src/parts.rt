@@ -1,4 +1,4 @@
-//! The parts of a certificate's text, each put behind a text, with no tree of JSON between.
+//! Writers for the parts of a certificate's text. They append to a string and build no JSON tree.
 
 ghost use Rattle.std.specs.Prelude.{◌≡◌, ◌++◌, map, codes};
 ghost use Rattle.serde_json.specs.Written.{comma_if, compact_text};
@@ -12,7 +12,7 @@ use pool_ranks::Ranks;
 use std::alloc::AllocError;
 use weights::{Bound, Vector};
 
-/// The comma before an element of a list that stands behind another.
+/// Appends a comma if the next list element is not the first.
 #[inline(always)]
 fn push_comma(text: &mut String, later: bool) -> Result<(), AllocError>
     ensures { Pushes result text.old text.new (comma_if later) }
@@ -59,7 +59,7 @@ fn push_vector(text: &mut String, vector: &Vector) -> Result<(), AllocError>
     text.push('}')
 }
 
-/// A pool's bound with its key, as it stands behind the blocked vector.
+/// Appends a pool's bound with its key, in the form that follows the blocked vector.
 fn push_bound(text: &mut String, bound: &Bound) -> Result<(), AllocError>
     ensures { Pushes result text.old text.new (bound_text bound.now) }
 {
@@ -84,7 +84,7 @@ fn push_pool(text: &mut String, pool: &PoolCert) -> Result<(), AllocError>
     text.push('}')
 }
 
-/// The pools of a certificate.
+/// Appends the pools of a certificate.
 pub fn push_pools(text: &mut String, pools: &[PoolCert]) -> Result<(), AllocError>
     ensures { Pushes result text.old text.new
         (compact_text (spec.list_data (map spec.pool_data pools.now))) }
@@ -99,7 +99,7 @@ pub fn push_pools(text: &mut String, pools: &[PoolCert]) -> Result<(), AllocErro
     text.push(']')
 }
 
-/// The ranks of a certificate.
+/// Appends the ranks of a certificate.
 pub fn push_ranks(text: &mut String, ranks: &Ranks) -> Result<(), AllocError>
     ensures { Pushes result text.old text.new (compact_text (spec.ranks_data ranks.now)) }
 {

@@ -1,4 +1,4 @@
-//! The certificate of a text.
+//! Parsing a certificate.
 
 ghost use Rattle.std.specs.Prelude.{◌≡◌, ◌≢◌, IfOk, IfErr, IsTrue, Ok, Err};
 ghost use Rattle.readings.specs.Given.{Gives};
@@ -19,19 +19,19 @@ use readings::ReadError;
 use serde_json::Value;
 use std::alloc::Global;
 
-/// The certificate that the bytes are the text of, for this plan, or the first fault. The fault's number is `MEMORY`
-/// where memory ran out; nothing else is then said of the text.
+/// Parses a certificate for this plan.
 ///
 /// # Errors
 ///
-/// In this order:
+/// Returns the first fault, or a fault with the number `MEMORY` if memory runs out, which says
+/// nothing about the text. The faults are found in this order:
 ///
 /// 1. 34: the text has more than [`MAX_CERT_BYTES`](job_bodies::MAX_CERT_BYTES) bytes.
-/// 2. 30: it is not UTF-8, or not JSON.
-/// 3. 31: it is no object with a whole number at `version`.
+/// 2. 30: the text is not UTF-8 or not JSON.
+/// 3. 31: the value is not an object with an unsigned integer at `version`.
 /// 4. 33: the version is neither 1 nor 2.
-/// 5. 31: a key is missing or one too many, a list is of another length than the plan has, or a value is no whole
-///    number of 64 bits.
+/// 5. 31: a key is missing or unknown, the length of a list does not match the plan, or a value is
+///    not an unsigned 64-bit integer.
 /// 6. 32: a number is above 1,000,000,000.
 pub fn read_cert(alloc: Global, bytes: &[u8], plan: &Plan) -> Result<Cert, CertFault>
     ensures cert { IfOk result (λ cert. spec.cert_of bytes.now plan.now ≡ Ok cert) }
@@ -46,7 +46,8 @@ pub fn read_cert(alloc: Global, bytes: &[u8], plan: &Plan) -> Result<Cert, CertF
     }
 }
 
-/// A text as [`write_cert`](crate::write_cert) writes it needs no tree of JSON; any other is read through one.
+/// Parses a certificate. Builds a JSON tree only if the text is not in the form that
+/// [`write_cert`](crate::write_cert) writes.
 #[tactic(auto, using(crate::proofs::CanonicalTexts::canonical_back))]
 fn cert_of(alloc: Global, bytes: &[u8], plan: &Plan) -> Result<Cert, CertError>
     ensures { Gives (λ cert. cert) result (spec.cert_of bytes.now plan.now) }

@@ -1,4 +1,5 @@
-//! The shape of a certificate's JSON, by its version: what stands at each key, and how many numbers each list has.
+//! The shape of a certificate's JSON in each version: the value at each key, and the length of each
+//! list.
 
 ghost use Rattle.std.specs.Prelude.{map, option_map};
 ghost use Rattle.readings.specs.Reading.{read_each};
@@ -50,7 +51,7 @@ fn lifetime_or_standing(
     }
 }
 
-/// The vector that bounds a pool's queue.
+/// Reads the vector that bounds a pool's queue.
 fn bound_of(alloc: Global, version: Version, plan: &Plan, pool: &Value) -> Result<Bound, CertError>
     ensures { Gives (λ bound. bound) result (spec.bound_of version plan.now (view pool.now)) }
 {
@@ -125,7 +126,7 @@ fn ranks_of(alloc: Global, plan: &Plan, value: &Value) -> Result<Ranks, CertErro
     })
 }
 
-/// The certificate that a value is the shape of, whatever its numbers are.
+/// Reads a certificate from a JSON value without a limit on its numbers.
 #[tactic(auto, unfolding(crate::specs::Shape::shape_of))]
 pub fn shape_of(
     alloc: Global,

@@ -1,4 +1,4 @@
-//! Whether the numbers of a certificate are within the limit.
+//! The limit on the numbers of a certificate.
 
 ghost use Rattle.std.specs.Prelude.{◌≡◌};
 ghost use Rattle.std.specs.List.{list_all};
@@ -26,7 +26,7 @@ fn ranks_are_small(ranks: &Ranks) -> bool
     are_small(&ranks.pools) && are_small(&ranks.reach) && are_small(&ranks.levels)
 }
 
-/// Whether no number of the certificate is above the limit.
+/// Returns whether all numbers of the certificate are within the limit.
 #[tactic(auto, unfolding(crate::specs::Sizes::cert_has_small_numbers))]
 pub fn has_small_numbers(cert: &Cert) -> bool
     ensures { result ≡ spec.cert_has_small_numbers cert.now }

@@ -1,4 +1,5 @@
-//! The parts of a certificate's JSON: whole numbers, lists of a known length, and objects with known keys.
+//! The parts of a certificate's JSON: unsigned integers, lists of a known length, and objects with
+//! known keys.
 
 ghost use Rattle.std.specs.Prelude.{◌≡◌, map, option_map};
 ghost use Rattle.readings.specs.Given.{Gives};
@@ -9,7 +10,7 @@ ghost use Rattle.cert_text.specs.Values as spec;
 use crate::fault::{CertError, wrong_shape};
 use serde_json::Value;
 
-/// The whole number of 64 bits that a value is.
+/// Returns the value as an unsigned 64-bit integer.
 pub fn number_of(value: &Value) -> Result<u64, CertError>
     ensures { Gives (λ number. number) result (spec.number_of (view value.now)) }
 {
@@ -19,7 +20,7 @@ pub fn number_of(value: &Value) -> Result<u64, CertError>
     }
 }
 
-/// The elements of a value that is a list.
+/// Returns the elements of the value if it is a list.
 fn list_in(value: &Value) -> Option<&[Value]>
     ensures { option_map (λ values. map view values.now) result ≡ spec.as_list (view value.now) }
 {
@@ -29,7 +30,7 @@ fn list_in(value: &Value) -> Option<&[Value]>
     }
 }
 
-/// The elements of a list of so many.
+/// Returns the elements of a list of length `count`.
 #[tactic(auto, unfolding(crate::specs::Values::elements_of))]
 pub fn elements_of(value: &Value, count: usize) -> Result<&[Value], CertError>
     ensures { Gives (λ values. map view values.now) result
@@ -44,7 +45,7 @@ pub fn elements_of(value: &Value, count: usize) -> Result<&[Value], CertError>
     Ok(values)
 }
 
-/// How many keys a value that is an object has.
+/// Returns the number of keys of the value if it is an object.
 fn key_count(value: &Value) -> Option<usize>
     ensures { result ≡ option_map spec.count_members (as_object (view value.now)) }
 {
@@ -54,7 +55,7 @@ fn key_count(value: &Value) -> Option<usize>
     }
 }
 
-/// Checks that a value is an object of so many keys.
+/// Checks that the value is an object with `count` keys.
 #[tactic(auto, unfolding(crate::specs::Values::check_keys))]
 pub fn check_keys(value: &Value, count: usize) -> Result<(), CertError>
     ensures { Gives (λ nothing. nothing) result (spec.check_keys count (view value.now)) }
@@ -68,7 +69,7 @@ pub fn check_keys(value: &Value, count: usize) -> Result<(), CertError>
     Ok(())
 }
 
-/// What stands at a key of an object.
+/// Returns the value at a key of an object.
 pub fn value_at<'a>(value: &'a Value, key: &str) -> Result<&'a Value, CertError>
     ensures { Gives (λ found. view found.now) result (spec.value_at key.now (view value.now)) }
 {

@@ -1,4 +1,5 @@
-//! A vector of a certificate's text: numbers for the workers, and rows for the classes and the kinds of clients.
+//! A vector of a certificate's text: numbers for the workers, and rows for the classes and for the
+//! kinds of client.
 
 ghost use Rattle.std.specs.Prelude.{◌≡◌, length, map};
 ghost use Rattle.readings.specs.Reading.{read_each};
@@ -14,7 +15,7 @@ use serde_json::Value;
 use std::alloc::Global;
 use weights::Vector;
 
-/// The numbers that these values are.
+/// Reads each value as a number.
 fn numbers_in(alloc: Global, values: &[Value]) -> Result<Vec<u64>, CertError>
     ensures { Gives (λ numbers. numbers.items) result
         (read_each (λ _. value_spec.number_of) 0 (map view values.now)) }
@@ -27,7 +28,7 @@ fn numbers_in(alloc: Global, values: &[Value]) -> Result<Vec<u64>, CertError>
     Ok(numbers)
 }
 
-/// So many numbers.
+/// Reads a list of `count` numbers.
 #[tactic(auto, unfolding(crate::specs::Vectors::numbers_of))]
 pub fn numbers_of(alloc: Global, value: &Value, count: usize) -> Result<Vec<u64>, CertError>
     ensures { Gives (λ numbers. numbers.items) result (spec.numbers_of count (view value.now)) }
@@ -36,7 +37,8 @@ pub fn numbers_of(alloc: Global, value: &Value, count: usize) -> Result<Vec<u64>
     numbers_in(alloc, values)
 }
 
-/// How many numbers the row of a class has: queued, each position of its body, its end, and done.
+/// Returns the number of weights in the row of a class: queued, each position of its body, its end,
+/// and done.
 pub fn class_points(plan: &Plan, class: usize) -> usize
     ensures { result ≡ spec.class_points plan.now class }
 {
@@ -46,7 +48,8 @@ pub fn class_points(plan: &Plan, class: usize) -> usize
     }
 }
 
-/// How many numbers the row of a kind of clients has: each position of its body, and its end.
+/// Returns the number of weights in the row of a kind of client: each position of its body, and its
+/// end.
 pub fn client_points(plan: &Plan, client: usize) -> usize
     ensures { result ≡ spec.client_points plan.now client }
 {
@@ -80,7 +83,7 @@ fn client_rows_in(alloc: Global, plan: &Plan, values: &[Value]) -> Result<Vec<Ve
     Ok(rows)
 }
 
-/// A row of numbers for each class.
+/// Reads a row of numbers for each class.
 #[tactic(auto, unfolding(crate::specs::Vectors::class_rows))]
 fn class_rows(alloc: Global, plan: &Plan, value: &Value) -> Result<Vec<Vec<u64>>, CertError>
     ensures { Gives (λ rows. map (λ row. row.items) rows.items) result
@@ -90,7 +93,7 @@ fn class_rows(alloc: Global, plan: &Plan, value: &Value) -> Result<Vec<Vec<u64>>
     class_rows_in(alloc, plan, values)
 }
 
-/// A row of numbers for each kind of clients.
+/// Reads a row of numbers for each kind of client.
 #[tactic(auto, unfolding(crate::specs::Vectors::client_rows))]
 fn client_rows(alloc: Global, plan: &Plan, value: &Value) -> Result<Vec<Vec<u64>>, CertError>
     ensures { Gives (λ rows. map (λ row. row.items) rows.items) result
@@ -100,7 +103,7 @@ fn client_rows(alloc: Global, plan: &Plan, value: &Value) -> Result<Vec<Vec<u64>
     client_rows_in(alloc, plan, values)
 }
 
-/// The vector that a value is.
+/// Reads a vector.
 #[tactic(auto, unfolding(crate::specs::Vectors::vector_of))]
 pub fn vector_of(alloc: Global, plan: &Plan, value: &Value) -> Result<Vector, CertError>
     ensures { Gives (λ vector. vector) result (spec.vector_of plan.now (view value.now)) }

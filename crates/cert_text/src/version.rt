@@ -14,7 +14,7 @@ use certificates::{Cert, PoolCert};
 use faults::number::VERSION;
 use serde_json::Value;
 
-/// A version that is read.
+/// A supported version.
 #[derive(Clone, Copy, PartialEq, Eq)]
 pub enum Version {
     /// Each pool has a standing vector.
@@ -33,7 +33,7 @@ fn version_numbered(number: u64) -> Result<Version, CertError>
     }
 }
 
-/// The version that a certificate's text says.
+/// Reads the version of a certificate's text.
 #[tactic(auto, unfolding(crate::specs::Version::version_of))]
 pub fn version_of(value: &Value) -> Result<Version, CertError>
     ensures { Gives (λ version. version) result (spec.version_of (view value.now)) }
@@ -49,7 +49,7 @@ fn has_lifetime(pools: &[PoolCert]) -> bool
     pools.iter().any(|pool| pool.bound.is_lifetime())
 }
 
-/// The version that a certificate needs.
+/// Returns the lowest version that can represent the certificate.
 pub fn version_number(cert: &Cert) -> u64
     ensures { result ≡ version_number cert.now }
 {

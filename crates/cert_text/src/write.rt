@@ -1,4 +1,4 @@
-//! The text of a certificate.
+//! Writing a certificate.
 
 ghost use Rattle.std.specs.Prelude.{◌≡◌, ◌<◌, ◌≤◌, ◌∷◌, ◌++◌, [], false, length, IfOk, IsTrue, Ok};
 ghost use Rattle.job_bodies.specs.Plan.{Plan};
@@ -15,15 +15,16 @@ use certificates::Cert;
 use decimals::push_number;
 use std::alloc::{AllocError, Global};
 
-/// The text of a certificate: compact JSON, the keys of each object ascending, with no newline. Its version is 2 where
-/// some pool has a lifetime vector, and else 1.
+/// Writes a certificate as compact JSON, with the keys of each object in ascending order and no
+/// newline. The version is 2 if a pool has a lifetime vector, and 1 otherwise.
 ///
-/// Where the certificate fits a plan and the text is not too long, [`read_cert`](crate::read_cert) reads it back for
-/// that plan, also with a newline behind it. No text has a `%`, so that it may stand behind a line `%%`.
+/// If the certificate fits a plan and the text is not too long, [`read_cert`](crate::read_cert)
+/// reads it back for that plan, even if a newline follows. The text never has a `%`, so it can
+/// follow a `%%` line.
 ///
 /// # Errors
 ///
-/// [`AllocError`] where memory runs out.
+/// Returns [`AllocError`] if memory runs out.
 pub fn write_cert(alloc: Global, cert: &Cert) -> Result<Vec<u8>, AllocError>
     ensures text { IfOk result (λ text. text.items ≡ spec.cert_text cert.now) }
     ensures reads_back { IfOk result (λ text.
@@ -53,7 +54,7 @@ fn push_cert(text: &mut String, cert: &Cert) -> Result<(), AllocError>
     push_version(text, cert)
 }
 
-/// The version that the certificate needs, with its key, and the end of the text.
+/// Appends the version that the certificate needs, with its key, and the end of the text.
 fn push_version(text: &mut String, cert: &Cert) -> Result<(), AllocError>
     ensures { Pushes result text.old text.new (version_text cert.now) }
 {

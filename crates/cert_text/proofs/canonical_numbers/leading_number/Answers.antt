@@ -3,11 +3,11 @@ use Rattle.std.proofs.lemmas.Fmt.{decimal_digit, decimal_step}
 use Rattle.job_bodies.specs.declared.limits.TheConstants.{MAX_WEIGHT}
 use Rattle.cert_text.proofs.canonical_numbers.leading_number.Goals as goal
 
--- a first digit is a number's only one
+-- if the first digit is 0, it is the only one
 one_digit : (text behind : List ℕ) (digit : ℕ) → text ≡ (48 + digit) ∷ behind → digit < 10 → text ≡ decimal digit ++ behind
 one_digit text behind digit read small = read ∙ ap (λ (t : List ℕ). t ++ behind) (sym (decimal_digit digit small))
 
--- one more digit
+-- after one more digit
 more_digits : (text rest behind : List ℕ) (value digit : ℕ) → text ≡ decimal value ++ rest → rest ≡ (48 + digit) ∷ behind → digit < 10 → 1 ≤ value → value ≤ MAX_WEIGHT → text ≡ decimal (value * 10 + digit) ++ behind
 more_digits text rest behind value digit read here small some within =
     let front : (value * 10 + digit) / 10 ≡ value = omega arith in
