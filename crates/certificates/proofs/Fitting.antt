@@ -10,7 +10,7 @@ use Rattle.weights.specs.Bound.{bound_vector}
 use Rattle.pool_ranks.specs.Ranks.{ranks_fit}
 use Rattle.certificates.specs.Cert.{PoolCert, Cert, no_pool_cert, pool_cert_at, pool_cert_fits, cert_fits}
 
--- there are as many parts as pools
+-- the number of parts is the number of pools
 pub as_many_parts : (plan : Plan) (cert : Cert) → IsTrue (cert_fits plan cert) → length cert.pools ≡ length plan.pools
 as_many_parts plan cert fits =
     let count = eqb (length cert.pools) (length plan.pools) in
@@ -29,7 +29,7 @@ pub record VectorsFit (plan : Plan) (pool : PoolCert) : Type 0 where
   pub bound : IsTrue (vector_fits plan (bound_vector pool.bound))
   pub blocked : IsTrue (vector_fits plan pool.blocked)
 
--- there is a part for each pool, and all parts fit
+-- the certificate has a part for each pool, and all parts fit
 pub record PartsFit (plan : Plan) (cert : Cert) : Type 0 where
   pub as_many : length cert.pools ≡ length plan.pools
   pub ranks : IsTrue (ranks_fit plan cert.ranks)

@@ -1,4 +1,4 @@
--- Certificates: for each pool a bound on its queue and a blocked vector, and ranks.
+-- Certificates: a bound on the queue and a blocked vector for each pool, and ranks.
 use Rattle.std.specs.Prelude.{ℕ, ◌==◌, ◌&&◌, Bool, List, [], length, slice_index_or}
 use Rattle.std.specs.List.{list_all}
 use Rattle.job_bodies.specs.Plan.{Plan}
@@ -16,7 +16,7 @@ pub record Cert : Type 0 where
   pub pools : List PoolCert
   pub ranks : Ranks
 
--- what stands past the end of the list of pools
+-- the default for an index past the end of the list of pools
 abbrev pub no_vector : Vector
 no_vector = record { workers = []; classes = []; clients = [] }
 

@@ -9,12 +9,12 @@ use pool_ranks::Ranks;
 use std::marker::Model;
 use weights::{Bound, Vector};
 
-/// What a certificate says of one pool.
+/// The part of a certificate for one pool.
 #[derive(Debug, Drop)]
 pub struct PoolCert {
-    /// With it the pool refuses no job.
+    /// The proof that the pool never rejects a job.
     pub bound: Bound,
-    /// With it fewer of the pool's jobs than core wait at counted gets.
+    /// The proof that fewer of the pool's jobs than core wait at counted gets at any time.
     pub blocked: Vector,
 }
 
@@ -25,7 +25,7 @@ impl Model for PoolCert {
 }
 
 impl PoolCert {
-    /// Whether both vectors fit the plan.
+    /// Returns whether both vectors fit the plan.
     fn fits(&self, plan: &Plan) -> bool
         ensures { result ≡ spec.pool_cert_fits plan.now self.now }
     {
@@ -33,7 +33,7 @@ impl PoolCert {
     }
 }
 
-/// A certificate: what it says of each pool, in plan order, and the ranks.
+/// A certificate: a part for each pool, in plan order, and the ranks.
 #[derive(Debug, Drop)]
 pub struct Cert {
     pub pools: Vec<PoolCert>,
@@ -47,7 +47,7 @@ impl Model for Cert {
 }
 
 impl Cert {
-    /// What the certificate says of the pool.
+    /// Returns the part for the pool.
     pub fn pool_at(&self, pool: usize) -> &PoolCert
         requires { pool < length self.now.pools }
         ensures { result.now ≡ spec.pool_cert_at self.now pool }
@@ -55,8 +55,8 @@ impl Cert {
         &self.pools[pool]
     }
 
-    /// Whether there is a part for each pool, each list has the plan's shape, and no number is above
-    /// [`MAX_WEIGHT`](job_bodies::MAX_WEIGHT). It takes no memory.
+    /// Returns whether the certificate has a part for each pool, each list has the plan's shape,
+    /// and no number is above [`MAX_WEIGHT`](job_bodies::MAX_WEIGHT). Allocates nothing.
     pub fn fits(&self, plan: &Plan) -> bool
         ensures { result ≡ spec.cert_fits plan.now self.now }
     {

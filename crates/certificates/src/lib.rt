@@ -1,4 +1,4 @@
-//! Certificates: for each pool a bound on its queue and a blocked vector, and ranks.
+//! Certificates: a bound on the queue and a blocked vector for each pool, and ranks.
 #![tactic(auto)]
 
 mod cert;

@@ -1,4 +1,4 @@
--- The parts from this one on decide.
+-- The remaining parts decide the result.
 use Rattle.std.proofs.Common.{◌≡◌, drop}
 use Rattle.std.specs.List.{list_all}
 use Rattle.certificates.specs.Cert.{pool_cert_fits}
