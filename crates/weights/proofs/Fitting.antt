@@ -1,4 +1,4 @@
--- What a vector that fits a plan says of its numbers.
+-- The bounds on the numbers of a vector that fits a plan.
 use Rattle.std.proofs.Common.{◌≡◌, ◌≤◌, ◌<◌, ◌+◌, ◌-◌, ℕ, zero, suc, Bool, true, false, List, [], ◌∷◌, length, get_or, drop, slice_get, Some, refl, sym, ap, subst, ◌∙◌, arith, inl, inr, zero-add}
 use Rattle.std.specs.Prelude.{Option, None, ◌==◌, slice_index, slice_index_or, IsTrue}
 use Rattle.std.specs.List.{list_all, enumerate_from}
@@ -26,19 +26,19 @@ pub record Fits (plan : Plan) (v : Vector) : Type 0 where
   pub small_class : (k i : ℕ) → slice_index (class_weights v k) i ≤ MAX_WEIGHT
   pub small_client : (c i : ℕ) → slice_index (client_weights v c) i ≤ MAX_WEIGHT
 
--- a number of a list of small ones
+-- an element of a list of small numbers is small
 pub small_in : (xs : List ℕ) (i : ℕ) → list_all is_small xs ≡ true → slice_index xs i ≤ MAX_WEIGHT
 small_in [] i small = omega arith
 small_in (x ∷ xs) zero small = leb-true x MAX_WEIGHT (and_parts _ _ small).0
 small_in (x ∷ xs) (suc i) small = small_in xs i (and_parts (is_small x) _ small).1
 
--- a number of a list of lists of small ones
+-- an element of a list of lists of small numbers is small
 small_at : (rows : List (List ℕ)) (k i : ℕ) → list_all (list_all is_small) rows ≡ true → slice_index (slice_index_or rows k []) i ≤ MAX_WEIGHT
 small_at [] k i small = omega arith
 small_at (row ∷ rows) zero i small = small_in row i (and_parts (list_all is_small row) _ small).0
 small_at (row ∷ rows) (suc k) i small = small_at rows k i (and_parts (list_all is_small row) _ small).1
 
--- a test that all elements pass with their places, at one of them
+-- a test that all elements pass with their indices holds at each index
 passed_at : {X : Type 0} (test : ℕ × X → Bool) (xs : List X) (i : ℕ) (d : X) → list_all test (enumerate_from 0 xs) ≡ true → i < length xs → test (i, get_or xs i d) ≡ true
 passed_at test xs i d all inside =
     let found : test (0 + i, get_or xs i d) ≡ true = list_all_enumerated test 0 xs i _ all (slice_get-get_or xs i d inside) in
@@ -64,7 +64,7 @@ fits plan v all =
       small_client = λ c i. small_at v.clients c i numbers.1;
     }
 
--- what fits of one class, which has that number
+-- the class with index k has its weights
 pub record ClassFits (plan : Plan) (v : Vector) (k : ℕ) (class : Class) : Type 0 where
   pub known : k < length v.classes
   pub pool : class.pool < length v.workers
@@ -74,7 +74,7 @@ pub record ClassFits (plan : Plan) (v : Vector) (k : ℕ) (class : Class) : Type
   pub small_worker : workers_weight v class.pool ≤ MAX_WEIGHT
   pub is_class : class_at plan k ≡ class
 
--- the weights of a job's positions stand behind that of the queued job
+-- the weights of a job's positions follow that of the queued job
 pub at_position : (v : Vector) (k i : ℕ) → slice_index (drop 1 (class_weights v k)) i ≡ job_weight v k i
 at_position v k i =
     let swapped : 1 + i ≡ i + 1 = omega arith in
@@ -111,7 +111,7 @@ last_is_done plan v k all inside =
     let long = (fits plan v all).class k inside in
     ap (slice_index (class_weights v k)) (omega arith)
 
--- what fits of one kind of clients, which has that number
+-- the kind of client with index c has its weights
 pub record ClientFits (plan : Plan) (v : Vector) (c : ℕ) (client : Client) : Type 0 where
   pub known : c < length v.clients
   pub long : length (client_weights v c) ≡ length client.body + 1
@@ -133,13 +133,13 @@ client_fits plan v c client well all here =
       };
     }
 
--- a submit of a lawful body is of a class that has a queued weight
+-- each class has a weight for a queued job
 pub submitted_known : (plan : Plan) (v : Vector) (k : ℕ) → IsTrue (vector_fits plan v) → k < length plan.classes → 0 < length (class_weights v k)
 submitted_known plan v k all inside =
     let long = (fits plan v all).class k inside in
     omega arith
 
--- a get of a lawful body is of a job of a class that there is
+-- the class of a job that a valid body gets exists
 pub got_known : (plan : Plan) (body : List Action) (i t : ℕ) → IsLawful plan body → slice_get body i ≡ Some (Get t) → class_got body t < length plan.classes
 got_known plan body i t lawful here = of_submit (slice_get body t) refl (lawful.of_submit i t here)
   where
@@ -149,13 +149,13 @@ got_known plan body i t lawful here = of_submit (slice_get body t) refl (lawful.
     of_submit (Some (Submit k)) e s = lawful.submit t k e
     of_submit (Some (Get u)) e s = absurd cc
 
--- a pool of a plan has no more threads than there may be
+-- the maximum of a pool is within the limit
 pub max_at : (plan : Plan) (p : ℕ) (pool : Pool) → IsWellFormed plan → slice_get plan.pools p ≡ Some pool → pool.max ≤ MAX_SIZE
 max_at plan p pool well here =
     let same : pool_at plan p ≡ pool = get_or_from_slice_get plan.pools p pool no_pool here in
     subst (λ (x : Pool). x.max ≤ MAX_SIZE) same ((ordered plan well).most_max p (slice_get_within plan.pools p pool here))
 
--- a kind of a plan has no more clients than there may be
+-- the number of clients of a kind is within the limit
 pub count_at : (plan : Plan) (c : ℕ) (client : Client) → IsWellFormed plan → slice_get plan.clients c ≡ Some client → client.count ≤ MAX_SIZE
 count_at plan c client well here =
     let same : client_at plan c ≡ client = get_or_from_slice_get plan.clients c client no_client here in

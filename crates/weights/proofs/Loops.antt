@@ -1,46 +1,46 @@
--- Loops that test or add up the elements of a list with their places.
+-- Loops that test or sum the elements of a list with their indices.
 use Rattle.std.proofs.Common.{◌≡◌, ◌≤◌, ◌<◌, ◌+◌, ℕ, Bool, true, false, ◌&&◌, List, [], ◌∷◌, length, get_or, drop, map, refl, sym, ap, subst, ◌∙◌, arith}
 use Rattle.std.specs.Prelude.{sum_by}
 use Rattle.std.specs.List.{list_all, enumerate_from}
 use Rattle.std.proofs.lemmas.List.{at_drop_more, at_drop_all}
 use Rattle.std.proofs.lemmas.List.Sums.{sum_by-cons}
 
--- an element and those after it, with their places
+-- an element and those after it, with their indices
 turn : {X Y : Type 0} (F : List (ℕ × X) → Y) (xs : List X) (i : ℕ) (x : X) → i < length xs → x ≡ get_or xs i x → F (enumerate_from i (drop i xs)) ≡ F ((i, x) ∷ enumerate_from (i + 1) (drop (i + 1) xs))
 turn {X} F xs i x inside here =
     at_drop_more (λ (ys : List X). F (enumerate_from i ys)) xs i x inside
     ∙ ap (λ (y : X). F ((i, y) ∷ enumerate_from (i + 1) (drop (i + 1) xs))) (sym here)
 
--- one more element passes
+-- if one more element passes, those after it decide
 pub passes_more : {X : Type 0} (test : ℕ × X → Bool) (xs : List X) (i : ℕ) (x : X) (all : Bool) → i < length xs → x ≡ get_or xs i x → test (i, x) ≡ true
     → list_all test (enumerate_from i (drop i xs)) ≡ all → list_all test (enumerate_from (i + 1) (drop (i + 1) xs)) ≡ all
 passes_more test xs i x all inside here passes so_far =
     let one = turn (list_all test) xs i x inside here in
     sym (one ∙ ap (λ (b : Bool). b && list_all test (enumerate_from (i + 1) (drop (i + 1) xs))) passes) ∙ so_far
 
--- an element fails
+-- if an element fails, the elements from it on fail
 pub fails_here : {X : Type 0} (test : ℕ × X → Bool) (xs : List X) (i : ℕ) (x : X) (all : Bool) → i < length xs → x ≡ get_or xs i x → test (i, x) ≡ false
     → list_all test (enumerate_from i (drop i xs)) ≡ all → false ≡ all
 fails_here test xs i x all inside here fails so_far =
     let one = turn (list_all test) xs i x inside here in
     sym (one ∙ ap (λ (b : Bool). b && list_all test (enumerate_from (i + 1) (drop (i + 1) xs))) fails) ∙ so_far
 
--- all elements have passed
+-- past the last element, the test has passed
 pub passes_all : {X : Type 0} (test : ℕ × X → Bool) (xs : List X) (i : ℕ) (all : Bool) → length xs ≤ i → list_all test (enumerate_from i (drop i xs)) ≡ all → true ≡ all
 passes_all {X} test xs i all past so_far = sym (at_drop_all (λ (ys : List X). list_all test (enumerate_from i ys)) xs i past) ∙ so_far
 
--- an element's image and those after it
+-- the image of an element and the images of those after it
 pub images_turn : {X Y : Type 0} (test : Y → Bool) (view : X → Y) (xs : List X) (i : ℕ) (d : X) → i < length xs → list_all test (map view (drop i xs)) ≡ (test (view (get_or xs i d)) && list_all test (map view (drop (i + 1) xs)))
 images_turn {X} test view xs i d inside = at_drop_more (λ (ys : List X). list_all test (map view ys)) xs i d inside
 
--- one more element is added
+-- after the addition of one more element
 pub sum_more : {X : Type 0} (f : ℕ × X → ℕ) (xs : List X) (i : ℕ) (x : X) (sum all : ℕ) → i < length xs → x ≡ get_or xs i x
     → sum + sum_by f (enumerate_from i (drop i xs)) ≡ all → sum + f (i, x) + sum_by f (enumerate_from (i + 1) (drop (i + 1) xs)) ≡ all
 sum_more f xs i x sum all inside here so_far =
     let one : sum_by f (enumerate_from i (drop i xs)) ≡ f (i, x) + sum_by f (enumerate_from (i + 1) (drop (i + 1) xs)) = turn (sum_by f) xs i x inside here ∙ sum_by-cons f (i, x) (enumerate_from (i + 1) (drop (i + 1) xs)) in
     omega arith
 
--- all elements are added
+-- past the last element, the sum is complete
 pub sum_all : {X : Type 0} (f : ℕ × X → ℕ) (xs : List X) (i sum all : ℕ) → length xs ≤ i → sum + sum_by f (enumerate_from i (drop i xs)) ≡ all → sum ≡ all
 sum_all {X} f xs i sum all past so_far =
     let none : sum_by f (enumerate_from i (drop i xs)) ≡ 0 = at_drop_all (λ (ys : List X). sum_by f (enumerate_from i ys)) xs i past in

@@ -15,19 +15,19 @@ pub takes_then : {S : Type 0} (has_seen : S → List Row → Type 0) (old now ne
 takes_then has_seen old now new xs ys first second =
     record { behind = λ before seen. subst (has_seen new) (append_assoc before xs ys) (second.behind (before ++ xs) (first.behind before seen)) }
 
--- the same rows by another name
+-- equal lists of rows
 pub takes_same : {S : Type 0} (has_seen : S → List Row → Type 0) (old new : S) (xs ys : List Row) → xs ≡ ys → Takes has_seen old new xs → Takes has_seen old new ys
 takes_same has_seen old new xs ys same taken = subst (λ (rows : List Row). Takes has_seen old new rows) same taken
 
--- the rows of all elements, each with its place
+-- the rows of all elements with their indices
 abbrev pub all_rows : {X : Type 0} → (ℕ → X → List Row) → ℕ → List X → List Row
 all_rows rows_at n xs = flat_map (λ entry. rows_at entry.0 entry.1) (enumerate_from n xs)
 
--- the rows of the elements before place i have been seen
+-- the rows of the elements before index i were visited
 pub record Walked {S X : Type 0} (has_seen : S → List Row → Type 0) (old now : S) (rows_at : ℕ → X → List Row) (xs : List X) (i : ℕ) : Type 0 where
   pub so_far : Takes has_seen old now (all_rows rows_at 0 (take i xs))
 
--- one more element's rows
+-- after the rows of one more element
 rows_more : {X : Type 0} (rows_at : ℕ → X → List Row) (n : ℕ) (xs : List X) (i : ℕ) (x : X) → slice_get xs i ≡ Some x → all_rows rows_at n (take (suc i) xs) ≡ all_rows rows_at n (take i xs) ++ rows_at (n + i) x
 rows_more rows_at n [] i x here = absurd cc
 rows_more rows_at n (y ∷ xs) zero x here =
@@ -53,12 +53,12 @@ pub walk_ends : {S X : Type 0} (has_seen : S → List Row → Type 0) (old new :
 walk_ends has_seen old new rows_at xs i past walked =
     takes_same has_seen old new _ _ (ap (λ (ys : List _). all_rows rows_at 0 ys) (take_all i xs past)) walked.so_far
 
--- one row an element
+-- one row for each element
 pub one_each : {X : Type 0} (f : X → Row) (xs : List X) → flat_map (λ x. f x ∷ []) xs ≡ map f xs
 one_each f [] = refl
 one_each f (x ∷ xs) = ap (λ (rows : List Row). f x ∷ rows) (one_each f xs)
 
--- the rows of the elements that pass
+-- the rows of the elements that pass a test
 pub of_passing : {X : Type 0} (test : X → Bool) (f : X → List Row) (xs : List X) → flat_map (λ x. if test x then f x else []) xs ≡ flat_map f (filter test xs)
 of_passing test f [] = refl
 of_passing test f (x ∷ xs) =
@@ -68,7 +68,7 @@ of_passing test f (x ∷ xs) =
       | false ↦ of_passing test f xs
     ]
 
--- one row an element, whatever its place
+-- one row for each element, whatever its index
 pub one_each_placeless : {X : Type 0} (f : X → Row) (n : ℕ) (xs : List X) → all_rows (λ _ x. f x ∷ []) n xs ≡ map f xs
 one_each_placeless f n [] = refl
 one_each_placeless f n (x ∷ xs) = ap (λ (rows : List Row). f x ∷ rows) (one_each_placeless f (n + 1) xs)

@@ -21,7 +21,7 @@ abbrev pub bound_at_get : Bound → AtGet
 bound_at_get (Standing v) = GivesBack
 bound_at_get (Lifetime v) = GivesNothing
 
--- what the vector's total is compared with
+-- the limit of the vector's total
 abbrev pub bound_limit : Plan → ℕ → Bound → ℕ
 bound_limit plan p (Standing v) = (pool_at plan p).queue
 bound_limit plan p (Lifetime v) = lifetime_limit (pool_at plan p)

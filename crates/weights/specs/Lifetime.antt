@@ -1,4 +1,4 @@
--- The conditions of a pool's lifetime vector: no more jobs are ever made than the queue and the threads hold.
+-- The conditions of a pool's lifetime vector: the queue and the threads have room for all jobs that are ever submitted.
 use Rattle.std.specs.Prelude.{ℕ, ◌+◌, ◌-◌, List, [], ◌∷◌, ◌++◌, map}
 use Rattle.std.specs.List.{flat_map, enumerate_from}
 use Rattle.job_bodies.specs.Plan.{Pool, Plan, pool_at, first_workers}
@@ -10,7 +10,7 @@ use Rattle.weights.specs.Vector.{Vector, workers_weight, class_weights, total}
 use Rattle.weights.specs.AtGet.{GivesNothing}
 use Rattle.weights.specs.Rows.{rows, classes_of}
 
--- how many jobs a pool takes before it can refuse one: its queue and its threads, but for those that no job made
+-- the number of jobs that a pool accepts before it can reject one: its queue and its maximum, less its prestarted threads
 abbrev pub lifetime_limit : Pool → ℕ
 lifetime_limit pool = pool.queue + pool.max - first_workers pool
 

@@ -5,11 +5,11 @@ use Rattle.weights.specs.declared.row.Rule.{Rule}
 use Rattle.weights.specs.declared.row.Place.{Place}
 use Rattle.weights.specs.declared.row.Row.{Row}
 
--- the rule at this place: the first number is at most the second
+-- the rule at this place: left is at most right
 abbrev pub row : Rule → Place → ℕ → ℕ → Row
 row rule place left right = record { rule = rule; place = place; left = left; right = right }
 
--- left is above right
+-- left is greater than right
 abbrev pub fails : Row → Bool
 fails x = nat_lt x.right x.left
 

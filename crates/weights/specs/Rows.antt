@@ -1,4 +1,4 @@
--- The rows that a vector keeps at each point of a plan: V2 to V7, or L5 in place of V5 where a get gives nothing back.
+-- The rows of a vector at each point of a plan: V2 to V7, with L5 in place of V5 if a get returns nothing.
 use Rattle.std.specs.Prelude.{ℕ, ◌+◌, ◌==◌, if◌then◌else◌, List, [], ◌∷◌, ◌++◌, length, map, filter}
 use Rattle.std.specs.List.{flat_map, enumerate_from}
 use Rattle.job_bodies.specs.declared.action.Action.{Action}
@@ -12,7 +12,7 @@ use Rattle.weights.specs.Row.{row}
 use Rattle.weights.specs.Vector.{Vector, workers_weight, queued_weight, job_weight, done_weight, client_weight}
 use Rattle.weights.specs.AtGet.{AtGet, get_rule, given_back}
 
--- of the action at position i of a body, whose actor weighs weight i there
+-- the row of the action at position i of a body, whose actor has weight `weight i` there
 abbrev pub action_row : AtGet → Plan → Vector → (ℕ → ℕ) → (ℕ → Place) → List Action → ℕ → Action → Row
 action_row at_get plan v weight place_at body i (Work u) = row V2 (place_at i) (weight (i + 1)) (weight i)
 action_row at_get plan v weight place_at body i (Submit k) = row V3 (place_at i) (weight (i + 1) + queued_weight v k) (weight i)
@@ -32,12 +32,12 @@ client_rows at_get plan v c client =
     body_rows at_get plan v (client_weight v c) (place.ClientAction c) client.body
     ++ (if client.repeat then row V7 (place.Client c) (client_weight v c 0) (client_weight v c (length client.body)) ∷ [] else [])
 
--- all of them, in the order of the plan
+-- the rows of all classes and then of all kinds of client
 abbrev pub rows : AtGet → Plan → Vector → List Row
 rows at_get plan v =
     flat_map (λ entry. class_rows at_get plan v entry.0 entry.1) (enumerate_from 0 plan.classes)
     ++ flat_map (λ entry. client_rows at_get plan v entry.0 entry.1) (enumerate_from 0 plan.clients)
 
--- the classes of pool p, with their numbers
+-- the classes of pool p, with their indices
 abbrev pub classes_of : Plan → ℕ → List (ℕ × Class)
 classes_of plan p = filter (λ entry. entry.1.pool == p) (enumerate_from 0 plan.classes)

@@ -1,4 +1,4 @@
--- The conditions of a pool's standing vector: no more jobs are ever queued than the queue holds.
+-- The conditions of a pool's standing vector: the number of queued jobs never exceeds the capacity of the queue.
 use Rattle.std.specs.Prelude.{ℕ, List, [], ◌∷◌, ◌++◌, map}
 use Rattle.job_bodies.specs.Plan.{Plan, pool_at}
 use Rattle.weights.specs.declared.row.Rule.TheVariants.{S1, S2}

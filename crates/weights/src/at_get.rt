@@ -1,21 +1,21 @@
-//! What a get gives back to its actor of the weight of the job that it gets.
+//! The weight that a get returns to its actor.
 
 ghost use Rattle.std.specs.Prelude.{◌≡◌};
 ghost use Rattle.weights.specs.AtGet.{get_rule};
 
 use crate::Rule;
 
-/// What a get gives back to its actor of the weight of the job that it gets.
+/// The part of a job's weight that a get returns to its actor.
 #[derive(Clone, Copy, Debug, PartialEq, Eq)]
 pub enum AtGet {
-    /// All that the job weighs when it is done, as in standing and blocked vectors.
+    /// The whole weight of the done job, as in standing and blocked vectors.
     GivesBack,
     /// Nothing, as in lifetime vectors.
     GivesNothing,
 }
 
 impl AtGet {
-    /// The rule that a get keeps.
+    /// Returns the rule for a get.
     pub fn rule(self) -> Rule
         ensures { result ≡ get_rule self }
     {

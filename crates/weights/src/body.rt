@@ -12,17 +12,17 @@ ghost use Rattle.weights.specs.Takes.{Takes};
 use crate::{AtGet, Place, Row, RowVisitor, Rule, Vector};
 use job_bodies::{Action, Plan};
 
-/// Whose body it is.
+/// The owner of a body.
 #[derive(Clone, Copy)]
 pub(crate) enum BodyOwner {
-    /// A job of the class of this number.
+    /// A job of the class with this index.
     Class(usize),
-    /// A client of the kind of this number.
+    /// A client of the kind with this index.
     Client(usize),
 }
 
 impl BodyOwner {
-    /// The actor's action at this position.
+    /// Returns the place of the action at this position.
     fn place_at(self, position: usize) -> Place
         ensures { result ≡ place_at self position }
     {
@@ -33,7 +33,7 @@ impl BodyOwner {
     }
 }
 
-/// A body, and what its actor weighs at each of its positions.
+/// A body, and the weight of its actor at each position.
 #[derive(Clone, Copy)]
 pub(crate) struct Body<'a> {
     pub(crate) actor: BodyOwner,
@@ -41,7 +41,7 @@ pub(crate) struct Body<'a> {
     pub(crate) weights: &'a [u64],
 }
 
-/// The class of the job that a get of the submit at this position waits for.
+/// Returns the class of the job that a get of the submit at position `submit` waits for.
 pub fn class_got(actions: &[Action], submit: usize) -> usize
     ensures { result ≡ class_got actions.now submit }
 {
@@ -51,7 +51,7 @@ pub fn class_got(actions: &[Action], submit: usize) -> usize
     }
 }
 
-/// What the get of a job of the class gives back.
+/// Returns the weight that the get of a job of the class returns to its actor.
 fn given_back(at_get: AtGet, plan: &Plan, vector: &Vector, class: usize) -> u64
     requires fits { IsTrue (spec.vector_fits plan.now vector.now) }
     requires class { class < length plan.now.classes }
@@ -66,7 +66,7 @@ fn given_back(at_get: AtGet, plan: &Plan, vector: &Vector, class: usize) -> u64
     }
 }
 
-/// The row of the action at this position.
+/// Returns the row of the action at this position.
 fn action_row(at_get: AtGet, plan: &Plan, vector: &Vector, body: &Body, position: usize) -> Row
     requires fits { IsTrue (spec.vector_fits plan.now vector.now) }
     requires weighed { IsWeighed plan.now body.now.actions.now body.now.weights.now }
@@ -92,7 +92,7 @@ fn action_row(at_get: AtGet, plan: &Plan, vector: &Vector, body: &Body, position
     Row::new(rule, place, left, right)
 }
 
-/// Looks at the row of each action of a body.
+/// Visits the row of each action of a body.
 pub(crate) fn visit_body_rows<V: RowVisitor>(
     at_get: AtGet,
     plan: &Plan,

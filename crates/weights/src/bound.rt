@@ -11,17 +11,17 @@ use crate::lifetime::lifetime_limit;
 use crate::{RowVisitor, StandingFault, Vector};
 use job_bodies::Plan;
 
-/// The vector that bounds a pool's queue: with it the pool refuses no job.
+/// The vector that proves that a pool never rejects a job.
 #[derive(Debug, Drop)]
 pub enum Bound {
-    /// No more jobs are ever queued at once than the queue holds.
+    /// Bounds the number of queued jobs at any time by the capacity of the queue.
     Standing(Vector),
-    /// No more jobs are ever made than the queue and the threads take.
+    /// Bounds the number of jobs ever submitted by the room in the queue and the threads.
     Lifetime(Vector),
 }
 
 impl Bound {
-    /// The vector.
+    /// Returns the vector.
     pub fn vector(&self) -> &Vector
         ensures { result.now ≡ spec.bound_vector self.now }
     {
@@ -30,14 +30,15 @@ impl Bound {
         }
     }
 
-    /// Whether it is a lifetime vector.
+    /// Returns whether this is a lifetime vector.
     pub fn is_lifetime(&self) -> bool
         ensures { result ≡ spec.is_lifetime self.now }
     {
         matches!(self, Bound::Lifetime(_))
     }
 
-    /// What the vector's total is compared with: the queue, or all jobs that the pool takes before it can refuse one.
+    /// Returns the limit of the vector's total: the capacity of the queue or, for a lifetime
+    /// vector, the number of jobs that the pool accepts before it can reject one.
     pub fn limit(&self, plan: &Plan, pool: usize) -> u64
         requires { pool < length plan.now.pools }
         ensures { result ≡ spec.bound_limit plan.now pool self.now }
@@ -49,7 +50,7 @@ impl Bound {
         }
     }
 
-    /// Looks at the conditions of the pool's bound.
+    /// Visits the conditions of the pool's bound.
     pub fn visit_rows<V: RowVisitor>(&self, plan: &Plan, pool: usize, visitor: &mut V)
         requires fits { IsTrue (vector_fits plan.now (spec.bound_vector self.now)) }
         requires pool { pool < length plan.now.pools }
@@ -61,7 +62,7 @@ impl Bound {
         }
     }
 
-    /// The first of the conditions of the pool's bound that fails. It takes no memory.
+    /// Returns the first condition of the pool's bound that fails. Allocates nothing.
     pub fn fault(&self, plan: &Plan, pool: usize) -> Option<StandingFault>
         requires fits { IsTrue (vector_fits plan.now (spec.bound_vector self.now)) }
         requires pool { pool < length plan.now.pools }

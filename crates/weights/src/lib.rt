@@ -1,7 +1,8 @@
-//! Vectors of weights: what each part of a plan weighs, and the conditions under which no event makes a state heavier.
+//! Vectors of weights: a weight for each point of a plan, and the conditions under which no event
+//! increases the total weight of a state.
 //!
-//! One walk over the conditions serves whoever wants the first that fails, as [`Vector::standing_fault`], and whoever wants
-//! them all: it shows each condition, a [`Row`], to a [`RowVisitor`].
+//! The same walk over the conditions finds the first one that fails, as [`Vector::standing_fault`]
+//! does, and lists all of them: it passes each condition, a [`Row`], to a [`RowVisitor`].
 #![tactic(auto)]
 
 mod at_get;

@@ -1,63 +1,66 @@
-//! What one condition of a certificate says, and of what.
+//! One condition of a certificate, and its place in the plan.
 
 ghost use Rattle.std.specs.Prelude.{◌≡◌};
 ghost use Rattle.weights.specs.Row.{fails, row};
 
-/// One rule of a certificate.
+/// A rule of a certificate.
 #[derive(Clone, Copy, Debug, PartialEq, Eq)]
 pub enum Rule {
-    /// A class reaches at least the rank of its own pool.
+    /// The reach of a class is at least the rank of its pool.
     K1,
-    /// A class reaches at least what the classes reach whose jobs it gets.
+    /// The reach of a class is at least that of each class whose jobs it gets.
     K2,
-    /// A class is of a higher level than the classes that it submits.
+    /// The level of a class is above that of each class that it submits.
     K3,
-    /// Work makes its actor no heavier.
+    /// Work does not increase the weight of its actor.
     V2,
-    /// A submit pays for the job that it makes.
+    /// The weight of an actor before a submit covers its weight afterwards and that of the queued
+    /// job.
     V3,
-    /// A queued job pays, with the worker that takes it, for a job at work.
+    /// The weights of a queued job and of the worker that takes it cover the weight of the job at
+    /// its first position.
     V4,
-    /// A get gives its actor at most what the job that it gets weighs when done.
+    /// A get increases the weight of its actor by at most the weight of the done job.
     V5,
-    /// A job at its end pays for the done job and the idle worker.
+    /// The weight of a job at its end covers those of the done job and of its idle worker.
     V6,
-    /// A client at its end pays for its beginning.
+    /// The weight of a client at its end covers its weight at its start.
     V7,
-    /// A queued job of the pool weighs at least 1 in its standing vector.
+    /// The weight of a queued job of the pool in its standing vector is at least 1.
     S1,
-    /// The standing vector's total is at most the queue's capacity.
+    /// The total of the standing vector is at most the capacity of the queue.
     S2,
-    /// Workers weigh nothing in a lifetime vector.
+    /// Workers have weight 0 in a lifetime vector.
     L1,
-    /// A job of the pool weighs at least 1 in its lifetime vector, however far it is.
+    /// The weight of a job of the pool in its lifetime vector is at least 1 at every point.
     L2,
-    /// The lifetime vector's total is at most what the queue and the threads take.
+    /// The total of the lifetime vector is at most the number of jobs that the queue and the
+    /// threads have room for.
     L3,
-    /// A get gives its actor nothing in a lifetime vector.
+    /// A get does not increase the weight of its actor in a lifetime vector.
     L5,
-    /// A job of the pool at a counted get weighs at least 1 in its blocked vector.
+    /// The weight of a job of the pool at a counted get in its blocked vector is at least 1.
     B1,
-    /// The blocked vector's total is below core.
+    /// The total of the blocked vector is less than core.
     B2,
 }
 
-/// Where a rule stands: at a class or a kind of clients, at one action of its body, at a pool's workers, or at the whole.
-/// Pools, classes, kinds and actions are counted from 0.
+/// The place of a rule: a class or a kind of client, one action of its body, the workers of a pool,
+/// or the whole plan. Pools, classes, kinds and actions are counted from 0.
 #[derive(Clone, Copy, Debug, PartialEq, Eq)]
 pub enum Place {
     Class(usize),
-    /// A class, and the position of the action in its body.
+    /// A class, and the position of an action in its body.
     ClassAction(usize, usize),
     Client(usize),
-    /// A kind of clients, and the position of the action in its body.
+    /// A kind of client, and the position of an action in its body.
     ClientAction(usize, usize),
     /// The workers of a pool.
     Worker(usize),
     Total,
 }
 
-/// A rule at its place. It reads left at most right.
+/// A rule at its place: the inequality `left <= right`.
 #[derive(Clone, Copy, Debug, PartialEq, Eq)]
 pub struct Row {
     pub rule: Rule,
@@ -67,7 +70,7 @@ pub struct Row {
 }
 
 impl Row {
-    /// The row of this rule at this place: left is to be at most right.
+    /// Creates the row for this rule at this place.
     pub fn new(rule: Rule, place: Place, left: u64, right: u64) -> Row
         ensures { result ≡ row rule place left right }
     {
@@ -79,7 +82,7 @@ impl Row {
         }
     }
 
-    /// Whether left is above right.
+    /// Returns whether `left` is greater than `right`.
     pub fn fails(self) -> bool
         ensures { result ≡ fails self }
     {
@@ -87,7 +90,7 @@ impl Row {
     }
 }
 
-/// A row whose left is above its right.
+/// A row whose `left` is greater than its `right`.
 pub type RowFault = Row;
-/// The same, of a pool's standing or lifetime vector.
+/// A failing row of a pool's standing or lifetime vector.
 pub type StandingFault = Row;

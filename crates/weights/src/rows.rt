@@ -1,4 +1,4 @@
-//! The rows that a vector keeps at each point of a plan.
+//! The rows of a vector at each point of a plan.
 
 ghost use Rattle.std.specs.Prelude.{◌≡◌, ◌+◌, IsTrue, Some, length, slice_get};
 ghost use Rattle.std.specs.List.{flat_map, enumerate_from};
@@ -14,7 +14,8 @@ use crate::body::{Body, BodyOwner, visit_body_rows};
 use crate::{AtGet, Place, Row, RowVisitor, Rule, Vector};
 use job_bodies::{Class, Client, Plan};
 
-/// V4 of a class: the job pays, with the worker that takes it, for the job at work.
+/// Returns V4 of a class: the weights of a queued job and of its worker cover that of the job at
+/// its first position.
 fn taking_row(plan: &Plan, vector: &Vector, number: usize, class: &Class) -> Row
     requires fits { IsTrue (spec.vector_fits plan.now vector.now) }
     requires well_formed { IsWellFormed plan.now }
@@ -33,7 +34,8 @@ fn taking_row(plan: &Plan, vector: &Vector, number: usize, class: &Class) -> Row
     )
 }
 
-/// V6 of a class: the job at its end pays for the done job and the idle worker.
+/// Returns V6 of a class: the weight of a job at its end covers those of the done job and of its
+/// idle worker.
 fn ending_row(plan: &Plan, vector: &Vector, number: usize, class: &Class) -> Row
     requires fits { IsTrue (spec.vector_fits plan.now vector.now) }
     requires well_formed { IsWellFormed plan.now }
@@ -52,7 +54,7 @@ fn ending_row(plan: &Plan, vector: &Vector, number: usize, class: &Class) -> Row
     )
 }
 
-/// Looks at the rows of a class: V4, its actions, V6.
+/// Visits the rows of a class: V4, its actions, V6.
 fn visit_class_rows<V: RowVisitor>(
     at_get: AtGet,
     plan: &Plan,
@@ -77,7 +79,8 @@ fn visit_class_rows<V: RowVisitor>(
     visitor.visit(ending_row(plan, vector, number, class));
 }
 
-/// V7 of a kind of clients: a client at its end pays for its beginning.
+/// Returns V7 of a kind of client: the weight of a client at its end covers its weight at its
+/// start.
 fn loop_row(plan: &Plan, vector: &Vector, number: usize, client: &Client) -> Row
     requires fits { IsTrue (spec.vector_fits plan.now vector.now) }
     requires well_formed { IsWellFormed plan.now }
@@ -94,7 +97,7 @@ fn loop_row(plan: &Plan, vector: &Vector, number: usize, client: &Client) -> Row
     )
 }
 
-/// Looks at the rows of a kind of clients: its actions, and V7 if it repeats.
+/// Visits the rows of a kind of client: its actions, and V7 if it repeats.
 fn visit_client_rows<V: RowVisitor>(
     at_get: AtGet,
     plan: &Plan,
@@ -120,7 +123,7 @@ fn visit_client_rows<V: RowVisitor>(
     }
 }
 
-/// Looks at the rows of all classes.
+/// Visits the rows of all classes.
 fn visit_classes<V: RowVisitor>(at_get: AtGet, plan: &Plan, vector: &Vector, visitor: &mut V)
     requires { IsTrue (spec.vector_fits plan.now vector.now) }
     ensures { let all = flat_map (λ entry. class_rows at_get plan.now vector.now entry.0 entry.1) (enumerate_from 0 plan.now.classes) in
@@ -131,7 +134,7 @@ fn visit_classes<V: RowVisitor>(at_get: AtGet, plan: &Plan, vector: &Vector, vis
     }
 }
 
-/// Looks at the rows of all kinds of clients.
+/// Visits the rows of all kinds of client.
 fn visit_clients<V: RowVisitor>(at_get: AtGet, plan: &Plan, vector: &Vector, visitor: &mut V)
     requires { IsTrue (spec.vector_fits plan.now vector.now) }
     ensures { let all = flat_map (λ entry. client_rows at_get plan.now vector.now entry.0 entry.1) (enumerate_from 0 plan.now.clients) in
@@ -143,8 +146,8 @@ fn visit_clients<V: RowVisitor>(at_get: AtGet, plan: &Plan, vector: &Vector, vis
 }
 
 impl Vector {
-    /// Looks at the rows V2 to V7, or L5 in place of V5 where a get gives nothing back: of each class, then of each kind of
-    /// clients.
+    /// Visits the rows V2 to V7 of each class and then of each kind of client. If a get returns
+    /// nothing, L5 takes the place of V5.
     pub fn visit_rows<V: RowVisitor>(&self, plan: &Plan, at_get: AtGet, visitor: &mut V)
         requires fits { IsTrue (spec.vector_fits plan.now self.now) }
         ensures { Takes V.HasSeen visitor.old visitor.new (rows at_get plan.now self.now) }

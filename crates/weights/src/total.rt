@@ -1,4 +1,4 @@
-//! What the start of a plan weighs.
+//! The weight of the initial state of a plan.
 
 ghost use Rattle.std.specs.Prelude.{◌≡◌, ◌≤◌, ◌*◌, sum_by, IsTrue};
 ghost use Rattle.std.specs.List.{enumerate_from};
@@ -8,7 +8,7 @@ ghost use Rattle.weights.specs.Vector as spec;
 use crate::Vector;
 use job_bodies::Plan;
 
-/// What all clients weigh at their beginning.
+/// Returns the weight of all clients at their start.
 fn clients_total(plan: &Plan, vector: &Vector) -> u64
     requires { IsTrue (spec.vector_fits plan.now vector.now) }
     ensures value { result
@@ -23,7 +23,7 @@ fn clients_total(plan: &Plan, vector: &Vector) -> u64
     total
 }
 
-/// What the workers of all pools weigh, as many as there can be.
+/// Returns the weight of the maximum number of workers of all pools.
 fn workers_total(plan: &Plan, vector: &Vector) -> u64
     requires { IsTrue (spec.vector_fits plan.now vector.now) }
     ensures value { result
@@ -39,7 +39,8 @@ fn workers_total(plan: &Plan, vector: &Vector) -> u64
 }
 
 impl Vector {
-    /// What the start weighs: every client at its beginning, and each pool's maximum of workers. The sum never wraps.
+    /// Returns the weight of the initial state: every client at its start, and the maximum number
+    /// of workers of each pool. The sum never overflows.
     pub fn total(&self, plan: &Plan) -> u64
         requires { IsTrue (spec.vector_fits plan.now self.now) }
         ensures { result ≡ spec.total plan.now self.now }

@@ -5,15 +5,16 @@ ghost use Rattle.weights.specs.Vector as spec;
 
 use std::marker::Model;
 
-/// What each part of a plan weighs in one bound of one pool: whole numbers from 0 to
+/// The weights of the points of a plan for one bound of one pool: integers from 0 to
 /// [`MAX_WEIGHT`](job_bodies::MAX_WEIGHT), in plan order.
 #[derive(Debug, Drop)]
 pub struct Vector {
-    /// Of one worker of each pool.
+    /// The weight of one worker of each pool.
     pub workers: Vec<u64>,
-    /// Of a job of each class: queued, at each position of its body from 0 to its length, and done.
+    /// The weights of a job of each class: queued, at each position of its body from 0 to its
+    /// length, and done.
     pub classes: Vec<Vec<u64>>,
-    /// Of a client of each kind, at each position of its body from 0 to its length.
+    /// The weights of a client of each kind, at each position of its body from 0 to its length.
     pub clients: Vec<Vec<u64>>,
 }
 
@@ -24,7 +25,7 @@ impl Model for Vector {
 }
 
 impl Vector {
-    /// What one worker of the pool weighs.
+    /// Returns the weight of one worker of the pool.
     pub fn workers_weight(&self, pool: usize) -> u64
         requires { pool < length self.now.workers }
         ensures { result ≡ spec.workers_weight self.now pool }
@@ -32,7 +33,7 @@ impl Vector {
         self.workers[pool]
     }
 
-    /// What a job of the class weighs: queued, at each position of its body, and done.
+    /// Returns the weights of a job of the class: queued, at each position of its body, and done.
     pub fn class_weights(&self, class: usize) -> &[u64]
         requires { class < length self.now.classes }
         ensures { result.now ≡ spec.class_weights self.now class }
@@ -40,7 +41,7 @@ impl Vector {
         &self.classes[class]
     }
 
-    /// What a client of the kind weighs at each position of its body.
+    /// Returns the weights of a client of the kind at each position of its body.
     pub fn client_weights(&self, client: usize) -> &[u64]
         requires { client < length self.now.clients }
         ensures { result.now ≡ spec.client_weights self.now client }

@@ -1,4 +1,4 @@
-//! What looks at the rows of a list.
+//! Visitors of rows.
 
 ghost use Rattle.std.specs.Prelude.{◌≡◌, ◌∷◌, [], List, None};
 ghost use Rattle.weights.specs.declared.row.Row.{Row as Seen};
@@ -7,26 +7,26 @@ ghost use Rattle.weights.specs.Takes.{Takes};
 
 use crate::{Row, RowFault};
 
-/// Looks at the rows of a list, one after another. One walk over the conditions of a certificate serves whoever wants the
-/// first of them that fails, and whoever wants all of them.
+/// A visitor of the rows of a list, in order. The same walk over the conditions of a certificate
+/// finds the first one that fails and lists all of them.
 pub trait RowVisitor {
-    // What the visitor holds is right where it has looked at just these rows.
+    // The state of the visitor is correct after a visit of exactly these rows.
     ghost HasSeen: { Self → List Seen → Type 0 };
 
-    /// Looks at the next row.
+    /// Visits the next row.
     fn visit(&mut self, row: Row)
         ensures { Takes HasSeen self.old self.new (row ∷ []) };
 }
 
-/// Looks for the first row that fails. It takes no memory.
+/// A visitor that finds the first row that fails. Allocates nothing.
 #[derive(Clone, Copy, Debug)]
 pub struct FirstFault {
-    /// The first row that failed so far.
+    /// The first failing row so far.
     pub found: Option<RowFault>,
 }
 
 impl FirstFault {
-    /// Has looked at no row yet.
+    /// Creates a visitor that has seen no row.
     pub fn new() -> FirstFault
         ensures { result.found ≡ None }
     {

@@ -1,4 +1,4 @@
--- The rows of the actions before this position have been seen.
+-- The rows of the actions before this position were visited.
 use Rattle.std.proofs.Common.{[], ◌∷◌}
 use Rattle.std.specs.Prelude.{slice_index}
 use Rattle.weights.specs.Body.{place_at}

@@ -1,4 +1,4 @@
--- The rows from this one on decide.
+-- The remaining rows decide the result.
 use Rattle.std.proofs.Common.{◌≡◌, List, ℕ, drop, map}
 use Rattle.std.specs.List.{list_all}
 use Rattle.weights.specs.Vector.{is_small}

@@ -12,7 +12,7 @@ use Rattle.weights.proofs.Walks.{takes_then, takes_same}
 use Rattle.weights.proofs.Fitting.{class_fits, at_positions}
 use Rattle.weights.proofs.rows.visit_class_rows.Goals as goal
 
--- what stands behind the first element
+-- the elements after the first
 behind_first : (xs : List ℕ) → take (length xs - 1) (drop 1 xs) ≡ drop 1 xs
 behind_first xs =
     let shorter = length-drop 1 xs in

@@ -1,4 +1,4 @@
--- The rows of the classes before this one have been seen.
+-- The rows of the classes before this one were visited.
 use Rattle.weights.specs.Rows.{class_rows}
 use Rattle.weights.proofs.Walks.{Walked}
 use Rattle.weights.proofs.rows.visit_classes.Given as goal

@@ -1,4 +1,4 @@
--- The rows of the kinds of clients before this one have been seen.
+-- The rows of the kinds of client before this one were visited.
 use Rattle.weights.specs.Rows.{client_rows}
 use Rattle.weights.proofs.Walks.{Walked}
 use Rattle.weights.proofs.rows.visit_clients.Given as goal

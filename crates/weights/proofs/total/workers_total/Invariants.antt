@@ -1,4 +1,4 @@
--- What is added and what is still to add is the whole.
+-- The sum so far and the remaining terms add up to the total.
 use Rattle.std.proofs.Common.{◌≡◌, ◌≤◌, ◌+◌, ◌*◌, drop}
 use Rattle.std.specs.Prelude.{sum_by}
 use Rattle.std.specs.List.{enumerate_from}

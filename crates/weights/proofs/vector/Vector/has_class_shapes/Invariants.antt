@@ -1,4 +1,4 @@
--- The classes from this one on decide.
+-- The remaining classes decide the result.
 use Rattle.std.proofs.Common.{◌≡◌, ◌+◌, length, drop}
 use Rattle.std.specs.Prelude.{◌==◌}
 use Rattle.std.specs.List.{list_all, enumerate_from}

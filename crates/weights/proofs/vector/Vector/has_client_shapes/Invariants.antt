@@ -1,4 +1,4 @@
--- The kinds of clients from this one on decide.
+-- The remaining kinds of client decide the result.
 use Rattle.std.proofs.Common.{◌≡◌, ◌+◌, length, drop}
 use Rattle.std.specs.Prelude.{◌==◌}
 use Rattle.std.specs.List.{list_all, enumerate_from}
