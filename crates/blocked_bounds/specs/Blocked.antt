@@ -1,4 +1,4 @@
--- The conditions of a pool's blocked vector: fewer jobs than core stand at counted gets.
+-- The conditions of a pool's blocked vector: fewer jobs than core wait at counted gets.
 use Rattle.std.specs.Prelude.{ℕ, ◌-◌, Bool, true, false, ◌&&◌, List, [], ◌∷◌, ◌++◌, map, filter}
 use Rattle.std.specs.List.{flat_map, enumerate_from}
 use Rattle.job_bodies.specs.declared.action.Action.{Action}
@@ -16,7 +16,7 @@ abbrev pub is_get : Action → Bool
 is_get (Get t) = true
 is_get _ = false
 
--- of the gets of class k that are counted, where counted k i says which are
+-- of the counted gets of class k
 abbrev pub counted_rows : (ℕ → ℕ → Bool) → Vector → ℕ → Class → List Row
 counted_rows counted v k class =
     map (λ entry. row B1 (place.ClassAction k entry.0) 1 (job_weight v k entry.0))

@@ -16,10 +16,10 @@ use crate::Counted;
 use job_bodies::{Action, Class, Plan};
 use weights::{AtGet, FirstFault, Place, Row, RowVisitor, Rule, Vector};
 
-/// A row whose left is above its right.
+/// A row whose `left` is greater than its `right`.
 pub type BlockedFault = Row;
 
-/// Looks at B1 of the action at this position of a class with these weights, if it is a get that is counted.
+/// Visits B1 of the action at this position of a class with these weights, if it is a counted get.
 fn visit_counted_row<C: Counted, V: RowVisitor>(
     counted: &C,
     vector: &Vector,
@@ -44,7 +44,7 @@ fn visit_counted_row<C: Counted, V: RowVisitor>(
     }
 }
 
-/// Looks at B1 of each counted get of a class.
+/// Visits B1 of each counted get of a class.
 fn visit_counted_rows<C: Counted, V: RowVisitor>(
     plan: &Plan,
     counted: &C,
@@ -65,7 +65,7 @@ fn visit_counted_rows<C: Counted, V: RowVisitor>(
     }
 }
 
-/// Looks at B1 of each counted get of a class, if it is one of the pool.
+/// Visits B1 of each counted get of a class if the class belongs to the pool.
 fn visit_counted_rows_of<C: Counted, V: RowVisitor>(
     plan: &Plan,
     pool: usize,
@@ -87,7 +87,7 @@ fn visit_counted_rows_of<C: Counted, V: RowVisitor>(
     }
 }
 
-/// Looks at B1 of each counted get of each class of the pool.
+/// Visits B1 of each counted get of each class of the pool.
 fn visit_all_counted_rows<C: Counted, V: RowVisitor>(
     plan: &Plan,
     pool: usize,
@@ -107,8 +107,8 @@ fn visit_all_counted_rows<C: Counted, V: RowVisitor>(
     }
 }
 
-/// Looks at the conditions of the pool's blocked vector: V2 to V7, then B1 of each counted get of each class of the pool,
-/// then B2.
+/// Visits the conditions of the pool's blocked vector: V2 to V7, then B1 of each counted get of
+/// each class of the pool, then B2.
 pub fn visit_blocked_rows<C: Counted, V: RowVisitor>(
     plan: &Plan,
     pool: usize,
@@ -130,7 +130,8 @@ pub fn visit_blocked_rows<C: Counted, V: RowVisitor>(
     visitor.visit(Row::new(Rule::B2, Place::Total, vector.total(plan), pool.core - 1));
 }
 
-/// The first of the conditions of the pool's blocked vector that fails: V2 to V7, then B1, then B2. It takes no memory.
+/// Returns the first condition of the pool's blocked vector that fails, in the order V2 to V7, B1,
+/// B2. Allocates nothing.
 pub fn blocked_fault<C: Counted>(
     plan: &Plan,
     pool: usize,

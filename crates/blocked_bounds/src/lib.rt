@@ -1,6 +1,7 @@
-//! The conditions of a pool's blocked vector: fewer jobs than core stand at counted gets, so that a worker is left over.
+//! The conditions of a pool's blocked vector: fewer jobs than core wait at counted gets, so that at
+//! least one worker is not blocked.
 //!
-//! Which gets are counted is somebody else's to say, who implements [`Counted`].
+//! The caller decides which gets are counted, through [`Counted`].
 #![tactic(auto)]
 
 mod blocked;

@@ -1,4 +1,4 @@
--- The rows of the classes before this one have been seen.
+-- The rows of the classes before this one were visited.
 use Rattle.std.proofs.Common.{[]}
 use Rattle.std.specs.Prelude.{◌==◌, if◌then◌else◌}
 use Rattle.weights.proofs.Walks.{Walked}

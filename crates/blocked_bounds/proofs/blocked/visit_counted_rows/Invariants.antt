@@ -1,4 +1,4 @@
--- The rows of the actions before this position have been seen.
+-- The rows of the actions before this position were visited.
 use Rattle.std.proofs.Common.{[], ◌∷◌, ◌&&◌}
 use Rattle.std.specs.Prelude.{if◌then◌else◌}
 use Rattle.weights.specs.declared.row.Rule.TheVariants.{B1}
