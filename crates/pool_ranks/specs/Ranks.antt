@@ -1,4 +1,4 @@
--- Ranks of pools, reach and levels of classes, and which gets are counted.
+-- Ranks of pools, reach and levels of classes, and the choice of counted gets.
 use Rattle.std.specs.Prelude.{ℕ, ◌+◌, ◌==◌, ◌&&◌, not, nat_lt, Bool, false, List, [], ◌∷◌, Option, Some, length, slice_index, slice_get}
 use Rattle.std.specs.List.{flat_map, list_all, enumerate_from}
 use Rattle.job_bodies.specs.declared.action.Action.{Action}
@@ -30,12 +30,12 @@ ranks_fit plan ranks =
     length ranks.pools == length plan.pools && length ranks.reach == length plan.classes && length ranks.levels == length plan.classes
     && list_all is_small ranks.pools && list_all is_small ranks.reach && list_all is_small ranks.levels
 
--- a get in class k is counted unless the class of its job reaches below the pool of k
+-- a get in class k is counted unless the reach of its job's class is below the rank of k's pool
 abbrev pub is_counted_action : Plan → Ranks → ℕ → Option Action → Bool
 is_counted_action plan ranks k (Some (Get t)) = not (nat_lt (reach ranks (class_got (class_at plan k).body t)) (rank ranks (class_at plan k).pool))
 is_counted_action plan ranks k _ = false
 
--- at position i of class k
+-- the action at position i of class k is a counted get
 abbrev pub is_counted : Plan → Ranks → ℕ → ℕ → Bool
 is_counted plan ranks k i = is_counted_action plan ranks k (slice_get (class_at plan k).body i)
 

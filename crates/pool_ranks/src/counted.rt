@@ -1,4 +1,4 @@
-//! Which gets the ranks count.
+//! The gets that the ranks count.
 
 ghost use Rattle.std.specs.Prelude.{◌≡◌, ◌<◌, IsTrue, Some, length, slice_get};
 ghost use Rattle.job_bodies.specs.Plan.{class_at};
@@ -10,7 +10,7 @@ use blocked_bounds::Counted;
 use job_bodies::{Action, Class, Plan};
 use weights::class_got;
 
-/// Whether the action at this position of a class is a get that is counted.
+/// Returns whether the action at this position of a class is a counted get.
 fn is_counted_in(plan: &Plan, ranks: &Ranks, number: usize, class: &Class, position: usize) -> bool
     requires fits { IsTrue (spec.ranks_fit plan.now ranks.now) }
     requires well_formed { IsWellFormed plan.now }
@@ -29,8 +29,8 @@ fn is_counted_in(plan: &Plan, ranks: &Ranks, number: usize, class: &Class, posit
 }
 
 impl Ranks {
-    /// Whether the action at this position of the class is a get that is counted: all are, but for those whose job's class
-    /// reaches below the pool of this class.
+    /// Returns whether the action at this position of the class is a counted get. A get is counted
+    /// unless the reach of its job's class is below the rank of this class's pool.
     pub fn is_counted(&self, plan: &Plan, class: usize, position: usize) -> bool
         requires fits { IsTrue (spec.ranks_fit plan.now self.now) }
         requires class { class < length plan.now.classes }
@@ -41,18 +41,16 @@ impl Ranks {
     }
 }
 
-/// A plan and ranks that fit it. They say which gets are counted.
+/// A plan with ranks that fit it, which choose the counted gets.
 #[derive(Clone, Copy)]
 pub struct RanksOf<'a> {
-    /// The plan.
     pub plan: &'a Plan,
-    /// The ranks.
     pub ranks: &'a Ranks,
     ghost fit: { IsTrue (spec.ranks_fit plan.now ranks.now) },
 }
 
 impl<'a> RanksOf<'a> {
-    /// The pair of them.
+    /// Pairs a plan with ranks that fit it.
     pub fn new(plan: &'a Plan, ranks: &'a Ranks) -> RanksOf<'a>
         requires { IsTrue (spec.ranks_fit plan.now ranks.now) }
         ensures plan { result.plan.now ≡ plan.now }

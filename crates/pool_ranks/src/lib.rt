@@ -1,4 +1,5 @@
-//! Ranks of pools: which gets are counted, and the conditions under which following the other gets always leads down.
+//! Ranks of pools: the choice of counted gets, and the conditions under which each get that is not
+//! counted waits for jobs of lower pools only.
 #![tactic(auto)]
 
 mod counted;

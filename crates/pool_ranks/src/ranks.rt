@@ -1,4 +1,4 @@
-//! Ranks of pools, and reach and levels of classes.
+//! The ranks of pools, and the reach and level of classes.
 
 ghost use Rattle.std.specs.Prelude.{◌≡◌, ◌<◌, length};
 ghost use Rattle.pool_ranks.specs.Ranks as spec;
@@ -7,15 +7,16 @@ use job_bodies::Plan;
 use std::marker::Model;
 use weights::are_small;
 
-/// Ranks of pools, and reach and levels of classes: whole numbers from 0 to [`MAX_WEIGHT`](job_bodies::MAX_WEIGHT), in plan
-/// order.
+/// The ranks of pools, and the reach and level of classes: integers from 0 to
+/// [`MAX_WEIGHT`](job_bodies::MAX_WEIGHT), in plan order.
 #[derive(Debug, Drop)]
 pub struct Ranks {
     /// The rank of each pool.
     pub pools: Vec<u64>,
-    /// How high each class reaches: the ranks of its own pool, and of those of the jobs that it gets.
+    /// The reach of each class: at least the rank of its pool and the reach of each class whose
+    /// jobs it gets.
     pub reach: Vec<u64>,
-    /// The level of each class: above those of the classes that it submits.
+    /// The level of each class: above that of each class that it submits.
     pub levels: Vec<u64>,
 }
 
@@ -26,7 +27,7 @@ impl Model for Ranks {
 }
 
 impl Ranks {
-    /// The rank of the pool.
+    /// Returns the rank of the pool.
     pub fn rank_of(&self, pool: usize) -> u64
         requires { pool < length self.now.pools }
         ensures { result ≡ spec.rank self.now pool }
@@ -34,7 +35,7 @@ impl Ranks {
         self.pools[pool]
     }
 
-    /// How high the class reaches.
+    /// Returns the reach of the class.
     pub fn reach_of(&self, class: usize) -> u64
         requires { class < length self.now.reach }
         ensures { result ≡ spec.reach self.now class }
@@ -42,7 +43,7 @@ impl Ranks {
         self.reach[class]
     }
 
-    /// The level of the class.
+    /// Returns the level of the class.
     pub fn level_of(&self, class: usize) -> u64
         requires { class < length self.now.levels }
         ensures { result ≡ spec.level self.now class }
@@ -50,7 +51,8 @@ impl Ranks {
         self.levels[class]
     }
 
-    /// Whether there is a rank for each pool and a reach and a level for each class, and no number is above the limit.
+    /// Returns whether there is a rank for each pool and a reach and a level for each class, and no
+    /// number is above the limit.
     pub fn fits(&self, plan: &Plan) -> bool
         ensures { result ≡ spec.ranks_fit plan.now self.now }
     {

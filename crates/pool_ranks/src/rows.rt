@@ -15,10 +15,11 @@ use crate::Ranks;
 use job_bodies::{Action, Class, Plan};
 use weights::{FirstFault, Place, Row, RowVisitor, Rule, class_got};
 
-/// A row whose left is above its right.
+/// A row whose `left` is greater than its `right`.
 pub type RankFault = Row;
 
-/// K2 of a get at this position: the class reaches at least what the class of the job reaches.
+/// Returns K2 of a get at this position: the reach of the class is at least that of the job's
+/// class.
 fn get_row(
     plan: &Plan,
     ranks: &Ranks,
@@ -42,7 +43,8 @@ fn get_row(
     )
 }
 
-/// K3 of a submit at this position: the class is of a higher level than the class that it submits.
+/// Returns K3 of a submit at this position: the level of the class is above that of the submitted
+/// class.
 fn submit_row(plan: &Plan, ranks: &Ranks, number: usize, position: usize, submitted: usize) -> Row
     requires fits { IsTrue (spec.ranks_fit plan.now ranks.now) }
     requires class { number < length plan.now.classes }
@@ -59,7 +61,7 @@ fn submit_row(plan: &Plan, ranks: &Ranks, number: usize, position: usize, submit
     )
 }
 
-/// Looks at the row of the action at this position of a class: K2 of a get, K3 of a submit.
+/// Visits the row of the action at this position of a class: K2 of a get, K3 of a submit.
 fn visit_action_row<V: RowVisitor>(
     plan: &Plan,
     ranks: &Ranks,
@@ -87,7 +89,7 @@ fn visit_action_row<V: RowVisitor>(
     }
 }
 
-/// K1 of a class: it reaches at least the rank of its own pool.
+/// Returns K1 of a class: its reach is at least the rank of its pool.
 fn own_row(plan: &Plan, ranks: &Ranks, number: usize, class: &Class) -> Row
     requires fits { IsTrue (spec.ranks_fit plan.now ranks.now) }
     requires well_formed { IsWellFormed plan.now }
@@ -104,7 +106,7 @@ fn own_row(plan: &Plan, ranks: &Ranks, number: usize, class: &Class) -> Row
     )
 }
 
-/// Looks at the rows of a class's actions.
+/// Visits the rows of a class's actions.
 fn visit_action_rows<V: RowVisitor>(
     plan: &Plan,
     ranks: &Ranks,
@@ -123,7 +125,7 @@ fn visit_action_rows<V: RowVisitor>(
     }
 }
 
-/// Looks at the rows of a class: K1, then its actions.
+/// Visits the rows of a class: K1, then its actions.
 fn visit_class_rows<V: RowVisitor>(
     plan: &Plan,
     ranks: &Ranks,
@@ -142,7 +144,8 @@ fn visit_class_rows<V: RowVisitor>(
 }
 
 impl Ranks {
-    /// Looks at the conditions of the ranks, class by class: K1, then K2 of each get and K3 of each submit.
+    /// Visits the conditions of the ranks, class by class: K1, then K2 of each get and K3 of each
+    /// submit.
     pub fn visit_rank_rows<V: RowVisitor>(&self, plan: &Plan, visitor: &mut V)
         requires { IsTrue (spec.ranks_fit plan.now self.now) }
         ensures { Takes V.HasSeen visitor.old visitor.new (spec.rank_rows plan.now self.now) }
@@ -152,7 +155,7 @@ impl Ranks {
         }
     }
 
-    /// The first of the conditions of the ranks that fails. It takes no memory.
+    /// Returns the first condition of the ranks that fails. Allocates nothing.
     pub fn fault(&self, plan: &Plan) -> Option<RankFault>
         requires { IsTrue (spec.ranks_fit plan.now self.now) }
         ensures { result ≡ first_failing (spec.rank_rows plan.now self.now) }

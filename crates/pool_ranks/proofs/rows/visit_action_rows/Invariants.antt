@@ -1,4 +1,4 @@
--- The rows of the actions before this position have been seen.
+-- The rows of the actions before this position were visited.
 use Rattle.weights.proofs.Walks.{Walked}
 use Rattle.pool_ranks.specs.Ranks.{rank_rows_of_action}
 use Rattle.pool_ranks.proofs.rows.visit_action_rows.Given as goal

@@ -1,4 +1,4 @@
--- The rows of the classes before this one have been seen.
+-- The rows of the classes before this one were visited.
 use Rattle.weights.proofs.Walks.{Walked}
 use Rattle.pool_ranks.specs.Ranks.{rank_rows_of_class}
 use Rattle.pool_ranks.proofs.ranks.Ranks.visit_rank_rows.Given as goal
