@@ -1,4 +1,4 @@
--- What a well-formed plan says of its bodies, its pools and its clients.
+-- The properties of the bodies, pools and clients of a well-formed plan.
 use Rattle.std.proofs.Common.{◌≡◌, ◌≤◌, ◌<◌, ◌+◌, ℕ, zero, suc, Bool, true, false, List, [], ◌∷◌, length, take, get_or, slice_get, Some, refl, sym, ap, subst, ◌∙◌, arith, inl, inr, zero-add}
 use Rattle.std.specs.List.{list_all, list_any, enumerate_from}
 use Rattle.std.proofs.lemmas.Bool.{and_parts, ltb-true, leb-true, eq-eqb, not-true, both_ways, cases_lt}
@@ -12,7 +12,7 @@ use Rattle.job_bodies.specs.Plan.{Pool, Plan, no_pool, no_class, no_client, pool
 use Rattle.job_bodies.specs.Lawful.{IsLawful}
 use Rattle.job_bodies.specs.WellFormed.{is_within, is_lawful_action, is_lawful_body, is_lawful_pool, is_lawful_class, is_lawful_client, IsWellFormed}
 
--- every body is lawful, every class has a pool, and every size and count is in its range
+-- every body is valid, every class has a pool, and every size and count is in range
 pub record IsOrdered (plan : Plan) : Type 0 where
   pub classes : (k : ℕ) → IsLawful plan (class_at plan k).body
   pub clients : (c : ℕ) → IsLawful plan (client_at plan c).body
@@ -25,13 +25,13 @@ pub record IsOrdered (plan : Plan) : Type 0 where
   pub count : (c : ℕ) → c < length plan.clients → 1 ≤ (client_at plan c).count
   pub most_count : (c : ℕ) → c < length plan.clients → (client_at plan c).count ≤ MAX_SIZE
 
--- both bounds
+-- the two bounds of a range test
 pub within_bounds : (low high n : ℕ) → is_within low high n ≡ true → (low ≤ n) × (n ≤ high)
 within_bounds low high n h =
     let p = and_parts _ _ h in
     (leb-true low n p.0, leb-true n high p.1)
 
--- a test that all elements pass, at one of them
+-- a test that all elements pass holds at each of them
 pub list_all_get : {X : Type 0} (test : X → Bool) (xs : List X) (i : ℕ) (x : X) → list_all test xs ≡ true → slice_get xs i ≡ Some x → test x ≡ true
 list_all_get test [] i x h e = cc
 list_all_get test (y ∷ xs) zero x h e =
@@ -39,7 +39,7 @@ list_all_get test (y ∷ xs) zero x h e =
     ap test (sym same) ∙ (and_parts _ _ h).0
 list_all_get test (y ∷ xs) (suc i) x h e = list_all_get test xs i x (and_parts (test y) _ h).1 e
 
--- the same, where the test sees the element's place too
+-- the same for a test that takes the index too
 pub list_all_enumerated : {X : Type 0} (test : ℕ × X → Bool) (n : ℕ) (xs : List X) (i : ℕ) (x : X) → list_all test (enumerate_from n xs) ≡ true → slice_get xs i ≡ Some x → test (n + i, x) ≡ true
 list_all_enumerated test n [] i x h e = cc
 list_all_enumerated test n (y ∷ xs) zero x h e =
@@ -50,7 +50,7 @@ list_all_enumerated test n (y ∷ xs) (suc i) x h e =
     let place : n + suc i ≡ n + 1 + i = omega arith in
     rw place (list_all_enumerated test (n + 1) xs i x (and_parts (test (n, y)) _ h).1 e)
 
--- the action at each position of a lawful body is lawful there
+-- the action at each position of a valid body is valid there
 pub lawful_action : (classes : ℕ) (body : List Action) (i : ℕ) (action : Action) → is_lawful_body classes body ≡ true → slice_get body i ≡ Some action → is_lawful_action classes body i action ≡ true
 lawful_action classes body i action h e =
     let test : ℕ × Action → Bool = λ entry. is_lawful_action classes body entry.0 entry.1 in
@@ -65,7 +65,7 @@ none_before body g h t earlier inside e =
     let names : gets t (get_or (take h body) g (Get t)) ≡ true = ap (gets t) there ∙ eq-eqb t t refl in
     list_any_at (gets t) (take h body) g (Get t) (omega arith) names
 
--- what a lawful get says
+-- the conditions of a valid get
 record IsLawfulGet (body : List Action) (g t : ℕ) : Type 0 where
   behind : t < g
   of_submit : submits (slice_get body t) ≡ true
@@ -87,7 +87,7 @@ lawful_body plan body h = record {
   once = λ g h' t earlier e f. both_ways _ (lawful_get _ body h' t h f).first (none_before body g h' t earlier (slice_get_within body h' _ f) e);
 }
 
--- an empty body is lawful
+-- an empty body is valid
 empty_body : (plan : Plan) → IsLawful plan []
 empty_body plan = lawful_body plan [] refl
 

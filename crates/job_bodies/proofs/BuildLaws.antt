@@ -1,4 +1,4 @@
--- A plan is built exactly where it is well-formed.
+-- A plan is built exactly when it is well-formed.
 use Rattle.std.proofs.Common.{◌≡◌, ◌↔◌, ℕ, Bool, true, false, nat_le, nat_lt, List, length, take, map, slice_get, Some, Result, Ok, Err, refl, sym, ap, subst, ◌∙◌, zero-add, ◌+◌, option_map}
 use Rattle.std.specs.Prelude.{IsOk}
 use Rattle.std.specs.List.{list_all, list_any, enumerate_from}
@@ -21,7 +21,7 @@ use Rattle.job_bodies.proofs.Bodies.{list_all_get, list_all_enumerated}
 use Rattle.job_bodies.proofs.Passing.{both_passed, both_pass, test_passed, test_passes, EachPlace, each_passed, each_passes, list_all_from, list_all_enumerated_from, mapped_get}
 use Rattle.job_bodies.proofs.DistinctNames.{distinct_before, distinct_from}
 
--- ---- names and numbers: an entry's name, and one test beside it
+-- ---- names and numbers: an entry's name, and one other test
 abbrev check_entry : {X : Type 0} → (X → List ℕ) → (X → Bool) → Part → ℕ → List X → ℕ → X → Result (Unit {0}) PlanFault
 check_entry name test part number xs index x = check_name (take index (map name xs)) part index (name x) >>= λ _. holds_or (test x) (at_entry part index number)
 
@@ -67,7 +67,7 @@ action_passes classes part index body i (Work u) h = test_passes _ _ h
 action_passes classes part index body i (Submit k) h = test_passes _ _ h
 action_passes classes part index body i (Get t) h = test_passes _ _ h
 
--- the actions of the body are lawful
+-- the actions of the body are valid
 abbrev are_lawful_actions : ℕ → List Action → Bool
 are_lawful_actions classes body = list_all (λ entry. is_lawful_action classes body entry.0 entry.1) (enumerate_from 0 body)
 
@@ -108,7 +108,7 @@ all_pass : (plan : Plan) → Passed plan → build plan ≡ Ok plan
 all_pass plan p =
     both_pass (check_counts plan) _ plan p.counts (both_pass (check_lengths plan) _ plan p.lengths (both_pass (check_entries plan) _ plan p.entries (both_pass (check_bodies plan) _ plan p.bodies refl)))
 
--- what is built is well-formed
+-- a plan that is built is well-formed
 pub well_formed : (plan built : Plan) → build plan ≡ Ok built → IsWellFormed plan
 well_formed plan built h =
     let p = all_passed plan built h in
@@ -137,7 +137,7 @@ well_formed plan built h =
       clients = list_all_from (is_lawful_client plan) plan.clients (λ i client e. and_from _ _ (and_from _ _ (clients.names i client e) (clients.tests i client e)) (and_from _ _ (client_lengths i client e) (client_bodies i client e)));
     }
 
--- what is well-formed is built
+-- a well-formed plan is built
 pub builds : (plan : Plan) → IsWellFormed plan → build plan ≡ Ok plan
 builds plan w =
     let pools : AreLawful (λ pool. pool.name) has_lawful_sizes plan.pools = record {
@@ -172,11 +172,11 @@ builds plan w =
           (bodies_pass (λ client. client.body) (length plan.classes) part.Client plan.clients (λ i client e. (and_parts _ _ (client_parts i client e).1).1));
     })
 
--- the law of build: a plan is built exactly where it is well-formed
+-- a plan is built exactly when it is well-formed
 pub built_exactly : (plan : Plan) → (build plan ≡ Ok plan) ↔ IsWellFormed plan
 built_exactly plan = (well_formed plan plan, builds plan)
 
--- the same of what a builder answered
+-- the same for the result of a builder
 pub answered_exactly : (plan : Plan) (answer : Result Plan PlanFault) → answer ≡ build plan → IsOk answer ↔ IsWellFormed plan
 answered_exactly plan (Ok built) h = (λ _. well_formed plan built (sym h), λ _. refl)
 answered_exactly plan (Err fault) h = (λ ok. cc, λ w. let e : build plan ≡ Ok plan = builds plan w in cc)

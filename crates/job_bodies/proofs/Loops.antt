@@ -1,14 +1,14 @@
--- A check of each element, as a loop makes it.
+-- A check of each element by a loop.
 use Rattle.std.proofs.Common.{take, ◌≡◌, ◌<◌, ◌+◌, ℕ, Bool, ◌||◌, List, [], ◌∷◌, map, length, get_or, drop, Result, refl, ap, ◌∙◌}
 use Rattle.std.specs.List.{list_any}
 use Rattle.std.proofs.lemmas.List.{at_drop_more, take-map}
 use Rattle.readings.specs.Reading.{◌>>=◌, check_each}
 
--- one turn: the element at this place, and then the rest
+-- one iteration: the element at this index, and then the rest
 pub check_each_turn : {X F : Type 0} (check : ℕ → X → Result (Unit {0}) F) (i : ℕ) (xs : List X) (d : X) → i < length xs → check_each check i (drop i xs) ≡ (check i (get_or xs i d) >>= λ _. check_each check (i + 1) (drop (i + 1) xs))
 check_each_turn check i xs d inside = at_drop_more (check_each check i) xs i d inside
 
--- whether some element's image passes
+-- whether the image of some element passes
 pub list_any_of_map : {X Y : Type 0} (test : Y → Bool) (f : X → Y) (xs : List X) → list_any test (map f xs) ≡ list_any (λ x. test (f x)) xs
 list_any_of_map test f [] = refl
 list_any_of_map test f (x ∷ xs) = ap (λ b. test (f x) || b) (list_any_of_map test f xs)

@@ -21,11 +21,11 @@ pub test_passes : {F : Type 0} (b : Bool) (fault : F) → b ≡ true → holds_o
 test_passes true fault h = refl
 test_passes false fault h = cc
 
--- a test that holds of each element at its place
+-- the property holds for each element at its index
 abbrev pub EachPlace : {X : Type 0} → List X → (ℕ → X → Type 0) → Type 0
 EachPlace xs P = (i : ℕ) (x : _) → slice_get xs i ≡ Some x → P i x
 
--- what a list says of its tail
+-- a property of each element of a list holds for its tail
 each_of_tail : {X : Type 0} (P : ℕ → X → Type 0) (n : ℕ) (y : X) (xs : List X) → EachPlace (y ∷ xs) (λ i x. P (n + i) x) → EachPlace xs (λ i x. P (n + 1 + i) x)
 each_of_tail P n y xs h i x e =
     let place : n + suc i ≡ n + 1 + i = omega arith in
@@ -54,7 +54,7 @@ each_passed check xs h i x e = subst (λ (k : ℕ). check k x ≡ Ok tt) (zero-a
 pub each_passes : {X F : Type 0} (check : ℕ → X → Result (Unit {0}) F) (xs : List X) → EachPlace xs (λ i x. check i x ≡ Ok tt) → check_each check 0 xs ≡ Ok tt
 each_passes check xs h = each_passes_from check 0 xs (λ i x e. subst (λ (k : ℕ). check k x ≡ Ok tt) (sym (zero-add i)) (h i x e))
 
--- a test that all elements pass
+-- a test that each element passes
 pub list_all_from : {X : Type 0} (test : X → Bool) (xs : List X) → EachPlace xs (λ i x. test x ≡ true) → list_all test xs ≡ true
 list_all_from test [] h = refl
 list_all_from test (y ∷ xs) h = and_from (test y) _ (h 0 y refl) (list_all_from test xs (λ i x e. h (suc i) x e))
@@ -78,7 +78,7 @@ pub list_any_from : {X : Type 0} (test : X → Bool) (xs : List X) → EachPlace
 list_any_from test [] h = refl
 list_any_from test (y ∷ xs) h = rw (h 0 y refl) (list_any_from test xs (λ i x e. h (suc i) x e))
 
--- the element of which a mapped one was made
+-- each element of a mapped list has a preimage at its index
 pub mapped_get : {X Y : Type 0} (f : X → Y) (xs : List X) (i : ℕ) (y : Y) → slice_get (map f xs) i ≡ Some y → (x : X) × (slice_get xs i ≡ Some x) × (f x ≡ y)
 mapped_get f [] i y e = cc
 mapped_get f (x ∷ xs) zero y e = (x, refl, cc)

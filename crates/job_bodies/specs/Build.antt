@@ -1,4 +1,4 @@
--- What `Plan::build` answers: the plan of these lists, or the first fault.
+-- The result of `Plan::build`: the plan of these lists, or the first fault.
 use Rattle.std.specs.Prelude.{nat_le, List, length, take, map, Result, Ok}
 use Rattle.readings.specs.Reading.{◌>>=◌, holds_or, check_each}
 use Rattle.job_bodies.specs.declared.fault.PlanFault.{PlanFault}
@@ -8,7 +8,7 @@ use Rattle.job_bodies.specs.declared.limits.TheConstants.{MAX_POOLS, MAX_CLASSES
 use Rattle.job_bodies.specs.Plan.{Pool, Class, Client, Plan}
 use Rattle.job_bodies.specs.Checks.{at_text, check_pool, check_class, check_client, check_length, check_body}
 
--- the lists that were given, as a plan
+-- the given lists as a plan
 abbrev pub given : List Pool → List Class → List Client → Plan
 given pools classes clients = record { pools = pools; classes = classes; clients = clients }
 

@@ -1,4 +1,4 @@
--- The checks of one entry of a plan, each with the fault that it gives. A reader of a text makes the same checks.
+-- The checks of one entry of a plan, each with its fault. A reader of a text makes the same checks.
 use Rattle.std.specs.Prelude.{ℕ, not, nat_lt, nat_le, List, length, None, Some, Result}
 use Rattle.std.specs.List.{list_any}
 use Rattle.std.specs.Str.{bytes_eq}
@@ -17,7 +17,7 @@ use Rattle.job_bodies.specs.WellFormed.{is_lawful_name, has_lawful_sizes, is_wit
 abbrev pub at_text : ℕ → PlanFault
 at_text number = record { number = number; part = part.Text; index = 0; action = None }
 
--- a fault of the entry at a place of its list
+-- a fault of the entry at an index of its list
 abbrev pub at_entry : Part → ℕ → ℕ → PlanFault
 at_entry part index number = record { number = number; part = part; index = index; action = None }
 
@@ -25,31 +25,31 @@ at_entry part index number = record { number = number; part = part; index = inde
 abbrev pub at_action : Part → ℕ → ℕ → ℕ → PlanFault
 at_action part index action number = record { number = number; part = part; index = index; action = Some action }
 
--- the name is lawful, and none of the earlier names of its list
+-- the name is valid, and differs from the earlier names of its list
 abbrev pub check_name : List (List ℕ) → Part → ℕ → List ℕ → Result (Unit {0}) PlanFault
 check_name earlier part index name =
     holds_or (is_lawful_name name) (at_entry part index BAD_NAME) >>= λ _. holds_or (not (list_any (bytes_eq name) earlier)) (at_entry part index DOUBLE_NAME)
 
--- a pool, with the names of the earlier pools
+-- a pool, after pools with the earlier names
 abbrev pub check_pool : List (List ℕ) → ℕ → Pool → Result (Unit {0}) PlanFault
 check_pool earlier index pool =
     check_name earlier part.Pool index pool.name >>= λ _. holds_or (has_lawful_sizes pool) (at_entry part.Pool index BAD_NUMBER)
 
--- a class's name and pool, where there are so many pools
+-- a class's name and its pool, one of `pools`
 abbrev pub check_class : ℕ → List (List ℕ) → ℕ → Class → Result (Unit {0}) PlanFault
 check_class pools earlier index class =
     check_name earlier part.Class index class.name >>= λ _. holds_or (nat_lt class.pool pools) (at_entry part.Class index NO_SUCH_POOL)
 
--- a client's name and count
+-- the name and the count of a kind of client
 abbrev pub check_client : List (List ℕ) → ℕ → Client → Result (Unit {0}) PlanFault
 check_client earlier index client =
     check_name earlier part.Client index client.name >>= λ _. holds_or (is_within 1 MAX_SIZE client.count) (at_entry part.Client index BAD_NUMBER)
 
--- the body has no more actions than a body may have
+-- the body has at most the maximum number of actions
 abbrev pub check_length : Part → ℕ → List Action → Result (Unit {0}) PlanFault
 check_length part index body = holds_or (nat_le (length body) MAX_ACTIONS) (at_entry part index TOO_MANY)
 
--- the action at position i of the body, where there are so many classes
+-- the action at position i of the body, in a plan with this number of classes
 abbrev pub check_action : ℕ → Part → ℕ → List Action → ℕ → Action → Result (Unit {0}) PlanFault
 check_action classes part index body i (Work u) = holds_or (is_within 1 MAX_WORK u) (at_action part index i BAD_NUMBER)
 check_action classes part index body i (Submit k) = holds_or (nat_lt k classes) (at_action part index i NO_SUCH_CLASS)

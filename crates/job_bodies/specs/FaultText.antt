@@ -1,18 +1,18 @@
--- The line that a fault of a plan prints.
+-- The text of a plan's fault.
 use Rattle.std.specs.Prelude.{ℕ, ◌++◌, List, [], Option, None, Some, codes, decimal}
 use Rattle.faults.specs.Name.{head}
 use Rattle.job_bodies.specs.declared.fault.PlanFault.{PlanFault}
 use Rattle.job_bodies.specs.declared.fault.Part.{Part}
 use Rattle.job_bodies.specs.declared.fault.Part.TheVariants as part
 
--- the entry of which a fault speaks
+-- the entry that has the fault
 abbrev pub part_text : Part → ℕ → List ℕ
 part_text part.Text index = []
 part_text part.Pool index = codes " at pool " ++ decimal index
 part_text part.Class index = codes " at class " ++ decimal index
 part_text part.Client index = codes " at client " ++ decimal index
 
--- the action of which a fault speaks
+-- the action that has the fault, if an action has it
 abbrev pub action_text : Option ℕ → List ℕ
 action_text None = []
 action_text (Some action) = codes " action " ++ decimal action

@@ -1,12 +1,12 @@
--- A lawful body, as a relation between its positions.
+-- A valid body, as a relation between its positions.
 use Rattle.std.specs.Prelude.{◌≡◌, ◌≤◌, ◌<◌, ℕ, true, List, length, slice_get, Some}
 use Rattle.job_bodies.specs.declared.action.Action.{Action}
 use Rattle.job_bodies.specs.declared.action.Action.TheVariants.{Work, Submit, Get}
 use Rattle.job_bodies.specs.declared.limits.TheConstants.{MAX_ACTIONS, MAX_WORK}
 use Rattle.job_bodies.specs.Plan.{Plan, submits}
 
--- work is of a lawful length, a submit names a class, a get stands behind a submit at the position that it names, and
--- no two gets name one submit
+-- the length of each work is in range, each submit names a class, each get names an earlier submit, and no two gets name the
+-- same submit
 pub record IsLawful (plan : Plan) (body : List Action) : Type 0 where
   pub short : length body ≤ MAX_ACTIONS
   pub work : (i u : ℕ) → slice_get body i ≡ Some (Work u) → (1 ≤ u) × (u ≤ MAX_WORK)

@@ -1,4 +1,4 @@
--- Plans: pools of threads, classes of jobs and kinds of clients, each class and kind with a body of actions.
+-- Plans: pools of threads, classes of jobs and kinds of client, each class and kind with a body of actions.
 use Rattle.std.specs.Prelude.{ℕ, Bool, false, true, ◌==◌, if◌then◌else◌, List, [], map, Option, Some, slice_index_or, slice_get}
 use Rattle.std.specs.List.{list_any}
 use Rattle.job_bodies.specs.declared.action.Action.{Action}
@@ -16,7 +16,7 @@ pub record Class : Type 0 where
   pub pool : ℕ
   pub body : List Action
 
--- a kind of clients
+-- a kind of client
 pub record Client : Type 0 where
   pub name : List ℕ
   pub count : ℕ
@@ -28,7 +28,7 @@ pub record Plan : Type 0 where
   pub classes : List Class
   pub clients : List Client
 
--- what stands past the end of a list of the plan
+-- the default for an index past the end of a list of the plan
 abbrev pub no_pool : Pool
 no_pool = record { name = []; core = 0; max = 0; queue = 0; prestart = false }
 
@@ -51,11 +51,11 @@ client_at plan c = slice_index_or plan.clients c no_client
 abbrev pub pool_names : Plan → List (List ℕ)
 pool_names plan = map (λ pool. pool.name) plan.pools
 
--- how many workers the pool begins with, all of them idle: core where they are started beforehand, else none
+-- the number of workers that the pool starts with, all idle: core if they are prestarted, and 0 otherwise
 abbrev pub first_workers : Pool → ℕ
 first_workers pool = if pool.prestart then pool.core else 0
 
--- is it a submit?
+-- whether the action is a submit
 abbrev pub submits : Option Action → Bool
 submits (Some (Submit k)) = true
 submits _ = false
@@ -65,15 +65,15 @@ abbrev pub class_of_submit : Option Action → ℕ
 class_of_submit (Some (Submit k)) = k
 class_of_submit _ = 0
 
--- the class of the job that a Get(t) of this body waits for
+-- the class of the job that a get of the submit at position t waits for
 abbrev pub class_got : List Action → ℕ → ℕ
 class_got body t = class_of_submit (slice_get body t)
 
--- is it a get of the submit at position t?
+-- whether the action is a get of the submit at position t
 abbrev pub gets : ℕ → Action → Bool
 gets t (Get u) = t == u
 gets t _ = false
 
--- does one of the actions get the submit at position t?
+-- whether one of the actions is a get of the submit at position t
 abbrev pub is_got : List Action → ℕ → Bool
 is_got body t = list_any (gets t) body

@@ -1,5 +1,5 @@
--- Well-formed plans: the sizes that ThreadPoolExecutor and ArrayBlockingQueue allow, within this project's limits,
--- lawful names that are distinct in their list, and bodies whose submits and gets name what is there.
+-- Well-formed plans: the sizes that ThreadPoolExecutor and ArrayBlockingQueue allow, within this project's limits; valid
+-- names that are unique in their list; and bodies whose submits name classes and whose gets name submits.
 use Rattle.std.specs.Prelude.{◌≤◌, ℕ, Bool, true, not, ◌==◌, ◌&&◌, ◌||◌, nat_lt, nat_le, List, [], ◌∷◌, length, map, take, slice_index, slice_get, IsTrue}
 use Rattle.std.specs.List.{list_all, list_any, enumerate_from}
 use Rattle.std.specs.Str.{bytes_eq}
@@ -19,7 +19,7 @@ is_letter b = is_within 97 122 b
 abbrev pub is_name_byte : ℕ → Bool
 is_name_byte b = is_letter b || is_within 48 57 b || b == 95
 
--- a letter, and name bytes behind it
+-- a letter followed by name bytes, within the limit on its length
 abbrev pub is_lawful_name : List ℕ → Bool
 is_lawful_name name = is_within 1 MAX_NAME_BYTES (length name) && is_letter (slice_index name 0) && list_all is_name_byte name
 
@@ -38,7 +38,7 @@ is_lawful_pool pool = is_lawful_name pool.name && has_lawful_sizes pool
 abbrev pub is_lawful_get : List Action → ℕ → ℕ → Bool
 is_lawful_get body i t = nat_lt t i && submits (slice_get body t) && not (is_got (take i body) t)
 
--- the action that stands at position i of the body, where so many classes are declared
+-- the action at position i of the body is valid, in a plan with this number of classes
 abbrev pub is_lawful_action : ℕ → List Action → ℕ → Action → Bool
 is_lawful_action classes body i (Work u) = is_within 1 MAX_WORK u
 is_lawful_action classes body i (Submit k) = nat_lt k classes

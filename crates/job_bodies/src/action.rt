@@ -1,4 +1,4 @@
-//! What a job or a client does, one action after another.
+//! The actions of a job or a client.
 
 ghost use Rattle.std.specs.Prelude.{◌≡◌};
 ghost use Rattle.job_bodies.specs.Plan as spec;
@@ -6,17 +6,18 @@ ghost use Rattle.job_bodies.specs.Plan as spec;
 /// One action of a body.
 #[derive(Clone, Copy, Debug, PartialEq, Eq)]
 pub enum Action {
-    /// Works for so many units, from 1 to 1,000,000.
+    /// Works for this number of units, from 1 to 1,000,000.
     Work(u32),
-    /// Submits a job of the class of this number to the class's pool, as Java's `submit`, and goes on.
+    /// Submits a job of the class with this index to the pool of the class, as Java's `submit`
+    /// does, and continues.
     Submit(usize),
-    /// Waits for the latest job that the submit at this position of the same body made, as `get` of its `Future`. A
-    /// submit is got at most once.
+    /// Waits for the latest job that the submit at this position of the same body created, as
+    /// `Future.get` does. At most one get waits for each submit.
     Get(usize),
 }
 
 impl Action {
-    /// Whether it gets the job of the submit at this position of its body.
+    /// Returns whether this is a get of the submit at this position of its body.
     pub fn gets(self, submit: usize) -> bool
         ensures { result ≡ spec.gets submit self }
     {
@@ -27,7 +28,7 @@ impl Action {
     }
 }
 
-/// Whether one of these actions gets the job of the submit at this position of their body.
+/// Returns whether one of these actions is a get of the submit at this position of their body.
 pub fn is_got(actions: &[Action], submit: usize) -> bool
     ensures { result ≡ spec.is_got actions.now submit }
 {

@@ -13,7 +13,7 @@ use crate::limits::{MAX_CLASSES, MAX_CLIENT_KINDS, MAX_POOLS};
 use crate::{Class, Client, Part, PlanFault, Pool};
 use faults::number::TOO_MANY;
 
-/// No list is too long.
+/// Checks that no list is too long.
 pub(crate) fn check_counts(
     pools: &[Pool],
     classes: &[Class],
@@ -51,7 +51,7 @@ fn check_client_lengths(clients: &[Client]) -> Result<(), PlanFault>
     Ok(())
 }
 
-/// No body is too long.
+/// Checks that no body is too long.
 pub(crate) fn check_lengths(classes: &[Class], clients: &[Client]) -> Result<(), PlanFault>
     ensures { (pools : List spec.Pool)
         → result ≡ check_lengths (given pools classes.now clients.now) }
@@ -93,7 +93,7 @@ fn check_clients(clients: &[Client]) -> Result<(), PlanFault>
     Ok(())
 }
 
-/// Names and numbers are lawful, entry by entry.
+/// Checks the names and numbers, entry by entry.
 pub(crate) fn check_entries(
     pools: &[Pool],
     classes: &[Class],
@@ -129,7 +129,7 @@ fn check_client_bodies(classes: usize, clients: &[Client]) -> Result<(), PlanFau
     Ok(())
 }
 
-/// Bodies are lawful, action by action.
+/// Checks the bodies, action by action.
 pub(crate) fn check_bodies(classes: &[Class], clients: &[Client]) -> Result<(), PlanFault>
     ensures { (pools : List spec.Pool)
         → result ≡ check_bodies (given pools classes.now clients.now) }

@@ -1,4 +1,4 @@
-//! The checks of one entry of a plan, each with the fault that it gives.
+//! The checks of one entry of a plan, each with its fault.
 
 ghost use Rattle.std.specs.Prelude.{◌≡◌, ◌<◌, ◌++◌, ◌∷◌, [], List, length, map, take, slice_index_or};
 ghost use Rattle.job_bodies.specs.declared.action.Action.{Action};
@@ -14,7 +14,7 @@ use crate::names::check_name;
 use crate::{Action, Class, Client, Part, PlanFault, Pool, is_got};
 use faults::number::{BAD_NUMBER, NO_SUCH_CLASS, NO_SUCH_POOL, SLOT_EMPTY, TOO_MANY};
 
-/// The pool at this place has a name of its own and lawful sizes.
+/// Checks that the pool at this index has a unique, valid name and valid sizes.
 pub(crate) fn check_pool(pools: &[Pool], index: usize) -> Result<(), PlanFault>
     requires { index < length pools.now }
     ensures { let names = map (λ pool. pool.name) pools.now in
@@ -26,7 +26,8 @@ pub(crate) fn check_pool(pools: &[Pool], index: usize) -> Result<(), PlanFault>
     holds_or(lawful, PlanFault::at_entry(Part::Pool, index, BAD_NUMBER))
 }
 
-/// The class at this place has a name of its own and names one of so many pools.
+/// Checks that the class at this index has a unique, valid name and belongs to one of `pools`
+/// pools.
 pub(crate) fn check_class(pools: usize, classes: &[Class], index: usize) -> Result<(), PlanFault>
     requires { index < length classes.now }
     ensures { let names = map (λ class. class.name) classes.now in
@@ -38,7 +39,7 @@ pub(crate) fn check_class(pools: usize, classes: &[Class], index: usize) -> Resu
     holds_or(found, PlanFault::at_entry(Part::Class, index, NO_SUCH_POOL))
 }
 
-/// The clients at this place have a name of their own and a lawful count.
+/// Checks that the kind of client at this index has a unique, valid name and a valid count.
 pub(crate) fn check_client(clients: &[Client], index: usize) -> Result<(), PlanFault>
     requires { index < length clients.now }
     ensures { let names = map (λ client. client.name) clients.now in
@@ -50,7 +51,7 @@ pub(crate) fn check_client(clients: &[Client], index: usize) -> Result<(), PlanF
     holds_or(lawful, PlanFault::at_entry(Part::Client, index, BAD_NUMBER))
 }
 
-/// The body has no more actions than a body may have.
+/// Checks that the body has at most the maximum number of actions.
 pub(crate) fn check_length(part: Part, index: usize, body: &[Action]) -> Result<(), PlanFault>
     ensures { result ≡ check_length part index body.now }
 {
@@ -58,7 +59,8 @@ pub(crate) fn check_length(part: Part, index: usize, body: &[Action]) -> Result<
     holds_or(short, PlanFault::at_entry(part, index, TOO_MANY))
 }
 
-/// Whether one of these actions gets the submit. Their table tells it at once, for all that a lawful body may name.
+/// Returns whether one of these actions is a get of the submit. Uses their table for every position
+/// that a valid body can have.
 fn is_got_by(actions: &[Action], got: &[bool; MAX_ACTIONS], submit: usize) -> bool
     requires { IsTableOf actions.now got.now }
     ensures { result ≡ is_got actions.now submit }
@@ -69,7 +71,7 @@ fn is_got_by(actions: &[Action], got: &[bool; MAX_ACTIONS], submit: usize) -> bo
     }
 }
 
-/// Makes a table of some actions one of these and this action.
+/// Adds an action to the table of the actions before it.
 fn add_to_table(got: &mut [bool; MAX_ACTIONS], action: Action)
     ensures { (actions : List Action)
         → IsTableOf actions got.old
@@ -82,7 +84,8 @@ fn add_to_table(got: &mut [bool; MAX_ACTIONS], action: Action)
     }
 }
 
-/// A get at this position names an earlier submit of its body that no earlier get names.
+/// Returns whether a get at this position names an earlier submit of its body that no earlier get
+/// names.
 fn is_lawful_get(body: &[Action], got: &[bool; MAX_ACTIONS], position: usize, submit: usize) -> bool
     requires position { position < length body.now }
     requires table { IsTableOf (take position body.now) got.now }
@@ -93,7 +96,7 @@ fn is_lawful_get(body: &[Action], got: &[bool; MAX_ACTIONS], position: usize, su
         && !is_got_by(&body[..position], got, submit)
 }
 
-/// The action at this position is lawful there.
+/// Checks the action at this position.
 fn check_action(
     classes: usize,
     part: Part,
@@ -115,7 +118,7 @@ fn check_action(
     holds_or(lawful, PlanFault::at_action(part, index, position, number))
 }
 
-/// The actions of the body, in order.
+/// Checks the actions of the body, in order.
 #[tactic(auto, using(crate::proofs::Loops::check_each_turn))]
 pub(crate) fn check_body(
     classes: usize,

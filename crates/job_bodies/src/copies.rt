@@ -6,11 +6,11 @@ use crate::{Class, Client, Plan, Pool};
 use std::alloc::{AllocError, Global};
 
 impl Pool {
-    /// A copy of the pool.
+    /// Returns a copy of the pool.
     ///
     /// # Errors
     ///
-    /// [`AllocError`] where memory runs out.
+    /// Returns [`AllocError`] if memory runs out.
     pub fn copied(&self, alloc: Global) -> Result<Pool, AllocError>
         ensures { IfOk result (λ copy. copy ≡ self.now) }
     {
@@ -50,11 +50,11 @@ impl Client {
 }
 
 impl Plan {
-    /// A copy of the plan.
+    /// Returns a copy of the plan.
     ///
     /// # Errors
     ///
-    /// [`AllocError`] where memory runs out.
+    /// Returns [`AllocError`] if memory runs out.
     pub fn copied(&self, alloc: Global) -> Result<Plan, AllocError>
         ensures { IfOk result (λ copy. copy ≡ self.now) }
     {

@@ -1,37 +1,36 @@
-//! Why a plan is refused, and where.
+//! The faults of a plan, with their places.
 
 ghost use Rattle.std.specs.Prelude.{◌≡◌};
 ghost use Rattle.readings.specs.Reading.{holds_or};
 ghost use Rattle.job_bodies.specs.Checks.{at_text, at_entry, at_action};
 
-/// The part of a plan that a fault speaks of.
+/// The part of a plan that has a fault.
 #[derive(Clone, Copy, Debug, PartialEq, Eq)]
 pub enum Part {
-    /// The text or the plan as a whole.
+    /// The text, or the plan as a whole.
     Text,
-    /// A pool.
     Pool,
-    /// A class of jobs.
     Class,
-    /// A kind of clients.
+    /// A kind of client.
     Client,
 }
 
-/// The first fault of a plan: its number, and the entry and the action at which it stands, counted from 0.
+/// The first fault of a plan: its number, and the entry and the action that have it, counted from
+/// 0.
 #[derive(Clone, Copy, Debug, PartialEq, Eq)]
 pub struct PlanFault {
-    /// The fault's number: 1 to 13, or 20 where memory ran out.
+    /// The fault's number: 1 to 13, or 20 if memory ran out.
     pub number: u8,
-    /// The part of the plan that the fault speaks of.
+    /// The part of the plan that has the fault.
     pub part: Part,
-    /// The place of the pool, the class or the client in its list; 0 for the text.
+    /// The index of the pool, the class or the kind of client in its list, and 0 for the text.
     pub index: usize,
-    /// The place of the action in its body, where the fault speaks of an action.
+    /// The position of the action in its body if an action has the fault.
     pub action: Option<usize>,
 }
 
 impl PlanFault {
-    /// A fault of the text, or of the plan as a whole.
+    /// Returns a fault of the text, or of the plan as a whole.
     pub fn at_text(number: u8) -> PlanFault
         ensures { result ≡ at_text number }
     {
@@ -43,7 +42,7 @@ impl PlanFault {
         }
     }
 
-    /// A fault of the entry at this place of its list.
+    /// Returns a fault of the entry at this index of its list.
     pub fn at_entry(part: Part, index: usize, number: u8) -> PlanFault
         ensures { result ≡ at_entry part index number }
     {
@@ -55,7 +54,7 @@ impl PlanFault {
         }
     }
 
-    /// A fault of one action of the body at this place of its list.
+    /// Returns a fault of one action of the body of the entry at this index of its list.
     pub fn at_action(part: Part, index: usize, action: usize, number: u8) -> PlanFault
         ensures { result ≡ at_action part index action number }
     {
@@ -68,7 +67,7 @@ impl PlanFault {
     }
 }
 
-/// Nothing where the test holds, and the fault where it does not.
+/// Returns the fault unless `holds` is true.
 pub(crate) fn holds_or(holds: bool, fault: PlanFault) -> Result<(), PlanFault>
     ensures { result ≡ holds_or holds fault }
 {

@@ -1,4 +1,4 @@
-//! The line that a fault of a plan prints.
+//! The text of a plan's fault.
 
 ghost use Rattle.std.specs.Prelude.{Some};
 ghost use Rattle.job_bodies.specs.FaultText.{part_text, action_text, fault_line};
@@ -7,7 +7,7 @@ use crate::{Part, PlanFault};
 use faults::Head;
 use std::fmt;
 
-/// Where a fault is: the entry of which it speaks.
+/// The entry that has a fault.
 #[derive(Clone, Copy)]
 struct AtEntry {
     part: Part,
@@ -27,7 +27,7 @@ impl fmt::Display for AtEntry {
     }
 }
 
-/// The action of which a fault speaks, if it speaks of one.
+/// The position of the action that has a fault, if an action has it.
 #[derive(Clone, Copy)]
 struct Position(Option<usize>);
 
@@ -42,8 +42,8 @@ impl fmt::Display for Position {
     }
 }
 
-/// Writes the fault's number and name, and the entry and the action that it speaks of, as
-/// `fault 13 SlotEmpty at client 0 action 2`.
+/// Formats the fault's number and name, and the entry and the action that have it, such as `fault
+/// 13 SlotEmpty at client 0 action 2`.
 impl fmt::Display for PlanFault {
     ghost output = { λ fault. Some (fault_line fault) };
 

@@ -1,8 +1,8 @@
-//! A law of the limits, the contract of a function with nothing to do.
+//! A law about the limits, as the contract of an empty function.
 
 ghost use Rattle.job_bodies.specs.Limits.{PlanLimitsAreStated, TextLimitsAreStated, RunLimitsAreStated};
 
-/// The limits of plans, certificates, texts, searches and runs are those that the documents name.
+/// Proves that the limits of plans, certificates, texts, searches and runs are the documented ones.
 pub fn limits_are_stated()
     ensures plans { PlanLimitsAreStated }
     ensures texts { TextLimitsAreStated }

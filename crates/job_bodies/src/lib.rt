@@ -1,8 +1,10 @@
-//! Plans: pools of threads, classes of jobs and kinds of clients, each job and client with a body of actions.
+//! Plans: pools of threads, classes of jobs and kinds of client. Each class and each kind has a
+//! body of actions.
 //!
-//! [`Plan::build`] makes a plan of lists, or says which fault they have first. A [`Plan`] is well-formed by its type, so
-//! that nothing above tests it again. A reader of a text makes the same checks by [`is_lawful_name`],
-//! [`Pool::has_lawful_sizes`] and [`is_within`].
+//! [`Plan::build`] creates a plan from lists or returns their first fault. The type [`Plan`]
+//! guarantees that a plan is well-formed, so the crates above do not check it again. A reader of a
+//! text makes the same checks with [`is_lawful_name`], [`Pool::has_lawful_sizes`] and
+//! [`is_within`].
 #![tactic(auto)]
 
 mod action;

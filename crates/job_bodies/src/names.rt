@@ -1,4 +1,5 @@
-//! The names of pools, classes and clients: which are lawful, and which are new in their list.
+//! The checks of the names of pools, classes and clients: a name must be valid, and unique in its
+//! list.
 
 ghost use Rattle.std.specs.Prelude.{◌≡◌, ◌≤◌, ℕ, List, length, map, take};
 ghost use Rattle.std.specs.List.{list_all, list_any};
@@ -29,8 +30,8 @@ fn are_name_bytes(bytes: &[u8]) -> bool
     bytes.iter().all(|byte| is_name_byte(*byte))
 }
 
-/// Whether the text is a name: a letter from `a` to `z` and at most 31 bytes behind it, each one of `a` to `z`, `0` to
-/// `9` and `_`.
+/// Returns whether the text is a valid name: a letter from `a` to `z` followed by at most 31 bytes,
+/// each of them one of `a` to `z`, `0` to `9` and `_`.
 pub fn is_lawful_name(name: &str) -> bool
     ensures { result ≡ is_lawful_name name.now }
 {
@@ -40,7 +41,7 @@ pub fn is_lawful_name(name: &str) -> bool
         && are_name_bytes(bytes)
 }
 
-/// What has a name of its own in its list.
+/// An entry with a name that is unique in its list.
 pub(crate) trait Named {
     ghost name_of: { Self → List ℕ };
 
@@ -78,7 +79,7 @@ fn has_name<T: Named>(entries: &[T], name: &str) -> bool
     entries.iter().any(|entry| name == entry.name())
 }
 
-/// The name at this place of its list is lawful and none of the names before it.
+/// Checks that the name at this index of its list is valid and differs from all names before it.
 #[tactic(auto, using(crate::proofs::Loops::list_any_of_names))]
 pub(crate) fn check_name<T: Named>(
     entries: &[T],

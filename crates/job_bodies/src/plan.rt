@@ -1,4 +1,4 @@
-//! The plan of a service: its pools of threads, the classes of its jobs, and its kinds of clients.
+//! The plan of a service: its pools of threads, its classes of jobs, and its kinds of client.
 
 ghost use Rattle.std.specs.Prelude.{◌≡◌, ◌↔◌, ◌<◌, IsOk, IfOk, IsSome, IfSome, IfNone, length, string_bytes};
 ghost use Rattle.job_bodies.specs.Plan as spec;
@@ -11,23 +11,27 @@ use crate::{Action, PlanFault};
 use std::alloc::Global;
 use std::marker::Model;
 
-/// A pool of threads before an array queue, as Java's `ThreadPoolExecutor` over an `ArrayBlockingQueue` with the default
-/// handler, `AbortPolicy`. What it does with a job that comes is told once, at `PoolState::offer` of `pool_machine`.
+/// A pool of threads with a bounded queue, as Java's `ThreadPoolExecutor` with an
+/// `ArrayBlockingQueue` and the default handler, `AbortPolicy`. `PoolState::offer` of
+/// `pool_machine` defines what the pool does with a submitted job.
 ///
-/// The constructors' ranges are those of the Javadoc (a maximum of at least 1 and of at least core, a capacity of at
-/// least 1), and narrower in two ways: core is at least 1, and no size is above [`MAX_SIZE`].
+/// The ranges are those that the Javadoc gives for the constructors (a maximum of at least 1 and of
+/// at least core, a capacity of at least 1), with two restrictions: core is at least 1, and no size
+/// is above [`MAX_SIZE`].
 #[derive(Debug, Drop)]
 pub struct Pool {
-    /// What the pool is called, in plans and in answers.
+    /// The name of the pool, as plans and answers show it.
     pub name: String,
-    /// The core pool size in threads: from 1 to `max`. So many threads are made one by one as jobs come, and stay.
+    /// The core pool size in threads: from 1 to `max`. Each submitted job starts a thread until the
+    /// pool has this number of threads. They stay alive.
     pub core: u64,
     /// The maximum pool size in threads: from `core` to 1,000,000.
     pub max: u64,
     /// The capacity of the queue in jobs: from 1 to 1,000,000.
     pub queue: u64,
-    /// Whether all core threads are started before the first job comes, as by Java's `prestartAllCoreThreads`. The first
-    /// jobs then wait in the queue, where without it they would have started threads.
+    /// Whether all core threads are started before the first job, as by Java's
+    /// `prestartAllCoreThreads`. If so, the first jobs wait in the queue, and otherwise they start
+    /// threads.
     pub prestart: bool,
 }
 
@@ -38,7 +42,8 @@ impl Model for Pool {
 }
 
 impl Pool {
-    /// Whether the sizes are in their ranges: core from 1, maximum from core, queue from 1, each up to 1,000,000.
+    /// Returns whether the sizes are in range: core from 1, the maximum from core, the queue from
+    /// 1, each up to 1,000,000.
     pub fn has_lawful_sizes(&self) -> bool
         ensures { result ≡ has_lawful_sizes self.now }
     {
@@ -47,7 +52,8 @@ impl Pool {
             && is_within(1, MAX_SIZE, self.queue)
     }
 
-    /// How many workers the pool begins with, all of them idle: core where they are started beforehand, else none.
+    /// Returns the number of workers that the pool starts with, all idle: core if they are
+    /// prestarted, and 0 otherwise.
     pub fn first_workers(&self) -> u64
         ensures { result ≡ spec.first_workers self.now }
     {
@@ -55,14 +61,15 @@ impl Pool {
     }
 }
 
-/// A class of jobs: each job of the class runs in one pool, and does what the body says.
+/// A class of jobs. Each job of the class runs in the same pool and performs the actions of the
+/// body.
 #[derive(Debug, Drop)]
 pub struct Class {
-    /// What the class is called, in plans and in answers.
+    /// The name of the class, as plans and answers show it.
     pub name: String,
-    /// The number of the pool that runs the jobs, counted from 0 in the plan's order.
+    /// The index of the pool that runs the jobs, counted from 0 in plan order.
     pub pool: usize,
-    /// What a job does, from its start to its end: at most 256 actions.
+    /// The actions of a job, from its start to its end: at most 256.
     pub body: Vec<Action>,
 }
 
@@ -72,16 +79,16 @@ impl Model for Class {
     ghost view = { λ k. record { name = string_bytes k.name; pool = k.pool; body = k.body.items } };
 }
 
-/// A kind of clients, which stand outside the pools and submit jobs to them.
+/// A kind of client. Clients are threads outside the pools that submit jobs to them.
 #[derive(Debug, Drop)]
 pub struct Client {
-    /// What the kind is called, in plans and in answers.
+    /// The name of the kind, as plans and answers show it.
     pub name: String,
-    /// How many clients of the kind there are: from 1 to 1,000,000.
+    /// The number of clients of this kind: from 1 to 1,000,000.
     pub count: u64,
-    /// Whether each of them begins its body again at its end.
+    /// Whether each client starts its body again at its end.
     pub repeat: bool,
-    /// What a client does: at most 256 actions.
+    /// The actions of a client: at most 256.
     pub body: Vec<Action>,
 }
 
@@ -93,9 +100,9 @@ impl Model for Client {
 
 /// A well-formed plan.
 ///
-/// Of every plan that there is: each limit holds; each name is lawful, and no two entries of one list share theirs; each
-/// class names a pool that there is, and each submit a class; each get names a submit earlier in its body, which no other
-/// get names.
+/// Every plan keeps these rules: each limit holds; each name is valid and unique in its list; each
+/// class names an existing pool, and each submit an existing class; each get names an earlier
+/// submit of its body, and no two gets name the same one.
 #[derive(Debug, Drop)]
 pub struct Plan {
     pools: Vec<Pool>,
@@ -112,19 +119,21 @@ impl Model for Plan {
 }
 
 impl Plan {
-    /// The plan of these lists, or the first fault that they have. It takes no memory, and a refusal lets go of the
-    /// lists.
+    /// Creates a plan from these lists. Allocates nothing, and drops the lists on failure.
     ///
     /// # Errors
     ///
-    /// In this order, each fault at its entry and, where an action is wrong, at its action:
+    /// Returns the first fault, with its entry and, if an action has the fault, its action. The
+    /// order is:
     ///
     /// 1. 2 at the text: a list is too long (pools, classes, clients).
     /// 2. 2: a body is too long (classes, then clients).
-    /// 3. Entry by entry, pools, then classes, then clients: 6 for a name that is not lawful, 7 for one that an earlier
-    ///    entry of the list has; then 8 for a pool's size, 9 for a class's pool that there is not, 8 for a client's count.
-    /// 4. Action by action, classes, then clients: 8 for a length of work out of its range, 10 for a submit of a class
-    ///    that there is not, 13 for a get of what is no earlier submit or of a submit that an earlier get names.
+    /// 3. Entry by entry, pools, then classes, then clients: 6 for an invalid name, 7 for a name
+    ///    that an earlier entry of the list has; then 8 for a size of a pool, 9 for a class whose
+    ///    pool does not exist, 8 for a client's count.
+    /// 4. Action by action, classes, then clients: 8 for a length of work out of range, 10 for a
+    ///    submit of a class that does not exist, 13 for a get that does not name an earlier submit,
+    ///    or names one that an earlier get names.
     pub fn build(
         _alloc: Global,
         pools: Vec<Pool>,
@@ -143,7 +152,8 @@ impl Plan {
         Ok(Plan::of_well_formed(pools, classes, clients))
     }
 
-    /// The plan of these lists, which are known to be well-formed, as by a reader that has made the checks already.
+    /// Creates a plan from lists that are known to be well-formed. It serves readers that have made
+    /// the checks already.
     pub fn of_well_formed(pools: Vec<Pool>, classes: Vec<Class>, clients: Vec<Client>) -> Plan
         requires { IsWellFormed (given pools.items classes.items clients.items) }
         ensures { result ≡ given pools.items classes.items clients.items }
@@ -155,7 +165,7 @@ impl Plan {
         }
     }
 
-    /// The plan with these pools in place of its own. It takes no memory, and lets go of the old ones.
+    /// Replaces the pools of the plan. Allocates nothing, and drops the old pools.
     pub fn with_pools(self, pools: Vec<Pool>) -> Plan
         requires { IsWellFormed (given pools.items self.classes self.clients) }
         ensures { result ≡ record self { pools = pools.items } }
@@ -167,7 +177,7 @@ impl Plan {
         }
     }
 
-    /// The pools, in the plan's order: at most 64.
+    /// Returns the pools, in plan order: at most 64.
     pub fn pools(&self) -> &[Pool]
         ensures value { result.now ≡ self.now.pools }
         ensures well_formed { IsWellFormed self.now }
@@ -175,7 +185,7 @@ impl Plan {
         self.pools.as_slice()
     }
 
-    /// The classes of jobs, in the plan's order: at most 256.
+    /// Returns the classes of jobs, in plan order: at most 256.
     pub fn classes(&self) -> &[Class]
         ensures value { result.now ≡ self.now.classes }
         ensures well_formed { IsWellFormed self.now }
@@ -183,7 +193,7 @@ impl Plan {
         self.classes.as_slice()
     }
 
-    /// The kinds of clients, in the plan's order: at most 256.
+    /// Returns the kinds of client, in plan order: at most 256.
     pub fn clients(&self) -> &[Client]
         ensures value { result.now ≡ self.now.clients }
         ensures well_formed { IsWellFormed self.now }
@@ -191,7 +201,7 @@ impl Plan {
         self.clients.as_slice()
     }
 
-    /// The pool of this number, counted from 0; None where there is no such pool.
+    /// Returns the pool with this index, counted from 0, or `None` if there is none.
     pub fn pool_at(&self, pool: usize) -> Option<&Pool>
         ensures found { IfSome result (λ found. found.now ≡ spec.pool_at self.now pool) }
         ensures absent { IfNone result (spec.pool_at self.now pool ≡ spec.no_pool) }
@@ -200,7 +210,7 @@ impl Plan {
         self.pools.get(pool)
     }
 
-    /// The class of this number, counted from 0; None where there is no such class.
+    /// Returns the class with this index, counted from 0, or `None` if there is none.
     pub fn class_at(&self, class: usize) -> Option<&Class>
         ensures found { IfSome result (λ found. found.now ≡ spec.class_at self.now class) }
         ensures absent { IfNone result (spec.class_at self.now class ≡ spec.no_class) }
@@ -209,7 +219,7 @@ impl Plan {
         self.classes.get(class)
     }
 
-    /// The kind of clients of this number, counted from 0; None where there is no such kind.
+    /// Returns the kind of client with this index, counted from 0, or `None` if there is none.
     pub fn client_at(&self, client: usize) -> Option<&Client>
         ensures found { IfSome result (λ found. found.now ≡ spec.client_at self.now client) }
         ensures absent { IfNone result (spec.client_at self.now client ≡ spec.no_client) }
@@ -218,7 +228,8 @@ impl Plan {
         self.clients.get(client)
     }
 
-    /// The name of the pool of this number, counted from 0; empty where there is no such pool.
+    /// Returns the name of the pool with this index, counted from 0, or an empty name if there is
+    /// none.
     pub fn pool_name(&self, pool: usize) -> &str
         ensures { result.now ≡ (spec.pool_at self.now pool).name }
     {
@@ -228,7 +239,8 @@ impl Plan {
         }
     }
 
-    /// The name of the class of this number, counted from 0; empty where there is no such class.
+    /// Returns the name of the class with this index, counted from 0, or an empty name if there is
+    /// none.
     pub fn class_name(&self, class: usize) -> &str
         ensures { result.now ≡ (spec.class_at self.now class).name }
     {
@@ -238,7 +250,8 @@ impl Plan {
         }
     }
 
-    /// The name of the kind of clients of this number, counted from 0; empty where there is no such kind.
+    /// Returns the name of the kind of client with this index, counted from 0, or an empty name if
+    /// there is none.
     pub fn client_name(&self, client: usize) -> &str
         ensures { result.now ≡ (spec.client_at self.now client).name }
     {
