@@ -1,4 +1,4 @@
--- The bodies that are read are lawful.
+-- A body that was read is valid.
 use Rattle.std.proofs.Common.{◌≡◌, ℕ, zero, suc, ◌<◌, true, false, ◌==◌, nat_lt, List, [], ◌∷◌, length, take, slice_get, Option, Some, Result, Ok, refl, sym, ap, subst, ◌∙◌, arith, inl, inr}
 use Rattle.std.specs.Prelude.{is_none}
 use Rattle.std.specs.List.{list_any}
@@ -22,7 +22,7 @@ use Rattle.plan_text.specs.Bodies.{class_named, action_of, action_at, action_amo
 use Rattle.plan_text.proofs.ReadOrders.{read_spelled}
 use Rattle.plan_text.proofs.Fillings.{HasOrder, fills}
 
--- ---- what an order gave
+-- ---- resolving a parsed action
 abbrev IsOf : ℕ → (List ℕ → Option ℕ) → Order → Action → Type 0
 IsOf classes slots (work units) action = Work units ≡ action
 IsOf classes slots (submit class) action = (k : ℕ) × (Submit k ≡ action) × (nat_lt k classes ≡ true)
@@ -55,7 +55,7 @@ is_of classes slots fault (get slot) action e =
     let found = bind_ok (some_or (slots slot) _) _ _ e in
     (found.0, action_is _ _ found.2, some_ok (slots slot) _ found.0 found.1)
 
--- the action at a place of a body, with its order
+-- the action at an index of a body, with its parsed action
 record Comes (classes : ℕ) (texts : List (List ℕ)) (i : ℕ) (action : Action) : Type 0 where
   within : i < length texts
   order : Order
@@ -75,7 +75,7 @@ comes classes part index texts body i action e here =
       is = is_of classes (filled (take i texts)) (at_action part index i) order.0 action order.2;
     }
 
--- ---- the order at a place is one
+-- ---- the parsed action at an index is unique
 order_is : (x y : Option Order) (a b : Order) → x ≡ Some a → y ≡ Some b → x ≡ y → a ≡ b
 order_is x y a b p q e = cc
 
@@ -86,7 +86,7 @@ same_order texts i a b p q =
     let same : p.text ≡ q.text = cc in
     order_is (order_of p.text) (order_of q.text) a b p.gives q.gives (ap order_of same)
 
--- an element of a front of the list
+-- an element of a prefix of the list
 taken : {X : Type 0} (xs : List X) (i j : ℕ) (x : X) → slice_get (take i xs) j ≡ Some x → (j < i) × (slice_get xs j ≡ Some x)
 taken [] zero j x e = absurd cc
 taken [] (suc i) j x e = absurd cc
@@ -96,19 +96,19 @@ taken (y ∷ xs) (suc i) (suc j) x e =
     let rest = taken xs i j x e in
     (omega (arith, rest.0), rest.1)
 
--- there is an element at a place of the list
+-- each index of the list has an element
 there_is : {X : Type 0} (xs : List X) (i : ℕ) → i < length xs → (x : X) × (slice_get xs i ≡ Some x)
 there_is [] i within = absurd (omega arith)
 there_is (x ∷ xs) zero within = (x, refl)
 there_is (x ∷ xs) (suc i) within = there_is xs i (omega arith)
 
--- what came of a submit that fills a slot
+-- the action of a submit that fills a slot
 comes_submit : (classes : ℕ) (slots : List ℕ → Option ℕ) (order : Order) (class slot : List ℕ) (action : Action) → order ≡ submit_as class slot → IsOf classes slots order action → (k : ℕ) × (Submit k ≡ action)
 comes_submit classes slots order class slot action same is =
     let at = subst (λ (o : Order). IsOf classes slots o action) same is in
     (at.0, at.1)
 
--- no action that came of this order gets t
+-- this parsed action never resolves to a get of t
 abbrev GetsNot : ℕ → (List ℕ → Option ℕ) → Order → ℕ → Action → Type 0
 GetsNot classes slots order t action = IsOf classes slots order action → ((slot : List ℕ) → order ≡ get slot → slots slot ≡ Some t → ⊥) → gets t action ≡ false
 
@@ -124,12 +124,12 @@ gets_not classes slots (get slot) t action is none =
       | inr other ↦ other
     ])
 
--- it has as many actions as there are texts
+-- the body has one action for each text
 pub body_length : (classes : List (List ℕ)) (part : Part) (index : ℕ) (texts : List (List ℕ)) (body : List Action) → body_of classes part index texts ≡ Ok body → length body ≡ length texts
 unfolding body_of
 body_length classes part index texts body e = read_length (action_among classes part index texts) 0 texts body e
 
--- a get that was read is lawful
+-- a get that was read is valid
 lawful_get : (classes : List (List ℕ)) (part : Part) (index : ℕ) (texts : List (List ℕ)) (body : List Action) (i t : ℕ) (slot : List ℕ) → body_of classes part index texts ≡ Ok body → i < length texts
     → HasOrder texts i (get slot) → filled (take i texts) slot ≡ Some t → is_lawful_get body i t ≡ true
 lawful_get classes part index texts body i t slot e within ordered at =
@@ -150,7 +150,7 @@ lawful_get classes part index texts body i t slot e within ordered at =
     f.since j g.before place.0 (subst (λ (o : Order). HasOrder texts j o) (same ∙ ap get (sym slot-is)) d.ordered))) in
     and_from _ _ (and_from _ _ (lt-ltb t i f.before) submitted) (not_from_false _ once)
 
--- the action of an order is lawful
+-- a parsed action resolves to a valid action
 lawful_by : (classes : List (List ℕ)) (part : Part) (index : ℕ) (texts : List (List ℕ)) (body : List Action) (i : ℕ) (action : Action) (order : Order) → body_of classes part index texts ≡ Ok body → i < length texts
     → HasOrder texts i order → IsOf (length classes) (filled (take i texts)) order action → is_lawful_action (length classes) body i action ≡ true
 lawful_by classes part index texts body i action (work units) e within ordered is =
@@ -173,7 +173,7 @@ action_passes classes part index body i (Work u) h = test_passes _ _ h
 action_passes classes part index body i (Submit k) h = test_passes _ _ h
 action_passes classes part index body i (Get t) h = test_passes _ _ h
 
--- a body that was read passes the checks of a plan's bodies, at whatever entry
+-- a body that was read passes the checks of a plan's bodies, at any entry
 pub body_passes : (classes : List (List ℕ)) (part : Part) (index : ℕ) (texts : List (List ℕ)) (body : List Action) → body_of classes part index texts ≡ Ok body
     → (n : ℕ) (at : Part) (place : ℕ) → n ≡ length classes → check_body n at place body ≡ Ok tt
 body_passes classes part index texts body e n at place same =

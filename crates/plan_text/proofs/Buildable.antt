@@ -1,4 +1,4 @@
--- What is read passes every check of a plan.
+-- A plan that was read passes every check of a plan.
 use Rattle.std.proofs.Common.{◌≡◌, ℕ, true, nat_le, List, [], length, map, take, codes, Ok, refl, sym, ap, subst, ◌∙◌}
 use Rattle.std.proofs.lemmas.List.{length-map}
 use Rattle.toml.specs.Data.{Data, Members, get_member}
@@ -112,7 +112,7 @@ client_is classes index client made e =
       body = body.1 ∙ ap (λ (c : Client). given {F = PlanFault} c.body) same;
     }
 
--- the checks of entries, where they passed
+-- the checks of entries that passed
 abbrev PoolsPass : List Pool → Type 0
 PoolsPass pools = check_each (λ index. check_pool (take index (map (λ pool. pool.name) pools)) index) 0 pools ≡ Ok tt
 
@@ -229,7 +229,7 @@ bodies_pass entries pools classes plan r =
     let is = client_is classes i from.0 made from.2 in
     body_passes classes part.Client i from.0.body made.body is.body (length plan.classes) part.Client i long))
 
--- what is read passes the checks of a plan
+-- a plan that was read passes the checks of a plan
 builds_read : (entries : Entries) (plan : Plan) → AreWithinLimits entries → plan_of_entries entries ≡ Ok plan → build plan ≡ Ok plan
 builds_read entries plan limits e = is_read entries plan e (λ pools classes r.
     let few_pools : nat_le (length plan.pools) MAX_POOLS ≡ true = rw (← r.pools_are) limits.few_pools in
@@ -240,6 +240,6 @@ builds_read entries plan limits e = is_read entries plan e (λ pools classes r.
     (both_pass (check_entries plan) _ plan (entries_pass entries pools classes plan r)
     (both_pass (check_bodies plan) _ plan (bodies_pass entries pools classes plan r) refl))))
 
--- and so is well-formed
+-- a plan that was read is well-formed
 pub well_formed_read : (entries : Entries) (plan : Plan) → AreWithinLimits entries → plan_of_entries entries ≡ Ok plan → IsWellFormed plan
 well_formed_read entries plan limits e = well_formed plan plan (builds_read entries plan limits e)

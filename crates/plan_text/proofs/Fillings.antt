@@ -1,4 +1,4 @@
--- A filled slot was filled by a submit of that slot, and no get emptied it since.
+-- A filled slot was filled by a submit with that slot, and no later get has emptied it.
 use Rattle.std.proofs.Common.{◌≡◌, ℕ, zero, suc, ◌<◌, ◌≤◌, List, [], ◌∷◌, length, take, slice_get, Option, None, Some, refl, sym, ap, subst, ◌∙◌, arith, add-one, inl, inr, ◌⊎◌}
 use Rattle.std.specs.Str.{bytes_eq}
 use Rattle.std.proofs.lemmas.Bool.{cases_Bool, cases_lt}
@@ -7,20 +7,20 @@ use Rattle.plan_text.specs.Orders.{Order, work, submit, submit_as, get, order_of
 use Rattle.plan_text.specs.Slots.{filled_by, filled}
 use Rattle.plan_text.proofs.Filling.{filled_more}
 
--- the order of the text at place i
+-- the parsed action of the text at index i
 pub record HasOrder (texts : List (List ℕ)) (i : ℕ) (order : Order) : Type 0 where
   pub text : List ℕ
   pub here : slice_get texts i ≡ Some text
   pub gives : order_of text ≡ Some order
 
--- the submit at t filled the slot before place i, and no get emptied it since
+-- the submit at t filled the slot before index i, and no later get has emptied it
 pub record Fills (texts : List (List ℕ)) (i : ℕ) (slot : List ℕ) (t : ℕ) : Type 0 where
   pub before : t < i
   pub class : List ℕ
   pub submitted : HasOrder texts t (submit_as class slot)
   pub since : (j : ℕ) → t < j → j < i → HasOrder texts j (get slot) → ⊥
 
--- the last order of the slot is this one, or it is an earlier one and this one empties nothing
+-- this action filled the slot, or an earlier one did and this one does not empty it
 abbrev FilledHere : List ℕ → ℕ → Option ℕ → Option Order → ℕ → Type 0
 FilledHere slot i before order t =
     ((t ≡ i) × (class : List ℕ) × (order ≡ Some (submit_as class slot))) ⊎ ((before ≡ Some t) × (order ≡ Some (get slot) → ⊥))
@@ -48,7 +48,7 @@ filled_here slot i before (Some (get name)) t e =
           inr (rw other at e, apart)
     ]
 
--- the text at a place of the list
+-- each index of the list has a text
 text_within : (texts : List (List ℕ)) (i : ℕ) → i < length texts → (text : List ℕ) × (slice_get texts i ≡ Some text)
 text_within [] i within = absurd (omega arith)
 text_within (text ∷ texts) zero within = (text, refl)
@@ -72,7 +72,7 @@ fills_more texts i slot t fills none = record {
       ];
 }
 
--- what fills a slot at place i
+-- the submit that fills a slot at index i
 pub fills : (texts : List (List ℕ)) (i : ℕ) (slot : List ℕ) (t : ℕ) → i ≤ length texts → filled (take i texts) slot ≡ Some t → Fills texts i slot t
 fills texts zero slot t within e = absurd cc
 fills texts (suc i) slot t within e =

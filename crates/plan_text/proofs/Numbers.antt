@@ -8,14 +8,14 @@ use Rattle.job_bodies.specs.declared.limits.TheConstants.{MAX_WORK}
 use Rattle.job_bodies.specs.WellFormed.{is_within}
 use Rattle.plan_text.specs.Orders.{are_digits, is_positive_decimal}
 
--- what digits are, to the lemmas of std on numerals
+-- digits form a numeral, in the form that the lemmas of std expect
 pub digits_are : IsNumeralModel (λ digits. are_digits digits ≡ true) (digits_value 10)
 digits_are = numerals_by_value _ (search rules)
 
 pub not_empty : (text : List ℕ) → not (length text == 0) ≡ true → 0 < length text
 not_empty text h = grind (arith, nat_tests)
 
--- a decimal number that does not fit 32 bits is above the limit
+-- a decimal number that does not fit into 32 bits is above the limit
 pub too_large : {E : Type 0} (text : List ℕ) (e : E) → is_positive_decimal text ≡ true → ParsesUnsigned 32 10 text (Err e) → is_within 1 MAX_WORK (digits_value 10 text) ≡ false
 too_large {E} text e decimal parsed =
     let parts = and_parts _ (are_digits text) decimal in

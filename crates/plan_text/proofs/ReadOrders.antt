@@ -1,4 +1,4 @@
--- A text that is read as an order is the order's spelling.
+-- A text that parses as an action is the spelling of that action.
 use Rattle.std.proofs.Common.{◌≡◌, ◌↔◌, ℕ, zero, suc, ◌+◌, ◌<◌, Bool, true, not, ◌==◌, ◌&&◌, nat_le, List, [], ◌∷◌, ◌++◌, length, take, drop, slice_index, slice_get, codes, Option, None, Some, refl, sym, ap, subst, ◌∙◌, arith, add-one, inl, inr}
 use Rattle.std.specs.Prelude.{decimal}
 use Rattle.std.specs.List.{position_or_len}
@@ -14,11 +14,11 @@ use Rattle.plan_text.specs.Orders.{Order, work, submit, submit_as, get, split_sp
 use Rattle.plan_text.proofs.Numbers.{digits_are, not_empty}
 use Rattle.plan_text.proofs.SpelledOrders.{spelled}
 
--- ---- where a text splits
+-- ---- the split at the first space
 abbrev is_space : ℕ → Bool
 is_space b = b == 32
 
--- the first space stands where it is found
+-- the byte at the index of the first space is a space
 space_found : (text : List ℕ) → position_or_len is_space text < length text → slice_get text (position_or_len is_space text) ≡ Some 32
 space_found [] within = absurd (omega arith)
 space_found (b ∷ text) within =
@@ -34,7 +34,7 @@ cut [] n e = absurd cc
 cut (b ∷ text) zero e = let same : b ≡ 32 = cc in ap (λ (x : ℕ). x ∷ text) same
 cut (b ∷ text) (suc n) e = ap (λ (rest : List ℕ). b ∷ rest) (cut text n e)
 
--- what stands before and after a space, with the space between
+-- the parts before and after the space, joined by a space, are the text
 joined : (text : List ℕ) (words : List ℕ × List ℕ) → split_space text ≡ Some words → text ≡ words.0 ++ 32 ∷ words.1
 joined text words e =
     let found = cond_some (_) _ _ e in
@@ -61,7 +61,7 @@ name_spelled text name e =
     let found = cond_some (is_lawful_name text) _ _ e in
     (subst (λ (n : List ℕ). is_lawful_name n ≡ true) found.1 found.0, found.1)
 
--- ---- orders
+-- ---- actions
 abbrev pub Spells : List ℕ → Order → Type 0
 Spells text order = IsLawfulOrder order × (text ≡ spelling order)
 
@@ -123,12 +123,12 @@ verb_spelled verb text order e =
           ]
     ]
 
--- what is read is spelled so
+-- a text that parses as an action is its spelling
 pub read_spelled : (text : List ℕ) (order : Order) → order_of text ≡ Some order → Spells text order
 unfolding order_of
 read_spelled text order e =
     option_and_then_some _ (split_space text) _ e (λ words here h. subst (λ (t : List ℕ). Spells t order) (sym (joined text words here)) (verb_spelled words.0 words.1 order h))
 
--- and what is spelled so is read
+-- a text parses as an action if and only if it is its spelling
 pub canonical : (text : List ℕ) (order : Order) → (order_of text ≡ Some order) ↔ Spells text order
 canonical text order = (read_spelled text order, λ s. ap order_of s.1 ∙ spelled order s.0)

@@ -1,4 +1,4 @@
--- Texts whose plans or faults are known, computed from the definitions.
+-- Texts with known plans or faults, computed from the definitions.
 use Rattle.std.proofs.Common.{◌≡◌, ℕ, List, [], ◌∷◌, ◌++◌, true, false, Ok, Err, codes, refl}
 use Rattle.job_bodies.specs.declared.action.Action.TheVariants.{Work, Submit, Get}
 use Rattle.job_bodies.specs.declared.fault.Part.TheVariants as part
@@ -38,12 +38,12 @@ one_of_each = refl
 abbrev prestarted : Plan
 prestarted = record { pools = record { name = codes "p"; core = 1; max = 1; queue = 2; prestart = true } ∷ []; classes = []; clients = [] }
 
--- a pool whose core threads are started beforehand
+-- a pool with prestarted core threads
 prestarted_pool : plan_of (pool ++ codes "prestart = true\n") ≡ Ok prestarted
 unfolding plan_on_literals
 prestarted_pool = refl
 
--- no truth value
+-- a value that is not a boolean
 no_truth : plan_of (pool ++ codes "prestart = 1\n") ≡ Err (at_entry part.Pool 0 5)
 unfolding plan_on_literals
 no_truth = refl
@@ -51,17 +51,17 @@ no_truth = refl
 abbrev client_with : List ℕ → List ℕ
 client_with body = codes "[[client]]\nname = \"c\"\ncount = 2\nbody = [" ++ body ++ codes "]\n"
 
--- the slot is empty again after its get
+-- a get empties its slot
 empty_slot : plan_of (pool ++ class ++ client_with (codes "\"submit a as x\", \"get x\", \"get x\"")) ≡ Err (at_action part.Client 0 2 13)
 unfolding plan_on_literals
 empty_slot = refl
 
--- the slot is filled already
+-- the slot is already filled
 open_slot : plan_of (pool ++ class ++ client_with (codes "\"submit a as x\", \"submit a as x\"")) ≡ Err (at_action part.Client 0 1 12)
 unfolding plan_on_literals
 open_slot = refl
 
--- a slot that was emptied may be filled again
+-- an empty slot can be filled again
 slot_again : plan_of (pool ++ class ++ codes "[[client]]\nname = \"c\"\ncount = 2\nrepeat = true\nbody = [\"submit a as x\", \"get x\", \"submit a as x\", \"get x\"]\n") ≡ Ok again
 unfolding plan_on_literals
 slot_again = refl
@@ -71,12 +71,12 @@ small_maximum : plan_of (codes "[[pool]]\nname = \"p\"\ncore = 2\nmax = 1\nqueue
 unfolding plan_on_literals
 small_maximum = refl
 
--- no work
+-- work of length 0
 no_work : plan_of (pool ++ codes "[[class]]\nname = \"a\"\npool = \"p\"\nbody = [\"work 0\"]\n") ≡ Err (at_action part.Class 0 0 11)
 unfolding plan_on_literals
 no_work = refl
 
--- no text
+-- bytes that are not UTF-8
 no_text : plan_of (255 ∷ []) ≡ Err (at_text 1)
 unfolding plan_on_literals
 no_text = refl

@@ -1,4 +1,4 @@
--- A lawful order is read from its spelling.
+-- The spelling of a valid action parses as that action.
 use Rattle.std.proofs.Common.{◌≡◌, ℕ, ◌+◌, ◌<◌, ◌≤◌, ◌^◌, Bool, true, false, not, ◌==◌, nat_lt, nat_le, List, [], ◌∷◌, ◌++◌, length, take, drop, slice_index, codes, Option, None, Some, refl, sym, ap, ap₂, subst, ◌∙◌, arith, append_assoc}
 use Rattle.std.specs.Prelude.{if◌then◌else◌, option_and_then, decimal}
 use Rattle.std.specs.List.{list_all, position_or_len, before_first, after_first}
@@ -13,7 +13,7 @@ use Rattle.job_bodies.specs.WellFormed.{is_within, is_letter, is_name_byte, is_l
 use Rattle.plan_text.proofs.Numbers.{digits_are}
 use Rattle.plan_text.specs.Orders.{Order, work, submit, submit_as, get, split_space, name_of, is_digit, are_digits, is_positive_decimal, units_of, submit_as_of, submit_parts, submit_of, order_of_verb, order_of, spelling, IsLawfulOrder}
 
--- ---- where a text splits
+-- ---- the split at the first space
 abbrev is_space : ℕ → Bool
 is_space b = b == 32
 
@@ -84,7 +84,7 @@ units_read units within =
     cond-true _ _ _ (and_from _ _ full fits) ∙ ap (λ (n : ℕ). Some n) value
 
 -- ---- the spellings
--- what the reader makes of each spelling
+-- the result of the parser for each spelling
 by_verb : (verb text : List ℕ) → has_no_space verb ≡ true → order_of (verb ++ 32 ∷ text) ≡ order_of_verb verb text
 unfolding order_of
 by_verb verb text none = ap (λ o. option_and_then (λ words. order_of_verb words.0 words.1) o) (splits verb text none)
@@ -96,7 +96,7 @@ submit_read : (class : List ℕ) → is_lawful_name class ≡ true → submit_of
 unfolding submit_of
 submit_read class lawful = ap (submit_parts class) (stays_whole class (name_no_space class lawful)) ∙ ap (λ o. option_and_then (λ name. Some (submit name)) o) (name_read class lawful)
 
--- a submit that fills a slot, once its class is read, and once its slot is
+-- a submit that fills a slot, after its class and then its slot are parsed
 abbrev with_slot : List ℕ → Option (List ℕ) → Option Order
 with_slot class slot = option_and_then (λ name. Some (submit_as class name)) slot
 
@@ -128,7 +128,7 @@ spelled_get : (slot : List ℕ) → is_lawful_name slot ≡ true → order_of (c
 unfolding order_of_verb
 spelled_get slot named = by_verb (codes "get") slot refl ∙ ap (λ o. option_and_then (λ name. Some (get name)) o) (name_read slot named)
 
--- ---- a lawful order is read from its spelling
+-- ---- the spelling of a valid action parses as that action
 pub spelled : (order : Order) → IsLawfulOrder order → order_of (spelling order) ≡ Some order
 spelled (work units) lawful = spelled_work units lawful
 spelled (submit class) lawful = spelled_submit class lawful

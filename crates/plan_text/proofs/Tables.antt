@@ -1,4 +1,4 @@
--- The tables and arrays of `toml`, as its values hold them.
+-- The tables and arrays of `toml`, as its values represent them.
 use Rattle.std.proofs.Common.{◌≡◌, ℕ, List, [], ◌∷◌, map, String, Bor, Global, string_bytes, refl, ap}
 use Rattle.std.specs.List.{list_any, list_all}
 use Rattle.std.specs.Map.{keys_of}
@@ -9,7 +9,7 @@ use Rattle.toml.specs.declared.value.Value.{Value}
 use Rattle.job_bodies.proofs.Loops.{list_any_of_map}
 use Rattle.plan_text.specs.Document.{has_only, elements}
 
--- the elements of items are the list that they were made of
+-- the elements of the items that were built from a list are that list
 pub elements-items_of : (values : List Data) → elements (items_of values) ≡ values
 elements-items_of [] = refl
 elements-items_of (value ∷ values) = ap (λ (rest : List Data). value ∷ rest) (elements-items_of values)

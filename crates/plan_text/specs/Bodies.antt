@@ -1,4 +1,5 @@
--- Bodies, action by action: classes get their places, gets the positions of their submits.
+-- Parsing of bodies, action by action. Resolves class names to indices, and the slots of gets to the positions of their
+-- submits.
 use Rattle.std.specs.Prelude.{ℕ, nat_lt, is_none, List, length, take, Option, Result, Ok}
 use Rattle.readings.specs.Reading.{◌>>=◌, holds_or, some_or, read_each}
 use Rattle.job_bodies.specs.declared.action.Action.{Action}
@@ -14,12 +15,12 @@ use Rattle.plan_text.specs.Checks.{place_of}
 use Rattle.plan_text.specs.Orders.{Order, work, submit, submit_as, get, order_of}
 use Rattle.plan_text.specs.Slots.{filled}
 
--- the place of the class that an action names
+-- the index of the class with this name
 abbrev pub class_named : List (List ℕ) → (ℕ → PlanFault) → List ℕ → Result ℕ PlanFault
 class_named classes fault name =
     holds_or (nat_lt (place_of classes name) (length classes)) (fault NO_SUCH_CLASS) >>= λ _. Ok (place_of classes name)
 
--- the action of an order, where slots tells what fills each slot
+-- resolves a parsed action; slots maps each filled slot to its position
 abbrev pub action_of : List (List ℕ) → (List ℕ → Option ℕ) → (ℕ → PlanFault) → Order → Result Action PlanFault
 action_of classes slots fault (work units) = Ok (Work units)
 action_of classes slots fault (submit class) = class_named classes fault class >>= λ k. Ok (Submit k)
@@ -27,7 +28,7 @@ action_of classes slots fault (submit_as class slot) =
     class_named classes fault class >>= λ k. holds_or (is_none (slots slot)) (fault SLOT_OPEN) >>= λ _. Ok (Submit k)
 action_of classes slots fault (get slot) = some_or (slots slot) (fault SLOT_EMPTY) >>= λ t. Ok (Get t)
 
--- the action of a text, where slots tells what fills each slot
+-- parses and resolves an action; slots maps each filled slot to its position
 unfoldable pub action_at : List (List ℕ) → (List ℕ → Option ℕ) → (ℕ → PlanFault) → List ℕ → Result Action PlanFault
 action_at classes slots fault text =
     some_or (order_of text) (fault BAD_ACTION) >>= λ order. action_of classes slots fault order
@@ -46,7 +47,7 @@ class_of pools classes index class =
     body_of classes part.Class index class.body >>= λ body.
     Ok (record { name = class.name; pool = place_of pools class.pool; body = body })
 
--- a client with its body
+-- a kind of client with its body
 abbrev pub client_of : List (List ℕ) → ℕ → ClientEntry → Result Client PlanFault
 client_of classes index client =
     body_of classes part.Client index client.body >>= λ body.

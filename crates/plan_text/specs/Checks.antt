@@ -1,4 +1,5 @@
--- Names and numbers: each name is lawful and new in its list, each number in its range, each class's pool there.
+-- The checks of names and numbers: each name must be valid and unique in its list, each number in range, and the pool of
+-- each class must exist.
 use Rattle.std.specs.Prelude.{ℕ, List, [], length, map, take, Result, Ok}
 use Rattle.std.specs.List.{position_or_len}
 use Rattle.std.specs.Str.{bytes_eq}
@@ -15,30 +16,30 @@ class_names classes = map (λ class. class.name) classes
 abbrev pub client_names : List ClientEntry → List (List ℕ)
 client_names clients = map (λ client. client.name) clients
 
--- the place of a name in its list, or the length where it isn't there
+-- the index of a name in its list, or the length of the list if the name is absent
 abbrev pub place_of : List (List ℕ) → List ℕ → ℕ
 place_of names name = position_or_len (λ known. bytes_eq name known) names
 
--- a class without its body, its pool by its place among the names
+-- a class without its body, with the index of its pool
 abbrev pub class_head : List (List ℕ) → ClassEntry → Class
 class_head pools class = record { name = class.name; pool = place_of pools class.pool; body = [] }
 
--- a client without its body
+-- a kind of client without its body
 abbrev pub client_head : ClientEntry → Client
 client_head client = record { name = client.name; count = client.count; repeat = client.repeat; body = [] }
 
--- the names of the pools, where their names and sizes are lawful
+-- the names of the pools if all names and sizes are valid
 unfoldable pub check_pools : List Pool → Result (List (List ℕ)) PlanFault
 check_pools pools =
     check_each (λ index. check_pool (take index (map (λ pool. pool.name) pools)) index) 0 pools >>= λ _.
     Ok (map (λ pool. pool.name) pools)
 
--- the names of the classes, where their names are lawful and their pools are among these
+-- the names of the classes if all names are valid and each class belongs to one of these pools
 unfoldable pub check_classes : List (List ℕ) → List ClassEntry → Result (List (List ℕ)) PlanFault
 check_classes pools classes =
     check_each (λ index class. check_class (length pools) (take index (class_names classes)) index (class_head pools class)) 0 classes >>= λ _.
     Ok (class_names classes)
 
--- the names and counts of the clients are lawful
+-- the names and counts of the clients are valid
 unfoldable pub check_clients : List ClientEntry → Result (Unit {0}) PlanFault
 check_clients clients = check_each (λ index client. check_client (take index (client_names clients)) index (client_head client)) 0 clients

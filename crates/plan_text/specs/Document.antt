@@ -1,4 +1,4 @@
--- The document as TOML: its length, its bytes, and its keys at the top.
+-- The document as TOML: its length, its bytes, and its top-level keys.
 use Rattle.std.specs.Prelude.{ℕ, Bool, true, ◌&&◌, nat_le, List, [], ◌∷◌, length, codes, Option, None, Some, option_map, Result, Ok}
 use Rattle.std.specs.List.{list_any}
 use Rattle.std.specs.Str.{bytes_eq, is_utf8}
@@ -24,15 +24,15 @@ elements (item value rest) = value ∷ elements rest
 abbrev pub as_list : Data → Option (List Data)
 as_list value = option_map elements (as_array value)
 
--- bytes that are a text in UTF-8
+-- the bytes if they are UTF-8
 abbrev pub text_of : List ℕ → Result (List ℕ) PlanFault
 text_of bytes = holds_or (is_utf8 bytes) (at_text NOT_TOML) >>= λ _. Ok bytes
 
--- the table that a text is, as TOML
+-- the TOML table of a text
 abbrev pub table_of : List ℕ → Result Members PlanFault
 table_of text = some_or (parse_document text) (at_text NOT_TOML)
 
--- the table of a document that is not too long, and has no other keys than a plan's
+-- the table of a document within the limit on its length, which has only the keys of a plan
 unfoldable pub document_of : List ℕ → Result Members PlanFault
 document_of bytes =
     holds_or (nat_le (length bytes) MAX_PLAN_BYTES) (at_text TOO_MANY) >>= λ _.
@@ -41,12 +41,12 @@ document_of bytes =
     holds_or (has_only (codes "pool" ∷ codes "class" ∷ codes "client" ∷ []) document) (at_text UNKNOWN_KEY) >>= λ _.
     Ok document
 
--- the list that a value at the top is, none where there is none
+-- the elements of a top-level value that is an array, or none if the value is absent
 abbrev pub list_of : Option Data → Result (List Data) PlanFault
 list_of None = Ok []
 list_of (Some value) = some_or (as_list value) (at_text WRONG_TYPE)
 
--- the list at a key, of at most so many entries
+-- the elements of the array at a key, at most `most`
 unfoldable pub list_at : List ℕ → ℕ → Members → Result (List Data) PlanFault
 list_at key most document =
     list_of (get_member key document) >>= λ values.

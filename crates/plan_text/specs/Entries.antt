@@ -1,4 +1,4 @@
--- The entries of a plan's text by their shapes: each key is there and of its type.
+-- The shape of the entries of a plan's text: each key must be present and have its type.
 use Rattle.std.specs.Prelude.{◌≡◌, ℕ, Bool, true, nat_le, List, [], ◌∷◌, length, slice_get, codes, Some, Result, Ok}
 use Rattle.toml.specs.Data.{Data, Members}
 use Rattle.readings.specs.Reading.{◌>>=◌, read_each}
@@ -9,13 +9,13 @@ use Rattle.job_bodies.specs.Plan.{Pool}
 use Rattle.plan_text.specs.Document.{list_at}
 use Rattle.plan_text.specs.Entry.{entry_of, text_at, number_at, flag_at, texts_at}
 
--- a class as its text gives it: its pool by name, its actions as texts
+-- a class as the text gives it: its pool by name, its actions as texts
 pub record ClassEntry : Type 0 where
   pub name : List ℕ
   pub pool : List ℕ
   pub body : List (List ℕ)
 
--- a kind of clients as its text gives it
+-- a kind of client as the text gives it
 pub record ClientEntry : Type 0 where
   pub name : List ℕ
   pub count : ℕ
@@ -36,7 +36,6 @@ pub record AreWithinLimits (entries : Entries) : Type 0 where
   pub classes : (i : ℕ) (class : ClassEntry) → slice_get entries.classes i ≡ Some class → nat_le (length class.body) MAX_ACTIONS ≡ true
   pub clients : (i : ℕ) (client : ClientEntry) → slice_get entries.clients i ≡ Some client → nat_le (length client.body) MAX_ACTIONS ≡ true
 
--- a pool
 unfoldable pub read_pool : ℕ → Data → Result Pool PlanFault
 read_pool index value =
     entry_of part.Pool index (codes "name" ∷ codes "core" ∷ codes "max" ∷ codes "queue" ∷ codes "prestart" ∷ []) value >>= λ entry.
@@ -47,7 +46,6 @@ read_pool index value =
     flag_at entry (codes "prestart") >>= λ prestart.
     Ok (record { name = name; core = core; max = max; queue = queue; prestart = prestart })
 
--- a class
 unfoldable pub read_class : ℕ → Data → Result ClassEntry PlanFault
 read_class index value =
     entry_of part.Class index (codes "name" ∷ codes "pool" ∷ codes "body" ∷ []) value >>= λ entry.
@@ -56,7 +54,6 @@ read_class index value =
     texts_at entry (codes "body") >>= λ body.
     Ok (record { name = name; pool = pool; body = body })
 
--- a kind of clients
 unfoldable pub read_client : ℕ → Data → Result ClientEntry PlanFault
 read_client index value =
     entry_of part.Client index (codes "name" ∷ codes "count" ∷ codes "repeat" ∷ codes "body" ∷ []) value >>= λ entry.
@@ -66,7 +63,7 @@ read_client index value =
     texts_at entry (codes "body") >>= λ body.
     Ok (record { name = name; count = count; repeat = repeat; body = body })
 
--- the entries of a document: first the three lists, then each entry's shape
+-- the entries of a document: first the three lists, then the shape of each entry
 unfoldable pub entries_of : Members → Result Entries PlanFault
 entries_of document =
     list_at (codes "pool") MAX_POOLS document >>= λ pools.

@@ -11,13 +11,13 @@ use Rattle.job_bodies.specs.Checks.{at_entry, at_action}
 use Rattle.plan_text.specs.declared.entry.Entry as read
 use Rattle.plan_text.specs.Document.{has_only, as_list}
 
--- a table of a list, and where it stands
+-- a table of a list, and its place
 pub record Entry : Type 0 where
   pub table : Members
   pub part : Part
   pub index : ℕ
 
--- an entry of the code, its table as its members
+-- the specification's view of an entry: its table as members
 abbrev pub entry_view : read.Entry → Entry
 entry_view entry = record { table = table_view entry.table.now; part = entry.part; index = entry.index }
 
@@ -25,47 +25,47 @@ entry_view entry = record { table = table_view entry.table.now; part = entry.par
 abbrev pub fault_at : Entry → ℕ → PlanFault
 fault_at entry number = at_entry entry.part entry.index number
 
--- a whole number as a count: 0 for a negative one, which is in no range of a plan either
+-- an integer as a count: 0 for a negative one, which is out of range for every number of a plan
 abbrev pub count_of : ℤ → ℕ
 count_of (pos n) = n
 count_of (negsuc n) = 0
 
--- the entry that a value is: a table, with no other keys than these
+-- the value as an entry: a table that has only these keys
 unfoldable pub entry_of : Part → ℕ → List (List ℕ) → Data → Result Entry PlanFault
 entry_of part index keys value =
     some_or (as_table value) (at_entry part index WRONG_TYPE) >>= λ table.
     holds_or (has_only keys table) (at_entry part index UNKNOWN_KEY) >>= λ _.
     Ok (record { table = table; part = part; index = index })
 
--- the value at a key, which must be there
+-- the value at a required key
 abbrev pub value_at : Entry → List ℕ → Result Data PlanFault
 value_at entry key = some_or (get_member key entry.table) (fault_at entry MISSING_KEY)
 
--- the text at a key
+-- the string at a key
 unfoldable pub text_at : Entry → List ℕ → Result (List ℕ) PlanFault
 text_at entry key = value_at entry key >>= λ value. some_or (as_str value) (fault_at entry WRONG_TYPE)
 
--- the whole number at a key
+-- the integer at a key
 unfoldable pub number_at : Entry → List ℕ → Result ℕ PlanFault
 number_at entry key =
     value_at entry key >>= λ value.
     some_or (as_integer value) (fault_at entry WRONG_TYPE) >>= λ number.
     Ok (count_of number)
 
--- the truth value that a value is, false where there is none
+-- the boolean of a value, or false if there is no value
 abbrev pub flag_of : Entry → Option Data → Result Bool PlanFault
 flag_of entry None = Ok false
 flag_of entry (Some value) = some_or (as_bool value) (fault_at entry WRONG_TYPE)
 
--- the truth value at a key, false where the key is absent
+-- the boolean at a key, or false if the key is absent
 unfoldable pub flag_at : Entry → List ℕ → Result Bool PlanFault
 flag_at entry key = flag_of entry (get_member key entry.table)
 
--- the text of an action of the entry at a place
+-- the text of an action of the entry at an index
 abbrev pub action_text : Part → ℕ → ℕ → Data → Result (List ℕ) PlanFault
 action_text part index action value = some_or (as_str value) (at_action part index action WRONG_TYPE)
 
--- the texts at a key, as many as a body may have
+-- the strings at a key, up to the maximum number of actions of a body
 unfoldable pub texts_at : Entry → List ℕ → Result (List (List ℕ)) PlanFault
 texts_at entry key =
     value_at entry key >>= λ value.

@@ -8,14 +8,14 @@ use Rattle.job_bodies.specs.WellFormed.{is_lawful_name, is_within}
 use Rattle.plan_text.specs.declared.order.Order as read
 use Rattle.plan_text.specs.declared.order.Order.TheVariants.{Work, Submit, SubmitAs, Get}
 
--- an action as its text gives it: classes and slots by name
+-- a parsed action, with classes and slots by name
 pub data Order : Type 0 where
   work : ℕ → Order
   submit : List ℕ → Order
   submit_as : List ℕ → List ℕ → Order
   get : List ℕ → Order
 
--- an order of the code, its names without where they stand
+-- the specification's view of a parsed action
 abbrev pub order_view : read.Order → Order
 order_view (Work units) = work units
 order_view (Submit class) = submit class.now
@@ -26,13 +26,13 @@ infixl 10 ◌>>?◌
 abbrev pub ◌>>?◌ : {A B : Type 0} → Option A → (A → Option B) → Option B
 o >>? f = option_and_then f o
 
--- what stands before and after the first space
+-- the parts before and after the first space
 abbrev pub split_space : List ℕ → Option (List ℕ × List ℕ)
 split_space text =
     if nat_lt (position_or_len (λ b. b == 32) text) (length text)
     then Some (before_first (λ b. b == 32) text, after_first (λ b. b == 32) text) else None
 
--- the text, where it is a name
+-- the text if it is a valid name
 abbrev pub name_of : List ℕ → Option (List ℕ)
 name_of text = if is_lawful_name text then Some text else None
 
@@ -43,21 +43,21 @@ is_digit b = is_within 48 57 b
 abbrev pub are_digits : List ℕ → Bool
 are_digits bytes = list_all is_digit bytes
 
--- one digit or more, the first of which is not 0
+-- one or more digits without a leading zero
 abbrev pub is_positive_decimal : List ℕ → Bool
 is_positive_decimal digits = not (length digits == 0) && not (slice_index digits 0 == 48) && are_digits digits
 
--- the length of a piece of work: a decimal number from 1 to the limit
+-- the length of an action `work`: a decimal number from 1 to the limit
 unfoldable pub units_of : List ℕ → Option ℕ
 units_of text = if is_positive_decimal text && is_within 1 MAX_WORK (digits_value 10 text) then Some (digits_value 10 text) else None
 
--- a submit that fills a slot, from its class and what stands after the class
+-- a submit that fills a slot, from its class and the text after the class
 unfoldable pub submit_as_of : List ℕ → List ℕ → Option Order
 submit_as_of class text =
     split_space text >>? λ words.
     if bytes_eq words.0 (codes "as") then (name_of class >>? λ class. name_of words.1 >>? λ slot. Some (submit_as class slot)) else None
 
--- a submit, from what stands after its verb
+-- a submit, from the text after its verb
 abbrev pub submit_parts : List ℕ → Option (List ℕ × List ℕ) → Option Order
 submit_parts text None = name_of text >>? λ class. Some (submit class)
 submit_parts text (Some words) = submit_as_of words.0 words.1
@@ -65,7 +65,7 @@ submit_parts text (Some words) = submit_as_of words.0 words.1
 unfoldable pub submit_of : List ℕ → Option Order
 submit_of text = submit_parts text (split_space text)
 
--- the order of a verb, from what stands after it
+-- a parsed action, from its verb and the text after the verb
 unfoldable pub order_of_verb : List ℕ → List ℕ → Option Order
 order_of_verb verb text =
     if bytes_eq verb (codes "work") then (units_of text >>? λ units. Some (work units))
@@ -73,18 +73,18 @@ order_of_verb verb text =
     else if bytes_eq verb (codes "get") then (name_of text >>? λ slot. Some (get slot))
     else None
 
--- the order that a text gives
+-- parses an action
 unfoldable pub order_of : List ℕ → Option Order
 order_of text = split_space text >>? λ words. order_of_verb words.0 words.1
 
--- ---- the spelling of an order
+-- ---- the spelling of a parsed action
 abbrev pub spelling : Order → List ℕ
 spelling (work units) = codes "work " ++ decimal units
 spelling (submit class) = codes "submit " ++ class
 spelling (submit_as class slot) = codes "submit " ++ class ++ (codes " as " ++ slot)
 spelling (get slot) = codes "get " ++ slot
 
--- its length of work is within the limit, or its names are lawful
+-- the length of its work is within the limit, or its names are valid
 abbrev pub is_lawful_order : Order → Bool
 is_lawful_order (work units) = is_within 1 MAX_WORK units
 is_lawful_order (submit class) = is_lawful_name class

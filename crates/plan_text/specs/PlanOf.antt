@@ -1,4 +1,4 @@
--- The plan of a text: the document, the entries' shapes, names and numbers, and then the bodies.
+-- The plan of a text. Reads the document, the shape of the entries, the names and numbers, and then the bodies.
 use Rattle.std.specs.Prelude.{ℕ, List, Result, Ok}
 use Rattle.readings.specs.Reading.{◌>>=◌, read_each}
 use Rattle.job_bodies.specs.declared.fault.PlanFault.{PlanFault}
@@ -8,7 +8,7 @@ use Rattle.plan_text.specs.Entries.{Entries, entries_of}
 use Rattle.plan_text.specs.Checks.{check_pools, check_classes, check_clients}
 use Rattle.plan_text.specs.Bodies.{class_of, client_of}
 
--- the plan of entries, where its pools and classes have these names
+-- the plan of entries whose pools and classes have these names
 abbrev pub plan_of_named : List (List ℕ) → List (List ℕ) → Entries → Result Plan PlanFault
 plan_of_named pool_names class_names entries =
     read_each (class_of pool_names class_names) 0 entries.classes >>= λ classes.
@@ -22,6 +22,6 @@ plan_of_entries entries =
     check_classes pool_names entries.classes >>= λ class_names.
     check_clients entries.clients >>= λ _. plan_of_named pool_names class_names entries
 
--- the plan that the bytes are the text of, or the first fault
+-- the plan that the bytes represent, or the first fault
 unfoldable pub plan_of : List ℕ → Result Plan PlanFault
 plan_of bytes = document_of bytes >>= λ document. entries_of document >>= λ entries. plan_of_entries entries

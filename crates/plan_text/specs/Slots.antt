@@ -1,24 +1,24 @@
--- Which slots are filled, and by the submits at which positions.
+-- The slots that are filled, each with the position of the submit that filled it.
 use Rattle.std.specs.Prelude.{ℕ, ◌+◌, if◌then◌else◌, List, [], ◌∷◌, Option, None, Some}
 use Rattle.std.specs.Map.{lookup}
 use Rattle.std.specs.Str.{bytes_eq}
 use Rattle.plan_text.specs.Orders.{Order, submit_as, get, order_of}
 
--- the position that fills a slot, among the filled slots
+-- the position of the submit that fills a slot, if it is filled
 abbrev pub position_in : List (List ℕ × ℕ) → List ℕ → Option ℕ
 position_in slots slot = lookup (bytes_eq slot) slots
 
--- what fills a slot after the order at position i, where before filled it until then
+-- the state of a slot after the parsed action at position i, from its state before
 abbrev pub filled_by : List ℕ → ℕ → Option ℕ → Option Order → Option ℕ
 filled_by slot i before (Some (submit_as class name)) = if bytes_eq name slot then Some i else before
 filled_by slot i before (Some (get name)) = if bytes_eq name slot then None else before
 filled_by slot i before _ = before
 
--- what fills a slot after these texts, the first of which stands at position i
+-- the state of a slot after these texts, the first of which is at position i
 abbrev pub filled_from : List ℕ → ℕ → Option ℕ → List (List ℕ) → Option ℕ
 filled_from slot i before [] = before
 filled_from slot i before (text ∷ texts) = filled_from slot (i + 1) (filled_by slot i before (order_of text)) texts
 
--- the position of the submit that fills a slot after the first texts of a body, if one does
+-- the position of the submit that fills a slot after the first texts of a body, if it is filled
 abbrev pub filled : List (List ℕ) → List ℕ → Option ℕ
 filled texts slot = filled_from slot 0 None texts

@@ -1,4 +1,5 @@
-//! Bodies, action by action: classes get their places, gets the positions of their submits.
+//! Parsing of bodies, action by action. Resolves class names to indices, and the slots of gets to
+//! the positions of their submits.
 
 ghost use Rattle.std.specs.Prelude.{◌≡◌, List, ℕ, map, OnOk, Some};
 ghost use Rattle.readings.specs.Reading as each;
@@ -19,7 +20,7 @@ use job_bodies::{Action, Class, Client, Part, PlanFault};
 use readings::{ReadError, read_each};
 use std::alloc::Global;
 
-/// An action of an entry's body, and where it stands.
+/// The place of an action: its entry, and its position in the body.
 #[derive(Clone, Copy)]
 struct ActionPlace {
     part: Part,
@@ -170,7 +171,8 @@ fn client_of<'a>(
     })
 }
 
-/// The classes of these entries, with their bodies. The room of each entry is free once its class is there.
+/// Builds the classes of these entries, with their bodies. Frees each entry after its class is
+/// built.
 pub fn classes_of<'p, 'd: 'p>(
     alloc: Global,
     pools: &Names<'p>,
@@ -188,7 +190,7 @@ pub fn classes_of<'p, 'd: 'p>(
     Ok(classes)
 }
 
-/// The clients of these entries, with their bodies.
+/// Builds the kinds of client of these entries, with their bodies.
 pub fn clients_of<'a>(
     alloc: Global,
     names: &Names<'a>,

@@ -1,4 +1,5 @@
-//! Names and numbers: each name is lawful and new in its list, each number in its range, each class's pool there.
+//! The checks of names and numbers: each name must be valid and unique in its list, each number in
+//! range, and the pool of each class must exist.
 
 ghost use Rattle.std.specs.Prelude.{◌≡◌, ◌++◌, ◌∷◌, [], OnOk, length};
 ghost use Rattle.readings.specs.Given.{Gives};
@@ -77,7 +78,7 @@ fn check_client<'a>(
     Ok(())
 }
 
-/// The names of the pools, where their names and sizes are lawful.
+/// Returns the names of the pools if all names and sizes are valid.
 #[tactic(auto, unfolding(crate::specs::Checks::check_pools))]
 pub fn check_pools<'a>(alloc: Global, pools: &'a [Pool]) -> Result<Names<'a>, TextError>
     ensures { Gives (λ names. names) result (spec.check_pools pools.now) }
@@ -89,7 +90,8 @@ pub fn check_pools<'a>(alloc: Global, pools: &'a [Pool]) -> Result<Names<'a>, Te
     Ok(names)
 }
 
-/// The names of the classes, where their names are lawful and their pools are among these.
+/// Returns the names of the classes if all names are valid and each class belongs to one of these
+/// pools.
 #[tactic(auto, unfolding(crate::specs::Checks::check_classes))]
 pub fn check_classes<'a>(
     alloc: Global,
@@ -105,7 +107,7 @@ pub fn check_classes<'a>(
     Ok(names)
 }
 
-/// The clients' names and counts are lawful.
+/// Checks the names and the counts of the clients.
 #[tactic(auto, unfolding(crate::specs::Checks::check_clients))]
 pub fn check_clients(alloc: Global, clients: &[ClientEntry]) -> Result<(), TextError>
     ensures { Gives (λ _. tt) result (spec.check_clients clients.now) }

@@ -1,4 +1,4 @@
-//! The entries of a plan's text by their shapes: each key is there and of its type.
+//! The shape of the entries of a plan's text: each key must be present and have its type.
 
 ghost use Rattle.std.specs.Prelude.{◌≡◌, map};
 ghost use Rattle.toml.specs.View.{view, table_view};
@@ -15,7 +15,7 @@ use std::alloc::Global;
 use std::marker::Model;
 use toml::{Table, Value};
 
-/// A class of jobs as its text gives it, its pool by name.
+/// A class of jobs as the text gives it, with its pool by name.
 #[derive(Drop)]
 pub struct ClassEntry<'a> {
     pub name: &'a str,
@@ -29,7 +29,7 @@ impl<'a> Model for ClassEntry<'a> {
     ghost view = { λ k. record { name = k.name.now; pool = k.pool.now; body = map (λ text. text.now) k.body.items } };
 }
 
-/// A kind of clients as its text gives it.
+/// A kind of client as the text gives it.
 #[derive(Drop)]
 pub struct ClientEntry<'a> {
     pub name: &'a str,
@@ -44,7 +44,7 @@ impl<'a> Model for ClientEntry<'a> {
     ghost view = { λ c. record { name = c.name.now; count = c.count; repeat = c.repeat; body = map (λ text. text.now) c.body.items } };
 }
 
-/// A document's entries.
+/// The entries of a document.
 #[derive(Drop)]
 pub struct Entries<'a> {
     pub pools: Vec<Pool>,
@@ -137,7 +137,7 @@ fn client_entries_of(alloc: Global, values: &[Value]) -> Result<Vec<ClientEntry<
     )
 }
 
-/// The entries of a document: first the three lists, then each entry's shape.
+/// Reads the entries of a document: first the three lists, then the shape of each entry.
 #[tactic(auto, unfolding(crate::specs::Entries::entries_of))]
 pub fn entries_of(alloc: Global, document: &Table) -> Result<Entries<'_>, TextError>
     ensures { Gives (λ entries. entries) result (spec.entries_of (table_view document.now)) }

@@ -15,7 +15,7 @@ use readings::{ReadError, read_each};
 use std::alloc::Global;
 use toml::{Table, Value};
 
-/// A table of a list, and where it stands.
+/// A table of a list, and its place.
 #[derive(Drop)]
 pub struct Entry<'a> {
     table: &'a Table,
@@ -23,7 +23,8 @@ pub struct Entry<'a> {
     index: usize,
 }
 
-/// A whole number of a text as a count, 0 for a negative one: neither is in the range of any number of a plan.
+/// Converts an integer of the text to a count. A negative integer gives 0, which is out of range
+/// for every number of a plan.
 fn count_of(number: i64) -> u64
     ensures { result ≡ spec.count_of number }
 {
@@ -31,7 +32,7 @@ fn count_of(number: i64) -> u64
 }
 
 impl<'a> Entry<'a> {
-    /// The entry that a value is: a table with no other keys than these.
+    /// Reads a value as an entry: a table that has only these keys.
     #[tactic(auto, unfolding(crate::specs::Entry::entry_of))]
     pub fn of(
         value: &'a Value,
@@ -64,7 +65,7 @@ impl<'a> Entry<'a> {
         value_at(self.table, key).ok_or(self.refuses(MISSING_KEY))
     }
 
-    /// The text at a key.
+    /// Returns the string at a key.
     #[tactic(auto, unfolding(crate::specs::Entry::text_at))]
     pub fn text(&self, key: &str) -> Result<&'a str, TextError>
         ensures { Gives (λ text. text.now) result (spec.text_at (entry_view self.now) key.now) }
@@ -73,7 +74,7 @@ impl<'a> Entry<'a> {
         value.as_str().ok_or(self.refuses(WRONG_TYPE))
     }
 
-    /// The whole number at a key.
+    /// Returns the integer at a key.
     #[tactic(auto, unfolding(crate::specs::Entry::number_at))]
     pub fn number(&self, key: &str) -> Result<u64, TextError>
         ensures { Gives (λ number. number) result (spec.number_at (entry_view self.now) key.now) }
@@ -83,7 +84,7 @@ impl<'a> Entry<'a> {
         Ok(count_of(number))
     }
 
-    /// The truth value at a key, false where the key is absent.
+    /// Returns the boolean at a key, or `false` if the key is absent.
     #[tactic(auto, unfolding(crate::specs::Entry::flag_at))]
     pub fn flag(&self, key: &str) -> Result<bool, TextError>
         ensures { Gives (λ flag. flag) result (spec.flag_at (entry_view self.now) key.now) }
@@ -94,7 +95,7 @@ impl<'a> Entry<'a> {
         value.as_bool().ok_or(self.refuses(WRONG_TYPE))
     }
 
-    /// The texts at a key, as many as a body may have.
+    /// Returns the strings at a key, up to the maximum number of actions of a body.
     #[tactic(auto, unfolding(crate::specs::Entry::texts_at))]
     pub fn texts(&self, alloc: Global, key: &str) -> Result<Vec<&'a str>, TextError>
         ensures { Gives (λ texts. map (λ text. text.now) texts.items) result

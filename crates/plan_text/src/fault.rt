@@ -1,7 +1,7 @@
-//! Why a part of a plan's text gave nothing.
+//! The error of the readers.
 
 use job_bodies::PlanFault;
 use readings::ReadError;
 
-/// Why a part of a plan's text gave nothing: memory ran out, or the first fault.
+/// The error of a reader of a plan's text: out of memory, or the first fault.
 pub type TextError = ReadError<PlanFault>;

@@ -1,6 +1,7 @@
-//! The plan of a text: a TOML document with tables of pools, classes and clients.
+//! The text format of plans: a TOML document with tables of pools, classes and clients.
 //!
-//! Each reader gives what the definition of its name in `specs/` gives: a part of the plan, or the first fault.
+//! Each reader returns the value of the definition with its name in `specs/`: a part of the plan,
+//! or the first fault.
 #![tactic(auto)]
 
 mod bodies;

@@ -1,4 +1,4 @@
-//! Names of a list, numbered in order of appearance.
+//! The names of a list, numbered in order of appearance.
 
 ghost use Rattle.std.specs.Prelude.{◌≡◌, ◌++◌, ◌∷◌, [], List, ℕ, map, not, length, if◌then◌else◌, position, IfOk};
 ghost use Rattle.std.specs.List.{list_any};
@@ -8,7 +8,7 @@ use indexmap::IndexSet;
 use std::alloc::{AllocError, Global};
 use std::marker::Model;
 
-/// The distinct names of a list, each with its place.
+/// The distinct names of a list, each with its index.
 #[derive(Drop)]
 pub struct Names<'a> {
     names: IndexSet<&'a str>,
@@ -21,7 +21,7 @@ impl<'a> Model for Names<'a> {
 }
 
 impl<'a> Names<'a> {
-    /// No names.
+    /// Creates an empty list of names.
     pub fn new(alloc: Global) -> Names<'a>
         ensures { result ≡ [] }
     {
@@ -30,7 +30,7 @@ impl<'a> Names<'a> {
         }
     }
 
-    /// Adds a name at the end, where it is new, and answers whether it is.
+    /// Appends a name if it is new, and returns whether it is.
     pub fn add(&mut self, name: &'a str) -> Result<bool, AllocError>
         ensures is_new { IfOk result
             (λ is_new. is_new ≡ not (list_any (bytes_eq name.now) self.old)) }
@@ -41,14 +41,14 @@ impl<'a> Names<'a> {
         Ok(is_new)
     }
 
-    /// The place of a name, if it is one of them.
+    /// Returns the index of a name if it is in the list.
     pub fn place(&self, name: &str) -> Option<usize>
         ensures { result ≡ position (bytes_eq name.now) self.now }
     {
         self.names.get_index_of(name)
     }
 
-    /// How many names there are.
+    /// Returns the number of names.
     pub fn len(&self) -> usize
         ensures { result ≡ length self.now }
     {

@@ -5,7 +5,7 @@ ghost use Rattle.plan_text.specs.Orders as spec;
 
 use job_bodies::{MAX_WORK, is_lawful_name, is_within};
 
-/// An action as its text gives it: classes and slots by name.
+/// A parsed action, with classes and slots by name.
 #[derive(Clone, Copy, PartialEq, Eq)]
 pub enum Order<'a> {
     Work(u32),
@@ -14,7 +14,7 @@ pub enum Order<'a> {
     Get(&'a str),
 }
 
-/// The order that a text gives, if it is one.
+/// Parses an action.
 #[tactic(auto, unfolding(crate::specs::Orders::order_of))]
 pub fn order_of(text: &str) -> Option<Order<'_>>
     ensures { option_map spec.order_view result ≡ spec.order_of text.now }
@@ -56,7 +56,7 @@ fn submit_as_of<'a>(class: &'a str, text: &'a str) -> Option<Order<'a>>
     Some(Order::SubmitAs(name_of(class)?, name_of(slot)?))
 }
 
-/// What stands before and after the first space.
+/// Splits a text at its first space.
 fn split_space(text: &str) -> Option<(&str, &str)>
     ensures { option_map (λ words. (words.0.now, words.1.now)) result ≡ spec.split_space text.now }
 {
@@ -73,7 +73,7 @@ fn name_of(text: &str) -> Option<&str>
     }
 }
 
-/// The length of a piece of work: digits without a leading zero, from 1 to the limit.
+/// Parses the length of an action `work`: digits without a leading zero, from 1 to the limit.
 #[tactic(auto, unfolding(crate::specs::Orders::units_of))]
 fn units_of(text: &str) -> Option<u32>
     ensures { result ≡ spec.units_of text.now }

@@ -1,4 +1,4 @@
-//! The plan of a text.
+//! Parsing a plan.
 
 ghost use Rattle.std.specs.Prelude.{◌≡◌, ◌≢◌, List, IfOk, IfErr, Ok, Err};
 ghost use Rattle.readings.specs.Given.{Gives};
@@ -18,8 +18,12 @@ use job_bodies::{Class, Client, Plan, PlanFault, Pool};
 use readings::ReadError;
 use std::alloc::Global;
 
-/// The plan that the bytes are the text of, or the first fault. The fault's number is `MEMORY` where memory ran out;
-/// nothing else is then said of the text.
+/// Parses a plan.
+///
+/// # Errors
+///
+/// Returns the first fault, or a fault with the number `MEMORY` if memory runs out, which says
+/// nothing about the text.
 pub fn read_plan(alloc: Global, bytes: &[u8]) -> Result<Plan, PlanFault>
     ensures plan { IfOk result (λ plan. spec.plan_of bytes.now ≡ Ok plan) }
     ensures fault { IfErr result
@@ -32,7 +36,7 @@ pub fn read_plan(alloc: Global, bytes: &[u8]) -> Result<Plan, PlanFault>
     }
 }
 
-/// Whatever passes the checks of a text is well-formed.
+/// Parses a plan. A plan that passes the checks of a text is well-formed.
 #[tactic(auto, unfolding(crate::specs::PlanOf::plan_of))]
 fn plan_of(alloc: Global, bytes: &[u8]) -> Result<Plan, TextError>
     ensures { Gives (λ plan. plan) result (spec.plan_of bytes.now) }

@@ -1,4 +1,4 @@
-//! The slots of a body that are filled, each with the position of the submit that filled it.
+//! The filled slots of a body, each with the position of the submit that filled it.
 
 ghost use Rattle.std.specs.Prelude.{◌≡◌, List, [], ℕ, map, None, Some, if◌then◌else◌, OnOk};
 ghost use Rattle.std.specs.Str.{bytes_eq};
@@ -8,7 +8,7 @@ use indexmap::IndexMap;
 use std::alloc::{AllocError, Global};
 use std::marker::Model;
 
-/// The filled slots, by their names.
+/// A map from the names of the filled slots to positions.
 #[derive(Drop)]
 pub struct Slots<'a> {
     positions: IndexMap<&'a str, usize>,
@@ -21,7 +21,7 @@ impl<'a> Model for Slots<'a> {
 }
 
 impl<'a> Slots<'a> {
-    /// No slot is filled.
+    /// Creates a map without filled slots.
     pub fn new(alloc: Global) -> Slots<'a>
         ensures { result ≡ [] }
     {
@@ -30,14 +30,14 @@ impl<'a> Slots<'a> {
         }
     }
 
-    /// The position that fills the slot, if one does.
+    /// Returns the position of the submit that fills the slot, if the slot is filled.
     pub fn filled(&self, slot: &str) -> Option<usize>
         ensures { result ≡ position_in self.now slot.now }
     {
         self.positions.get(slot).copied()
     }
 
-    /// Fills the slot.
+    /// Marks the slot as filled by the submit at this position.
     pub fn fill(&mut self, slot: &'a str, position: usize) -> Result<(), AllocError>
         ensures { OnOk result
             ((other : List ℕ)
@@ -48,7 +48,7 @@ impl<'a> Slots<'a> {
         Ok(())
     }
 
-    /// Empties the slot.
+    /// Removes the slot from the map.
     pub fn empty(&mut self, slot: &str)
         ensures { (other : List ℕ)
             → position_in self.new other
