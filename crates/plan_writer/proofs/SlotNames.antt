@@ -1,4 +1,4 @@
--- The slots that the writer names: each name is lawful, and names one position.
+-- The slots that the writer names: each name is valid, and belongs to one position.
 use Rattle.std.proofs.Common.{◌≡◌, ℕ, ◌<◌, ◌≤◌, ◌^◌, true, drop, length, refl, ap, arith}
 use Rattle.std.specs.Prelude.{decimal}
 use Rattle.std.specs.List.{list_all}
@@ -9,7 +9,7 @@ use Rattle.plan_text.proofs.SpelledOrders.{digits_in_name}
 use Rattle.plan_text.proofs.Numbers.{digits_are}
 use Rattle.plan_writer.specs.Spelling.{slot_name}
 
--- a slot's name is lawful, and names one position
+-- a slot's name is valid, and belongs to one position
 pub slot_lawful : (position : ℕ) → position < 256 → is_lawful_name (slot_name position) ≡ true
 slot_lawful position within =
     let small : position < 2 ^ 64 = omega arith in

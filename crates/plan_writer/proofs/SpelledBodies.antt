@@ -1,4 +1,4 @@
--- The body that is read from the texts of a lawful body is that body.
+-- The texts of a valid body read back to that body.
 use Rattle.std.proofs.Common.{codes, ◌++◌, ◌≡◌, ℕ, zero, suc, ◌+◌, ◌-◌, ◌<◌, ◌≤◌, true, false, if◌then◌else◌, nat_lt, List, [], ◌∷◌, length, map, take, get_or, slice_get, Option, None, Some, Result, Ok, refl, sym, ap, subst, ◌∙◌, arith, zero-add, inl, inr, ◌⊎◌}
 use Rattle.std.specs.Prelude.{option_map}
 use Rattle.std.specs.List.{list_any, enumerate_from}
@@ -33,7 +33,7 @@ use Rattle.plan_text.proofs.SpelledOrders.{spelled}
 use Rattle.plan_writer.proofs.SlotNames.{slot_lawful, slot_injective}
 
 -- ---- names
--- the place of a name is where it stands, among distinct names
+-- the index of a name in a list of distinct names
 pub place_is : (names : List (List ℕ)) → are_distinct names ≡ true → (place : ℕ) → place < length names → place_of names (name_at names place) ≡ place
 place_is names distinct place within =
     let name = name_at names place in
@@ -56,7 +56,7 @@ same_slot : (i : ℕ) → bytes_eq (slot_name i) (slot_name i) ≡ true
 same_slot i = (bytes_eq-Decides (slot_name i) (slot_name i)).1 refl
 
 -- ---- the texts
--- an element stands behind its place
+-- an element with its index in the enumerated list
 enumerated_get : {X : Type 0} (n : ℕ) (xs : List X) (i : ℕ) (x : X) → slice_get xs i ≡ Some x → slice_get (enumerate_from n xs) i ≡ Some (n + i, x)
 enumerated_get n [] i x e = absurd cc
 enumerated_get n (y ∷ xs) zero x e =
@@ -79,14 +79,14 @@ pub length-texts : (classes : List (List ℕ)) (body : List Action) → length (
 unfolding body_texts
 length-texts classes body = length-map (enumerate_from 0 body) _ ∙ length-enumerate_from 0 body
 
--- ---- their orders
--- the order of the action at a position
+-- ---- their parsed actions
+-- the parsed action at a position
 abbrev order_here : List (List ℕ) → List Action → ℕ → Action → Order
 order_here classes body i (Work units) = work units
 order_here classes body i (Submit class) = if list_any (gets i) body then submit_as (name_at classes class) (slot_name i) else submit (name_at classes class)
 order_here classes body i (Get t) = get (slot_name t)
 
--- a lawful body over classes that have names of their own
+-- a valid body, and classes with distinct, valid names
 record IsSpelled (classes : List (List ℕ)) (body : List Action) : Type 0 where
   distinct : are_distinct classes ≡ true
   names : EachPlace classes (λ i name. is_lawful_name name ≡ true)
@@ -124,14 +124,14 @@ none_or_some : (o : Option ℕ) → (o ≡ None) ⊎ ((t : ℕ) × (o ≡ Some t
 none_or_some None = inl refl
 none_or_some (Some t) = inr (t, refl)
 
--- there is an action at a place of the body
+-- each index of the body has an action
 action_there : (body : List Action) (i : ℕ) → i < length body → (action : Action) × (slice_get body i ≡ Some action)
 action_there body i within = (get_or body i (Work 0), slice_get-get_or body i (Work 0) within)
 
 some_order : (a b : Order) (o : Option Order) → o ≡ Some a → o ≡ Some b → a ≡ b
 some_order a b o p q = cc
 
--- a submit fills no slot but its own
+-- a submit fills only its own slot
 slot_is : (classes : List (List ℕ)) (body : List Action) (i : ℕ) (action : Action) (class slot : List ℕ) → order_here classes body i action ≡ submit_as class slot → slot ≡ slot_name i
 slot_is classes body i (Work units) class slot e = absurd cc
 slot_is classes body i (Submit k) class slot e =
@@ -141,7 +141,7 @@ slot_is classes body i (Submit k) class slot e =
     ]
 slot_is classes body i (Get t) class slot e = absurd cc
 
--- a slot is empty before the submit that it belongs to
+-- a slot is empty before the submit that fills it
 slot_empty : (classes : List (List ℕ)) (body : List Action) → IsSpelled classes body → (i : ℕ) → i < length body → filled (take i (body_texts classes body)) (slot_name i) ≡ None
 slot_empty classes body given i within =
     let texts = body_texts classes body in
@@ -160,7 +160,7 @@ slot_empty classes body given i within =
           absurd (omega (arith, place, by.before))
     ]
 
--- what fills a slot after one more action
+-- a slot after one more action
 slot_more : (classes : List (List ℕ)) (body : List Action) → IsSpelled classes body → (slot : List ℕ) (i : ℕ) (action : Action) → slice_get body i ≡ Some action
     → filled (take (i + 1) (body_texts classes body)) slot ≡ filled_by slot i (filled (take i (body_texts classes body)) slot) (Some (order_here classes body i action))
 slot_more classes body given slot i action here =
@@ -168,11 +168,11 @@ slot_more classes body given slot i action here =
     let has = has_order classes body given i action here in
     filled_more slot texts i has.text has.here ∙ ap (filled_by slot i (filled (take i texts) slot)) has.gives
 
--- a submit that is got fills its slot
+-- a submit that a get names fills its slot
 filled_first : (classes : List (List ℕ)) (body : List Action) (t class : ℕ) (before : Option ℕ) → list_any (gets t) body ≡ true → filled_by (slot_name t) t before (Some (order_here classes body t (Submit class))) ≡ Some t
 filled_first classes body t class before got = rw (got, same_slot t) refl
 
--- a later action leaves it, if it is no get of that submit
+-- a later action leaves the slot filled unless it is a get of that submit
 filled_kept : (classes : List (List ℕ)) (body : List Action) → IsSpelled classes body → (t j : ℕ) (action : Action) → slice_get body j ≡ Some action → t < j → (action ≡ Get t → ⊥)
     → filled_by (slot_name t) j (Some t) (Some (order_here classes body j action)) ≡ Some t
 filled_kept classes body given t j (Work units) here after other = refl
@@ -192,11 +192,11 @@ submit_there (Some (Work units)) e = absurd cc
 submit_there (Some (Submit class)) e = (class, refl)
 submit_there (Some (Get t)) e = absurd cc
 
--- a get is seen from its submit
+-- the submit of a get has a get
 is_got : (body : List Action) (g t : ℕ) → slice_get body g ≡ Some (Get t) → list_any (gets t) body ≡ true
 is_got body g t here = list_any_at (gets t) body g (Get t) (slice_get_within body g (Get t) here) (ap (gets t) (get_or_from_slice_get body g (Get t) (Get t) here) ∙ eq-eqb t t refl)
 
--- the slot of a submit that is got is filled up to its get
+-- the slot of a submit that a get names stays filled up to that get
 filled_until : (classes : List (List ℕ)) (body : List Action) → IsSpelled classes body → (g t : ℕ) → slice_get body g ≡ Some (Get t) → (n : ℕ) → t + 1 + n ≤ g
     → filled (take (t + 1 + n) (body_texts classes body)) (slot_name t) ≡ Some t
 filled_until classes body given g t here zero within =
@@ -245,7 +245,7 @@ action_back classes part index body given i text action there here =
     let same : text ≡ has.text = cc in
     rw (same, has.gives) (action_is classes body given (at_action part index i) i action here)
 
--- a reading of each element gives these, if it does at each place
+-- reading each element gives these values, if it does at each index
 read_gives_from : {X Y F : Type 0} (read : ℕ → X → Result Y F) (n : ℕ) (xs : List X) (ys : List Y) → length xs ≡ length ys
     → ((i : ℕ) (x : X) (y : Y) → slice_get xs i ≡ Some x → slice_get ys i ≡ Some y → read (n + i) x ≡ Ok y) → read_each read n xs ≡ Ok ys
 read_gives_from read n [] [] same each = refl
@@ -263,7 +263,7 @@ read_gives : {X Y F : Type 0} (read : ℕ → X → Result Y F) (xs : List X) (y
     → ((i : ℕ) (x : X) (y : Y) → slice_get xs i ≡ Some x → slice_get ys i ≡ Some y → read i x ≡ Ok y) → read_each read 0 xs ≡ Ok ys
 read_gives read xs ys same each = read_gives_from read 0 xs ys same (λ i x y p q. subst (λ (k : ℕ). read k x ≡ Ok y) (sym (zero-add i)) (each i x y p q))
 
--- a plan with so many classes
+-- a plan with these classes
 plan_with : List (List ℕ) → Plan
 plan_with classes = record { pools = []; classes = map (λ name. record { name = name; pool = 0; body = [] }) classes; clients = [] }
 
@@ -284,7 +284,7 @@ is_spelled classes body distinct names lawful =
       once = is.once;
     }
 
--- each text gives the action that it was made of, and so the texts the body
+-- each text reads back to its action, and so the texts read back to the body
 pub reads_back : (classes : List (List ℕ)) (part : Part) (index : ℕ) (body : List Action) → are_distinct classes ≡ true → EachPlace classes (λ i name. is_lawful_name name ≡ true)
     → is_lawful_body (length classes) body ≡ true → body_of classes part index (body_texts classes body) ≡ Ok body
 unfolding body_of

@@ -17,7 +17,7 @@ use Rattle.plan_writer.specs.Spelling.{name_at, body_texts}
 use Rattle.plan_writer.specs.PlanDocument.{list_data, texts_data, pool_data, class_data, client_data, plan_document}
 use Rattle.plan_text.proofs.Tables.{elements-items_of}
 
--- ---- what is read of each element of a list that was made from another
+-- ---- reading each element of a list that was mapped from another
 read_made_from : {X Y Z F : Type 0} (read : ℕ → Y → Result Z F) (make : X → Y) (image : X → Z) (n : ℕ) (xs : List X) → EachPlace xs (λ i x. read (n + i) (make x) ≡ Ok (image x))
     → read_each read n (map make xs) ≡ Ok (map image xs)
 read_made_from read make image n [] each = refl
@@ -35,7 +35,7 @@ pub map_same : {X : Type 0} (xs : List X) → map (λ x. x) xs ≡ xs
 map_same [] = refl
 map_same (x ∷ xs) = ap (λ (ys : List _). x ∷ ys) (map_same xs)
 
--- the same, where the elements come back as they were
+-- the same if the elements read back unchanged
 pub read_again : {X Y F : Type 0} (read : ℕ → Y → Result X F) (make : X → Y) (xs : List X) → EachPlace xs (λ i x. read i (make x) ≡ Ok x) → read_each read 0 (map make xs) ≡ Ok xs
 read_again read make xs each = read_made read make (λ x. x) xs each ∙ ap (λ (ys : List _). Ok ys) (map_same xs)
 
@@ -61,7 +61,7 @@ pool_again index name core max queue false = refl
 pool_back : (index : ℕ) (pool : Pool) → read_pool index (pool_data pool) ≡ Ok pool
 pool_back index pool = pool_again index pool.name pool.core pool.max pool.queue pool.prestart
 
--- the entry of the code that a table is
+-- the entry for a table
 abbrev entry_at : Part → ℕ → Data → Entry
 entry_at part index (table members) = record { table = members; part = part; index = index }
 entry_at part index _ = record { table = no_members; part = part; index = index }
@@ -116,12 +116,12 @@ entries_back plan s =
       read_made read_client (client_data classes) (client_entry classes) plan.clients (λ i client e. client_back classes i client (s.clients i client e)),
     ) refl
 
--- the document has no other keys than a plan's
+-- the document has only the keys of a plan
 pub keys_are_known : (plan : Plan) → has_only (codes "pool" ∷ codes "class" ∷ codes "client" ∷ []) (plan_document plan) ≡ true
 unfolding plan_document
 keys_are_known plan = refl
 
--- ---- how deep it nests
+-- ---- the depth of its nesting
 each_at_most : {X : Type 0} (make : X → Data) (most : ℕ) → ((x : X) → depth (make x) ≤ most) → (xs : List X) → items_depth (items_of (map make xs)) ≤ most
 each_at_most make most each [] = omega arith
 each_at_most make most each (x ∷ xs) = max-le (each x) (each_at_most make most each xs)

@@ -1,4 +1,4 @@
--- The plan that is read from its own document is that plan.
+-- The document of a plan reads back to that plan.
 use Rattle.std.proofs.Common.{◌≡◌, ℕ, ◌≤◌, true, le-leb, List, [], length, map, take, slice_get, Some, Ok, refl, ap, subst, ◌∙◌}
 use Rattle.std.specs.Str.{is_utf8}
 use Rattle.std.proofs.lemmas.Bool.{and_parts, ltb-true}
@@ -51,7 +51,7 @@ class_body plan w i class e = (and_parts _ _ (class_parts plan w i class e)).1
 client_body : (plan : Plan) → IsWellFormed plan → EachPlace plan.clients (λ i client. is_lawful_body (length plan.classes) client.body ≡ true)
 client_body plan w i client e = (and_parts _ _ (client_parts plan w i client e)).1
 
--- the place of a class's pool is its place among the names
+-- the index of a class's pool is the index of its name
 pool_place : (plan : Plan) → IsWellFormed plan → (i : ℕ) (class : Class) → slice_get plan.classes i ≡ Some class
     → class_head (pool_names plan) (class_entry (pool_names plan) (class_names_of plan) class) ≡ record { name = class.name; pool = class.pool; body = [] }
 pool_place plan w i class e =
@@ -135,7 +135,7 @@ is_short plan w = record {
   clients = λ i client e. rw (length-texts (class_names_of plan) client.body) (and_parts _ _ (client_body plan w i client e)).0;
 }
 
--- a text that is the document of a plan, and no longer than a text may be, gives the plan
+-- a text that represents the document of a plan, within the limit on its length, reads back to the plan
 pub text_again : (plan : Plan) (text : List ℕ) → IsWellFormed plan → is_utf8 text ≡ true → length text ≤ MAX_PLAN_BYTES → parse_document text ≡ Some (plan_document plan) → plan_of text ≡ Ok plan
 unfolding plan_of document_of
 text_again plan text w valid short parsed =

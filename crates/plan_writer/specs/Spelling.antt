@@ -1,11 +1,12 @@
--- How the writer spells actions: a class by its name, a slot by the position of the submit that fills it.
+-- The spelling of actions. A class is written as its name, and a slot is named after the position of the submit that fills
+-- it.
 use Rattle.std.specs.Prelude.{ℕ, if◌then◌else◌, List, [], ◌++◌, map, codes, slice_index_or, decimal}
 use Rattle.std.specs.List.{enumerate_from}
 use Rattle.job_bodies.specs.declared.action.Action.{Action}
 use Rattle.job_bodies.specs.declared.action.Action.TheVariants.{Work, Submit, Get}
 use Rattle.job_bodies.specs.Plan.{is_got}
 
--- the name at a place of a list, none past its end
+-- the name at an index of a list, or an empty name past the end
 abbrev pub name_at : List (List ℕ) → ℕ → List ℕ
 name_at names place = slice_index_or names place []
 
@@ -13,7 +14,7 @@ name_at names place = slice_index_or names place []
 abbrev pub slot_name : ℕ → List ℕ
 slot_name position = codes "s" ++ decimal position
 
--- what stands behind a submit's class: its slot, where a get of the body names the submit
+-- the part of a submit after its class: its slot if a get of the body names the submit
 abbrev pub slot_part : List Action → ℕ → List ℕ
 slot_part body position = if is_got body position then codes " as " ++ slot_name position else []
 

@@ -1,4 +1,4 @@
-//! The text of a plan that was made in code.
+//! A writer for the text of a plan.
 #![tactic(auto)]
 
 mod plan_values;

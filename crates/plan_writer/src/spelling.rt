@@ -1,4 +1,5 @@
-//! The texts of a body, as they are written: a class by its name, a slot by the position of the submit that fills it.
+//! The texts of a body. A class is written as its name, and a slot is named after the position of
+//! the submit that fills it.
 
 ghost use Rattle.std.specs.Prelude.{◌≡◌, map, IfOk, Some, string_bytes};
 ghost use Rattle.toml.specs.View.{view};
@@ -10,7 +11,7 @@ use std::alloc::{AllocError, Global};
 use std::fmt;
 use toml::Value;
 
-/// The name of the class at a place, none past the last.
+/// Returns the name of the class at an index, or an empty name past the end.
 fn class_name(classes: &[Class], place: usize) -> &str
     ensures { result.now ≡ spec.name_at (map (λ class. class.name) classes.now) place }
 {
@@ -20,7 +21,7 @@ fn class_name(classes: &[Class], place: usize) -> &str
     }
 }
 
-/// What stands behind a submit's class: the slot that it fills, where a get of the body names it.
+/// The part of a submit after its class: the slot that it fills, if a get of the body names it.
 #[derive(Clone, Copy)]
 struct SlotPart<'a> {
     body: &'a [Action],
@@ -39,7 +40,7 @@ impl<'a> fmt::Display for SlotPart<'a> {
     }
 }
 
-/// The text of the action at a position.
+/// Formats the action at a position.
 #[tactic(auto, unfolding(crate::specs::Spelling::action_text))]
 fn action_text(
     alloc: Global,
@@ -63,7 +64,7 @@ fn action_text(
     }
 }
 
-/// The texts of a body.
+/// Builds the list of the texts of a body.
 pub fn body_value(alloc: Global, classes: &[Class], body: &[Action]) -> Result<Value, AllocError>
     ensures { IfOk result (λ value.
         view value

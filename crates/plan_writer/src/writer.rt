@@ -1,4 +1,4 @@
-//! The text of a plan that was made in code.
+//! A writer for the text of a plan.
 
 ghost use Rattle.std.specs.Prelude.{◌≡◌, ◌≤◌, length, IfOk, Ok, string_bytes};
 ghost use Rattle.job_bodies.specs.declared.limits.TheConstants.{MAX_PLAN_BYTES};
@@ -9,14 +9,15 @@ use crate::plan_values::plan_document;
 use job_bodies::Plan;
 use std::alloc::{AllocError, Global};
 
-/// A text of the plan, for those who make plans in code: TOML that [`read_plan`](plan_text::read_plan) reads back to this
-/// very plan, where the text has no more bytes than a plan's text may have.
+/// Writes a plan that was built in code as TOML. [`read_plan`](plan_text::read_plan) reads the text
+/// back to the same plan, unless the text is longer than the limit for plans.
 ///
-/// A submit that a get names fills a slot of its own, `s` and the submit's position in its body; other submits fill none.
+/// A submit that a get names fills a slot of its own, with the name `s` followed by the submit's
+/// position in its body. Other submits fill no slot.
 ///
 /// # Errors
 ///
-/// [`AllocError`] where memory runs out.
+/// Returns [`AllocError`] if memory runs out.
 pub fn write_plan(alloc: Global, plan: &Plan) -> Result<String, AllocError>
     ensures document { IfOk result (λ text. IsPlanText plan.now (string_bytes text)) }
     ensures reads_back { IfOk result (λ text.
