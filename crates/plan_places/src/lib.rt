@@ -1,8 +1,9 @@
-//! Where in the text of a plan its tables, keys, values and actions stand.
+//! The places of tables, keys, values and actions in the text of a plan, for error messages.
 //!
-//! It looks at any text: of one that is no TOML, or that writes a plan in another way than with `[[pool]]`, `[[class]]` and
-//! `[[client]]`, it may know no place of a part, and whoever asks takes the next larger one that it knows. Of which byte a
-//! part begins at nothing is promised, as places are for messages; [`place_at`] promises the line and the column of a byte.
+//! Works on any text. If the text is not TOML, or writes a plan without `[[pool]]`, `[[class]]` and
+//! `[[client]]`, the place of a part can be unknown. The caller then uses the smallest enclosing
+//! part with a known place. No contract states at which byte a part begins. The contract of
+//! [`place_at`] states the line and the column of a byte.
 #![tactic(auto)]
 
 mod outline;

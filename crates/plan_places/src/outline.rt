@@ -1,4 +1,4 @@
-//! The outline of a text: its tables, their keys, and where values and the elements of lists begin.
+//! The outline of a text: its tables, their keys, and the offsets of values and list elements.
 
 use crate::token::{Kind, Token};
 use std::alloc::{AllocError, Global};
@@ -8,36 +8,36 @@ use std::alloc::{AllocError, Global};
 pub(crate) struct Key {
     pub(crate) start: usize,
     pub(crate) end: usize,
-    /// Where its value begins.
+    /// The offset of its value.
     pub(crate) value: usize,
-    /// Where each element of a value that is a list begins.
+    /// The offset of each element if the value is a list.
     pub(crate) elements: Vec<usize>,
 }
 
-/// A table under its head, as `[[pool]]`, and the keys behind it. The first one has no head.
+/// A table header, such as `[[pool]]`, and the keys after it. The first table has no header.
 #[derive(Debug, Drop)]
 pub(crate) struct Table {
-    /// Where its head begins.
+    /// The offset of the header.
     pub(crate) head: usize,
-    /// From where to where the name in it goes.
+    /// The range of the name in the header.
     pub(crate) name: (usize, usize),
-    /// Whether the head has two brackets.
+    /// Whether the header has double brackets.
     pub(crate) in_list: bool,
     pub(crate) keys: Vec<Key>,
 }
 
-/// Where in a line the tokens so far have come.
+/// The state of the parser within a line.
 #[derive(Clone, Copy)]
 enum At {
-    /// Before anything.
+    /// At the start.
     Begin,
-    /// In a table's head, behind so many brackets.
+    /// In a table header, after this number of brackets.
     Head(u8),
-    /// Behind a key.
+    /// After a key.
     Key,
-    /// In a value, inside so many brackets. An element may begin here or not.
+    /// In a value, inside `depth` brackets. `is_next` tells whether an element can begin here.
     Value { depth: usize, is_next: bool },
-    /// In what no plan has.
+    /// In syntax that no plan has.
     Rest,
 }
 
@@ -48,7 +48,7 @@ struct Outline {
     tables: Vec<Table>,
 }
 
-/// The tables of a text with these tokens.
+/// Returns the tables of a text with these tokens.
 pub(crate) fn outline_of(alloc: Global, tokens: &[Token]) -> Result<Vec<Table>, AllocError> {
     let mut outline = Outline {
         at: At::Begin,
@@ -80,7 +80,7 @@ fn key_at(alloc: Global, token: Token) -> Key {
 }
 
 impl Outline {
-    /// This token comes next.
+    /// Processes the next token.
     fn take(&mut self, alloc: Global, token: Token) -> Result<(), AllocError> {
         match self.at {
             At::Begin => self.begin(alloc, token),
@@ -184,7 +184,7 @@ impl Outline {
         Ok(())
     }
 
-    /// The value of the last key, or an element of it, begins here.
+    /// Records the offset of the last key's value or of one of its elements.
     fn begins(&mut self, depth: usize, start: usize) -> Result<(), AllocError> {
         let Some(table) = self.tables.last_mut() else {
             return Ok(());

@@ -6,7 +6,7 @@ ghost use Rattle.plan_places.specs.TextPlace.{IsBehind, is_newline, begins_chara
 
 use std::fmt;
 
-/// A place in a text.
+/// A position in a text.
 #[derive(Clone, Copy, Debug, PartialEq, Eq)]
 pub struct TextPlace {
     /// The line, counted from 1.
@@ -15,7 +15,7 @@ pub struct TextPlace {
     pub column: usize,
 }
 
-/// Writes the line and the column, as `17:21`.
+/// Formats the line and the column, such as `17:21`.
 impl fmt::Display for TextPlace {
     ghost use Rattle.std.specs.Prelude.{Some, ◌++◌, ◌∷◌, decimal};
 
@@ -28,7 +28,8 @@ impl fmt::Display for TextPlace {
     }
 }
 
-/// The place of the byte at this offset of a text in UTF-8, or of the text's end where the text is not so long.
+/// Returns the position of the byte at this offset of a UTF-8 text, or of the text's end if the
+/// offset is past it.
 pub fn place_at(text: &[u8], offset: usize) -> TextPlace
     ensures { IsBehind (take offset text.now) result }
 {
@@ -53,7 +54,7 @@ fn characters(text: &[u8]) -> usize
     text.iter().filter(|byte| **byte / 64 != 2).count()
 }
 
-/// Where the last line of a text begins: behind its last newline, or at its beginning.
+/// Returns the offset of the last line of a text: after its last newline, or 0.
 fn last_line_start(text: &[u8]) -> usize
     ensures within { result ≤ length text.now }
     ensures behind_newline { IsAfterLastMatch is_newline text.now result }

@@ -1,11 +1,11 @@
-//! Where the parts of a plan's text stand.
+//! The positions of the parts of a plan's text.
 
 use crate::outline::{Key, Table, outline_of};
 use crate::place::{TextPlace, place_at};
 use crate::tokens::tokens_of;
 use std::alloc::{AllocError, Global};
 
-/// The outline of a text, by which places of its parts are found.
+/// An index of the positions of the parts of a text.
 #[derive(Drop)]
 pub struct Places<'a> {
     text: &'a [u8],
@@ -13,36 +13,38 @@ pub struct Places<'a> {
 }
 
 impl<'a> Places<'a> {
-    /// The places of this text.
+    /// Builds the index of a text.
     ///
     /// # Errors
     ///
-    /// [`AllocError`] where memory runs out.
+    /// Returns [`AllocError`] if memory runs out.
     pub fn of(alloc: Global, text: &'a [u8]) -> Result<Places<'a>, AllocError> {
         let tokens = tokens_of(alloc, text)?;
         let tables = outline_of(alloc, &tokens)?;
         Ok(Places { text, tables })
     }
 
-    /// The head of the table of this number, from 0, in the list of this name: the `[[pool]]` of a pool.
+    /// Returns the position of the header of the table at this index, from 0, in the list with this
+    /// name, such as the `[[pool]]` of a pool.
     pub fn entry(&self, list: &str, index: usize) -> Option<TextPlace> {
         let table = self.table(list, index)?;
         Some(place_at(self.text, table.head))
     }
 
-    /// A key of such a table.
+    /// Returns the position of a key of such a table.
     pub fn key(&self, list: &str, index: usize, key: &str) -> Option<TextPlace> {
         let key = self.key_of(self.table(list, index)?, key)?;
         Some(place_at(self.text, key.start))
     }
 
-    /// The value at a key of such a table.
+    /// Returns the position of the value at a key of such a table.
     pub fn value(&self, list: &str, index: usize, key: &str) -> Option<TextPlace> {
         let key = self.key_of(self.table(list, index)?, key)?;
         Some(place_at(self.text, key.value))
     }
 
-    /// The element of this number, from 0, of a list at a key of such a table: an action of a body.
+    /// Returns the position of the list element at this index, from 0, at a key of such a table,
+    /// such as an action of a body.
     pub fn element(
         &self,
         list: &str,
@@ -55,7 +57,8 @@ impl<'a> Places<'a> {
         Some(place_at(self.text, *start))
     }
 
-    /// The first table of this name, or the first key of this name before any table.
+    /// Returns the position of the first table with this name, or of the first key with this name
+    /// before any table.
     pub fn top(&self, name: &str) -> Option<TextPlace> {
         for table in &self.tables {
             if self.is_named(table.name, name) {
@@ -86,7 +89,7 @@ impl<'a> Places<'a> {
             .find(|key| self.is_named((key.start, key.end), name))
     }
 
-    /// Whether what stands there is this name, with quotes or without.
+    /// Returns whether this range of the text is the name, with or without quotes.
     fn is_named(&self, range: (usize, usize), name: &str) -> bool {
         let (start, end) = range;
         match self.text.get(start..end) {

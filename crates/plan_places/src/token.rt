@@ -1,6 +1,6 @@
 //! The tokens of a text.
 
-/// What a token is.
+/// The kind of a token.
 #[derive(Clone, Copy, PartialEq, Eq)]
 pub(crate) enum Kind {
     /// A key without quotes, or a value that is neither a string, a list nor a table.
@@ -13,7 +13,7 @@ pub(crate) enum Kind {
     LineEnd,
 }
 
-/// A token, and where it stands: from `start` up to, and without, `end`.
+/// A token and its range: from `start` up to, but excluding, `end`.
 #[derive(Clone, Copy, PartialEq, Eq)]
 pub(crate) struct Token {
     pub(crate) kind: Kind,

@@ -1,29 +1,29 @@
-//! A text as its tokens, without white space and comments.
+//! A tokenizer that skips white space and comments.
 
 use crate::token::{Kind, Token};
 use std::alloc::{AllocError, Global};
 
-/// What the bytes so far leave open.
+/// The construct that the bytes so far leave open.
 #[derive(Clone, Copy)]
 enum Open {
     Nothing,
     Comment,
     /// A word that began at this offset.
     Word(usize),
-    /// A string on one line.
+    /// A single-line string.
     Line(Text),
-    /// A string on several lines.
+    /// A multi-line string.
     Lines(Text),
 }
 
-/// A string that has begun.
+/// An open string.
 #[derive(Clone, Copy)]
 struct Text {
     start: usize,
     quote: u8,
-    /// Whether the last byte was a `\` that the string takes for one.
+    /// Whether the last byte was a `\` that escapes the next byte.
     escaped: bool,
-    /// How many quotes stood last, one behind the other.
+    /// The number of consecutive quotes at the end so far.
     quotes: u8,
 }
 
@@ -37,7 +37,7 @@ impl Text {
         }
     }
 
-    /// The string behind one more byte.
+    /// Returns the state of the string after one more byte.
     fn after(self, byte: u8) -> Text {
         let is_quote = byte == self.quote && !self.escaped;
         Text {
@@ -59,7 +59,7 @@ struct Tokens {
     found: Vec<Token>,
 }
 
-/// The tokens of a text.
+/// Returns the tokens of a text.
 pub(crate) fn tokens_of(alloc: Global, text: &[u8]) -> Result<Vec<Token>, AllocError> {
     let mut tokens = Tokens {
         open: Open::Nothing,
@@ -78,7 +78,7 @@ impl Tokens {
         Ok(())
     }
 
-    /// The byte at this offset comes next.
+    /// Processes the byte at this offset.
     fn take(&mut self, offset: usize, byte: u8) -> Result<(), AllocError> {
         match self.open {
             Open::Nothing => self.begin(offset, byte),
@@ -95,7 +95,7 @@ impl Tokens {
         }
     }
 
-    /// A byte where nothing is open.
+    /// Processes a byte outside any construct.
     fn begin(&mut self, offset: usize, byte: u8) -> Result<(), AllocError> {
         self.open = Open::Nothing;
         match byte {
@@ -142,7 +142,8 @@ impl Tokens {
         }
     }
 
-    /// A byte of a string that began with one quote. Where it ends at once and a third quote follows, it is of several lines.
+    /// Processes a byte of a string that began with one quote. An empty string with a third quote
+    /// after it is a multi-line string.
     fn line(&mut self, text: Text, offset: usize, byte: u8) -> Result<(), AllocError> {
         if text.quotes == 1 {
             if byte == text.quote && offset == text.start.saturating_add(2) {
@@ -152,7 +153,7 @@ impl Tokens {
             self.push(Kind::Quoted, text.start, offset)?;
             return self.begin(offset, byte);
         }
-        // A string on one line that is not closed ends with its line.
+        // A single-line string without a closing quote ends at the end of its line.
         if byte == b'\n' {
             self.push(Kind::Quoted, text.start, offset)?;
             return self.begin(offset, byte);
