@@ -1,4 +1,4 @@
--- The first fault of a list of lines, line by line.
+-- The first bad line of a list, found line by line.
 use Rattle.std.proofs.Common.{◌≡◌, ℕ, zero, suc, ◌+◌, ◌<◌, ◌≤◌, List, [], ◌∷◌, ◌++◌, length, drop, slice_get, Option, Some, None, refl, ap, sym, add-one, length-drop, arith}
 use Rattle.std.specs.Option.{option_and_then, option_to_list}
 use Rattle.recording_lines.specs.RecordingLine.{RecordedLine}
@@ -7,7 +7,7 @@ use Rattle.recorded_rules.specs.declared.fault.Breach.TheVariants.{LineRule}
 use Rattle.recorded_rules.specs.declared.rule.LineRule.TheVariants.{Frame}
 use Rattle.recorded_rules.specs.Faults.{breach_of, lines_before, breach_behind}
 
--- the lines behind the first n begin with this one
+-- if the lines from index n on begin with this one, it is the line at index n
 there : (lines rest : List (Option RecordedLine)) (n : ℕ) (line : Option RecordedLine) → drop n lines ≡ line ∷ rest → slice_get lines n ≡ Some line
 there [] rest zero line h = grind (arith, h)
 there [] rest (suc n) line h = grind (arith, h)
@@ -39,7 +39,7 @@ unfolding breach_behind
 breach_there [] n line h = grind (arith, h)
 breach_there (first ∷ lines) n line h = ap (option_and_then (breach_of (lines_before (first ∷ lines) n))) h
 
--- ---- what a loop needs of its next line
+-- ---- the next line of a loop
 pub there_next : (lines rest : List (Option RecordedLine)) (n : ℕ) (line : Option RecordedLine) → drop n lines ≡ line ∷ rest → slice_get lines n ≡ Some line
 there_next lines rest n line h = there lines rest n line h
 
@@ -64,7 +64,7 @@ none_past (first ∷ lines) n i rest some within past =
     let beyond : length (first ∷ lines) ≤ i = omega (arith, gone, length-drop n (first ∷ lines)) in
     ap (option_and_then (breach_of (lines_before (first ∷ lines) i))) (slice_get_past (first ∷ lines) i beyond)
 
--- where there is no line, the first one is missing
+-- if there is no line, the first one is missing
 pub first_missing : (lines : List (Option RecordedLine)) → lines ≡ [] → breach_behind lines 0 ≡ Some (LineRule Frame)
 unfolding breach_behind
 first_missing [] none = refl

@@ -1,4 +1,4 @@
--- What is kept of the jobs stands for the lines with one more behind them.
+-- The state of the jobs is correct after one more line.
 use Rattle.std.proofs.Common.{◌≡◌, ℕ, ◌+◌, ◌≤◌, ◌&&◌, ◌||◌, ◌==◌, nat_lt, Bool, true, false, if◌then◌else◌, List, [], ◌∷◌, ◌++◌, is_none, Option, Some, None, refl, arith}
 use Rattle.std.specs.Option.{option_map}
 use Rattle.recording_lines.specs.declared.recording_line.RecordedActor.{RecordedActor}
@@ -42,7 +42,7 @@ new_done count j there = grind arith
 new_settled : (count j : ℕ) (there : Option JobState) → (nat_lt j (count + 1) && settled_there (if count == j then Some new_job else there)) ≡ (nat_lt j count && settled_there there)
 new_settled count j there = grind arith
 
--- what is told of a job by what is there of it, once one more was submitted
+-- a property of a job after one more job was submitted
 told_after : (tell : Option JobState → Bool) (same : Bool) (offered : Option ℕ) (count job submitted j : ℕ) (there new : Option JobState)
     → ((x : Option JobState) → tell (if same then option_map (with_offered offered) x else x) ≡ tell x)
     → (nat_lt j (count + 1) && tell (if count == j then Some new_job else there)) ≡ (nat_lt j count && tell there)

@@ -1,4 +1,4 @@
--- What is kept of the job that an actor just submitted stands for the lines with one more behind them.
+-- The state of the last submit of each actor is correct after one more line.
 use Rattle.std.proofs.Common.{◌≡◌, ℕ, ◌&&◌, ◌==◌, not, Bool, true, false, if◌then◌else◌, List, [], ◌∷◌, ◌++◌, is_some, Option, Some, None, refl, ap, sym, ◌∙◌, arith}
 use Rattle.std.specs.Option.{option_map}
 use Rattle.recording_lines.specs.declared.recording_line.RecordedActor.{RecordedActor}
@@ -16,7 +16,7 @@ use Rattle.recorded_rules.proofs.Appended.{submitted_more}
 use Rattle.recorded_rules.proofs.Keeping.{Keeps}
 use Rattle.recorded_rules.proofs.JobsAfter.{next_number}
 
--- ---- an actor whose line it is has a place
+-- ---- the actor of a line has an entry
 abbrev has_place : LinesSoFar → RecordedActor → Bool
 has_place lines (Job j) = is_some (job_at lines.jobs j)
 has_place lines (Round r) = is_some (round_at lines.rounds r)
@@ -41,8 +41,8 @@ last_one false b h = grind (arith, h)
 placed : (old : LinesSoFar) (before : List RecordedLine) (line : RecordedLine) → StandsFor old before → Keeps before line → (actor : RecordedActor) → is_of actor line ≡ true → has_place old actor ≡ true
 placed old before line s k actor same = place_of old before (actor_of line) actor s (second _ _ _ k.numbers) k.rounds (last_one _ _ k.jobs) same
 
--- ---- an actor does a thing
--- of what a round has and of what a job has
+-- ---- an actor acts
+-- the entry of a round and the entry of a job
 round_acts : (same : Bool) (offered : Option ℕ) (there : Option (Option ℕ)) (j : ℕ) (said_so : Bool) → (same ≡ true → is_some there ≡ true) → is_at j (offered_there there) ≡ said_so
     → is_at j (offered_there (if same then option_map (λ _. offered) there else there)) ≡ (if same && true then is_at j offered else said_so)
 round_acts true offered None j said_so place stands = grind (arith, place refl)
@@ -55,7 +55,7 @@ job_acts true offered None j said_so place stands = grind (arith, place refl)
 job_acts true offered (Some state) j said_so place stands = refl
 job_acts false offered there j said_so place stands = stands
 
--- what is there of a job says the same of its last submit, once it is cancelled, has started or is new
+-- the last submit of a job is unchanged if the job is cancelled, starts or is new
 cancel_offers : (same : Bool) (there : Option JobState) → offered_by (if same then option_map with_cancel there else there) ≡ offered_by there
 cancel_offers true None = refl
 cancel_offers true (Some state) = refl
@@ -66,14 +66,14 @@ start_offers true None = refl
 start_offers true (Some state) = refl
 start_offers false there = refl
 
--- an actor that has a place, where it is a job, was submitted before
+-- a job that is an actor with an entry was submitted before
 new_offers : (old : LinesSoFar) (before : List RecordedLine) (i job : ℕ) → StandsFor old before → job ≡ old.jobs.submitted → offered_by (if job == i then Some new_job else job_at old.jobs i) ≡ offered_by (job_at old.jobs i)
 new_offers old before i job s next = grind (arith, s.unsubmitted i, next)
 
 new_place : (old : LinesSoFar) (before : List RecordedLine) (i job : ℕ) → StandsFor old before → is_some (job_at old.jobs i) ≡ true → is_some (if job == i then Some new_job else job_at old.jobs i) ≡ true
 new_place old before i job s place = grind (arith, place)
 
--- ---- the job that an actor just submitted is refused
+-- ---- the job that an actor submitted in its last line is refused
 same_actor : (a b : RecordedActor) → is_same_actor a b ≡ true → a ≡ b
 same_actor (Job n) (Job m) same = grind (arith, same)
 same_actor (Job n) (Round m) same = grind (arith, same)

@@ -1,4 +1,4 @@
--- What is kept of the rounds stands for the lines with one more behind them.
+-- The state of the rounds is correct after one more line.
 use Rattle.std.proofs.Common.{◌≡◌, ℕ, ◌≤◌, ◌&&◌, not, false, List, [], ◌∷◌, ◌++◌, is_some, arith}
 use Rattle.recording_lines.specs.RecordingLine.{RecordedLine, Head, Pool, RoundBegins, RoundEnds, Submits, Refused, JobStarts, JobEnds, JobThrew, Got, TimedOut, Interrupted, Cancels, InvokesAny, Removed, ShutDown, Unseen, End}
 use Rattle.recorded_rules.specs.declared.lines_so_far.LinesSoFar.{LinesSoFar}

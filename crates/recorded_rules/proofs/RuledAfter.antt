@@ -1,4 +1,4 @@
--- What is so of the lines that were taken once one more is.
+-- The invariant of the iterator after one more line.
 use Rattle.std.proofs.Common.{◌≡◌, ◌⊎◌, inl, inr, ℕ, zero, suc, ◌+◌, ◌-◌, ◌^◌, ◌<◌, ◌≤◌, min, List, [], ◌∷◌, ◌++◌, length, take, drop, Option, Some, None, refl, ap, sym, subst, ◌∙◌, arith}
 use Rattle.std.specs.List.{filter_map}
 use Rattle.std.specs.Option.{option_map}
@@ -16,8 +16,8 @@ use Rattle.recorded_rules.specs.Faults.{breach_of, lines_before, breach_behind, 
 use Rattle.recorded_rules.specs.RuledLines.{AreUnbroken, lines_left, IsRuled, IsTakenNext, AreAllTaken}
 use Rattle.recorded_rules.proofs.FirstFaults.{there_next, rest_next, within_next, before_next, breach_next, none_past, first_missing}
 
--- ---- one line more, none of which breaks a rule
--- where a line stands in a list with one more at its end
+-- ---- one more line, none of which breaks a rule
+-- the index of a line in a list with one more at its end
 last_or_before : (lines before behind : List RecordedLine) (one line : RecordedLine) → lines ++ one ∷ [] ≡ before ++ line ∷ behind → ((lines ≡ before) × (one ≡ line)) ⊎ ((more : List RecordedLine) × (lines ≡ before ++ line ∷ more))
 last_or_before [] [] behind one line h = inl (refl, cc)
 last_or_before [] (first ∷ []) behind one line h = absurd cc
@@ -37,7 +37,7 @@ unbroken_more lines one unbroken kept = λ before line behind h.
       | inr more ↦ unbroken before line more.0 more.1
     ]
 
--- no line is taken yet
+-- no line was accepted yet
 pub unbroken_none : AreUnbroken []
 unbroken_none = λ before line behind h. absurd (at_end before behind line h)
   where
@@ -50,7 +50,7 @@ module _ (all : List (Option RecordedLine)) (old : RuledLines) (r : IsRuled all 
   next_is : drop old.number all ≡ line ∷ rest
   next_is = sym r.rest ∙ next
 
-  -- its number is below the greatest one
+  -- its number is not saturated
   pub number_next : (number : ℕ) → number ≡ min (old.number + 1) (2 ^ 64 - 1) → number ≡ old.number + 1
   number_next number is = omega (arith, within_next all rest old.number line next_is, r.few, is)
 
@@ -58,7 +58,7 @@ module _ (all : List (Option RecordedLine)) (old : RuledLines) (r : IsRuled all 
   pub bad_next : (number : ℕ) (b : Breach) → number ≡ old.number + 1 → breach_of (lines_before all old.number) line ≡ Some b → IsFirstFault all (Some (record { line = number; breach = b }))
   bad_next number b is bad = (old.number, is, breach_next all rest old.number line next_is ∙ bad, r.good)
 
--- it is a good one
+-- it is valid
 module _ (all : List (Option RecordedLine)) (old new : RuledLines) (r : IsRuled all old) (line : RecordedLine) (next : old.lines ≡ Some line ∷ new.lines) where
   next_good : drop old.number all ≡ Some line ∷ new.lines
   next_good = sym r.rest ∙ next
@@ -89,8 +89,8 @@ module _ (all : List (Option RecordedLine)) (old new : RuledLines) (r : IsRuled 
         };
       }
 
--- ---- at the end of the lines
--- the first ones, behind which there is none, are all
+-- ---- after the last line
+-- if no line comes after the first n, they are all
 take_all : (lines : List (Option RecordedLine)) (n : ℕ) → drop n lines ≡ [] → take n lines ≡ lines
 take_all [] zero none = refl
 take_all [] (suc n) none = refl
@@ -102,7 +102,7 @@ module _ (all : List (Option RecordedLine)) (old : RuledLines) (r : IsRuled all 
   pub missing_first : old.number ≡ 0 → breach_behind all 0 ≡ Some (breach.LineRule Frame)
   missing_first none = first_missing all (ap (λ (n : ℕ). drop n all) (sym none) ∙ (sym r.rest ∙ next))
 
-  -- all are taken
+  -- all lines were accepted
   pub all_taken : (lines : List (Option RecordedLine)) → lines ≡ [] → 0 < old.number → AreAllTaken all old (record { lines = lines; so_far = old.so_far; number = old.number })
   all_taken lines none some =
       let gone : drop old.number all ≡ [] = sym r.rest ∙ next in

@@ -1,4 +1,4 @@
--- What is kept stands for the lines with one more behind them, or with none.
+-- The state is correct after one more line, accepted or not.
 use Rattle.std.proofs.Common.{◌≡◌, ℕ, ◌+◌, ◌||◌, false, refl, if◌then◌else◌, List, [], ◌∷◌, ◌++◌, is_some, None, sym, ap, ◌∙◌, arith}
 use Rattle.recording_lines.specs.declared.recording_line.RecordedActor.{RecordedActor}
 use Rattle.recording_lines.specs.declared.recording_line.RecordedActor.TheVariants.{Job, Round}

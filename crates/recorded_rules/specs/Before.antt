@@ -1,4 +1,4 @@
--- What the lines that stand before another one say.
+-- The properties of the lines before a line.
 use Rattle.std.specs.Prelude.{ℕ, ◌&&◌, not, Bool, true, false, List, [], ◌∷◌, Option, Some, None, count_by, filter}
 use Rattle.std.specs.List.{list_any}
 use Rattle.recording_lines.specs.declared.recording_line.RecordedActor.{RecordedActor}
@@ -16,11 +16,11 @@ is_closed before = list_any is_end before
 unfoldable pub has_pool : List RecordedLine → List ℕ → Bool
 has_pool before pool = list_any (declares pool) before
 
--- how many jobs were submitted
+-- the number of submitted jobs
 unfoldable pub submits : List RecordedLine → ℕ
 submits before = count_by is_submit before
 
--- how many rounds began
+-- the number of rounds begun
 unfoldable pub begins : List RecordedLine → ℕ
 begins before = count_by is_begin before
 
@@ -51,6 +51,6 @@ abbrev pub is_submit_of : ℕ → Option RecordedLine → Bool
 is_submit_of job None = false
 is_submit_of job (Some line) = submits_job job line
 
--- of the actor's lines, without those that say that this job was refused, the last one submits the job
+-- the last line of the actor submits the job, not counting a line that the job was refused
 unfoldable pub just_submitted : List RecordedLine → RecordedActor → ℕ → Bool
 just_submitted before actor job = is_submit_of job (last_of (filter (λ line. is_of actor line && not (refuses_job job line)) before))

@@ -1,4 +1,4 @@
--- What a line changes in what is kept.
+-- The effect of a line on the state.
 use Rattle.std.specs.Prelude.{◌≡◌, ℕ, ◌+◌, ◌||◌, true, if◌then◌else◌, List, Option, Some, None}
 use Rattle.std.specs.Option.{option_map}
 use Rattle.recording_lines.specs.declared.recording_line.RecordedActor.{RecordedActor}
@@ -10,7 +10,7 @@ use Rattle.recorded_rules.specs.LineParts.{is_end, is_submit, is_begin, declares
 use Rattle.recorded_rules.specs.Pools.{has_name}
 use Rattle.recorded_rules.specs.Kept.{round_at, job_at, new_job, with_start, with_cancel, with_offered}
 
--- nothing that is kept changes
+-- the state is unchanged
 pub record IsSame (old new : LinesSoFar) : Type 0 where
   pub begun : new.begun ≡ old.begun
   pub closed : new.closed ≡ old.closed
@@ -20,14 +20,14 @@ pub record IsSame (old new : LinesSoFar) : Type 0 where
   pub rounds : (r : ℕ) → round_at new.rounds r ≡ round_at old.rounds r
   pub jobs : (j : ℕ) → job_at new.jobs j ≡ job_at old.jobs j
 
--- a pool, a round or a job of which the line is the first one
+-- the first line of a round, a pool or a job adds it
 abbrev pub round_admitted : RecordedLine → ℕ → Option (Option ℕ) → Option (Option ℕ)
 round_admitted line r there = if begins_round r line then Some None else there
 
 abbrev pub job_admitted : RecordedLine → ℕ → Option JobState → Option JobState
 job_admitted line j there = if submits_job j line then Some new_job else there
 
--- the actor just submitted this job, or did another thing
+-- the actor submitted this job in its last line, or its last line is not a submit
 abbrev pub round_offered : RecordedActor → Option ℕ → ℕ → Option (Option ℕ) → Option (Option ℕ)
 round_offered actor offered r there = if is_same_actor actor (Round r) then option_map (λ _. offered) there else there
 
@@ -43,7 +43,7 @@ pub record IsOffered (old : LinesSoFar) (actor : RecordedActor) (offered : Optio
   pub rounds : (r : ℕ) → round_at new.rounds r ≡ round_offered actor offered r (round_at old.rounds r)
   pub jobs : (j : ℕ) → job_at new.jobs j ≡ job_offered actor offered j (job_at old.jobs j)
 
--- what the line's actor did last
+-- the effect of the line on the last action of its actor
 abbrev pub round_acted : RecordedLine → ℕ → Option (Option ℕ) → Option (Option ℕ)
 round_acted (Submits actor job class pool) r there = round_offered actor (Some job) r there
 round_acted (Got actor job) r there = round_offered actor None r there
@@ -62,7 +62,7 @@ job_acted (Cancels actor job) j there = job_offered actor None j there
 job_acted (InvokesAny actor pool) j there = job_offered actor None j there
 job_acted line j there = there
 
--- where the round or the job has come to
+-- the effect of the line on the progress of a round or a job
 abbrev pub round_changed : RecordedLine → ℕ → Option (Option ℕ) → Option (Option ℕ)
 round_changed line r there = if ends_round r line then None else there
 
@@ -70,7 +70,7 @@ abbrev pub job_changed : RecordedLine → ℕ → Option JobState → Option Job
 job_changed line j there =
     if finishes_job j line then None else (if starts_job j line then option_map with_start there else (if cancels_job j line then option_map with_cancel there else there))
 
--- the three changes above, one behind another
+-- the three changes above, in order
 pub record IsNoted (old : LinesSoFar) (line : RecordedLine) (new : LinesSoFar) : Type 0 where
   pub begun : new.begun ≡ old.begun
   pub closed : new.closed ≡ old.closed
@@ -80,7 +80,7 @@ pub record IsNoted (old : LinesSoFar) (line : RecordedLine) (new : LinesSoFar) :
   pub rounds : (r : ℕ) → round_at new.rounds r ≡ round_changed line r (round_acted line r (round_admitted line r (round_at old.rounds r)))
   pub jobs : (j : ℕ) → job_at new.jobs j ≡ job_changed line j (job_acted line j (job_admitted line j (job_at old.jobs j)))
 
--- all of it
+-- all changes of the state
 pub record Follows (old : LinesSoFar) (line : RecordedLine) (new : LinesSoFar) : Type 0 where
   pub begun : new.begun ≡ true
   pub closed : new.closed ≡ (old.closed || is_end line)

@@ -1,4 +1,4 @@
--- What is written of a bad line.
+-- The text of a bad line's fault.
 use Rattle.std.specs.Prelude.{ℕ, List, ◌++◌, codes, decimal}
 use Rattle.recorded_rules.specs.declared.fault.Breach.{Breach}
 use Rattle.recorded_rules.specs.declared.fault.Breach.TheVariants as breach

@@ -1,11 +1,11 @@
--- What is kept of the lines so far.
+-- The state of the rule check.
 use Rattle.std.specs.Prelude.{ℕ, ◌&&◌, nat_lt, Bool, true, false, is_none, Option, Some, None}
 use Rattle.number_tables.specs.Numbered.{value_at}
 use Rattle.recorded_rules.specs.declared.rounds.Rounds.{Rounds}
 use Rattle.recorded_rules.specs.declared.jobs.Jobs.{Jobs}
 use Rattle.recorded_rules.specs.declared.jobs.JobState.{JobState}
 
--- ---- a round that has not ended, with the job that it just submitted
+-- ---- an open round, with the job that it submitted in its last line
 abbrev pub round_at : Rounds → ℕ → Option (Option ℕ)
 round_at rounds r = value_at rounds.open r
 
@@ -29,7 +29,7 @@ abbrev pub settled_there : Option JobState → Bool
 settled_there None = true
 settled_there (Some state) = state.cancelled
 
--- a job that was submitted and is not there is done
+-- a submitted job without an entry is done
 abbrev pub has_started : Jobs → ℕ → Bool
 has_started jobs j = nat_lt j jobs.submitted && started_there (job_at jobs j)
 

@@ -1,11 +1,11 @@
--- What a line of a recording names, and what it says of whom.
+-- The parts of a line of a recording, and its effect on each.
 use Rattle.std.specs.Prelude.{ℕ, ◌==◌, Bool, true, false, List, Option, Some, None}
 use Rattle.std.specs.Str.{bytes_eq}
 use Rattle.recording_lines.specs.declared.recording_line.RecordedActor.{RecordedActor}
 use Rattle.recording_lines.specs.declared.recording_line.RecordedActor.TheVariants.{Job, Round}
 use Rattle.recording_lines.specs.RecordingLine.{RecordedLine, Head, Pool, RoundBegins, RoundEnds, Submits, Refused, JobStarts, JobEnds, JobThrew, Got, TimedOut, Interrupted, Cancels, InvokesAny, Removed, ShutDown, Unseen, End}
 
--- whose line it is, as one who submits and gets: not the begin of a round nor the start of a job, which stand before all of these
+-- the actor whose line this is; None for the line that begins a round or starts a job, and for a line without an actor
 abbrev pub actor_of : RecordedLine → Option RecordedActor
 actor_of (RoundEnds round) = Some (Round round)
 actor_of (Submits actor job class pool) = Some actor
@@ -19,7 +19,7 @@ actor_of (Cancels actor job) = Some actor
 actor_of (InvokesAny actor pool) = Some actor
 actor_of line = None
 
--- the job of which the line tells, beside its actor and one that it submits
+-- the job that the line names, other than its actor and a job that it submits
 abbrev pub job_of : RecordedLine → Option ℕ
 job_of (Refused actor job) = Some job
 job_of (JobStarts job) = Some job
@@ -30,7 +30,7 @@ job_of (Cancels actor job) = Some job
 job_of (Removed job) = Some job
 job_of line = None
 
--- the pool that the line names, where it does not say what this pool is
+-- the pool that the line names, unless it is a `pool` line
 abbrev pub pool_of : RecordedLine → Option (List ℕ)
 pool_of (Submits actor job class pool) = Some pool
 pool_of (InvokesAny actor pool) = Some pool
@@ -38,7 +38,7 @@ pool_of (ShutDown pool) = Some pool
 pool_of (Unseen pool jobs) = Some pool
 pool_of line = None
 
--- ---- what kind of line it is
+-- ---- the kind of the line
 abbrev pub is_head : RecordedLine → Bool
 is_head Head = true
 is_head line = false
@@ -55,7 +55,7 @@ abbrev pub is_begin : RecordedLine → Bool
 is_begin (RoundBegins round kind) = true
 is_begin line = false
 
--- ---- what it says of a pool, a round or a job
+-- ---- the effect on a pool, a round or a job
 abbrev pub declares : List ℕ → RecordedLine → Bool
 declares pool (Pool name sizes) = bytes_eq name pool
 declares pool line = false
@@ -72,7 +72,7 @@ abbrev pub starts_job : ℕ → RecordedLine → Bool
 starts_job j (JobStarts job) = job == j
 starts_job j line = false
 
--- with its value or with an exception
+-- with a value or with an exception
 abbrev pub finishes_job : ℕ → RecordedLine → Bool
 finishes_job j (JobEnds job) = job == j
 finishes_job j (JobThrew job) = job == j
@@ -82,7 +82,7 @@ abbrev pub cancels_job : ℕ → RecordedLine → Bool
 cancels_job j (Cancels actor job) = job == j
 cancels_job j line = false
 
--- ---- what it says of an actor
+-- ---- the effect on an actor
 abbrev pub is_same_actor : RecordedActor → RecordedActor → Bool
 is_same_actor (Job n) (Job m) = n == m
 is_same_actor (Round n) (Round m) = n == m

@@ -1,8 +1,8 @@
--- The names of pools, by numbers.
+-- The numbers of pool names.
 use Rattle.std.specs.Prelude.{ℕ, ◌+◌, ◌*◌, ◌-◌, Bool, false, List, length, slice_index, Option, Some, None, String, string_bytes}
 use Rattle.std.specs.Str.{bytes_eq}
 
--- of the first byte and the last one
+-- from the first and the last byte
 abbrev pub number_of : List ℕ → ℕ
 number_of name = slice_index name 0 + 8 * slice_index name (length name - 1)
 

@@ -1,4 +1,4 @@
--- What is written of a rule.
+-- The text of a rule.
 use Rattle.std.specs.Prelude.{ℕ, List, codes}
 use Rattle.recorded_rules.specs.declared.rule.LineRule.{LineRule}
 use Rattle.recorded_rules.specs.declared.rule.LineRule.TheVariants.{Frame, Pools, Numbers, Rounds, Jobs, Refusals, Gets}

@@ -1,4 +1,4 @@
--- Lines that are taken one after another, each held to the rules by those before it.
+-- An iterator over lines that checks each line against the lines before it.
 use Rattle.std.specs.Prelude.{◌≡◌, ◌<◌, ◌≤◌, ◌+◌, ◌^◌, ℕ, List, [], ◌∷◌, ◌++◌, length, drop, slice_get, Option, Some, None, Result, Ok, Err}
 use Rattle.std.specs.List.{filter_map}
 use Rattle.recording_lines.specs.declared.recording_line.Line.{Line}
@@ -9,15 +9,15 @@ use Rattle.recorded_rules.specs.Rules.{broken_of}
 use Rattle.recorded_rules.specs.StandsFor.{StandsFor}
 use Rattle.recorded_rules.specs.Faults.{lines_before, breach_behind, IsFirstFault}
 
--- no line breaks a rule behind those before it
+-- no line breaks a rule, given the lines before it
 abbrev pub AreUnbroken : List RecordedLine → Type 0
 AreUnbroken lines = (before : List RecordedLine) (line : RecordedLine) (behind : List RecordedLine) → lines ≡ before ++ line ∷ behind → broken_of before line ≡ None
 
--- how many lines, good or bad, are still to come
+-- the number of remaining lines, valid or not
 abbrev pub lines_left : RuledLines → ℕ
 lines_left ruled = length ruled.lines
 
--- the first ones of all lines are taken, as many as are counted, and none of them is bad
+-- the first `number` lines were accepted, and none of them is bad
 pub record IsRuled (all : List (Option RecordedLine)) (ruled : RuledLines) : Type 0 where
   pub few : length all < 2 ^ 64
   pub within : ruled.number ≤ length all
@@ -27,8 +27,8 @@ pub record IsRuled (all : List (Option RecordedLine)) (ruled : RuledLines) : Typ
   pub unbroken : AreUnbroken (lines_before all ruled.number)
   pub good : (k : ℕ) → k < ruled.number → breach_behind all k ≡ None
 
--- ---- what the next one is
--- this line, which breaks no rule behind those that were taken, and is taken
+-- ---- the next line
+-- this line breaks no rule and is accepted
 pub record IsTakenNext (all : List (Option RecordedLine)) (old : RuledLines) (line : RecordedLine) (new : RuledLines) : Type 0 where
   pub number : new.number ≡ old.number + 1
   pub there : slice_get all old.number ≡ Some (Some line)
@@ -37,7 +37,7 @@ pub record IsTakenNext (all : List (Option RecordedLine)) (old : RuledLines) (li
   pub fewer : lines_left new < lines_left old
   pub ruled : IsRuled all new
 
--- there is none, each line was taken, and none is bad
+-- there is no next line, each line was accepted, and none is bad
 pub record AreAllTaken (all : List (Option RecordedLine)) (old new : RuledLines) : Type 0 where
   pub none : IsFirstFault all None
   pub taken : lines_before all old.number ≡ filter_map (λ line. line) all

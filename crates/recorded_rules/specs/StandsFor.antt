@@ -1,4 +1,4 @@
--- What is kept of the lines so far, and how it stands for them.
+-- The meaning of the state of the rule check.
 use Rattle.std.specs.Prelude.{◌≡◌, ◌≤◌, ℕ, ◌==◌, ◌&&◌, ◌||◌, not, Bool, false, List, [], ◌∷◌, ◌++◌, is_some, Option, Some, None, Result, Ok, Err}
 use Rattle.recording_lines.specs.declared.recording_line.RecordedActor.{RecordedActor}
 use Rattle.recording_lines.specs.declared.recording_line.RecordedActor.TheVariants.{Job, Round}
@@ -10,7 +10,7 @@ use Rattle.recorded_rules.specs.Rules.{broken_of}
 use Rattle.recorded_rules.specs.Pools.{has_name}
 use Rattle.recorded_rules.specs.Kept.{round_at, offered_there, job_at, offered_by, has_started, is_done, is_settled}
 
--- the job that the actor just submitted
+-- the job that the actor submitted in its last line
 abbrev pub offered_of : LinesSoFar → RecordedActor → Option ℕ
 offered_of lines (Job j) = offered_by (job_at lines.jobs j)
 offered_of lines (Round r) = offered_there (round_at lines.rounds r)
@@ -19,7 +19,7 @@ abbrev pub is_at : ℕ → Option ℕ → Bool
 is_at j None = false
 is_at j (Some offered) = offered == j
 
--- what is kept says of each pool, round and job what the lines say
+-- the state of each pool, round and job is what the lines say
 pub record StandsFor (lines : LinesSoFar) (before : List RecordedLine) : Type 0 where
   pub begun : lines.begun ≡ said.has_begun before
   pub closed : lines.closed ≡ said.is_closed before
@@ -35,7 +35,7 @@ pub record StandsFor (lines : LinesSoFar) (before : List RecordedLine) : Type 0 
   pub offered : (actor : RecordedActor) (job : ℕ) → is_at job (offered_of lines actor) ≡ said.just_submitted before actor job
   pub unsubmitted : (job : ℕ) → lines.jobs.submitted ≤ job → job_at lines.jobs job ≡ None
 
--- the lines so far, and behind them the line where it breaks no rule
+-- the lines so far, with the line appended if it breaks no rule
 abbrev pub with_line : Option LineRule → List RecordedLine → RecordedLine → List RecordedLine
 with_line None before line = before ++ line ∷ []
 with_line (Some rule) before line = before

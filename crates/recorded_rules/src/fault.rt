@@ -1,4 +1,4 @@
-//! A bad line of a recording.
+//! Bad lines of a recording.
 
 ghost use Rattle.std.specs.Prelude.{Some};
 ghost use Rattle.recorded_rules.specs.FaultText.{breach_text, fault_text};
@@ -6,16 +6,16 @@ ghost use Rattle.recorded_rules.specs.FaultText.{breach_text, fault_text};
 use crate::rule::LineRule;
 use std::fmt;
 
-/// What a bad line breaks.
+/// The reason why a line is bad.
 #[derive(Clone, Copy, Debug, PartialEq, Eq)]
 pub enum Breach {
-    /// It has none of the forms of a line.
+    /// The line has none of the forms of a line.
     Form,
-    /// It has one of the forms, and breaks this rule.
+    /// The line has a form, and breaks this rule.
     LineRule(LineRule),
 }
 
-/// Writes what the line should be.
+/// Formats what the line should be.
 impl fmt::Display for Breach {
     ghost output = { λ breach. Some (breach_text breach) };
 
@@ -30,12 +30,13 @@ impl fmt::Display for Breach {
 /// A bad line of a recording.
 #[derive(Clone, Copy, Debug, PartialEq, Eq)]
 pub struct RecordingFault {
-    /// Its number, from 1.
+    /// The line number, from 1.
     pub line: usize,
     pub breach: Breach,
 }
 
-/// Writes the number of the line, and what it should be, as `line 3: O2: a pool that a line names has ..`.
+/// Formats the line number and what the line should be, such as `line 3: O2: a pool that a line
+/// names has ..`.
 impl fmt::Display for RecordingFault {
     ghost output = { λ fault. Some (fault_text fault) };
 

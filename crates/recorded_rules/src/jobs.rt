@@ -7,16 +7,17 @@ ghost use Rattle.recorded_rules.specs.Kept.{job_at, has_started, is_done, is_set
 use number_tables::NumberTable;
 use std::alloc::{AllocError, Global};
 
-/// What is known of a job that is not done.
+/// The state of a job that is not done.
 #[derive(Clone, Copy, Debug)]
 pub(crate) struct JobState {
     started: bool,
     cancelled: bool,
-    /// The job that it just submitted.
+    /// The job that this job submitted in its last line.
     offered: Option<usize>,
 }
 
-/// The jobs of the lines so far: how many were submitted, and what is known of each that is not done.
+/// The jobs of the lines so far: the number of submitted jobs, and the state of each job that is
+/// not done.
 #[derive(Debug, Drop)]
 pub(crate) struct Jobs {
     pub(crate) submitted: usize,
@@ -24,7 +25,7 @@ pub(crate) struct Jobs {
 }
 
 impl Jobs {
-    /// None so far.
+    /// Creates an empty set of jobs.
     pub(crate) fn new(alloc: Global) -> Jobs
         ensures submitted { result.submitted ≡ 0 }
         ensures unfinished { (j : ℕ) → job_at result j ≡ None }
@@ -47,33 +48,33 @@ impl Jobs {
         job < self.submitted && self.get(job).is_none_or(|state| state.started)
     }
 
-    /// Whether the job has started and is not done.
+    /// Returns whether the job has started and is not done.
     pub(crate) fn is_running(&self, job: usize) -> bool
         ensures { result ≡ (has_started self.now job && not (is_done self.now job)) }
     {
         job < self.submitted && self.get(job).is_some_and(|state| state.started)
     }
 
-    /// Whether the job is done or cancelled.
+    /// Returns whether the job is done or cancelled.
     pub(crate) fn is_settled(&self, job: usize) -> bool
         ensures { result ≡ is_settled self.now job }
     {
         job < self.submitted && self.get(job).is_none_or(|state| state.cancelled)
     }
 
-    /// The job that this one just submitted.
+    /// Returns the job that this job submitted in its last line.
     pub(crate) fn offered(&self, job: usize) -> Option<usize>
         ensures { result ≡ offered_by (job_at self.now job) }
     {
         self.get(job)?.offered
     }
 
-    /// The job is submitted.
+    /// Adds a submitted job.
     ///
     /// # Errors
     ///
-    /// `AllocError` where there is no memory for it, or the count of jobs stands at its greatest value. The jobs are then
-    /// unchanged.
+    /// Returns `AllocError` if memory runs out or the number of jobs is at its maximum. The jobs
+    /// are then unchanged.
     pub(crate) fn submit(&mut self, job: usize) -> Result<(), AllocError>
         ensures submitted { OnOk result (self.new.submitted ≡ self.old.submitted + 1) }
         ensures unfinished { OnOk result
@@ -92,7 +93,7 @@ impl Jobs {
         Ok(())
     }
 
-    /// The job, where it is not done, starts.
+    /// Marks the job as started, unless it is done.
     pub(crate) fn start(&mut self, job: usize)
         ensures submitted { self.new.submitted ≡ self.old.submitted }
         ensures unfinished { (j : ℕ)
@@ -104,7 +105,7 @@ impl Jobs {
         }
     }
 
-    /// The job, where it is not done, is cancelled.
+    /// Marks the job as cancelled, unless it is done.
     pub(crate) fn cancel(&mut self, job: usize)
         ensures submitted { self.new.submitted ≡ self.old.submitted }
         ensures unfinished { (j : ℕ)
@@ -116,7 +117,8 @@ impl Jobs {
         }
     }
 
-    /// The job, where it is not done, just submitted this one, or did another thing.
+    /// Sets the job that this job submitted in its last line, if any. Has no effect if this job is
+    /// done.
     pub(crate) fn set_offered(&mut self, job: usize, offered: Option<usize>)
         ensures submitted { self.new.submitted ≡ self.old.submitted }
         ensures unfinished { (j : ℕ)
@@ -129,7 +131,7 @@ impl Jobs {
         }
     }
 
-    /// The job is done.
+    /// Removes the job, which is done.
     pub(crate) fn finish(&mut self, job: usize)
         ensures submitted { self.new.submitted ≡ self.old.submitted }
         ensures unfinished { (j : ℕ)

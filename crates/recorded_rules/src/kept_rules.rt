@@ -1,4 +1,4 @@
-//! Which rules a line keeps, behind the lines so far.
+//! The check of a line against the lines so far.
 
 ghost use Rattle.std.specs.Prelude.{◌≡◌, List};
 ghost use Rattle.recording_lines.specs.RecordingLine.{RecordedLine, line_seen};
@@ -11,7 +11,7 @@ use crate::lines_so_far::LinesSoFar;
 use crate::rule::LineRule;
 use recording_lines::{Line, RecordedActor};
 
-/// The first rule that the line breaks.
+/// Returns the first rule that the line breaks.
 pub(crate) fn broken_of(lines: &LinesSoFar, line: &Line<'_>) -> Option<LineRule>
     ensures { (before : List RecordedLine)
         → StandsFor lines.now before

@@ -1,15 +1,20 @@
-//! The rules O1 to O7 that the lines of a recording keep (`docs/RECORDING.md`), and which line breaks one.
+//! The rules O1 to O7 for the lines of a recording (`docs/RECORDING.md`), and the check which line
+//! breaks one.
 //!
-//! [`recording_lines`] reads a line by its form alone; here it is held to the lines that stand before it. [`LinesSoFar`]
-//! takes one line after another, and answers for each the first [`LineRule`] that it breaks, exactly: each rule is a fact of
-//! the list of all lines before, as the page has it. A line that breaks a rule is not taken, nor is one for whose names
-//! there is no memory: in both cases the lines so far are what they were. [`RuledLines`] does so with the lines of a text,
-//! one after another, up to the first bad one: it is for whoever uses the lines of a recording that keeps the rules, and
-//! can do so in the walk that finds whether it keeps them. [`first_fault`] answers the first bad line alone.
+//! [`recording_lines`] parses each line without context. This crate checks each line against the
+//! lines before it. [`LinesSoFar`] accepts one line at a time and returns the first [`LineRule`]
+//! that the line breaks. The result is exact: each rule is a property of the list of all earlier
+//! lines, as the page defines it. A line that breaks a rule is not accepted, and neither is a line
+//! for which memory runs out. In both cases the state is unchanged.
 //!
-//! A line costs a few look-ups in tables, whatever stands before it. What is kept is the names of the pools, each round
-//! that has not ended, and each job that was submitted and is not done, which includes those that were refused, cancelled
-//! or removed and never ran. That this is all, and what a line costs, is seen in the code and is in no contract.
+//! [`RuledLines`] iterates over the lines of a text up to the first bad one. It lets a caller use
+//! the lines in the same pass that checks the rules. [`first_fault`] returns only the first bad
+//! line.
+//!
+//! Each line takes a few table look-ups, however many lines come before it. The state holds the
+//! names of the pools, each round that has not ended, and each job that was submitted and is not
+//! done. That includes refused, cancelled and removed jobs that never ran. No contract states these
+//! bounds on time and memory.
 #![tactic(auto)]
 
 mod fault;

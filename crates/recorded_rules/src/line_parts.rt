@@ -1,4 +1,4 @@
-//! What a line names.
+//! The parts of a line.
 
 ghost use Rattle.std.specs.Prelude.{◌≡◌};
 ghost use Rattle.std.specs.Option.{option_map};
@@ -7,7 +7,8 @@ ghost use Rattle.recorded_rules.specs.LineParts as spec;
 
 use recording_lines::{Line, RecordedActor};
 
-/// Whose line it is, as one who submits and gets.
+/// Returns the actor whose line this is. Returns `None` for the line that begins a round or starts
+/// a job, and for a line without an actor.
 pub(crate) fn actor_of(line: &Line<'_>) -> Option<RecordedActor>
     ensures { result ≡ spec.actor_of (line_seen line.now) }
 {
@@ -32,7 +33,7 @@ pub(crate) fn actor_of(line: &Line<'_>) -> Option<RecordedActor>
     }
 }
 
-/// The job of which the line tells, beside its actor and one that it submits.
+/// Returns the job that the line names, other than its actor and a job that it submits.
 pub(crate) fn job_of(line: &Line<'_>) -> Option<usize>
     ensures { result ≡ spec.job_of (line_seen line.now) }
 {
@@ -48,7 +49,7 @@ pub(crate) fn job_of(line: &Line<'_>) -> Option<usize>
     }
 }
 
-/// The pool that the line names, where it does not say what this pool is.
+/// Returns the pool that the line names, unless it is a `pool` line.
 pub(crate) fn pool_of<'a>(line: &Line<'a>) -> Option<&'a str>
     ensures { option_map (λ pool. pool.now) result ≡ spec.pool_of (line_seen line.now) }
 {

@@ -1,4 +1,4 @@
-//! The lines of a recording so far, held to its rules.
+//! The state of the rule check.
 
 ghost use Rattle.std.specs.Prelude.{[], List};
 ghost use Rattle.recording_lines.specs.RecordingLine.{RecordedLine, line_seen};
@@ -13,9 +13,10 @@ use crate::rule::LineRule;
 use recording_lines::Line;
 use std::alloc::{AllocError, Global};
 
-/// The lines of a recording so far, as far as the rules ask about them.
+/// The state of the rule check: everything that the rules need to know about the lines so far.
 ///
-/// It needs room for the names of the pools, for each round that has not ended and for each job that is not done.
+/// Its size grows with the names of the pools, the rounds that have not ended and the jobs that are
+/// not done.
 #[derive(Debug, Drop)]
 pub struct LinesSoFar {
     pub(crate) begun: bool,
@@ -26,7 +27,7 @@ pub struct LinesSoFar {
 }
 
 impl LinesSoFar {
-    /// No lines so far.
+    /// Creates the state before the first line.
     pub fn new(alloc: Global) -> LinesSoFar
         ensures { StandsFor result [] }
     {
@@ -39,13 +40,13 @@ impl LinesSoFar {
         }
     }
 
-    /// Takes the next line, where it keeps the rules. Otherwise the first rule that it breaks, and the lines so far are
-    /// what they were.
+    /// Accepts the next line if it keeps the rules. Otherwise returns the first rule that it
+    /// breaks, and leaves the state unchanged.
     ///
     /// # Errors
     ///
-    /// `AllocError` where the line keeps the rules, and there is no memory for what it names. The lines so far are then
-    /// what they were.
+    /// Returns `AllocError` if the line keeps the rules but memory runs out. The state is then
+    /// unchanged.
     pub fn take(&mut self, line: &Line<'_>) -> Result<Option<LineRule>, AllocError>
         ensures { (before : List RecordedLine)
             → StandsFor self.old before

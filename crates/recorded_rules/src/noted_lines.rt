@@ -1,4 +1,4 @@
-//! What a line changes, behind the lines so far.
+//! The effect of a line on the state.
 
 ghost use Rattle.std.specs.Prelude.{OnOk, OnErr};
 ghost use Rattle.recording_lines.specs.RecordingLine.{line_seen};
@@ -9,11 +9,11 @@ use crate::lines_so_far::LinesSoFar;
 use recording_lines::{Line, RecordedActor};
 use std::alloc::AllocError;
 
-/// The line stands behind the lines so far, whose rules it keeps.
+/// Updates the state with a line that keeps the rules.
 ///
 /// # Errors
 ///
-/// `AllocError` where there is no memory for what it names. The lines so far are then what they were.
+/// Returns `AllocError` if memory runs out. The state is then unchanged.
 pub(crate) fn note(lines: &mut LinesSoFar, line: &Line<'_>) -> Result<(), AllocError>
     ensures noted { OnOk result (Follows lines.old (line_seen line.now) lines.new) }
     ensures same { OnErr result (IsSame lines.old lines.new) }
@@ -24,8 +24,8 @@ pub(crate) fn note(lines: &mut LinesSoFar, line: &Line<'_>) -> Result<(), AllocE
     Ok(())
 }
 
-// The pool, the round or the job of which this is the first line; what its actor did last; and where the round or the job
-// has come to.
+// Applies the line's three changes: a new pool, round or job; the last action of its actor; and the
+// progress of the round or the job.
 fn note_own(lines: &mut LinesSoFar, line: &Line<'_>) -> Result<(), AllocError>
     ensures noted { OnOk result (IsNoted lines.old (line_seen line.now) lines.new) }
     ensures same { OnErr result (IsSame lines.old lines.new) }

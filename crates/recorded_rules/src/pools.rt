@@ -13,7 +13,8 @@ use std::collections::HashSet;
 
 /// The names of the pools that have a line.
 ///
-/// A name is looked up by a number that takes no hash. One that has another's number is in a set.
+/// Names are looked up by a number that is cheap to compute. Names whose number is already taken
+/// are in a set.
 #[derive(Debug, Drop)]
 pub(crate) struct Pools {
     firsts: NumberTable<String>,
@@ -22,7 +23,7 @@ pub(crate) struct Pools {
 }
 
 impl Pools {
-    /// None so far.
+    /// Creates an empty set of names.
     pub(crate) fn new(alloc: Global) -> Pools
         ensures { (q : List ℕ) → has_name result q ≡ false }
     {
@@ -40,11 +41,11 @@ impl Pools {
         is_name(self.firsts.get(number_of(name)), name) || contains_other(&self.others, name)
     }
 
-    /// The pool of this name has a line.
+    /// Adds the name of a pool.
     ///
     /// # Errors
     ///
-    /// `AllocError` where there is no memory for a name. The names are then unchanged.
+    /// Returns `AllocError` if memory runs out. The names are then unchanged.
     pub(crate) fn insert(&mut self, name: &str) -> Result<(), AllocError>
         ensures added { OnOk result
             ((q : List ℕ) → has_name self.new q ≡ (has_name self.old q || bytes_eq name.now q)) }
@@ -61,7 +62,7 @@ impl Pools {
     }
 }
 
-// Look-ups in the set are rare, and stay out of their caller.
+// Look-ups in the set are rare, so keep them out of line.
 #[inline(never)]
 fn contains_other(others: &HashSet<String>, name: &str) -> bool
     ensures { result ≡ contains_text others.now name.now }
@@ -69,7 +70,7 @@ fn contains_other(others: &HashSet<String>, name: &str) -> bool
     others.contains(name)
 }
 
-// Whether the name is this one.
+// Returns whether the stored name is this one.
 fn is_name(kept: Option<&String>, name: &str) -> bool
     ensures { result ≡ is_name name.now (option_copied kept.entry) }
 {
@@ -79,7 +80,7 @@ fn is_name(kept: Option<&String>, name: &str) -> bool
     }
 }
 
-// A number that few names share.
+// Computes a number that few names share.
 fn number_of(name: &str) -> usize
     ensures { result ≡ number_of name.now }
 {

@@ -7,7 +7,8 @@ ghost use Rattle.recorded_rules.specs.Kept.{round_at, offered_there};
 use number_tables::NumberTable;
 use std::alloc::{AllocError, Global};
 
-/// The rounds of the lines so far: how many began, and for each that has not ended the job that it just submitted.
+/// The rounds of the lines so far: the number of rounds begun, and for each open round the job that
+/// it submitted in its last line.
 #[derive(Debug, Drop)]
 pub(crate) struct Rounds {
     pub(crate) begun: usize,
@@ -15,7 +16,7 @@ pub(crate) struct Rounds {
 }
 
 impl Rounds {
-    /// None so far.
+    /// Creates an empty set of rounds.
     pub(crate) fn new(alloc: Global) -> Rounds
         ensures begun { result.begun ≡ 0 }
         ensures going { (r : ℕ) → round_at result r ≡ None }
@@ -26,26 +27,26 @@ impl Rounds {
         }
     }
 
-    /// Whether the round has begun, and has not ended.
+    /// Returns whether the round has begun and has not ended.
     pub(crate) fn is_open(&self, round: usize) -> bool
         ensures { result ≡ is_some (round_at self.now round) }
     {
         self.open.contains(round)
     }
 
-    /// The job that the round just submitted.
+    /// Returns the job that the round submitted in its last line.
     pub(crate) fn offered(&self, round: usize) -> Option<usize>
         ensures { result ≡ offered_there (round_at self.now round) }
     {
         *self.open.get(round)?
     }
 
-    /// The round begins.
+    /// Adds a round.
     ///
     /// # Errors
     ///
-    /// `AllocError` where there is no memory for it, or the count of rounds stands at its greatest value. The rounds are
-    /// then unchanged.
+    /// Returns `AllocError` if memory runs out or the number of rounds is at its maximum. The
+    /// rounds are then unchanged.
     pub(crate) fn begin(&mut self, round: usize) -> Result<(), AllocError>
         ensures begun { OnOk result (self.new.begun ≡ self.old.begun + 1) }
         ensures going { OnOk result
@@ -60,7 +61,7 @@ impl Rounds {
         Ok(())
     }
 
-    /// The round ends.
+    /// Removes the round, which has ended.
     pub(crate) fn end(&mut self, round: usize)
         ensures begun { self.new.begun ≡ self.old.begun }
         ensures going { (r : ℕ)
@@ -69,7 +70,8 @@ impl Rounds {
         self.open.remove(round);
     }
 
-    /// The round, where it is open, just submitted this job, or did another thing.
+    /// Sets the job that this round submitted in its last line, if any. Has no effect if the round
+    /// is not open.
     pub(crate) fn set_offered(&mut self, round: usize, offered: Option<usize>)
         ensures begun { self.new.begun ≡ self.old.begun }
         ensures going { (r : ℕ)

@@ -5,28 +5,29 @@ ghost use Rattle.recorded_rules.specs.RuleText.{rule_text};
 
 use std::fmt;
 
-/// What a line of a recording may break, by the lines that stand before it.
+/// A rule that a line of a recording can break, given the lines before it.
 #[derive(Clone, Copy, Debug, PartialEq, Eq)]
 pub enum LineRule {
-    /// O1: the first line is `recording 1`, and no other one is. Nothing stands behind `end`.
+    /// O1: the first line is `recording 1`, and no other line is. No line comes after `end`.
     Frame,
-    /// O2: a pool that a line names has a `pool` line before it.
+    /// O2: a pool that a line names has an earlier `pool` line.
     Pools,
-    /// O3: jobs are numbered in the order of their `submit` lines, and rounds in that of their `begin` lines. Each other
-    /// line that names a job stands behind its `submit` line.
+    /// O3: jobs are numbered in the order of their `submit` lines, and rounds in the order of their
+    /// `begin` lines. Any other line that names a job comes after its `submit` line.
     Numbers,
-    /// O4: the lines of a round stand between its `begin` line and its `end` line.
+    /// O4: the lines of a round come between its `begin` line and its `end` line.
     Rounds,
-    /// O5: a job has one `start` line, its lines as an actor stand behind that, and `end` or `threw` is the last of them.
+    /// O5: a job has one `start` line, its lines as an actor come after that, and the last of them
+    /// is `end` or `threw`.
     Jobs,
-    /// O6: `refused` stands behind the `submit` line of the same job by the same actor, with no other line of the actor
-    /// between them, and before the job's `start` line.
+    /// O6: `refused` comes after the `submit` line of the same job by the same actor, with no other
+    /// line of the actor between them, and before the job's `start` line.
     Refusals,
-    /// O7: `got` stands behind the `end`, `threw` or `cancel` line of its job.
+    /// O7: `got` comes after the `end`, `threw` or `cancel` line of its job.
     Gets,
 }
 
-/// Writes the rule's number, and what it asks for.
+/// Formats the rule's number and its requirement.
 impl fmt::Display for LineRule {
     ghost output = { λ rule. Some (rule_text rule) };
 

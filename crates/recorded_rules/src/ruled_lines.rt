@@ -1,4 +1,4 @@
-//! The lines of a text, one after another, each held to the rules.
+//! An iterator over the lines of a text that checks the rules.
 
 ghost use Rattle.std.specs.Prelude.{◌≡◌, ◌≤◌, length, List, Option, IfOk};
 ghost use Rattle.recording_lines.specs.RecordingLine.{RecordedLine, lines_read};
@@ -10,9 +10,9 @@ use crate::rule::LineRule;
 use recording_lines::{BadLine, Line, RecordingLines};
 use std::alloc::{AllocError, Global};
 
-/// The lines of a text, one after another, each held to the rules by those before it.
+/// An iterator over the lines of a text that checks each line against the lines before it.
 ///
-/// It reads each line once, and needs the room of [`LinesSoFar`].
+/// Reads each line once. Its size is that of [`LinesSoFar`].
 #[derive(Debug, Drop)]
 pub struct RuledLines<'a> {
     lines: RecordingLines<'a>,
@@ -21,7 +21,7 @@ pub struct RuledLines<'a> {
 }
 
 impl<'a> RuledLines<'a> {
-    /// No line is taken yet. What stands behind the last newline is left out.
+    /// Creates an iterator at the first line. Ignores the text after the last newline.
     pub fn new(alloc: Global, text: &'a [u8]) -> RuledLines<'a>
         ensures ruled { IsRuled (lines_read text.now) result }
         ensures number { result.number ≡ 0 }
@@ -34,27 +34,29 @@ impl<'a> RuledLines<'a> {
         }
     }
 
-    /// How many lines were taken, which is the number of the last one, from 1.
+    /// Returns the number of accepted lines. This is also the number of the last one, counted from
+    /// 1.
     pub fn number(&self) -> usize
         ensures { result ≡ self.now.number }
     {
         self.number
     }
 
-    /// Takes the next line, where it is a good one, and answers the first bad one otherwise; None where the lines end and
-    /// none is bad. Where there is no whole line, the first one breaks [`LineRule::Frame`].
+    /// Returns the next line if it is valid, and the first bad line otherwise. Returns `None` after
+    /// the last line of a valid recording. If the text has no complete line, the first line breaks
+    /// [`LineRule::Frame`].
     ///
-    /// Behind a bad line there is nothing more to ask.
+    /// Do not call this method again after a bad line.
     ///
     /// # Errors
     ///
-    /// `AllocError` where there is no memory for what the line names. There is nothing more to ask then either.
+    /// Returns `AllocError` if memory runs out. Do not call this method again in this case either.
     pub fn next(&mut self) -> Result<Option<Result<Line<'a>, RecordingFault>>, AllocError>
         ensures { (all : List (Option RecordedLine))
             → IsRuled all self.old
             → IfOk result (λ next. IsNext all self.old next self.new) }
     {
-        // There are fewer lines than the greatest number, so that this is always the next one.
+        // Never saturates, since the number of lines is below the maximum.
         let number = self.number.saturating_add(1);
         match self.lines.next() {
             Some(Ok(line)) => match self.so_far.take(&line)? {

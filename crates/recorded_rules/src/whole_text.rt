@@ -8,12 +8,13 @@ use crate::fault::RecordingFault;
 use crate::ruled_lines::RuledLines;
 use std::alloc::{AllocError, Global};
 
-/// The first bad line of a recording; None where it has none. What stands behind the last newline is left out. Where there
-/// is no whole line, the first one breaks [`LineRule::Frame`](crate::LineRule::Frame).
+/// Returns the first bad line of a recording, or `None` if it has none. Ignores the text after the
+/// last newline. If the text has no complete line, the first line breaks
+/// [`LineRule::Frame`](crate::LineRule::Frame).
 ///
 /// # Errors
 ///
-/// `AllocError` where there is no memory for what the lines name.
+/// Returns `AllocError` if memory runs out.
 pub fn first_fault(alloc: Global, text: &[u8]) -> Result<Option<RecordingFault>, AllocError>
     ensures { IfOk result (IsFirstFault (lines_read text.now)) }
 {
