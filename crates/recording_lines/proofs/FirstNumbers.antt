@@ -1,4 +1,4 @@
--- A number at the front of a text, with a space behind it.
+-- A number at the start of a text, followed by a space.
 use Rattle.std.proofs.Common.{◌≡◌, ◌≢◌, ℕ, true, not, ◌==◌, ◌&&◌, nat_le, List, [], ◌∷◌, ◌++◌, length, take, drop, decimal, Option, Some, None, refl, sym, ap, ap₂, ◌∙◌, arith, take-append-drop, take_at, drop_at}
 use Rattle.std.specs.Char.{is_ascii_digit}
 use Rattle.std.specs.List.{list_all}
@@ -12,7 +12,7 @@ use Rattle.line_words.proofs.WrittenNumbers.{number_read, number_written}
 use Rattle.recording_lines.specs.Words.{number_then}
 use Rattle.recording_lines.proofs.WordByWord.{number_then_read, number_then_written}
 
--- ---- a number that was written
+-- ---- the text of a number
 digits_are : (word : List ℕ) (n : ℕ) → number_of word ≡ Some n → list_all is_ascii_digit word ≡ true
 unfolding number_of is_whole_number
 digits_are word n read =
@@ -37,8 +37,8 @@ leading_written n rest lawful =
     let behind : drop (digit_count text) text ≡ 32 ∷ rest = ap (λ i. drop i text) count ∙ drop_at word (32 ∷ rest) (length word) refl in
     rw (front, behind, read) refl
 
--- ---- a number that is read
--- a space stands behind it
+-- ---- a parsed number
+-- followed by a space
 pub space_there : (text : List ℕ) (n : ℕ) (rest : List ℕ) → Some (n, 32 ∷ rest) ≡ leading_number text → Some (n, rest) ≡ number_then text
 space_there text n rest read =
     let found = front_read text n (32 ∷ rest) read in
@@ -46,7 +46,7 @@ space_there text n rest read =
     let whole : text ≡ decimal n ++ 32 ∷ rest = sym (take-append-drop (digit_count text) text) ∙ ap₂ (λ (x y : List ℕ). x ++ y) number.1 found.1 in
     sym (ap number_then whole ∙ number_then_written n rest number.0)
 
--- no other text has a number and a space at its front
+-- otherwise the text does not begin with a number and a space
 no_other : (text : List ℕ) → ((n : ℕ) (rest : List ℕ) → ¬ (leading_number text ≡ Some (n, 32 ∷ rest))) → None ≡ number_then text
 no_other text other = by_read (number_then text) refl
   where
@@ -60,6 +60,6 @@ no_other text other = by_read (number_then text) refl
 pub number_none : (text : List ℕ) → None ≡ leading_number text → None ≡ number_then text
 number_none text none = no_other text (λ n rest e. none-some (n, 32 ∷ rest) (none ∙ e))
 
--- something else stands behind it
+-- another byte follows the number
 pub no_space : (text : List ℕ) (n : ℕ) (behind : List ℕ) → Some (n, behind) ≡ leading_number text → ((rest : List ℕ) → behind ≢ 32 ∷ rest) → None ≡ number_then text
 no_space text n behind read other = no_other text (λ m rest e. other rest (ap (λ (x : ℕ × List ℕ). x.1) (same_Some (n, behind) (m, 32 ∷ rest) (read ∙ e))))

@@ -1,4 +1,4 @@
--- Lines that are read from their front on, up to their newline.
+-- Lines that are parsed from left to right up to their newline.
 use Rattle.std.proofs.Common.{◌≡◌, inl, inr, ℕ, suc, ◌+◌, ◌-◌, ◌*◌, ◌^◌, ◌<◌, ◌≤◌, true, false, ◌==◌, List, [], ◌∷◌, ◌++◌, length, take, drop, get_or, map, codes, decimal, Option, Some, refl, sym, ap, ap₂, ◌∙◌, arith, append_assoc, take-append-drop}
 use Rattle.std.specs.Char.{is_ascii_digit}
 use Rattle.std.specs.List.{list_all}
@@ -22,7 +22,7 @@ use Rattle.recording_lines.proofs.LineByLine.{whole_first}
 use Rattle.recording_lines.proofs.WrittenActs.{behind_is}
 use Rattle.recording_lines.proofs.WrittenLines.{canonical}
 
--- ---- the bytes at the front of a text
+-- ---- the bytes at the start of a text
 one_further : (b : ℕ) (text bytes : List ℕ) (i : ℕ) → HasBytesAt (b ∷ text) (suc i) bytes → HasBytesAt text i bytes
 one_further b text [] i there = tt
 one_further b text (c ∷ bytes) i there = (there.0, one_further b text bytes (suc i) there.1)
@@ -44,7 +44,7 @@ on_one_line : (actor : RecordedActor) (words : List ℕ) → is_lawful_actor act
 on_one_line (Job n) words lawful none = has_no-append 10 (decimal n) (32 ∷ words) (decimal_has_no 10 n (omega arith) lawful) none
 on_one_line (Round n) words lawful none = has_no-append 10 (decimal n) (32 ∷ words) (decimal_has_no 10 n (omega arith) lawful) none
 
--- by what an actor's line says behind its number
+-- the line of an actor, from the words after its number
 first_read : (actor : RecordedActor) (words said behind : List ℕ) (line : RecordedLine) → is_lawful_actor actor ≡ true → is_lawful_line line ≡ true → line_text line ≡ behind_actor actor said → has_no 10 said ≡ true
     → words ≡ said ++ 10 ∷ behind → lines_read (behind_actor actor words) ≡ Some line ∷ lines_read behind
 first_read actor words said behind line whose lawful written none is =
@@ -93,7 +93,7 @@ submits actor words job second class third pool behind whose number label name =
     (ap (λ (t : List ℕ). codes "submit" ++ 32 ∷ t) whole)
 
 -- ---- numbers
--- the value of a byte is at most 9
+-- a byte with a value of at most 9 is a digit
 pub one_digit : (byte digit : ℕ) → (48 ≤ byte → digit + 48 ≡ byte) → (byte < 48 → 9 < digit) → digit ≤ 9 → (is_ascii_digit byte ≡ true) × (digit ≡ byte - 48)
 one_digit byte digit same other small =
     elim (cases_lt byte 48) [
@@ -101,7 +101,7 @@ one_digit byte digit same other small =
       | inr from ↦ let is : digit + 48 ≡ byte = same from in (grind (arith, nat_tests), omega (arith, is))
     ]
 
--- and so it is below a power of ten with one digit more
+-- after one more digit, the value is below the next power of ten
 pub power_more : (n digit i : ℕ) → n < 10 ^ i → digit ≤ 9 → n * 10 + digit < 10 ^ (i + 1)
 power_more n digit i small low =
     let next : i + 1 ≡ suc i = omega arith in
@@ -112,7 +112,7 @@ whole_number : (digits : List ℕ) (n : ℕ) → 0 < length digits → (get_or d
 unfolding number_of is_whole_number
 whole_number digits n some first all e within = rw (all, ← e) (grind (arith, nat_tests))
 
--- so many digits, of which the first is not 0, and a byte
+-- a number of `count` digits, of which the first is not 0, followed by a byte
 pub number_there : (text : List ℕ) (count n end : ℕ) (behind : List ℕ) → 1 ≤ count → count ≤ length text → count ≤ 9 → (get_or text 0 0 == 48) ≡ false → list_all is_ascii_digit (take count text) ≡ true
     → n ≡ digits_value 10 (take count text) → n < 10 ^ count → drop count text ≡ end ∷ behind → (is_lawful_number n ≡ true) × (text ≡ decimal n ++ end ∷ behind)
 number_there text count n end behind some inside few first digits e small rest =

@@ -1,4 +1,4 @@
--- Lines that are read one after another, of a text that may be cut off.
+-- The lines of a text that may be cut off, parsed in order.
 use Rattle.std.proofs.Common.{◌≡◌, inl, inr, ℕ, suc, ◌+◌, ◌-◌, ◌<◌, ◌≤◌, nat_lt, true, List, [], ◌∷◌, ◌++◌, length, take, drop, position, Option, Some, None, sym, ap, ap₂, ◌∙◌, arith}
 use Rattle.std.specs.List.{slice_split}
 use Rattle.std.proofs.lemmas.Bool.{cases_lt, cond-true, cond-false, lt-ltb, le-ltb, ltb-true, false_from_ne_true}
@@ -14,7 +14,7 @@ use Rattle.recording_lines.specs.WholeLines.{whole_lines}
 use Rattle.recording_lines.specs.RecordingLine.{line_of, lines_read}
 
 -- ---- the first newline
--- what a search finds is its place
+-- a search returns its index
 pub newline_found : (text : List ℕ) (found : Option ℕ) → IsFirstByte (is_byte 10) text found → position is_newline text ≡ found
 newline_found text None none =
     let at_end : place 10 text ≡ length text = position_or_len_is is_newline text (length text) 0 (omega arith) (λ k below. false_from_ne_true _ (none k (omega arith) below)) (λ past. absurd (omega (arith, past))) in
@@ -25,7 +25,7 @@ newline_found text (Some k) first =
     let within : place 10 text < length text = omega (arith, here, first.0.high) in
     cond-true _ _ _ (lt-ltb (place 10 text) (length text) within) ∙ ap (λ (n : ℕ). Some n) here
 
--- ---- whole lines
+-- ---- complete lines
 fronts_more : (first : List ℕ) (parts : List (List ℕ)) → 0 < length parts → take (length (first ∷ parts) - 1) (first ∷ parts) ≡ first ∷ take (length parts - 1) parts
 fronts_more first parts some =
     let one_more : length (first ∷ parts) - 1 ≡ suc (length parts - 1) = omega arith in
@@ -34,7 +34,7 @@ fronts_more first parts some =
 some_parts : (text : List ℕ) → 0 < length (slice_split is_newline text)
 some_parts text = omega (arith, length-slice_split is_newline text)
 
--- the first line is whole
+-- the first line is complete
 pub whole_more : (text : List ℕ) (newline : ℕ) → position is_newline text ≡ Some newline → whole_lines text ≡ take newline text ∷ whole_lines (drop (newline + 1) text)
 unfolding whole_lines
 whole_more text newline found =
@@ -50,7 +50,7 @@ whole_first line rest none =
     ap (λ (parts : List (List ℕ)). take (length parts - 1) parts) (cut_first 10 line rest none)
     ∙ fronts_more line (slice_split is_newline rest) (some_parts rest)
 
--- no line is
+-- no line is complete
 pub whole_none : (text : List ℕ) → position is_newline text ≡ None → whole_lines text ≡ []
 unfolding whole_lines
 whole_none text none =
@@ -62,7 +62,7 @@ whole_none text none =
     in
     ap (λ (parts : List (List ℕ)). take (length parts - 1) parts) (slice_split_none is_newline text (λ k d inside. fails_before_first is_newline text k d (omega arith)))
 
--- there are no more than bytes
+-- there are at most as many lines as bytes
 pub lines_few : (text : List ℕ) → length (lines_read text) ≤ length text
 unfolding whole_lines
 lines_few text =

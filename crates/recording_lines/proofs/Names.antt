@@ -9,7 +9,7 @@ use Rattle.job_bodies.specs.WellFormed.{is_name_byte, is_lawful_name}
 use Rattle.line_words.proofs.Splits.{has_no}
 use Rattle.recording_lines.specs.Words.{name_of}
 
--- no byte below the digits is one
+-- no byte below the digits is a name byte
 no_other : (c b : ℕ) → c < 48 → is_name_byte b ≡ true → not (b == c) ≡ true
 no_other c b low h = grind (arith, nat_tests)
 
@@ -30,19 +30,19 @@ all_ascii (b ∷ bytes) h (suc i) = all_ascii bytes (and_parts (is_name_byte b) 
 name_bytes : (name : List ℕ) → is_lawful_name name ≡ true → list_all is_name_byte name ≡ true
 name_bytes name lawful = (and_parts _ (list_all is_name_byte name) lawful).1
 
--- no space or newline stands in a name
+-- a name contains no space and no newline
 pub name_has_no : (c : ℕ) (name : List ℕ) → c < 48 → is_lawful_name name ≡ true → has_no c name ≡ true
 name_has_no c name low lawful = no_others c name low (name_bytes name lawful)
 
--- bytes of names are text
+-- the bytes of a name are UTF-8
 pub bytes_are_text : (bytes : List ℕ) → list_all is_name_byte bytes ≡ true → IsUtf8 bytes
 bytes_are_text bytes all = IsUtf8-from_ascii bytes (all_ascii bytes all)
 
--- a name is text
+-- a name is UTF-8
 pub name_is_text : (name : List ℕ) → is_lawful_name name ≡ true → IsUtf8 name
 name_is_text name lawful = bytes_are_text name (name_bytes name lawful)
 
--- what is no text is no name
+-- bytes that are not UTF-8 are not a name
 pub no_name : (word : List ℕ) → ¬ (IsUtf8 word) → None ≡ name_of word
 unfolding name_of
 no_name word no_text =

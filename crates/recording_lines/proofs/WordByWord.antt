@@ -1,4 +1,4 @@
--- What stands at the front of a text that was read, and what is read of a text that was written.
+-- The start of a text that was parsed, and the parsed value of a written text.
 use Rattle.std.proofs.Common.{◌≡◌, ℕ, Bool, true, false, cond, List, ◌∷◌, ◌++◌, decimal, bytes_eq, Option, Some, None, refl, ap, ap₂, subst, ◌∙◌, arith}
 use Rattle.std.proofs.lemmas.Option.{none-some, same_Some, cond_some}
 use Rattle.std.proofs.lemmas.Bool.{cond-true}
@@ -12,7 +12,7 @@ use Rattle.line_words.proofs.WrittenNumbers.{number_read, number_written, decima
 use Rattle.recording_lines.specs.Words.{◌>>=◌, name_of, number_then, name_then, behind, number_behind}
 use Rattle.recording_lines.proofs.Names.{name_has_no}
 
--- ---- what one reading after another gives
+-- ---- two parsers in sequence
 pub bind_some : {X Y : Type 0} (o : Option X) (f : X → Option Y) (y : Y) → (o >>= f) ≡ Some y → (x : X) × (o ≡ Some x) × (f x ≡ Some y)
 bind_some None f y e = absurd (none-some y e)
 bind_some (Some x) f y e = (x, refl, e)
@@ -20,7 +20,7 @@ bind_some (Some x) f y e = (x, refl, e)
 pub bind_written : {X Y : Type 0} (o : Option X) (f : X → Option Y) (x : X) (y : Y) → o ≡ Some x → f x ≡ Some y → (o >>= f) ≡ Some y
 bind_written o f x y first second = ap (λ o. o >>= f) first ∙ second
 
--- by whether a text is this word
+-- the result for this word, or that for other words
 pub by_word : {Y P : Type 0} (text word : List ℕ) (here others : Option Y) (y : Y) → cond (bytes_eq text word) here others ≡ Some y → (text ≡ word → here ≡ Some y → P) → (others ≡ Some y → P) → P
 by_word {Y} {P} text word here others y e is_it is_not = by_test (bytes_eq text word) refl e
   where
@@ -72,7 +72,7 @@ name_then_written name rest lawful =
     ap (λ o. o >>= λ words. name_of words.0 >>= λ m. Some (m, words.1)) (splits name rest (name_has_no 32 name (omega arith) lawful))
     ∙ ap (λ o. o >>= λ m. Some (m, rest)) (name_written name lawful)
 
--- ---- behind a word
+-- ---- after a word
 pub behind_read : (word text rest : List ℕ) → behind word text ≡ Some rest → text ≡ word ++ 32 ∷ rest
 unfolding behind
 behind_read word text rest e =

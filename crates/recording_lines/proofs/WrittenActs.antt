@@ -1,4 +1,4 @@
--- What a line says of an actor is what is written there.
+-- The lines of actors: the parsed line has this text.
 use Rattle.std.proofs.Common.{◌≡◌, ℕ, true, List, [], ◌∷◌, ◌++◌, codes, decimal, Some, refl, ap, ap₂, subst, ◌∙◌}
 use Rattle.std.specs.List.{join_with_byte}
 use Rattle.std.proofs.lemmas.Bool.{and_from}
@@ -14,17 +14,17 @@ use Rattle.recording_lines.specs.RecordingLine.{RecordedLine, RoundBegins, Round
 use Rattle.recording_lines.specs.LineText.{actor_words, behind_actor, line_text, is_lawful_actor, is_lawful_line}
 use Rattle.recording_lines.proofs.WordByWord.{bind_some, by_word, name_read, number_then_read, name_then_read}
 
--- the text is that of the lawful line
+-- the text is that of the valid line
 abbrev pub IsLine : List ℕ → RecordedLine → Type 0
 IsLine text line = (is_lawful_line line ≡ true) × (text ≡ line_text line)
 
--- ---- behind an actor
--- words behind the two of the actor
+-- ---- after an actor
+-- words after the two words of the actor
 pub behind_is : (actor : RecordedActor) (word : List ℕ) (words : List (List ℕ)) → behind_actor actor (join_with_byte 32 (word ∷ words)) ≡ join_with_byte 32 (actor_words actor (word ∷ words))
 behind_is (Job n) word words = refl
 behind_is (Round n) word words = refl
 
--- ---- what is read
+-- ---- the parsed line
 deed_read : (actor : RecordedActor) (word : List ℕ) (job : ℕ) (line : RecordedLine) → is_lawful_actor actor ≡ true → is_lawful_number job ≡ true → deed_of actor word job ≡ Some line
     → IsLine (behind_actor actor (word ++ 32 ∷ decimal job)) line
 unfolding deed_of
@@ -79,12 +79,12 @@ act_read actor word rest line whose read =
         subst (λ (l : RecordedLine). IsLine (behind_actor actor (codes "any" ++ 32 ∷ rest)) l) (same_Some _ line pool.2)
         (and_from _ _ whose name.0, ap (λ (r : List ℕ). behind_actor actor (codes "any" ++ 32 ∷ r)) name.1 ∙ behind_is actor (codes "any") (pool.0 ∷ []))
 
--- words behind an actor that say one thing alone
+-- one word after an actor
 alone : (actor : RecordedActor) (text key : List ℕ) (one line : RecordedLine) → is_lawful_line one ≡ true → behind_actor actor key ≡ line_text one → text ≡ key → Some one ≡ Some line → IsLine (behind_actor actor text) line
 alone actor text key one line good written is same =
     subst (λ (l : RecordedLine). IsLine (behind_actor actor text) l) (same_Some one line same) (good, ap (behind_actor actor) is ∙ written)
 
--- a word and more
+-- several words after an actor
 more : (actor : RecordedActor) (text : List ℕ) (words : List ℕ × List ℕ) (line : RecordedLine) → split_space text ≡ Some words → IsLine (behind_actor actor (words.0 ++ 32 ∷ words.1)) line → IsLine (behind_actor actor text) line
 more actor text words line split found = (found.0, ap (behind_actor actor) (split_parts text words split) ∙ found.1)
 

@@ -1,4 +1,4 @@
--- The line that a text writes is the lawful line whose text it is.
+-- A text parses as a line if and only if the line is valid and has this text.
 use Rattle.std.proofs.Common.{◌≡◌, ◌&&◌, ℕ, true, false, cond, List, [], ◌∷◌, ◌++◌, codes, decimal, bytes_eq, Some, None, refl, sym, ap, subst, ◌∙◌}
 use Rattle.std.specs.List.{join_with_byte}
 use Rattle.std.proofs.lemmas.Bool.{and_parts, and_from}
@@ -20,7 +20,7 @@ use Rattle.recording_lines.proofs.WordByWord.{bind_some, bind_written, by_word, 
 use Rattle.recording_lines.proofs.WrittenPools.{pool_sizes_read, pool_sizes_written}
 use Rattle.recording_lines.proofs.WrittenActs.{IsLine, behind_is, job_line_read, round_line_read}
 
--- ---- what is read
+-- ---- the parsed line
 pool_read : (rest : List ℕ) (line : RecordedLine) → (name_then rest >>= λ name. pool_sizes_of name.1 >>= λ sizes. Some (Pool name.0 sizes)) ≡ Some line → IsLine (codes "pool" ++ 32 ∷ rest) line
 pool_read rest line read =
     let name = bind_some (name_then rest) (λ name. pool_sizes_of name.1 >>= λ sizes. Some (Pool name.0 sizes)) line read in
@@ -100,7 +100,7 @@ read_line_is_text text line read =
     let found = words_read words.0.0 words.0.1 line words.2 in
     (found.0, split_parts text words.0 words.1 ∙ found.1))
 
--- ---- what is written
+-- ---- the written line
 -- a line of several words, of which the first has no space
 by_first : (word rest : List ℕ) → has_no 32 word ≡ true → bytes_eq (word ++ 32 ∷ rest) (codes "end") ≡ false → line_of (word ++ 32 ∷ rest) ≡ line_of_words word rest
 unfolding line_of
@@ -121,7 +121,7 @@ other_first : (word rest : List ℕ) → has_no 32 word ≡ true → bytes_eq (w
 unfolding line_of_words
 other_first word rest none other no_job no_round = by_first word rest none other ∙ rw (no_job, no_round) refl
 
--- a word is none of those that stand alone behind an actor, or before a kind
+-- the word is none of those with a form of their own after an actor
 abbrev IsAct : List ℕ → List ℕ → Type 0
 IsAct word rest =
     (has_no 32 word ≡ true) × (bytes_eq (word ++ 32 ∷ rest) (codes "start") ≡ false) × (bytes_eq (word ++ 32 ∷ rest) (codes "end") ≡ false) × (bytes_eq (word ++ 32 ∷ rest) (codes "threw") ≡ false)
@@ -134,12 +134,12 @@ acts (Job n) word rest lawful is =
 acts (Round n) word rest lawful is =
     round_first n (word ++ 32 ∷ rest) lawful ∙ rw (is.2, splits word rest is.0, is.4) refl
 
--- a line of an actor is read behind the actor
+-- a line of an actor parses by the words after the actor
 by_actor : (actor : RecordedActor) (line said : RecordedLine) (word : List ℕ) (words : List (List ℕ)) → line_text line ≡ join_with_byte 32 (actor_words actor (word ∷ words))
     → line_of (behind_actor actor (join_with_byte 32 (word ∷ words))) ≡ Some said → line_of (line_text line) ≡ Some said
 by_actor actor line said word words is read = ap line_of (is ∙ sym (behind_is actor word words)) ∙ read
 
--- what an actor did with a job
+-- an action on a job
 deed_written : (actor : RecordedActor) (word : List ℕ) (job : ℕ) → is_lawful_actor actor && is_lawful_number job ≡ true → IsAct word (decimal job) → bytes_eq word (codes "submit") ≡ false → bytes_eq word (codes "any") ≡ false
     → line_of (behind_actor actor (word ++ 32 ∷ decimal job)) ≡ deed_of actor word job
 unfolding act_of

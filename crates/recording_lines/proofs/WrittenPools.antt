@@ -1,4 +1,4 @@
--- What a line says of a pool is what is written there.
+-- The description of a pool: the parsed value has this text.
 use Rattle.std.proofs.Common.{◌≡◌, ◌&&◌, ℕ, Bool, true, false, List, ◌∷◌, ◌++◌, codes, decimal, Some, refl, ap, subst, ◌∙◌}
 use Rattle.std.specs.List.{join_with_byte}
 use Rattle.std.proofs.lemmas.Bool.{and_parts, and_from}

@@ -1,4 +1,4 @@
--- The lines of a recording as they are written, and which lines there can be.
+-- The text of a line, and the valid lines.
 use Rattle.std.specs.Prelude.{ℕ, Bool, true, false, ◌&&◌, List, [], ◌∷◌, ◌++◌, codes, decimal}
 use Rattle.std.specs.List.{join_with_byte}
 use Rattle.job_bodies.specs.WellFormed.{is_lawful_name}
@@ -36,12 +36,12 @@ sizes_words sizes =
     codes "core" ∷ decimal sizes.core ∷ codes "max" ∷ decimal sizes.max ∷ codes "queue" ∷ queue_word sizes.queue ∷ decimal sizes.capacity ∷ codes "timeout" ∷ yes_no_word sizes.timeout
     ∷ codes "prestarted" ∷ decimal sizes.prestarted ∷ codes "handler" ∷ handler_word sizes.handler ∷ []
 
--- the two words of an actor, and what it did
+-- the two words of an actor, followed by other words
 abbrev pub actor_words : RecordedActor → List (List ℕ) → List (List ℕ)
 actor_words (Job n) words = codes "job" ∷ decimal n ∷ words
 actor_words (Round n) words = codes "round" ∷ decimal n ∷ words
 
--- a text behind them
+-- an actor, followed by a text
 abbrev pub behind_actor : RecordedActor → List ℕ → List ℕ
 behind_actor (Job n) text = codes "job" ++ 32 ∷ (decimal n ++ 32 ∷ text)
 behind_actor (Round n) text = codes "round" ++ 32 ∷ (decimal n ++ 32 ∷ text)
@@ -66,11 +66,11 @@ line_words (ShutDown pool) = codes "shutdown" ∷ pool ∷ []
 line_words (Unseen pool jobs) = codes "unseen" ∷ pool ∷ decimal jobs ∷ []
 line_words End = codes "end" ∷ []
 
--- a line, without its newline: its words, with one space between each two
+-- the text of a line without its newline: its words, separated by single spaces
 abbrev pub line_text : RecordedLine → List ℕ
 line_text line = join_with_byte 32 (line_words line)
 
--- ---- lawful lines
+-- ---- valid lines
 abbrev pub is_lawful_actor : RecordedActor → Bool
 is_lawful_actor (Job n) = is_lawful_number n
 is_lawful_actor (Round n) = is_lawful_number n
@@ -78,7 +78,7 @@ is_lawful_actor (Round n) = is_lawful_number n
 abbrev pub has_lawful_numbers : PoolSizes → Bool
 has_lawful_numbers sizes = is_lawful_number sizes.core && is_lawful_number sizes.max && is_lawful_number sizes.capacity && is_lawful_number sizes.prestarted
 
--- each number is within the limit, and each name is one
+-- each number is within the limit, and each name is valid
 abbrev pub is_lawful_line : RecordedLine → Bool
 is_lawful_line Head = true
 is_lawful_line (Pool name sizes) = is_lawful_name name && has_lawful_numbers sizes

@@ -1,4 +1,4 @@
--- What a line says of a pool: its sizes, its queue and its handler.
+-- The description of a pool in a line: its sizes, its queue and its handler.
 use Rattle.std.specs.Prelude.{ℕ, Bool, true, false, if◌then◌else◌, List, Option, Some, None, codes}
 use Rattle.std.specs.Str.{bytes_eq}
 use Rattle.line_words.specs.Pieces.{split_space}
@@ -9,7 +9,7 @@ use Rattle.recording_lines.specs.declared.pool_sizes.HandlerKind.{HandlerKind}
 use Rattle.recording_lines.specs.declared.pool_sizes.HandlerKind.TheVariants as handler
 use Rattle.recording_lines.specs.Words.{◌>>=◌, number_then, behind, number_behind}
 
--- the kind of queue that a word names
+-- the kind of queue with this name
 unfoldable pub queue_kind_of : List ℕ → Option QueueKind
 queue_kind_of word =
     if bytes_eq word (codes "array") then Some queue.Array
@@ -19,7 +19,7 @@ queue_kind_of word =
     else (if bytes_eq word (codes "other") then Some queue.Other
     else None))))
 
--- the kind of handler that a word names
+-- the kind of handler with this name
 unfoldable pub handler_kind_of : List ℕ → Option HandlerKind
 handler_kind_of word =
     if bytes_eq word (codes "abort") then Some handler.Abort
@@ -33,11 +33,11 @@ handler_kind_of word =
 unfoldable pub yes_or_no : List ℕ → Option Bool
 yes_or_no word = if bytes_eq word (codes "yes") then Some true else (if bytes_eq word (codes "no") then Some false else None)
 
--- `queue KIND`, and the words behind it
+-- `queue KIND`, and the other words
 unfoldable pub queue_then : List ℕ → Option (QueueKind × List ℕ)
 queue_then text = behind (codes "queue") text >>= λ rest. split_space rest >>= λ words. queue_kind_of words.0 >>= λ kind. Some (kind, words.1)
 
--- `timeout WORD`, and the words behind it
+-- `timeout WORD`, and the other words
 unfoldable pub timeout_then : List ℕ → Option (Bool × List ℕ)
 timeout_then text = behind (codes "timeout") text >>= λ rest. split_space rest >>= λ words. yes_or_no words.0 >>= λ timeout. Some (timeout, words.1)
 

@@ -1,4 +1,4 @@
--- What a line of a recording says.
+-- The parsed lines of a recording.
 use Rattle.std.specs.Prelude.{ℕ, if◌then◌else◌, List, map, codes, Option, Some, None, Result, Ok, Err}
 use Rattle.std.specs.Str.{bytes_eq}
 use Rattle.line_words.specs.Pieces.{split_space}
@@ -34,7 +34,7 @@ pub data RecordedLine : Type 0 where
   Unseen : List ℕ → ℕ → RecordedLine
   End : RecordedLine
 
--- a line as the program keeps it
+-- the specification's view of a line
 abbrev pub line_seen : Line → RecordedLine
 line_seen code.Head = Head
 line_seen (code.Pool name sizes) = Pool name.now sizes
@@ -56,7 +56,7 @@ line_seen (code.Unseen pool jobs) = Unseen pool.now jobs
 line_seen code.End = End
 
 -- ---- lines of actors
--- what the actor did with the job that the word behind this one names
+-- an action on a job, from the word before the job's number
 unfoldable pub deed_of : RecordedActor → List ℕ → ℕ → Option RecordedLine
 deed_of actor word job =
     if bytes_eq word (codes "got") then Some (Got actor job)
@@ -66,18 +66,18 @@ deed_of actor word job =
     else (if bytes_eq word (codes "cancel") then Some (Cancels actor job)
     else None))))
 
--- `J CLASS POOL`, behind `submit`
+-- `J CLASS POOL` after `submit`
 unfoldable pub submit_of : RecordedActor → List ℕ → Option RecordedLine
 submit_of actor text = number_then text >>= λ job. name_then job.1 >>= λ class. name_of class.1 >>= λ pool. Some (Submits actor job.0 class.0 pool)
 
--- what an actor did, by the first word behind its number and the words behind that
+-- an action of an actor, from the first word after its number and the rest
 unfoldable pub act_of : RecordedActor → List ℕ → List ℕ → Option RecordedLine
 act_of actor word rest =
     if bytes_eq word (codes "submit") then submit_of actor rest
     else (if bytes_eq word (codes "any") then (name_of rest >>= λ pool. Some (InvokesAny actor pool))
     else (number_of rest >>= λ job. deed_of actor word job))
 
--- the words behind `job N`
+-- the words after `job N`
 unfoldable pub job_line_of : ℕ → List ℕ → Option RecordedLine
 job_line_of job text =
     if bytes_eq text (codes "start") then Some (JobStarts job)
@@ -85,7 +85,7 @@ job_line_of job text =
     else (if bytes_eq text (codes "threw") then Some (JobThrew job)
     else (split_space text >>= λ words. act_of (actor.Job job) words.0 words.1)))
 
--- the words behind `round N`
+-- the words after `round N`
 unfoldable pub round_line_of : ℕ → List ℕ → Option RecordedLine
 round_line_of round text =
     if bytes_eq text (codes "end") then Some (RoundEnds round)
@@ -93,7 +93,7 @@ round_line_of round text =
     if bytes_eq words.0 (codes "begin") then (name_of words.1 >>= λ kind. Some (RoundBegins round kind)) else act_of (actor.Round round) words.0 words.1)
 
 -- ---- lines
--- a line of no actor
+-- a line without an actor
 unfoldable pub other_line_of : List ℕ → List ℕ → Option RecordedLine
 other_line_of word rest =
     if bytes_eq word (codes "pool") then (name_then rest >>= λ name. pool_sizes_of name.1 >>= λ sizes. Some (Pool name.0 sizes))
@@ -103,23 +103,23 @@ other_line_of word rest =
     else (if bytes_eq word (codes "unseen") then (name_then rest >>= λ pool. number_of pool.1 >>= λ jobs. Some (Unseen pool.0 jobs))
     else None))))
 
--- the line of its first word, and of what stands after the space behind it
+-- a line of several words, from the first word and the rest
 unfoldable pub line_of_words : List ℕ → List ℕ → Option RecordedLine
 line_of_words word rest =
     if bytes_eq word (codes "job") then (number_then rest >>= λ job. job_line_of job.0 job.1)
     else (if bytes_eq word (codes "round") then (number_then rest >>= λ round. round_line_of round.0 round.1)
     else other_line_of word rest)
 
--- the line that a text writes
+-- the line of a text
 unfoldable pub line_of : List ℕ → Option RecordedLine
 line_of text = if bytes_eq text (codes "end") then Some End else (split_space text >>= λ words. line_of_words words.0 words.1)
 
--- ---- one line after another
--- what a line says, as the program reads it
+-- ---- the lines of a text
+-- the specification's view of a parsed line, None for a bad line
 abbrev pub line_read : Result Line BadLine → Option RecordedLine
 line_read (Ok line) = Some (line_seen line)
 line_read (Err bad) = None
 
--- what each whole line of a text says, None where it is a bad one
+-- the parsed lines of a text, None for a bad line
 abbrev pub lines_read : List ℕ → List (Option RecordedLine)
 lines_read text = map line_of (whole_lines text)

@@ -1,7 +1,8 @@
-//! The first line of a text, where it has one of the forms that most lines have.
+//! A fast parser for the most frequent forms of line.
 //!
-//! It is read from its front on and ends where its last word does, so that no newline is looked for. Where nothing is
-//! read here the line may be a bad one or have any other form, and a number may be 0 or above 999,999,999.
+//! It reads a line from left to right and ends with the last word, so it never searches for the
+//! newline. If it returns `None`, the line may be bad, have another form, or contain a number that
+//! is 0 or above 999,999,999.
 
 ghost use Rattle.std.specs.Prelude.{◌≡◌, ◌≤◌, ◌<◌, ◌+◌, ◌++◌, ◌∷◌, true, length, take, codes, decimal, Some, IfSome};
 ghost use Rattle.std.specs.List.{list_all};
@@ -14,10 +15,11 @@ ghost use Rattle.recording_lines.specs.declared.recording_line.RecordedActor.The
 use crate::recording_line::{Line, RecordedActor};
 use job_bodies::MAX_NAME_BYTES;
 
-/// A number of so many digits is within the limit, so that its value needs no look.
+/// The maximum number of digits for which a number is always within the limit, so that its value
+/// needs no check.
 const MOST_DIGITS: usize = 9;
 
-/// The first line, and what stands behind it.
+/// Parses the first line, and returns it with the rest of the text.
 #[inline(always)]
 pub(crate) fn split_frequent_line(text: &[u8]) -> Option<(Line<'_>, &[u8])>
     ensures { IfSome result
@@ -36,7 +38,7 @@ pub(crate) fn split_frequent_line(text: &[u8]) -> Option<(Line<'_>, &[u8])>
     }
 }
 
-/// The line whose words behind `job N` are these.
+/// Parses the rest of a line after `job N`.
 #[inline(always)]
 fn split_job_line(job: usize, words: &[u8]) -> Option<(Line<'_>, &[u8])>
     requires { is_lawful_number job ≡ true }
@@ -53,7 +55,7 @@ fn split_job_line(job: usize, words: &[u8]) -> Option<(Line<'_>, &[u8])>
     split_act(RecordedActor::Job(job), words)
 }
 
-/// The line whose words behind `round N` are these.
+/// Parses the rest of a line after `round N`.
 #[inline(always)]
 fn split_round_line(round: usize, words: &[u8]) -> Option<(Line<'_>, &[u8])>
     requires { is_lawful_number round ≡ true }
@@ -71,7 +73,7 @@ fn split_round_line(round: usize, words: &[u8]) -> Option<(Line<'_>, &[u8])>
     split_act(RecordedActor::Round(round), words)
 }
 
-/// The line whose words behind an actor's number are these.
+/// Parses the rest of a line after an actor.
 #[inline(always)]
 fn split_act(actor: RecordedActor, words: &[u8]) -> Option<(Line<'_>, &[u8])>
     requires { is_lawful_actor actor ≡ true }
@@ -89,7 +91,7 @@ fn split_act(actor: RecordedActor, words: &[u8]) -> Option<(Line<'_>, &[u8])>
     split_submit(actor, words)
 }
 
-/// The line whose words behind `submit` are these, `J CLASS POOL`.
+/// Parses the rest of a line after `submit`: `J CLASS POOL`.
 #[inline(always)]
 fn split_submit(actor: RecordedActor, words: &[u8]) -> Option<(Line<'_>, &[u8])>
     requires { is_lawful_actor actor ≡ true }
@@ -109,7 +111,7 @@ fn split_submit(actor: RecordedActor, words: &[u8]) -> Option<(Line<'_>, &[u8])>
     Some((line, behind))
 }
 
-/// The number that stands before this byte, and what stands behind the byte.
+/// Parses a number before the byte `end`, and returns it with the text after that byte.
 #[inline(always)]
 fn split_number(text: &[u8], end: u8) -> Option<(usize, &[u8])>
     ensures { IfSome result (λ read.
@@ -132,7 +134,7 @@ fn split_number(text: &[u8], end: u8) -> Option<(usize, &[u8])>
     Some((number, behind_byte(&text[count..], end)?))
 }
 
-/// The value of a digit, and more than 9 for another byte.
+/// Returns the value of a digit, and a value above 9 for any other byte.
 #[inline(always)]
 fn digit_of(byte: u8) -> usize
     ensures digit { 48 ≤ byte → result + 48 ≡ byte }
@@ -141,7 +143,7 @@ fn digit_of(byte: u8) -> usize
     usize::from(byte).wrapping_sub(usize::from(b'0'))
 }
 
-/// The name that stands before this byte, and what stands behind the byte.
+/// Parses a name before the byte `end`, and returns it with the text after that byte.
 #[inline(always)]
 fn split_name(text: &[u8], end: u8) -> Option<(&str, &[u8])>
     ensures { IfSome result
@@ -157,7 +159,7 @@ fn split_name(text: &[u8], end: u8) -> Option<(&str, &[u8])>
     Some((name_text(name), behind_byte(behind, end)?))
 }
 
-/// How many bytes of names stand at the front of a text.
+/// Returns the length of the longest prefix of name bytes.
 #[inline(always)]
 fn count_name_bytes(text: &[u8]) -> usize
     ensures inside { result ≤ length text.now }
@@ -177,7 +179,7 @@ fn is_name_byte(byte: u8) -> bool
     byte.is_ascii_lowercase() || byte.is_ascii_digit() || byte == b'_'
 }
 
-/// Bytes of names are ASCII, and so text.
+/// Converts the bytes of a name to a string. They are ASCII, so this always succeeds.
 #[inline(always)]
 fn name_text(name: &[u8]) -> &str
     requires { list_all is_name_byte name.now ≡ true }
@@ -186,7 +188,7 @@ fn name_text(name: &[u8]) -> &str
     unsafe { std::str::from_utf8_unchecked(name) }
 }
 
-/// What stands behind this byte at the front of a text.
+/// Strips the first byte if it is `byte`, and returns the rest.
 #[inline(always)]
 fn behind_byte(text: &[u8], byte: u8) -> Option<&[u8]>
     ensures { IfSome result (λ behind. text.now ≡ byte ∷ behind.now) }

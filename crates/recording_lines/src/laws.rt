@@ -1,8 +1,9 @@
-//! A law of the lines of a recording, the contract of a function with nothing to do.
+//! A law about the lines of a recording, as the contract of an empty function.
 
 ghost use Rattle.recording_lines.specs.Laws.{RecordingLinesAreCanonical};
 
-/// A text is read as a line just where it is that line as it is written, each by the one form that it has.
+/// Proves that each line has exactly one text: a text parses as a line if and only if the line is
+/// valid and the text is its text.
 pub fn recording_lines_are_canonical()
     ensures { RecordingLinesAreCanonical }
 {}

@@ -1,6 +1,8 @@
-//! The lines of a recording, which say what a service did with its pools (`job 1 submit 3 query database`).
+//! The lines of a recording, which report what a service did with its pools (`job 1 submit 3 query
+//! database`).
 //!
-//! [`RecordingLines`] reads them one after another: each by its form alone, and not by what the lines before it say.
+//! [`RecordingLines`] parses them in order. It checks the form of each line alone, without the
+//! lines before it.
 #![tactic(auto)]
 
 mod frequent_lines;

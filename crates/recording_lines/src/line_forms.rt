@@ -9,7 +9,8 @@ use crate::recording_line::{Line, RecordedActor};
 use crate::words::{is_word, name_of, name_then, number_then};
 use line_words::{number_of, split_space};
 
-/// The line that a text writes. Few lines are read here: [`split_frequent_line`](crate::frequent_lines) reads most.
+/// Parses any line. Most lines never get here, since [`split_frequent_line`](crate::frequent_lines)
+/// parses them.
 #[cold]
 #[inline(never)]
 #[tactic(auto, unfolding(crate::specs::RecordingLine::line_of, crate::specs::RecordingLine::line_of_words))]
@@ -33,7 +34,7 @@ pub(crate) fn line_of(text: &[u8]) -> Option<Line<'_>>
 
 // ---- lines of actors
 
-/// The line of the words behind `job N`.
+/// Parses the rest of a line after `job N`.
 #[tactic(auto, unfolding(crate::specs::RecordingLine::job_line_of))]
 fn job_line_of(job: usize, text: &[u8]) -> Option<Line<'_>>
     ensures { option_map line_seen result ≡ spec.job_line_of job text.now }
@@ -51,7 +52,7 @@ fn job_line_of(job: usize, text: &[u8]) -> Option<Line<'_>>
     act_of(RecordedActor::Job(job), word, rest)
 }
 
-/// The line of the words behind `round N`.
+/// Parses the rest of a line after `round N`.
 #[tactic(auto, unfolding(crate::specs::RecordingLine::round_line_of))]
 fn round_line_of(round: usize, text: &[u8]) -> Option<Line<'_>>
     ensures { option_map line_seen result ≡ spec.round_line_of round text.now }
@@ -67,7 +68,7 @@ fn round_line_of(round: usize, text: &[u8]) -> Option<Line<'_>>
     act_of(RecordedActor::Round(round), word, rest)
 }
 
-/// What an actor did, by the first word behind its number and the words behind that.
+/// Parses an action of an actor, from the first word after its number and the rest.
 #[tactic(auto, unfolding(crate::specs::RecordingLine::act_of))]
 fn act_of<'a>(actor: RecordedActor, word: &[u8], rest: &'a [u8]) -> Option<Line<'a>>
     ensures { option_map line_seen result ≡ spec.act_of actor word.now rest.now }
@@ -83,7 +84,7 @@ fn act_of<'a>(actor: RecordedActor, word: &[u8], rest: &'a [u8]) -> Option<Line<
     deed_of(actor, word, job)
 }
 
-/// `J CLASS POOL`, behind `submit`.
+/// Parses `J CLASS POOL` after `submit`.
 #[tactic(auto, unfolding(crate::specs::RecordingLine::submit_of))]
 fn submit_of(actor: RecordedActor, text: &[u8]) -> Option<Line<'_>>
     ensures { option_map line_seen result ≡ spec.submit_of actor text.now }
@@ -99,7 +100,7 @@ fn submit_of(actor: RecordedActor, text: &[u8]) -> Option<Line<'_>>
     })
 }
 
-/// What the actor did with the job that the word behind this one names.
+/// Parses an action on a job, from the word before the job's number.
 #[tactic(auto, unfolding(crate::specs::RecordingLine::deed_of))]
 fn deed_of<'a>(actor: RecordedActor, word: &[u8], job: usize) -> Option<Line<'a>>
     ensures { option_map line_seen result ≡ spec.deed_of actor word.now job }
@@ -121,7 +122,7 @@ fn deed_of<'a>(actor: RecordedActor, word: &[u8], job: usize) -> Option<Line<'a>
 
 // ---- other lines
 
-/// A line of no actor.
+/// Parses a line without an actor.
 #[tactic(auto, unfolding(crate::specs::RecordingLine::other_line_of))]
 fn other_line_of<'a>(word: &[u8], rest: &'a [u8]) -> Option<Line<'a>>
     ensures { option_map line_seen result ≡ spec.other_line_of word.now rest.now }

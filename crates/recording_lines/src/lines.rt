@@ -1,4 +1,4 @@
-//! The lines of a recording, one after another.
+//! An iterator over the lines of a recording.
 
 ghost use Rattle.std.specs.Prelude.{◌≡◌, ◌≤◌, ◌∷◌, [], length, MatchOption};
 ghost use Rattle.recording_lines.specs.WholeLines.{whole_lines};
@@ -10,8 +10,8 @@ use crate::recording_line::Line;
 use memchr::memchr;
 use std::marker::Model;
 
-/// Lines of a recording. [`next`](RecordingLines::next) reads them one after another, each once, so that they need no
-/// room beside their text.
+/// An iterator over the lines of a recording. [`next`](RecordingLines::next) parses each line once,
+/// so the iterator stores no lines.
 #[derive(Debug, Drop)]
 pub struct RecordingLines<'a> {
     rest: &'a [u8],
@@ -31,8 +31,9 @@ impl<'a> Model for RecordingLines<'a> {
 }
 
 impl<'a> RecordingLines<'a> {
-    /// The lines of a text, by their forms. What stands behind the last newline is left out. A number is at most
-    /// [`MAX_LINE_NUMBER`](job_bodies::MAX_LINE_NUMBER), and has no leading zero; a name is as the names of a plan are.
+    /// Creates an iterator over the lines of a text. Ignores the text after the last newline. A
+    /// number is at most [`MAX_LINE_NUMBER`](job_bodies::MAX_LINE_NUMBER) and has no leading zero.
+    /// A name follows the rules for names in plans.
     pub fn new(text: &'a [u8]) -> RecordingLines<'a>
         ensures lines { result ≡ lines_read text.now }
         ensures few { length result ≤ length text.now }
@@ -40,11 +41,12 @@ impl<'a> RecordingLines<'a> {
         RecordingLines { rest: text }
     }
 
-    /// The next line; None behind the last one.
+    /// Returns the next line, or `None` after the last one.
     ///
     /// # Errors
     ///
-    /// [`BadLine`] in the place of a line that has none of the forms. The lines behind it can be read.
+    /// Returns [`BadLine`] if the line has none of the forms. The caller can continue with the
+    /// lines after it.
     #[inline(always)]
     pub fn next(&mut self) -> Option<Result<Line<'a>, BadLine>>
         ensures { MatchOption result ((self.old ≡ []) × (self.new ≡ []))
@@ -59,9 +61,11 @@ impl<'a> RecordingLines<'a> {
     }
 }
 
-/// The first line, whatever its form, and what stands behind it; None where no line is whole.
+/// Parses the first line in any form, and returns it with the rest of the text. Returns `None` if
+/// no line is complete.
 ///
-/// Inlined, since the room for what the calls in it return is cleared at its start, which most lines then don't pay for.
+/// Inlined because a call would clear the space for all return values on entry, which the fast path
+/// does not need.
 #[inline(always)]
 fn split_line(text: &[u8]) -> Option<(Result<Line<'_>, BadLine>, &[u8])>
     ensures { MatchOption result (lines_read text.now ≡ [])
@@ -74,7 +78,7 @@ fn split_line(text: &[u8]) -> Option<(Result<Line<'_>, BadLine>, &[u8])>
     }
 }
 
-/// The first line, without its newline, and what stands behind it; None where no line is whole.
+/// Splits off the first line without its newline. Returns `None` if no line is complete.
 #[cold]
 #[inline(never)]
 fn split_whole_line(text: &[u8]) -> Option<(&[u8], &[u8])>

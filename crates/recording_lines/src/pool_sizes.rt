@@ -1,4 +1,4 @@
-//! What a line says of a pool: its sizes, its queue and its handler.
+//! The description of a pool in a line: its sizes, its queue and its handler.
 
 ghost use Rattle.std.specs.Prelude.{◌≡◌, option_map};
 ghost use Rattle.recording_lines.specs.PoolSizes as spec;
@@ -6,22 +6,23 @@ ghost use Rattle.recording_lines.specs.PoolSizes as spec;
 use crate::words::{behind, is_word, number_behind, number_then};
 use line_words::split_space;
 
-/// What a pool is. What is above the greatest number of a line is that number here.
+/// The configuration of a pool. A value above the maximum of a line's number is stored as that
+/// maximum.
 #[derive(Clone, Copy, Debug, PartialEq, Eq)]
 pub struct PoolSizes {
     pub core: usize,
     pub max: usize,
     pub queue: QueueKind,
-    /// Of the queue.
+    /// The capacity of the queue.
     pub capacity: usize,
     /// Whether core threads may time out.
     pub timeout: bool,
-    /// How many threads the pool had when its recording began.
+    /// The number of threads of the pool when its recording began.
     pub prestarted: usize,
     pub handler: HandlerKind,
 }
 
-/// Where jobs wait. Subclasses of the first two are [`Other`](QueueKind::Other).
+/// The kind of a pool's queue. Subclasses of the first two kinds are [`Other`](QueueKind::Other).
 #[derive(Clone, Copy, Debug, PartialEq, Eq)]
 pub enum QueueKind {
     Array,
@@ -31,7 +32,7 @@ pub enum QueueKind {
     Other,
 }
 
-/// What is called for a job that is refused.
+/// The handler for rejected jobs.
 #[derive(Clone, Copy, Debug, PartialEq, Eq)]
 pub enum HandlerKind {
     Abort,
@@ -92,7 +93,7 @@ fn yes_or_no(word: &[u8]) -> Option<bool>
     }
 }
 
-/// `queue KIND`, and the words behind it.
+/// Parses `queue KIND`, and returns the kind with the rest.
 #[tactic(auto, unfolding(crate::specs::PoolSizes::queue_then))]
 fn queue_then(text: &[u8]) -> Option<(QueueKind, &[u8])>
     ensures { option_map (λ read. (read.0, read.1.now)) result ≡ spec.queue_then text.now }
@@ -101,7 +102,7 @@ fn queue_then(text: &[u8]) -> Option<(QueueKind, &[u8])>
     Some((queue_kind_of(word)?, rest))
 }
 
-/// `timeout WORD`, and the words behind it.
+/// Parses `timeout WORD`, and returns whether the word is `yes` with the rest.
 #[tactic(auto, unfolding(crate::specs::PoolSizes::timeout_then))]
 fn timeout_then(text: &[u8]) -> Option<(bool, &[u8])>
     ensures { option_map (λ read. (read.0, read.1.now)) result ≡ spec.timeout_then text.now }
@@ -110,7 +111,7 @@ fn timeout_then(text: &[u8]) -> Option<(bool, &[u8])>
     Some((yes_or_no(word)?, rest))
 }
 
-/// `handler KIND`.
+/// Parses `handler KIND`.
 #[tactic(auto, unfolding(crate::specs::PoolSizes::handler_of))]
 fn handler_of(text: &[u8]) -> Option<HandlerKind>
     ensures { result ≡ spec.handler_of text.now }
@@ -118,7 +119,7 @@ fn handler_of(text: &[u8]) -> Option<HandlerKind>
     handler_kind_of(behind("handler", text)?)
 }
 
-/// `core C max C queue KIND C timeout WORD prestarted C handler KIND`.
+/// Parses `core C max C queue KIND C timeout WORD prestarted C handler KIND`.
 #[tactic(auto, unfolding(crate::specs::PoolSizes::pool_sizes_of))]
 pub(crate) fn pool_sizes_of(text: &[u8]) -> Option<PoolSizes>
     ensures { result ≡ spec.pool_sizes_of text.now }

@@ -1,30 +1,30 @@
-//! What a line of a recording says.
+//! The parsed lines of a recording.
 
 use crate::pool_sizes::PoolSizes;
 
-/// Who submits and gets: a job while it runs, or a round of a thread that is outside.
+/// A submitter of jobs: a running job, or a round of a thread outside the pools.
 #[derive(Clone, Copy, Debug, PartialEq, Eq)]
 pub enum RecordedActor {
     Job(usize),
     Round(usize),
 }
 
-/// What a line says. Its names are those of the text.
+/// A parsed line. It borrows its names from the text.
 #[derive(Clone, Copy, Debug)]
 pub enum Line<'a> {
     /// The first line.
     Head,
-    /// The pool is recorded from here on, or it has become this.
+    /// The recording of the pool begins here, or the configuration of the pool has changed to this.
     Pool {
         name: &'a str,
         sizes: PoolSizes,
     },
-    /// A thread outside began this round.
+    /// A thread outside the pools began this round.
     RoundBegins {
         round: usize,
         kind: &'a str,
     },
-    /// The round came to its end.
+    /// The round ended.
     RoundEnds {
         round: usize,
     },
@@ -52,12 +52,12 @@ pub enum Line<'a> {
     JobThrew {
         job: usize,
     },
-    /// A get of the job came back.
+    /// A get of the job returned.
     Got {
         actor: RecordedActor,
         job: usize,
     },
-    /// A get of the job ended because its time was over.
+    /// A get of the job timed out.
     TimedOut {
         actor: RecordedActor,
         job: usize,
@@ -85,7 +85,7 @@ pub enum Line<'a> {
     ShutDown {
         pool: &'a str,
     },
-    /// So many jobs were run of which no line tells.
+    /// The pool ran this number of jobs that have no lines.
     Unseen {
         pool: &'a str,
         jobs: usize,

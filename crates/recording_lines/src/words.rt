@@ -1,4 +1,4 @@
-//! Words at the front of a text, and what stands behind the space after them.
+//! Parsers for the first word of a text. They return the rest after the space.
 
 ghost use Rattle.std.specs.Prelude.{◌≡◌, option_map};
 ghost use Rattle.std.specs.Str.{bytes_eq};
@@ -7,14 +7,14 @@ ghost use Rattle.recording_lines.specs.Words as spec;
 use job_bodies::is_lawful_name;
 use line_words::{leading_number, split_space};
 
-/// Whether a text is this word.
+/// Returns whether a text is this word.
 pub(crate) fn is_word(text: &[u8], word: &str) -> bool
     ensures { result ≡ bytes_eq text.now word.now }
 {
     text == word.as_bytes()
 }
 
-/// The name that a text is.
+/// Returns the text if it is a valid name.
 #[tactic(auto, unfolding(crate::specs::Words::name_of))]
 pub(crate) fn name_of(text: &[u8]) -> Option<&str>
     ensures { option_map (λ name. name.now) result ≡ spec.name_of text.now }
@@ -31,7 +31,7 @@ pub(crate) fn name_of(text: &[u8]) -> Option<&str>
     }
 }
 
-/// The number that the first of several words writes, and the other words.
+/// Parses the first word as a number, and returns it with the other words.
 pub(crate) fn number_then(text: &[u8]) -> Option<(usize, &[u8])>
     ensures { option_map (λ read. (read.0, read.1.now)) result ≡ spec.number_then text.now }
 {
@@ -39,7 +39,7 @@ pub(crate) fn number_then(text: &[u8]) -> Option<(usize, &[u8])>
     Some((number, behind.strip_prefix(b" ")?))
 }
 
-/// The name that the first of several words is, and the other words.
+/// Parses the first word as a name, and returns it with the other words.
 #[tactic(auto, unfolding(crate::specs::Words::name_then))]
 pub(crate) fn name_then(text: &[u8]) -> Option<(&str, &[u8])>
     ensures { option_map (λ read. (read.0.now, read.1.now)) result ≡ spec.name_then text.now }
@@ -48,7 +48,7 @@ pub(crate) fn name_then(text: &[u8]) -> Option<(&str, &[u8])>
     Some((name_of(word)?, rest))
 }
 
-/// The words behind the first one, where that is this word.
+/// Strips the first word if it is this word, and returns the other words.
 #[tactic(auto, unfolding(crate::specs::Words::behind))]
 pub(crate) fn behind<'a>(word: &str, text: &'a [u8]) -> Option<&'a [u8]>
     ensures { option_map (λ rest. rest.now) result ≡ spec.behind word.now text.now }
@@ -61,7 +61,7 @@ pub(crate) fn behind<'a>(word: &str, text: &'a [u8]) -> Option<&'a [u8]>
     }
 }
 
-/// The number behind this word, and the words behind that.
+/// Parses this word and a number after it, and returns the number with the other words.
 #[tactic(auto, unfolding(crate::specs::Words::number_behind))]
 pub(crate) fn number_behind<'a>(word: &str, text: &'a [u8]) -> Option<(usize, &'a [u8])>
     ensures { option_map (λ read. (read.0, read.1.now)) result
