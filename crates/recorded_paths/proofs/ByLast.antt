@@ -1,4 +1,4 @@
--- What holds of no lines, and still holds with one more line behind them.
+-- Induction over lines, from the first to the last.
 use Rattle.std.proofs.Common.{List, [], ◌∷◌, ◌++◌, refl, ap, sym, subst, ◌∙◌, append-nil, append_assoc}
 use Rattle.recording_lines.specs.RecordingLine.{RecordedLine}
 use Rattle.recorded_rules.proofs.Keeping.{Keeps, keeps_all}

@@ -1,4 +1,4 @@
--- The deeds of an actor, once one more line stands behind the others.
+-- The actions of an actor after one more line.
 use Rattle.std.proofs.Common.{◌≡◌, ℕ, ◌==◌, ◌&&◌, ◌||◌, not, Bool, true, false, if◌then◌else◌, List, [], ◌∷◌, ◌++◌, Some, None, refl, ap, sym, ◌∙◌, append-nil, arith}
 use Rattle.std.specs.List.{list_any, filter}
 use Rattle.std.specs.Option.{option_to_list}
@@ -12,7 +12,7 @@ use Rattle.recorded_paths.proofs.Tests.{filter_more, filter_same, filter_filter}
 use Rattle.recorded_paths.proofs.Lawful.{Lawful, any_kept, submit_job, get_job, lawful_kept}
 use Rattle.recorded_paths.proofs.LinesSay.{refused_more, by_lines_more, nothing_more, submits_by_lines, gets_by_lines, lawful_by_lines}
 
--- ---- what they have
+-- ---- their properties
 pub lawful_deeds : (actor : RecordedActor) (lines : List RecordedLine) → KeepsRules lines → Lawful (deeds_of lines actor)
 unfolding deeds_of
 lawful_deeds actor lines kept = lawful_kept (λ job. not (is_refused lines job)) (deeds_by_lines lines actor) (lawful_by_lines actor lines kept)
@@ -31,7 +31,7 @@ pub deeds_none : (actor : RecordedActor) (lines : List RecordedLine) → deeds_b
 unfolding deeds_of
 deeds_none actor lines none = ap (filter (λ deed. not (is_refused lines (job_of_deed deed)))) none
 
--- ---- a line that refuses nothing
+-- ---- a line without a refusal
 or_none : (a b : Bool) → b ≡ false → (a || b) ≡ a
 or_none true b h = refl
 or_none false b h = h
@@ -52,7 +52,7 @@ filter_option : (p : JobDeed → Bool) (before : List JobDeed) (b : Bool) (one :
 filter_option p before true one = filter_more p before one
 filter_option p before false one = ap (filter p) (append-nil before)
 
--- the line may say this one deed more
+-- the line can add this action
 deeds_option : (before : List RecordedLine) (line : RecordedLine) (actor : RecordedActor) (b : Bool) (deed : JobDeed) → ((j : ℕ) → refuses_job j line ≡ false) → deed_by_line actor before line ≡ (if b then Some deed else None)
     → deeds_of (before ++ line ∷ []) actor ≡ (if b && not (is_refused before (job_of_deed deed)) then deeds_of before actor ++ deed ∷ [] else deeds_of before actor)
 unfolding deeds_of
@@ -71,7 +71,7 @@ deeds_submit before submitter actor job class pool unrefused =
     deeds_option before (Submits submitter job class pool) actor (is_same_actor submitter actor) (SubmitOf job) (λ j. refl) refl
     ∙ ap (λ (b : Bool). if b then deeds_of before actor ++ SubmitOf job ∷ [] else deeds_of before actor) (and_true (is_same_actor submitter actor) (is_refused before job) unrefused)
 
--- what counts, by the lines and by the deeds
+-- the condition on a get, by the lines and by the actions
 counts_so : (same submitted got refused : Bool) → same ≡ true → ((same && submitted && not got) && not refused) ≡ ((submitted && not refused) && not ((submitted && got) && not refused))
 counts_so same submitted got refused h = grind (arith, h)
 

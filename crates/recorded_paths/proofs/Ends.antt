@@ -1,4 +1,4 @@
--- What stands behind a submit in a path, and what stands at its end.
+-- The actions after a submit in a path, and the last action.
 use Rattle.std.proofs.Common.{◌≡◌, ℕ, ◌+◌, ◌-◌, ◌<◌, ◌≤◌, ◌==◌, ◌||◌, Bool, true, false, if◌then◌else◌, List, [], ◌∷◌, ◌++◌, length, take, drop, slice_get, Option, Some, None, refl, ap, sym, subst, ◌∙◌, arith}
 use Rattle.std.specs.List.{list_any, position_or_len}
 use Rattle.std.proofs.lemmas.List.{take_at, drop-append-le, drop_all, length_push}
@@ -11,7 +11,7 @@ use Rattle.recorded_paths.proofs.Tests.{passes, any_more, passes_nowhere}
 use Rattle.recorded_paths.proofs.Lawful.{Lawful, none, submit, get, unsubmitted_ungot}
 use Rattle.recorded_paths.proofs.Places.{same_self, same_number, or_no, place_stays, place_last, place_within, same_places, places_submit, places_get, length_places}
 
--- ---- a get behind the submit
+-- ---- a get after the submit
 got_more : (place : ℕ) (path : List RecordedDeed) (deed : RecordedDeed) → place < length path → is_got place (path ++ deed ∷ []) ≡ (is_got place path || gets place deed)
 got_more place path deed within =
     let reach : place + 1 ≤ length path = omega arith in
@@ -23,7 +23,7 @@ got_nothing place path past = ap (list_any (gets place)) (drop_all (place + 1) p
 within_places : (j : ℕ) (deeds : List JobDeed) → list_any (is_submit_of j) deeds ≡ true → position_or_len (is_submit_of j) deeds < length (with_places deeds)
 within_places j deeds h = subst (λ n. position_or_len (is_submit_of j) deeds < n) (sym (length_places deeds)) (place_within (is_submit_of j) deeds h)
 
--- behind a submit of another job, or of this one
+-- after a submit of another job, or of this one
 got_submit : (deeds : List JobDeed) → Lawful deeds → (job j : ℕ) → list_any (is_submit_of job) deeds ≡ false
     → (list_any (is_submit_of j) deeds ≡ true → is_got (position_or_len (is_submit_of j) deeds) (with_places deeds) ≡ list_any (is_get_of j) deeds)
     → list_any (is_submit_of j) (deeds ++ SubmitOf job ∷ []) ≡ true
@@ -51,7 +51,7 @@ got_get deeds job j submitted before h =
     ∙ (ap (λ b. b || (position_or_len (is_submit_of job) deeds == position_or_len (is_submit_of j) deeds)) (before there)
     ∙ (ap (λ b. list_any (is_get_of j) deeds || b) (same_places job j deeds submitted there (job == j) refl) ∙ sym (any_more (is_get_of j) deeds (GetOf job)))))
 
--- a job that is submitted is got where its place has a get behind it
+-- a submitted job was got if and only if there is a get of its index
 pub got_there : (deeds : List JobDeed) → Lawful deeds → (j : ℕ) → list_any (is_submit_of j) deeds ≡ true → is_got (position_or_len (is_submit_of j) deeds) (with_places deeds) ≡ list_any (is_get_of j) deeds
 got_there _ none j h = grind (arith, h)
 got_there _ (submit deeds job l fresh) j h =
@@ -59,7 +59,7 @@ got_there _ (submit deeds job l fresh) j h =
 got_there _ (get deeds job l submitted ungot) j h =
     ap (is_got (position_or_len (is_submit_of j) (deeds ++ GetOf job ∷ []))) (places_get deeds l job submitted) ∙ got_get deeds job j submitted (got_there deeds l j) h
 
--- ---- the last deed
+-- ---- the last action
 last_there : (path : List RecordedDeed) (deed : RecordedDeed) → slice_get (path ++ deed ∷ []) (length path) ≡ Some deed
 last_there [] deed = refl
 last_there (first ∷ path) deed = last_there path deed
@@ -74,7 +74,7 @@ ends_more : (j : ℕ) (path : List RecordedDeed) (deed : RecordedDeed) → ends_
 unfolding ends_with_submit
 ends_more j path deed = ap (λ n. is_submit_there j (slice_get (path ++ deed ∷ []) n)) (before_last path deed) ∙ ap (is_submit_there j) (last_there path deed)
 
--- the submit at the end goes
+-- removes the submit at the end
 pub without_last : (j : ℕ) (path : List RecordedDeed) → without_submit j (path ++ Submits j ∷ []) ≡ path
 without_last j path =
     ap (λ (b : Bool). if b then take (length (path ++ Submits j ∷ []) - 1) (path ++ Submits j ∷ []) else path ++ Submits j ∷ []) (ends_more j path (Submits j) ∙ same_self j)
@@ -88,6 +88,6 @@ no_end : (j : ℕ) (path : List RecordedDeed) → list_any (submits j) path ≡ 
 unfolding ends_with_submit
 no_end j path h = there_passes j (slice_get path (length path - 1)) ∙ passes_nowhere (submits j) path (length path - 1) h
 
--- where the job has no submit, nothing goes
+-- removes nothing if the job has no submit
 pub without_none : (j : ℕ) (path : List RecordedDeed) → list_any (submits j) path ≡ false → without_submit j path ≡ path
 without_none j path h = ap (λ (b : Bool). if b then take (length path - 1) path else path) (no_end j path h)

@@ -1,4 +1,4 @@
--- Of a job or a round that is still to come, no line says a thing.
+-- No line names a job or a round with a later number.
 use Rattle.std.proofs.Common.{◌≡◌, ℕ, ◌+◌, ◌≤◌, ◌==◌, ◌||◌, Bool, true, false, if◌then◌else◌, List, Option, Some, None, refl, arith}
 use Rattle.std.specs.List.{list_any}
 use Rattle.recording_lines.specs.declared.recording_line.RecordedActor.{RecordedActor}
@@ -19,7 +19,7 @@ abbrev is_job : ℕ → Option ℕ → Bool
 is_job j None = false
 is_job j (Some job) = job == j
 
--- the line names the job, in whatever way
+-- the line names the job, in any role
 abbrev pub names_job : ℕ → RecordedLine → Bool
 names_job j line = is_job j (job_of line) || is_actor (Job j) (actor_of line) || submits_job j line
 
@@ -50,7 +50,7 @@ fresh_job =
     let all : submits before + (if is_submit line then 1 else 0) ≤ j = rw (← submits_more before line) past in
     none_more (names_job j) before line (h j (omega arith)) (names_past before line k j all))
 
--- the number of a job that is submitted is that of a job to come
+-- the number of a submitted job is a later number before its line
 pub next_job : (before : List RecordedLine) (line : RecordedLine) (j : ℕ) → Keeps before line → submits_job j line ≡ true → submits before ≤ j
 next_job before (Submits actor job class pool) j k same = grind (arith, k.numbers, same)
 next_job before line j k same = grind (arith, same)
@@ -105,7 +105,7 @@ pub own_fresh : (lines : List RecordedLine) → KeepsRules lines → (j : ℕ) �
 own_fresh lines kept j past = none_weaker (is_of (Job j)) (names_job j) (own_names j) lines (fresh_job lines kept j past)
 
 -- ---- rounds
--- the line is of the round, or its begin
+-- the line belongs to the round, or begins it
 abbrev names_round : ℕ → RecordedLine → Bool
 names_round r line = is_actor (Round r) (actor_of line) || begins_round r line
 

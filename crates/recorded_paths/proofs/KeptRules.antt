@@ -1,4 +1,4 @@
--- No lines keep the rules, and so do lines that keep them with one behind them that breaks none.
+-- Lines keep the rules if there are none, or if the last one breaks no rule and the lines before it keep them.
 use Rattle.std.proofs.Common.{◌≡◌, List, [], ◌∷◌, ◌++◌, None, refl, ap, sym, subst, ◌∙◌, append_assoc}
 use Rattle.std.proofs.lemmas.List.{same_from_push}
 use Rattle.recording_lines.specs.RecordingLine.{RecordedLine}

@@ -1,4 +1,4 @@
--- Deeds in which each job is submitted once, and got once and behind its submit.
+-- Valid actions: each job is submitted at most once, and got at most once after its submit.
 use Rattle.std.proofs.Common.{◌≡◌, ℕ, ◌==◌, ◌&&◌, ◌||◌, Bool, true, false, if◌then◌else◌, List, [], ◌∷◌, ◌++◌, Some, None, refl, ap, sym, subst, ◌∙◌, append-nil, arith}
 use Rattle.std.specs.List.{list_any, filter}
 use Rattle.std.specs.Option.{option_to_list}
@@ -21,8 +21,8 @@ pub lawful_get : (b : Bool) (deeds : List JobDeed) (job : ℕ) → Lawful deeds 
 lawful_get true deeds job l submitted ungot = get deeds job l (submitted refl) (ungot refl)
 lawful_get false deeds job l submitted ungot = lawful_nil deeds l
 
--- ---- the deeds of a job
--- a job that is got was submitted
+-- ---- the actions of a job
+-- a job that was got was submitted
 pub got_submitted : (deeds : List JobDeed) → Lawful deeds → (j : ℕ) → list_any (is_get_of j) deeds ≡ true → list_any (is_submit_of j) deeds ≡ true
 got_submitted _ none j h = grind (arith, h)
 got_submitted _ (submit deeds job l fresh) j h =
@@ -41,7 +41,7 @@ both_about j (GetOf job ∷ deeds) h g = grind (arith, h, g, both_about j deeds)
 pub unsubmitted_ungot : (deeds : List JobDeed) → Lawful deeds → (j : ℕ) → list_any (is_submit_of j) deeds ≡ false → list_any (is_get_of j) deeds ≡ false
 unsubmitted_ungot deeds l j h = not_weaker (list_any (is_get_of j) deeds) (list_any (is_submit_of j) deeds) (got_submitted deeds l j) h
 
--- a job that is not submitted has no deed
+-- a job that was not submitted has no action
 pub unsubmitted_none : (deeds : List JobDeed) → Lawful deeds → (j : ℕ) → list_any (is_submit_of j) deeds ≡ false → list_any (is_deed_of j) deeds ≡ false
 unsubmitted_none deeds l j h = both_about j deeds h (unsubmitted_ungot deeds l j h)
 

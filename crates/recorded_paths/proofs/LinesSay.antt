@@ -1,4 +1,4 @@
--- What the lines of an actor say, once one more line stands behind them.
+-- The actions from an actor's lines after one more line.
 use Rattle.std.proofs.Common.{◌≡◌, ℕ, ◌==◌, ◌&&◌, ◌||◌, not, Bool, true, false, if◌then◌else◌, List, [], ◌∷◌, ◌++◌, map, Option, Some, None, refl, ap, sym, subst, ◌∙◌, append-nil, arith}
 use Rattle.std.specs.List.{list_any, filter_map}
 use Rattle.std.specs.Option.{option_to_list}
@@ -30,7 +30,7 @@ pub has_got_more : (before : List RecordedLine) (line : RecordedLine) (actor : R
 unfolding has_got
 has_got_more before line actor j = any_more (gets_by actor j) before line
 
--- ---- the deeds that they say
+-- ---- the actions
 lines_before_more : (before : List RecordedLine) (line : RecordedLine) → with_lines_before (before ++ line ∷ []) ≡ with_lines_before before ++ (before, line) ∷ []
 lines_before_more [] line = refl
 lines_before_more (first ∷ before) line =
@@ -44,7 +44,7 @@ by_lines_more before line actor =
     let said : List RecordedLine × RecordedLine → Option JobDeed = λ p. deed_by_line actor p.0 p.1 in
     ap (filter_map said) (lines_before_more before line) ∙ filter_map_more said (with_lines_before before) (before, line)
 
--- a line of another one says nothing
+-- a line of another actor adds no action
 pub other_by_line : (actor : RecordedActor) (before : List RecordedLine) (line : RecordedLine) → is_of actor line ≡ false → deed_by_line actor before line ≡ None
 other_by_line actor before (Submits submitter job class pool) h = ap (λ (b : Bool). if b then Some (SubmitOf job) else None) h
 other_by_line actor before (Got getter job) h = ap (λ (b : Bool). if b && has_submitted before actor job && not (has_got before actor job) then Some (GetOf job) else None) h
@@ -60,7 +60,7 @@ by_no_lines : (actor : RecordedActor) → deeds_by_lines [] actor ≡ []
 unfolding deeds_by_lines
 by_no_lines actor = refl
 
--- who has no line did nothing
+-- an actor without a line has no action
 pub by_lines_none : (actor : RecordedActor) (lines : List RecordedLine) → list_any (is_of actor) lines ≡ false → deeds_by_lines lines actor ≡ []
 by_lines_none actor =
     by_last (λ lines. list_any (is_of actor) lines ≡ false → deeds_by_lines lines actor ≡ []) (λ h. by_no_lines actor)
@@ -68,7 +68,7 @@ by_lines_none actor =
     let split : (list_any (is_of actor) before || is_of actor line) ≡ false = sym (any_more (is_of actor) before line) ∙ h in
     other_more before line actor (or_second (list_any (is_of actor) before) (is_of actor line) split) ∙ before_none (or_first (list_any (is_of actor) before) (is_of actor line) split))
 
--- ---- which jobs are submitted
+-- ---- the submitted jobs
 and_false : (a : Bool) → (a && false) ≡ false
 and_false true = refl
 and_false false = refl
@@ -93,7 +93,7 @@ submits_by_lines actor j =
     ∙ (ap (λ b. b || passes (is_submit_of j) (deed_by_line actor before line)) h
     ∙ (ap (λ b. has_submitted before actor j || b) (line_submits actor before line j) ∙ sym (has_submitted_more before line actor j)))))
 
--- ---- which jobs are got
+-- ---- the jobs that were got
 at_submit : (submitted got same here : Bool) → (here ≡ true → got ≡ false) → ((submitted && got) || (same && false)) ≡ ((submitted || (same && here)) && (got || false))
 at_submit submitted got same true f = grind (arith, f refl)
 at_submit submitted got same false f = grind arith
@@ -135,7 +135,7 @@ gets_by_lines actor j =
     ∙ (ap (λ b. (has_submitted before actor j || submits_by actor j line) && b) (sym (has_got_more before line actor j))
     ∙ ap (λ b. b && has_got (before ++ line ∷ []) actor j) (sym (has_submitted_more before line actor j)))))))
 
--- ---- they are lawful
+-- ---- they are valid
 same_self : (n : ℕ) → (n == n) ≡ true
 same_self n = grind arith
 

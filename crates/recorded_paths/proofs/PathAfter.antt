@@ -1,4 +1,4 @@
--- The path of an actor, once one more line stands behind the others.
+-- The path of an actor after one more line.
 use Rattle.std.proofs.Common.{◌≡◌, ℕ, ◌≤◌, ◌==◌, ◌&&◌, not, Bool, true, false, if◌then◌else◌, List, [], ◌∷◌, ◌++◌, Some, None, refl, ap, sym, subst, ◌∙◌, arith}
 use Rattle.std.specs.List.{list_any, position_or_len, filter}
 use Rattle.recording_lines.specs.declared.recording_line.RecordedActor.{RecordedActor}
@@ -27,7 +27,7 @@ path_none actor lines none = ap with_places (deeds_none actor lines none) ∙ pl
 pub path_same : (before : List RecordedLine) (line : RecordedLine) (actor : RecordedActor) → ((j : ℕ) → refuses_job j line ≡ false) → deed_by_line actor before line ≡ None → path_of (before ++ line ∷ []) actor ≡ path_of before actor
 path_same before line actor unrefusing nothing = ap with_places (deeds_same before line actor unrefusing nothing)
 
--- a line of another one that refuses nothing
+-- a line of another actor without a refusal
 pub path_other : (before : List RecordedLine) (line : RecordedLine) (actor : RecordedActor) → ((j : ℕ) → refuses_job j line ≡ false) → is_of actor line ≡ false → path_of (before ++ line ∷ []) actor ≡ path_of before actor
 path_other before line actor unrefusing other = path_same before line actor unrefusing (other_by_line actor before line other)
 
@@ -84,7 +84,7 @@ unsubmitted_path before who actor j kept none =
 unsubmitted_stays : (before : List RecordedLine) (actor : RecordedActor) (j : ℕ) → list_any (is_submit_of j) (deeds_of before actor) ≡ false → without_submit j (path_of before actor) ≡ path_of before actor
 unsubmitted_stays before actor j none = without_none j (path_of before actor) (any_with_places j (deeds_of before actor) ∙ none)
 
--- the submit of the job is its last deed
+-- the submit of the job is the actor's last action
 unnamed_step : (q : JobDeed → Bool) (deed : JobDeed) (deeds : List JobDeed) (b : Bool) → q deed ≡ false → list_any q deeds ≡ false → list_any q (if b then deed ∷ deeds else deeds) ≡ false
 unnamed_step q deed deeds true here rest = neither (q deed) (list_any q deeds) here rest
 unnamed_step q deed deeds false here rest = rest
@@ -129,7 +129,7 @@ either : (b : Bool) {changed same : List RecordedDeed} → changed ≡ same → 
 either true h = sym h
 either false h = refl
 
--- its submitter is told, and no other one has the job
+-- the path of the submitter changes, and no other path has the job
 refused_step : (before : List RecordedLine) (who actor : RecordedActor) (j : ℕ) → KeepsRules (before ++ Refused who j ∷ []) → just_submitted before who j ≡ true
     → (refused : Bool) → is_refused before j ≡ refused → (same : Bool) → is_same_actor who actor ≡ same
     → path_of (before ++ Refused who j ∷ []) actor ≡ (if same then without_submit j (path_of before actor) else path_of before actor)

@@ -1,4 +1,4 @@
--- The paths that are kept stand for the lines with one more behind them, or with none.
+-- The stored paths are correct after one more line, or unchanged.
 use Rattle.std.proofs.Common.{◌≡◌, ℕ, ◌==◌, ◌&&◌, ◌||◌, not, Bool, true, false, if◌then◌else◌, List, [], ◌∷◌, ◌++◌, Some, None, refl, ap, sym, ◌∙◌, arith}
 use Rattle.std.specs.Option.{option_map}
 use Rattle.std.specs.List.{list_any}
@@ -24,7 +24,7 @@ use Rattle.recorded_paths.proofs.LinesSay.{submitted_more, by_lines_none, other_
 use Rattle.recorded_paths.proofs.Places.{same_self}
 use Rattle.recorded_paths.proofs.PathAfter.{path_none, path_same, path_submit, path_get, path_refused}
 
--- ---- who is about
+-- ---- the live actors
 and_not : (a b c d : Bool) → a ≡ c → b ≡ d → (a && not b) ≡ (c && not d)
 and_not a b c d h g = ap (λ x. x && not b) h ∙ ap (λ x. c && not x) g
 
@@ -36,7 +36,7 @@ round_about : (before : List RecordedLine) (line : RecordedLine) (r : ℕ) → i
 round_about before line r =
     and_not (is_begun (before ++ line ∷ []) r) (is_ended (before ++ line ∷ []) r) (is_begun before r || begins_round r line) (is_ended before r || ends_round r line) (is_begun_more before line r) (is_ended_more before line r)
 
--- the line is neither the first nor the last of the actor
+-- the line adds the actor, or removes it
 abbrev comes : RecordedActor → RecordedLine → Bool
 comes (Job j) line = submits_job j line
 comes (Round r) line = begins_round r line
@@ -62,28 +62,28 @@ gone_about before line (Round r) g = round_about before line r ∙ gone (is_begu
 come : (a b c d : Bool) → b ≡ false → c ≡ true → d ≡ false → ((a || c) && not (b || d)) ≡ true
 come a b c d f h g = grind (arith, f, h, g)
 
--- ---- the path of one who is about
+-- ---- the path of a live actor
 shown : (about about_then : Bool) (path path_then : List RecordedDeed) → about_then ≡ about → path_then ≡ path → (if about_then then Some path_then else None) ≡ (if about then Some path else None)
 shown about about_then path path_then h g = ap (λ (b : Bool). if b then Some path_then else None) h ∙ ap (λ p. if about then Some p else None) g
 
--- what is done to it, where the line is of this actor
+-- the change if the line is a line of this actor
 done_if : (same about about_then : Bool) (act : List RecordedDeed → List RecordedDeed) (path path_then : List RecordedDeed) → about_then ≡ about → path_then ≡ (if same then act path else path)
     → (if same then option_map act (if about then Some path else None) else (if about then Some path else None)) ≡ (if about_then then Some path_then else None)
 done_if true true about_then act path path_then h g = sym (shown true about_then (act path) path_then h g)
 done_if true false about_then act path path_then h g = sym (shown false about_then (act path) path_then h g)
 done_if false about about_then act path path_then h g = sym (shown about about_then path path_then h g)
 
--- nothing
+-- no change
 stays : (before : List RecordedLine) (line : RecordedLine) (actor : RecordedActor) → comes actor line ≡ false → goes actor line ≡ false → ((j : ℕ) → refuses_job j line ≡ false) → deed_by_line actor before line ≡ None
     → live_path_of before actor ≡ live_path_of (before ++ line ∷ []) actor
 stays before line actor h g unrefusing nothing =
     sym (shown (is_about before actor) (is_about (before ++ line ∷ []) actor) (path_of before actor) (path_of (before ++ line ∷ []) actor) (still_about before line actor h g) (path_same before line actor unrefusing nothing))
 
--- it ends
+-- the actor ends
 leaves : (before : List RecordedLine) (line : RecordedLine) (actor : RecordedActor) → goes actor line ≡ true → None ≡ live_path_of (before ++ line ∷ []) actor
 leaves before line actor g = sym (ap (λ (b : Bool). if b then Some (path_of (before ++ line ∷ []) actor) else None) (gone_about before line actor g))
 
--- it begins
+-- the actor begins
 enters : (before : List RecordedLine) (line : RecordedLine) (actor : RecordedActor) → is_about (before ++ line ∷ []) actor ≡ true → is_of actor line ≡ false → list_any (is_of actor) before ≡ false → Some [] ≡ live_path_of (before ++ line ∷ []) actor
 enters before line actor h other none =
     sym (shown true (is_about (before ++ line ∷ []) actor) [] (path_of (before ++ line ∷ []) actor) h (path_none actor (before ++ line ∷ []) (other_more before line actor other ∙ by_lines_none actor before none)))

@@ -1,4 +1,4 @@
--- Lawful deeds, with the places of their gets, and what is done to them at the end.
+-- Valid actions with the indices of their submits, after a change at the end.
 use Rattle.std.proofs.Common.{◌≡◌, ℕ, suc, ◌<◌, ◌==◌, ◌||◌, Bool, true, false, if◌then◌else◌, List, [], ◌∷◌, ◌++◌, map, length, Option, Some, None, refl, ap, sym, subst, ◌∙◌, add-one, arith}
 use Rattle.std.specs.List.{list_any, position_or_len, slice_get}
 use Rattle.std.proofs.lemmas.List.{map-append, length-map}
@@ -16,7 +16,7 @@ same_self n = grind arith
 pub same_number : (a b : ℕ) → (a == b) ≡ true → a ≡ b
 same_number a b h = grind (arith, h)
 
--- ---- the place of the first deed that passes
+-- ---- the index of the first action that passes a test
 pub place_stays : (p : JobDeed → Bool) (deeds : List JobDeed) (deed : JobDeed) → list_any p deeds ≡ true → position_or_len p (deeds ++ deed ∷ []) ≡ position_or_len p deeds
 place_stays p [] deed h = grind (arith, h)
 place_stays p (first ∷ deeds) deed h = grind (arith, h, place_stays p deeds deed)
@@ -29,7 +29,7 @@ pub place_within : (p : JobDeed → Bool) (deeds : List JobDeed) → list_any p 
 place_within p [] h = grind (arith, h)
 place_within p (first ∷ deeds) h = grind (arith, h, place_within p deeds)
 
--- the deed there passes
+-- the action at that index passes
 there_step : (p : JobDeed → Bool) (first : JobDeed) (deeds : List JobDeed) → (list_any p deeds ≡ true → passes p (slice_get deeds (position_or_len p deeds)) ≡ true)
     → (p first || list_any p deeds) ≡ true → (here : Bool) → p first ≡ here → passes p (slice_get (first ∷ deeds) (position_or_len p (first ∷ deeds))) ≡ true
 there_step p first deeds rest h true here =
@@ -59,7 +59,7 @@ same_places a b deeds h g false same =
     (subst (λ i. passes (is_submit_of a) (slice_get deeds i) ≡ true) (same_number _ _ at) (there_is (is_submit_of a) deeds h)) (there_is (is_submit_of b) deeds g))
     (same_self a)) same
 
--- ---- one more deed
+-- ---- one more action
 got_here : (job : ℕ) (some : List JobDeed) → list_any (is_get_of job) (GetOf job ∷ some) ≡ true
 got_here job some = ap (λ b. b || list_any (is_get_of job) some) (same_self job)
 
@@ -102,7 +102,7 @@ pub any_with_places : (j : ℕ) (deeds : List JobDeed) → list_any (submits j) 
 unfolding with_places
 any_with_places j deeds = any_with_places_of j deeds deeds
 
--- ---- the place of a submit
+-- ---- the index of a submit
 place_on_none : (b : Bool) → place_on b None ≡ (if b then Some 0 else None)
 place_on_none true = refl
 place_on_none false = refl
@@ -115,7 +115,7 @@ pub submit_place_more : (j : ℕ) (path : List RecordedDeed) (deed : RecordedDee
 submit_place_more j [] deed = place_on_none (submits j deed)
 submit_place_more j (first ∷ path) deed = ap (place_on (submits j first)) (submit_place_more j path deed) ∙ place_on_if (submits j first) (submits j deed) (length path) (submit_place j path)
 
--- by the deeds, with one more that is no submit of the job
+-- after one more action that is not a submit of the job
 unfoldable pub place_by_deeds : ℕ → List JobDeed → Option ℕ
 place_by_deeds j deeds = if list_any (is_submit_of j) deeds then Some (position_or_len (is_submit_of j) deeds) else None
 

@@ -82,8 +82,8 @@ one_submitter a b j =
     (λ before line kept k known h g.
     one_step a b j before line kept k known (sym (has_submitted_more before line a j) ∙ h) (sym (has_submitted_more before line b j) ∙ g) (submits_job j line) refl)
 
--- ---- the last deed
--- the submit of the job stands behind the other deeds, of which none is of the job
+-- ---- the last action
+-- the submit of the job comes after the other actions, none of which names the job
 pub record EndsBySubmit (deeds : List JobDeed) (j : ℕ) : Type 0 where
   pub front : List JobDeed
   pub whole : deeds ≡ front ++ SubmitOf j ∷ []

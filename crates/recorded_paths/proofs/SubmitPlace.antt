@@ -1,11 +1,11 @@
--- A look for a submit from the end of a path.
+-- The backward search for a submit in a path.
 use Rattle.std.proofs.Common.{◌≡◌, ℕ, ◌+◌, ◌-◌, ◌<◌, ◌≤◌, true, false, if◌then◌else◌, Bool, List, length, get_or, take, Some, ap, sym, ◌∙◌, arith}
 use Rattle.std.proofs.lemmas.List.{take_more, length-take-le}
 use Rattle.recorded_paths.specs.declared.deed.RecordedDeed.{RecordedDeed}
 use Rattle.recorded_paths.specs.Act.{submits, submit_place}
 use Rattle.recorded_paths.proofs.Places.{submit_place_more}
 
--- of what stands before the next place
+-- the search before the next index
 place_before : (job : ℕ) (path : List RecordedDeed) (i : ℕ) (deed : RecordedDeed) → i < length path → submit_place job (take (i + 1) path) ≡ (if submits job (get_or path i deed) then Some i else submit_place job (take i path))
 place_before job path i deed within =
     let inside : i ≤ length path = omega arith in

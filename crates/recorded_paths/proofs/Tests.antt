@@ -1,4 +1,4 @@
--- Tests of the elements of a list, and of one more behind them.
+-- Tests of the elements of a list and of one more element.
 use Rattle.std.proofs.Common.{◌≡◌, ℕ, ◌&&◌, ◌||◌, not, Bool, true, false, if◌then◌else◌, List, [], ◌∷◌, ◌++◌, zero, suc, Option, Some, None, refl, ap, ◌∙◌, sym, append-nil, arith}
 use Rattle.std.specs.List.{list_any, filter, filter_map, cons_option, slice_get}
 use Rattle.std.specs.Option.{option_to_list}
@@ -87,7 +87,7 @@ filter_all p q other (x ∷ xs) h =
     let here : p x ≡ true = other x ∙ ap not (or_first (q x) (list_any q xs) h) in
     ap (λ (b : Bool). if b then x ∷ filter p xs else filter p xs) here ∙ ap (λ ys. x ∷ ys) (filter_all p q other xs (or_second (q x) (list_any q xs) h))
 
--- ---- what a function gives of each
+-- ---- the values of a partial function
 cons_none : {X : Type 0} (o : Option X) → cons_option o [] ≡ option_to_list o
 cons_none None = refl
 cons_none (Some x) = refl

@@ -1,4 +1,4 @@
--- A submit that is taken back leaves the paths as they were.
+-- A failed submit that is undone leaves the paths unchanged.
 use Rattle.std.proofs.Common.{◌≡◌, ℕ, Bool, true, false, if◌then◌else◌, List, Option, Some, None, refl, ap, ◌∙◌}
 use Rattle.std.specs.Option.{option_map}
 use Rattle.recording_lines.specs.declared.recording_line.RecordedActor.{RecordedActor}

@@ -1,4 +1,4 @@
--- Paths of a few lines, worked out.
+-- Paths of short examples, computed.
 use Rattle.std.proofs.Common.{◌≡◌, List, [], ◌∷◌, refl}
 use Rattle.recording_lines.specs.declared.recording_line.RecordedActor.TheVariants.{Job, Round}
 use Rattle.recording_lines.specs.RecordingLine.{RecordedLine, RoundBegins, RoundEnds, Submits, Refused, JobStarts, JobEnds, Got, TimedOut}
@@ -6,8 +6,9 @@ use Rattle.recorded_paths.specs.declared.deed.RecordedDeed.TheVariants as deed
 use Rattle.recorded_paths.specs.LineDeeds.{is_refused, has_submitted, has_got, deeds_by_lines}
 use Rattle.recorded_paths.specs.Path.{deeds_of, with_places, path_of}
 
--- A round submits two jobs, and a third one that is refused, which its handler runs. It gets the second one first, asks
--- for the first one in vain, and then gets it, and gets all of them once more. The job of another round is not its own.
+-- Round 0 submits two jobs, and a third one that is refused and that its handler runs. It gets the second job, times out on
+-- the first one, and then gets it. Later gets of the same jobs, a get of the refused job, and a get of a job of the other
+-- round do not count.
 lines : List RecordedLine
 lines =
     RoundBegins 0 [] ∷ RoundBegins 1 [] ∷ Submits (Round 0) 0 [] [] ∷ Submits (Round 1) 1 [] [] ∷ Submits (Round 0) 2 [] [] ∷ JobStarts 2 ∷ JobEnds 2 ∷ Submits (Round 0) 3 [] [] ∷ Refused (Round 0) 3 ∷ JobStarts 3 ∷ JobEnds 3

@@ -1,4 +1,4 @@
--- What a line changes in the paths that are kept.
+-- The effect of a line on the stored paths.
 use Rattle.std.specs.Prelude.{◌≡◌, ℕ, if◌then◌else◌, List, [], ◌∷◌, ◌++◌, Option, Some, None}
 use Rattle.std.specs.Option.{option_map}
 use Rattle.recording_lines.specs.declared.recording_line.RecordedActor.{RecordedActor}
@@ -11,11 +11,11 @@ use Rattle.recorded_paths.specs.declared.paths.Paths.{Paths}
 use Rattle.recorded_paths.specs.Act.{with_get, without_submit}
 use Rattle.recorded_paths.specs.Kept.{path_in}
 
--- the path of one actor, of another one, or none
+-- the path of an actor, or None, as a function of the actor and its old path
 abbrev pub Change : Type 0
 Change = RecordedActor → Option (List RecordedDeed) → Option (List RecordedDeed)
 
--- each path of new is what it was in old, changed so
+-- each path of new is the changed path of old
 pub record Changes (old : Paths) (change : Change) (new : Paths) : Type 0 where
   pub rounds : (round : ℕ) → path_in new.rounds round ≡ change (Round round) (path_in old.rounds round)
   pub jobs : (job : ℕ) → path_in new.jobs job ≡ change (Job job) (path_in old.jobs job)
@@ -23,11 +23,11 @@ pub record Changes (old : Paths) (change : Change) (new : Paths) : Type 0 where
 abbrev pub no_change : Change
 no_change one there = there
 
--- what is done to the path of this actor, where it is there
+-- applies a function to the path of this actor, if it is live
 abbrev pub at_actor : RecordedActor → (List RecordedDeed → List RecordedDeed) → Change
 at_actor actor act one there = if is_same_actor actor one then option_map act there else there
 
--- the actor comes, with an empty path, or goes
+-- adds the actor with an empty path, or removes it
 abbrev pub actor_comes : RecordedActor → Change
 actor_comes actor one there = if is_same_actor actor one then Some [] else there
 
@@ -37,7 +37,7 @@ actor_goes actor one there = if is_same_actor actor one then None else there
 abbrev pub with_deed : RecordedDeed → List RecordedDeed → List RecordedDeed
 with_deed deed path = path ++ deed ∷ []
 
--- the submit stands at the end of its actor's path, and the job comes
+-- appends the submit to the path of its actor, and adds the job
 abbrev pub actor_submits : RecordedActor → ℕ → Change
 actor_submits actor job one there = actor_comes (Job job) one (at_actor actor (with_deed (deed.Submits job)) one there)
 

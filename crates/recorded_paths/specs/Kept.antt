@@ -1,4 +1,4 @@
--- The path that is kept of an actor.
+-- The stored path of an actor.
 use Rattle.std.specs.Prelude.{ℕ, List, Option}
 use Rattle.std.specs.Option.{option_map}
 use Rattle.number_tables.specs.Numbered.{value_at}

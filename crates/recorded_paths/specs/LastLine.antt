@@ -1,4 +1,4 @@
--- The actor whose last line one is, and the path that it has then.
+-- The actor that a line ends, and its path then.
 use Rattle.std.specs.Prelude.{List, Option, Some, None}
 use Rattle.std.specs.Option.{option_and_then}
 use Rattle.recording_lines.specs.declared.recording_line.RecordedActor.{RecordedActor}
@@ -9,17 +9,17 @@ use Rattle.recorded_paths.specs.declared.paths.Paths.{Paths}
 use Rattle.recorded_paths.specs.Kept.{path_at}
 use Rattle.recorded_paths.specs.StandsFor.{live_path_of}
 
--- the actor that comes to its end
+-- the actor that the line ends
 abbrev pub ended_by : RecordedLine → Option RecordedActor
 ended_by (RoundEnds round) = Some (Round round)
 ended_by (JobEnds job) = Some (Job job)
 ended_by (JobThrew job) = Some (Job job)
 ended_by line = None
 
--- the path of that actor, where it is about
+-- the path of that actor if it is live
 abbrev pub last_path_of : List RecordedLine → RecordedLine → Option (List RecordedDeed)
 last_path_of before line = option_and_then (live_path_of before) (ended_by line)
 
--- what is kept of it
+-- the stored path of that actor
 abbrev pub last_path_in : Paths → RecordedLine → Option (List RecordedDeed)
 last_path_in paths line = option_and_then (path_at paths) (ended_by line)

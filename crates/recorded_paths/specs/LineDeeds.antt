@@ -1,11 +1,11 @@
--- What the lines of an actor say that it did.
+-- The actions of an actor, from its lines.
 use Rattle.std.specs.Prelude.{ℕ, ◌==◌, ◌&&◌, not, Bool, false, if◌then◌else◌, List, [], ◌∷◌, map, Option, Some, None}
 use Rattle.std.specs.List.{list_any, filter_map}
 use Rattle.recording_lines.specs.declared.recording_line.RecordedActor.{RecordedActor}
 use Rattle.recording_lines.specs.RecordingLine.{RecordedLine, Submits, Got}
 use Rattle.recorded_rules.specs.LineParts.{is_same_actor, submits_job, refuses_job}
 
--- ---- what the lines say of a job
+-- ---- the lines of a job
 abbrev pub submits_by : RecordedActor → ℕ → RecordedLine → Bool
 submits_by actor job (Submits submitter one class pool) = is_same_actor submitter actor && (one == job)
 submits_by actor job line = false
@@ -17,7 +17,7 @@ gets_by actor job line = false
 unfoldable pub is_submitted : List RecordedLine → ℕ → Bool
 is_submitted lines job = list_any (submits_job job) lines
 
--- whether anybody was refused the job
+-- whether the job was refused, for any actor
 unfoldable pub is_refused : List RecordedLine → ℕ → Bool
 is_refused lines job = list_any (refuses_job job) lines
 
@@ -27,7 +27,7 @@ has_submitted lines actor job = list_any (submits_by actor job) lines
 unfoldable pub has_got : List RecordedLine → RecordedActor → ℕ → Bool
 has_got lines actor job = list_any (gets_by actor job) lines
 
--- ---- what an actor did, by the numbers of jobs
+-- ---- the actions of an actor, by the numbers of jobs
 pub data JobDeed : Type 0 where
   SubmitOf : ℕ → JobDeed
   GetOf : ℕ → JobDeed
@@ -44,14 +44,14 @@ abbrev pub is_get_of : ℕ → JobDeed → Bool
 is_get_of job (GetOf one) = one == job
 is_get_of job (SubmitOf one) = false
 
--- Each submit of the actor is a submit, and the first get of a job that it had submitted is a get. Each other line is
--- nothing that it did.
+-- Each submit of the actor is a submit. The first get of a job that the actor had submitted is a get. Other lines give no
+-- action.
 abbrev pub deed_by_line : RecordedActor → List RecordedLine → RecordedLine → Option JobDeed
 deed_by_line actor before (Submits submitter job class pool) = if is_same_actor submitter actor then Some (SubmitOf job) else None
 deed_by_line actor before (Got getter job) = if is_same_actor getter actor && has_submitted before actor job && not (has_got before actor job) then Some (GetOf job) else None
 deed_by_line actor before line = None
 
--- each line, with those that stand before it
+-- each line, with the lines before it
 abbrev pub with_lines_before : List RecordedLine → List (List RecordedLine × RecordedLine)
 with_lines_before [] = []
 with_lines_before (line ∷ lines) = ([], line) ∷ map (λ (before, one). (line ∷ before, one)) (with_lines_before lines)

@@ -7,11 +7,11 @@ use Rattle.recorded_paths.specs.declared.deed.RecordedDeed.{RecordedDeed}
 use Rattle.recorded_paths.specs.declared.deed.RecordedDeed.TheVariants.{Submits, Gets}
 use Rattle.recorded_paths.specs.LineDeeds.{JobDeed, SubmitOf, GetOf, job_of_deed, is_submit_of, is_refused, deeds_by_lines}
 
--- what the actor's lines say, without the jobs that were refused
+-- the actions from the actor's lines, without those of refused jobs
 unfoldable pub deeds_of : List RecordedLine → RecordedActor → List JobDeed
 deeds_of lines actor = filter (λ deed. not (is_refused lines (job_of_deed deed))) (deeds_by_lines lines actor)
 
--- a get has the place of the submit of its job: the number of deeds before that
+-- replaces the job of a get by the index of its submit, which is the number of actions before that
 abbrev pub with_place : List JobDeed → JobDeed → RecordedDeed
 with_place deeds (SubmitOf job) = Submits job
 with_place deeds (GetOf job) = Gets (position_or_len (is_submit_of job) deeds)

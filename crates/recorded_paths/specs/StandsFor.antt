@@ -1,4 +1,4 @@
--- The paths that are kept, and how they stand for the lines so far.
+-- The meaning of the stored paths.
 use Rattle.std.specs.Prelude.{◌≡◌, ◌&&◌, not, Bool, if◌then◌else◌, List, ◌∷◌, ◌++◌, Option, Some, None}
 use Rattle.recording_lines.specs.declared.recording_line.RecordedActor.{RecordedActor}
 use Rattle.recording_lines.specs.declared.recording_line.RecordedActor.TheVariants.{Job, Round}
@@ -11,11 +11,11 @@ use Rattle.recorded_paths.specs.LineDeeds.{is_submitted}
 use Rattle.recorded_paths.specs.Path.{path_of}
 use Rattle.recorded_paths.specs.Kept.{path_at}
 
--- no line breaks a rule behind those before it
+-- no line breaks a rule, given the lines before it
 pub record KeepsRules (lines : List RecordedLine) : Type 0 where
   pub unbroken : (before : List RecordedLine) (line : RecordedLine) (behind : List RecordedLine) → lines ≡ before ++ line ∷ behind → broken_of before line ≡ None
 
--- a round that began and has not ended; a job that was submitted and is not done
+-- the actor is live: a round that began and has not ended, or a job that was submitted and is not done
 abbrev pub is_about : List RecordedLine → RecordedActor → Bool
 is_about lines (Job job) = is_submitted lines job && not (is_done lines job)
 is_about lines (Round round) = is_begun lines round && not (is_ended lines round)
@@ -23,6 +23,6 @@ is_about lines (Round round) = is_begun lines round && not (is_ended lines round
 abbrev pub live_path_of : List RecordedLine → RecordedActor → Option (List RecordedDeed)
 live_path_of lines actor = if is_about lines actor then Some (path_of lines actor) else None
 
--- of each actor that is about its path is kept, and of no other one
+-- the path of each live actor is stored, and no other one
 pub record IsPathsOf (paths : Paths) (lines : List RecordedLine) : Type 0 where
   pub kept : (actor : RecordedActor) → path_at paths actor ≡ live_path_of lines actor

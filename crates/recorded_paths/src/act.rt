@@ -1,4 +1,4 @@
-//! What is done to the path of one actor.
+//! The changes to the path of one actor.
 
 ghost use Rattle.std.specs.Prelude.{◌≡◌, ◌<◌, length, OnOk, OnErr, IfSome};
 ghost use Rattle.std.specs.List.{list_any};
@@ -7,11 +7,11 @@ ghost use Rattle.recorded_paths.specs.Act as spec;
 use crate::deed::RecordedDeed;
 use std::alloc::AllocError;
 
-/// The actor got the job: that is a get where the path has the submit of the job, and no get of it so far.
+/// Appends a get of the job if the path has the submit of the job and no get of it.
 ///
 /// # Errors
 ///
-/// `AllocError` where there is no memory for a deed. The path is then what it was.
+/// Returns `AllocError` if memory runs out. The path is then unchanged.
 pub(crate) fn note_get(path: &mut Vec<RecordedDeed>, job: usize) -> Result<(), AllocError>
     ensures got { OnOk result (path.new.items ≡ spec.with_get job path.old.items) }
     ensures same { OnErr result (path.new.items ≡ path.old.items) }
@@ -24,7 +24,7 @@ pub(crate) fn note_get(path: &mut Vec<RecordedDeed>, job: usize) -> Result<(), A
     Ok(())
 }
 
-/// The job was refused: its submit is no deed, where it is the last one of the path.
+/// Removes the submit of a refused job if it is the last action of the path.
 pub(crate) fn drop_submit(path: &mut Vec<RecordedDeed>, job: usize)
     ensures { path.new.items ≡ spec.without_submit job path.old.items }
 {
@@ -33,7 +33,7 @@ pub(crate) fn drop_submit(path: &mut Vec<RecordedDeed>, job: usize)
     }
 }
 
-// Most gets are of a late submit, so the look is from the end.
+// Most gets wait for a recent submit, so search backwards.
 fn place_of_submit(path: &[RecordedDeed], job: usize) -> Option<usize>
     ensures place { result ≡ spec.submit_place job path.now }
     ensures within { IfSome result (λ place. place < length path.now) }
@@ -48,7 +48,7 @@ fn place_of_submit(path: &[RecordedDeed], job: usize) -> Option<usize>
     None
 }
 
-// A get stands behind the submit of its job.
+// A get comes after the submit of its job.
 fn is_got(path: &[RecordedDeed], place: usize) -> bool
     requires { place < length path.now }
     ensures { result ≡ spec.is_got place path.now }

@@ -1,19 +1,19 @@
-//! What an actor of a recording did.
+//! The actions of the actors of a recording.
 
 ghost use Rattle.std.specs.Prelude.{◌≡◌};
 ghost use Rattle.recorded_paths.specs.Act as spec;
 
-/// One thing that an actor did, as far as a body says it.
+/// An action of an actor, as it appears in a body.
 #[derive(Clone, Copy, Debug, PartialEq, Eq)]
 pub enum RecordedDeed {
-    /// It submitted the job of this number.
+    /// The actor submitted the job with this number.
     Submits(usize),
-    /// It got the job that the submit at this place of the same path made.
+    /// The actor got the job of the submit at this index of the same path.
     Gets(usize),
 }
 
 impl RecordedDeed {
-    /// Whether it is a submit of this job.
+    /// Returns whether this is a submit of this job.
     pub fn submits(self, job: usize) -> bool
         ensures { result ≡ spec.submits job self }
     {
@@ -23,7 +23,7 @@ impl RecordedDeed {
         }
     }
 
-    /// Whether it gets the job that the submit at this place of its path made.
+    /// Returns whether this is a get of the job of the submit at this index of its path.
     pub fn gets(self, place: usize) -> bool
         ensures { result ≡ spec.gets place self }
     {

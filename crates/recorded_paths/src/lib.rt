@@ -1,13 +1,16 @@
-//! The paths of the actors of a recording (`docs/RECORDING.md`): what each job and each round submitted and got.
+//! The paths of the actors of a recording (`docs/RECORDING.md`): the submits and gets of each job
+//! and each round.
 //!
-//! [`Paths`] takes one line after another of a recording that keeps its rules (`recorded_rules`). Of each actor that is
-//! about, a round that has not ended or a job that is not done, it has the path so far, exactly: the submits of jobs that
-//! were not refused, and the first get of each by the actor that submitted it. So a path can be compared with the bodies
-//! of a plan, once its actor ends and before.
+//! [`Paths`] processes the lines of a recording that keeps the rules (`recorded_rules`). It stores
+//! the path so far of each live actor, which is a round that has not ended or a job that is not
+//! done. A path has exactly the submits of jobs that were not refused, and the first get of each by
+//! the actor that submitted it. So a caller can compare a path with the bodies of a plan, when its
+//! actor ends or earlier.
 //!
-//! A line costs a look-up in a table, but for a `got`, which also looks along its actor's path, from the end back to the
-//! submit of the job. What is kept is the paths of the actors that are about; a job that was refused, cancelled or removed
-//! and never ran is about for ever, with an empty path. What a line costs is seen in the code and is in no contract.
+//! Each line takes one table look-up. A `got` line also searches its actor's path backwards for the
+//! submit of the job. The state holds the paths of the live actors. A job that was refused,
+//! cancelled or removed and never ran stays live forever, with an empty path. No contract states
+//! these bounds on time.
 #![tactic(auto)]
 
 mod act;

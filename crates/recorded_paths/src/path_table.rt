@@ -1,4 +1,4 @@
-//! Paths of rounds or of jobs.
+//! The paths of rounds or of jobs.
 
 ghost use Rattle.std.specs.Prelude.{◌≡◌, ℕ, [], OnOk, OnErr, None, Some, if◌then◌else◌, ◌==◌};
 ghost use Rattle.std.specs.Option.{option_map};
@@ -11,7 +11,7 @@ use crate::deed::RecordedDeed;
 use number_tables::NumberTable;
 use std::alloc::{AllocError, Global};
 
-/// The paths of the rounds that are about, by their numbers, or those of the jobs.
+/// A map from the numbers of the live rounds, or of the live jobs, to their paths.
 #[derive(Debug, Drop)]
 pub(crate) struct PathTable {
     paths: NumberTable<Vec<RecordedDeed>>,
@@ -19,7 +19,7 @@ pub(crate) struct PathTable {
 }
 
 impl PathTable {
-    /// None so far.
+    /// Creates an empty map.
     pub(crate) fn new(alloc: Global) -> PathTable
         ensures { (n : ℕ) → path_in result n ≡ None }
     {
@@ -38,11 +38,11 @@ impl PathTable {
         }
     }
 
-    /// One comes, with an empty path.
+    /// Adds an actor with an empty path.
     ///
     /// # Errors
     ///
-    /// `AllocError` where there is no memory for it. The paths are then what they were.
+    /// Returns `AllocError` if memory runs out. The paths are then unchanged.
     pub(crate) fn begin(&mut self, number: usize) -> Result<(), AllocError>
         ensures begun { OnOk result
             ((n : ℕ) → path_in self.new n ≡ (if number == n then Some [] else path_in self.old n)) }
@@ -51,7 +51,7 @@ impl PathTable {
         self.paths.insert(number, Vec::new(self.alloc))
     }
 
-    /// One goes, and gives its path away.
+    /// Removes an actor and returns its path.
     pub(crate) fn end(&mut self, number: usize) -> Option<Vec<RecordedDeed>>
         ensures path { option_map (λ path. path.items) result ≡ path_in self.old number }
         ensures gone { (n : ℕ)
@@ -60,11 +60,11 @@ impl PathTable {
         self.paths.remove(number)
     }
 
-    /// The deed stands at the end of this path, where the path is there.
+    /// Appends an action to the path of this actor, if it is live.
     ///
     /// # Errors
     ///
-    /// `AllocError` where there is no memory for it. The paths are then what they were.
+    /// Returns `AllocError` if memory runs out. The paths are then unchanged.
     pub(crate) fn push(&mut self, number: usize, deed: RecordedDeed) -> Result<(), AllocError>
         ensures done { OnOk result
             ((n : ℕ)
@@ -79,11 +79,11 @@ impl PathTable {
         Ok(())
     }
 
-    /// The one of this path, where it is there, got the job.
+    /// Records a get of the job by this actor, if it is live.
     ///
     /// # Errors
     ///
-    /// `AllocError` where there is no memory for it. The paths are then what they were.
+    /// Returns `AllocError` if memory runs out. The paths are then unchanged.
     pub(crate) fn note_get(&mut self, number: usize, job: usize) -> Result<(), AllocError>
         ensures got { OnOk result
             ((n : ℕ)
@@ -98,7 +98,7 @@ impl PathTable {
         Ok(())
     }
 
-    /// The one of this path, where it is there, was refused the job.
+    /// Records that this actor was refused the job, if the actor is live.
     pub(crate) fn drop_submit(&mut self, number: usize, job: usize)
         ensures { (n : ℕ)
             → path_in self.new n

@@ -13,8 +13,8 @@ use crate::path_table::PathTable;
 use recording_lines::{Line, RecordedActor};
 use std::alloc::{AllocError, Global};
 
-/// The paths of the actors that are about, by the lines so far: of the rounds that began and have not ended, and of the
-/// jobs that were submitted and are not done.
+/// The paths of the live actors after the lines so far: of the rounds that began and have not
+/// ended, and of the jobs that were submitted and are not done.
 #[derive(Debug, Drop)]
 pub struct Paths {
     rounds: PathTable,
@@ -22,7 +22,7 @@ pub struct Paths {
 }
 
 impl Paths {
-    /// No lines so far.
+    /// Creates the paths before the first line.
     pub fn new(alloc: Global) -> Paths
         ensures { IsPathsOf result [] }
     {
@@ -32,11 +32,11 @@ impl Paths {
         }
     }
 
-    /// Takes the next line of a recording that keeps the rules.
+    /// Processes the next line of a recording that keeps the rules.
     ///
     /// # Errors
     ///
-    /// `AllocError` where there is no memory for what the line says. The paths are then those of the lines before.
+    /// Returns `AllocError` if memory runs out. The paths are then unchanged.
     pub fn take(&mut self, line: &Line<'_>) -> Result<(), AllocError>
         ensures taken { (before : List RecordedLine)
             → KeepsRules (before ++ line_seen line.now ∷ [])
@@ -50,12 +50,12 @@ impl Paths {
         Ok(())
     }
 
-    /// Takes the next line of a recording that keeps the rules, as [`take`](Paths::take) does, and gives away the path of
-    /// the actor whose last line it is. That actor is about no more. Of any other line there is none.
+    /// Processes the next line of a recording that keeps the rules, as [`take`](Paths::take) does.
+    /// If the line ends an actor, removes the actor and returns its path. Otherwise returns `None`.
     ///
     /// # Errors
     ///
-    /// `AllocError` where there is no memory for what the line says. The paths are then those of the lines before.
+    /// Returns `AllocError` if memory runs out. The paths are then unchanged.
     pub fn take_last_path(
         &mut self,
         line: &Line<'_>,
@@ -75,7 +75,7 @@ impl Paths {
         self.note(line)
     }
 
-    /// The path of the actor, where it is about.
+    /// Returns the path of the actor if it is live.
     pub fn path(&self, actor: RecordedActor) -> Option<&[RecordedDeed]>
         ensures { (before : List RecordedLine)
             → IsPathsOf self.now before
@@ -87,7 +87,7 @@ impl Paths {
         }
     }
 
-    // The answer is the path of the actor whose last line it is.
+    // Returns the path of the actor that the line ends.
     fn note(&mut self, line: &Line<'_>) -> Result<Option<Vec<RecordedDeed>>, AllocError>
         ensures noted { OnOk result (Changes self.old (change_of (line_seen line.now)) self.new) }
         ensures path { IfOk result (λ given.
@@ -117,7 +117,7 @@ impl Paths {
         }
     }
 
-    // The job comes, and its submit stands at the end of its actor's path.
+    // Adds the job, and appends its submit to the path of its actor.
     fn submit(&mut self, actor: RecordedActor, job: usize) -> Result<(), AllocError>
         ensures noted { OnOk result (Changes self.old (actor_submits actor job) self.new) }
         ensures same { OnErr result (Changes self.old no_change self.new) }

@@ -2,7 +2,7 @@ use Rattle.std.proofs.Common.{◌≡◌, ◌≤◌, length, take}
 use Rattle.recorded_paths.specs.Act.{submit_place}
 use Rattle.recorded_paths.proofs.act.place_of_submit.Given as goal
 
--- the submit stands before the place, if anywhere
+-- the submit is before the place, if there is one
 abbrev pub invariant-loop-place : goal.invariant-loop-place
 invariant-loop-place l = (l.place ≤ length l.path) × (submit_place l.job (take l.place l.path) ≡ submit_place l.job l.path)
 
