@@ -1,4 +1,4 @@
--- What is known of a table once it changes.
+-- A table after a change.
 use Rattle.std.proofs.Common.{◌≡◌, ℕ, ◌+◌, ◌<◌, ◌==◌, ◌&&◌, nat_lt, Bool, true, false, cond, if◌then◌else◌, List, [], ◌∷◌, length, set, is_some, IsSome, Option, Some, None, nat_eq, ⊎_elim, refl, sym, ap, subst, ◌∙◌, arith}
 use Rattle.std.specs.Map.{lookup, set_value}
 use Rattle.std.proofs.lemmas.Bool.{cases_eq, cases_lt, lt-ltb, eq-eqb, eqb-true, ne_eqb}
@@ -10,7 +10,7 @@ use Rattle.number_tables.specs.Entry.{has_number, is_free_for, value_in, with_va
 use Rattle.number_tables.specs.Numbered.{Numbered, place_of, value_at, count_of, IsTable, IsWritten}
 use Rattle.number_tables.proofs.PlacesOnceSet.{entry_once_set, has_once_put, has_written, is_some_written, taken_once_set, taken_once_put, is_inside, values_once_set, written_here, inserted_here}
 
--- ---- another value of a number that stands in its place
+-- ---- another value of a number in its slot
 pub table_put : {V : Type 0} (slots : List (Option (Entry V))) (others : List (ℕ × V)) (p : ℕ) (o : Option (Entry V)) → IsTable slots others → ((n : ℕ) → has_number n o ≡ has_number n (entry_at slots p)) → IsTable (set slots p o) others
 table_put slots others p o table same = record {
   in_place = λ q n has. table.in_place q n (sym (has_once_put slots p o same n q) ∙ has);
@@ -34,7 +34,7 @@ written_in_place slots others n w has =
       count = ap (λ k. k + length others) (taken_once_put slots (place_of n) (with_value_in o w) (is_some_written o w));
     }
 
--- the same by other spellings of the place and of what stands in it
+-- the same for equal expressions of the slot and its entry
 pub written_there : {V : Type 0} (slots : List (Option (Entry V))) (others : List (ℕ × V)) (n p : ℕ) (o : Option (Entry V)) (w : V) → has_number n (entry_at slots (place_of n)) ≡ true → p ≡ place_of n → o ≡ entry_at slots p
     → IsWritten (record { slots = slots; others = others }) n w (record { slots = set slots p (with_value_in o w); others = others })
 written_there slots others n p o w has here is =
@@ -42,7 +42,7 @@ written_there slots others n p o w has here is =
     let same : set slots p (with_value_in o w) ≡ set slots (place_of n) (with_value_in (entry_at slots (place_of n)) w) = ap (λ k. set slots k (with_value_in o w)) here ∙ ap (λ e. set slots (place_of n) (with_value_in e w)) entry in
     subst (λ xs. IsWritten (record { slots = slots; others = others }) n w (record { slots = xs; others = others })) (sym same) (written_in_place slots others n w has)
 
--- ---- another value of a number that does not
+-- ---- another value of a number in the map
 none_written : {V : Type 0} (n m : ℕ) (others : List (ℕ × V)) (w : V) → lookup (nat_eq m) others ≡ None → lookup (nat_eq m) (set_value (nat_eq n) others w) ≡ None
 none_written n m [] w none = refl
 none_written n m (e ∷ es) w none = grind (arith, none, none_written n m es w)
@@ -57,7 +57,7 @@ value_or_other : {V : Type 0} (o : Option (Entry V)) (n : ℕ) (other : Option V
 value_or_other None n other off = refl
 value_or_other (Some entry) n other off = ap (λ b. if b then Some entry.value else other) off
 
--- what is found of a number that does not stand in its place, once there is another value of it
+-- the values after a number in the map gets another value
 found_aside : {V : Type 0} (o : Option (Entry V)) (n q : ℕ) (w : V) (old new : Option V) → (n ≡ q → has_number q o ≡ false) → new ≡ (if n == q then Some w else old) → value_or q o new ≡ (if n == q then Some w else value_or q o old)
 found_aside o n q w old new off is = ⊎_elim
     (λ e.
@@ -80,7 +80,7 @@ written_aside slots others n w off there =
       count = ap (λ k. taken slots + k) (length-set_value (nat_eq n) others w);
     }
 
--- ---- a number comes to its place
+-- ---- a number is stored in its slot
 pub table_laid : {V : Type 0} (slots laid : List (Option (Entry V))) (others : List (ℕ × V)) → IsTable slots others → HasSameEntries slots laid → IsTable laid others
 table_laid slots laid others table same = record {
   in_place = λ p n has. table.in_place p n (sym (ap (has_number n) (same.each p)) ∙ has);
@@ -113,7 +113,7 @@ table_inserted {V} slots others left n v table away =
 abbrev one_more : Bool → ℕ
 one_more found = if found then 0 else 1
 
--- a value of the number was in its place or among the others, and not in both
+-- the number had its value in its slot or in the map, but not in both
 counted_here : {V : Type 0} (o : Option (Entry V)) (n taken_before taken_after long left : ℕ) (other : Option V) → is_free_for n o ≡ true → (has_number n o ≡ true → other ≡ None)
     → taken_after + cond (is_some o) 1 0 ≡ taken_before + 1 → left + (if is_some other then 1 else 0) ≡ long
     → taken_after + left ≡ taken_before + long + (if is_some (value_or n o other) then 0 else 1)
@@ -125,7 +125,7 @@ counted_here {V} (Some entry) n before after long left None free once counts len
     let one : one_more (is_some {T = V} (if entry.number == n then Some entry.value else None)) ≡ 0 = ap one_more found in
     omega (arith, counts, lengths, one)
 
--- the number has the value, and one more number has one where this one had none
+-- the number has the value, and the count grows by one if it had none before
 pub record IsPut {V : Type 0} (old : Numbered V) (n : ℕ) (v : V) (new : Numbered V) : Type 0 where
   pub values : (q : ℕ) → value_at new q ≡ (if n == q then Some v else value_at old q)
   pub count : count_of new ≡ count_of old + (if is_some (value_at old n) then 0 else 1)
@@ -147,7 +147,7 @@ inserted_in_place {V} slots laid others left n v table same inside free away lon
       count = counts ∙ ap (λ k. k + length others + one_more (is_some (value_or n e (looked n)))) same.count ∙ ap (λ x. taken slots + length others + one_more (is_some (value_or n x (looked n)))) (same.each (place_of n));
     }
 
--- ---- a number whose place is another's comes
+-- ---- a number whose slot is occupied is stored in the map
 pub table_aside : {V : Type 0} (slots : List (Option (Entry V))) (others more : List (ℕ × V)) (n : ℕ) (v : V) → IsTable slots others → has_number n (entry_at slots (place_of n)) ≡ false
     → ((q : ℕ) → lookup (nat_eq q) more ≡ (if n == q then Some v else lookup (nat_eq q) others)) → IsTable slots more
 table_aside slots others more n v table off is = record {
@@ -161,7 +161,7 @@ not_free : {V : Type 0} (o : Option (Entry V)) (n : ℕ) → is_free_for n o ≡
 not_free None n barred = absurd cc
 not_free (Some entry) n barred = barred
 
--- the place is another's, where the number may not stand in it
+-- if the number cannot be stored in its slot, the slot holds another number
 pub not_there : {V : Type 0} (slots : List (Option (Entry V))) (n : ℕ) → (nat_lt (place_of n) (length slots) && is_free_for n (entry_at slots (place_of n))) ≡ false → has_number n (entry_at slots (place_of n)) ≡ false
 not_there slots n barred = ⊎_elim
     (λ inside. not_free (entry_at slots (place_of n)) n (sym (ap (λ b. b && is_free_for n (entry_at slots (place_of n))) (lt-ltb (place_of n) (length slots) inside)) ∙ barred))
@@ -182,7 +182,7 @@ inserted_aside slots laid others more n v same off is long =
       count = omega (arith, found, counts, long);
     }
 
--- ---- what is found
+-- ---- the result of a look-up
 found_here : {V : Type 0} (o : Option (Entry V)) (n : ℕ) (other : Option V) → has_number n o ≡ true → value_or n o other ≡ value_in o
 found_here None n other has = absurd cc
 found_here (Some entry) n other has = ap (λ b. if b then Some entry.value else other) has

@@ -1,4 +1,4 @@
--- What a place ends as, where a `&mut` to its value is returned.
+-- The final state of a slot that returns a `&mut` to its value.
 use Rattle.std.specs.Prelude.{Option}
 use Rattle.std.specs.Borrow.{LendsIf, Fml, RattleType, MutBor}
 use Rattle.std.specs.contracts.option.Option.{the_row as OptionOf}
@@ -6,6 +6,6 @@ use Rattle.number_tables.specs.declared.entry.Entry.{Entry}
 use Rattle.number_tables.specs.contracts.entry.Entry.{the_row}
 use Rattle.number_tables.specs.Entry.{with_value_in}
 
--- once the borrow r ends, the place has the last value written through r
+-- when the borrow r ends, the slot has the last value written through r
 abbrev pub lends_value_in : (V : RattleType) → MutBor (Option (Entry V.Denot)) → Option (MutBor V.Denot) → Fml
 lends_value_in V slot r = LendsIf (OptionOf (the_row V)) V slot r (with_value_in slot.now) slot.now

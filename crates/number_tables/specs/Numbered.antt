@@ -1,4 +1,4 @@
--- Values by number, as the rest of the world sees them.
+-- The specification's view of a table.
 use Rattle.std.specs.Prelude.{◌≡◌, ℕ, ◌+◌, ◌%◌, ◌==◌, true, List, Option, Some, None, length, nat_eq, if◌then◌else◌, refl}
 use Rattle.std.specs.Coded.{Coded, code_by, coded×, coded_ℕ, coded_list, coded_option}
 use Rattle.std.specs.Map.{lookup}
@@ -6,7 +6,7 @@ use Rattle.number_tables.specs.declared.entry.Entry.{Entry}
 use Rattle.number_tables.specs.declared.places.TheConstants.{TABLE_LEN}
 use Rattle.number_tables.specs.Entry.{has_number, value_or, entry_at, taken}
 
--- a table, in which a number has one place, and the numbers that found another one in theirs
+-- a table, in which each number has one slot, and the numbers whose slot was occupied
 pub record Numbered (V : Type 0) : Type 0 where
   pub slots : List (Option (Entry V))
   pub others : List (ℕ × V)
@@ -27,20 +27,20 @@ module _ {V : Type 0} where
   unfoldable pub value_at : Numbered V → ℕ → Option V
   value_at table n = value_or n (entry_at table.slots (place_of n)) (lookup (nat_eq n) table.others)
 
-  -- how many numbers have a value
+  -- the number of numbers that have a value
   unfoldable pub count_of : Numbered V → ℕ
   count_of table = taken table.slots + length table.others
 
-  -- each number stands in its place
+  -- each number in the table is in its own slot
   abbrev pub AreInPlace : List (Option (Entry V)) → Type 0
   AreInPlace slots = (p n : ℕ) → has_number n (entry_at slots p) ≡ true → place_of n ≡ p
 
-  -- and is not among the others
+  -- and none of them is in the map too
   pub record IsTable (slots : List (Option (Entry V))) (others : List (ℕ × V)) : Type 0 where
     pub in_place : AreInPlace slots
     pub once : (n : ℕ) → has_number n (entry_at slots (place_of n)) ≡ true → lookup (nat_eq n) others ≡ None
 
-  -- the table once w is written through what `get_mut` lent for a number that has a value
+  -- the table after w was written through the reference that `get_mut` returned for a number with a value
   pub record IsWritten (old : Numbered V) (n : ℕ) (w : V) (new : Numbered V) : Type 0 where
     pub values : (q : ℕ) → value_at new q ≡ (if n == q then Some w else value_at old q)
     pub count : count_of new ≡ count_of old

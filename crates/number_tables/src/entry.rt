@@ -1,4 +1,4 @@
-//! A place of a table.
+//! A slot of a table.
 
 ghost use Rattle.std.specs.Prelude.{◌≡◌, None};
 ghost use Rattle.std.specs.Option.{option_copied_mut};
@@ -13,7 +13,7 @@ pub(crate) struct Entry<V> {
     pub(crate) value: V,
 }
 
-/// Whether the number stands in this place.
+/// Returns whether the slot holds the number.
 #[inline(always)]
 pub(crate) fn has_number<V>(slot: &Option<Entry<V>>, number: usize) -> bool
     ensures { result ≡ has_number number slot.now }
@@ -24,7 +24,7 @@ pub(crate) fn has_number<V>(slot: &Option<Entry<V>>, number: usize) -> bool
     }
 }
 
-/// Whether this place is free or the number's.
+/// Returns whether the slot is free or holds the number.
 #[inline(always)]
 pub(crate) fn is_free_for<V>(slot: &Option<Entry<V>>, number: usize) -> bool
     ensures { result ≡ is_free_for number slot.now }
@@ -35,7 +35,7 @@ pub(crate) fn is_free_for<V>(slot: &Option<Entry<V>>, number: usize) -> bool
     }
 }
 
-/// The value in this place, to be changed.
+/// Returns a mutable reference to the value in the slot.
 #[inline(always)]
 pub(crate) fn value_in<V>(slot: &mut Option<Entry<V>>) -> Option<&mut V>
     ensures* writes_back { sem 𝓛 (lends_value_in V.row slot.entry result) }
@@ -47,7 +47,7 @@ pub(crate) fn value_in<V>(slot: &mut Option<Entry<V>>) -> Option<&mut V>
     }
 }
 
-/// The value in this place, which is free from now on.
+/// Frees the slot and returns its value.
 #[inline(always)]
 pub(crate) fn take_value<V>(slot: &mut Option<Entry<V>>) -> Option<V>
     ensures value { result ≡ value_in slot.old }

@@ -1,8 +1,8 @@
-//! Values by numbers of which few are about at once.
+//! A map keyed by numbers, of which few are live at once.
 //!
-//! The rounds and the jobs of a recording have the numbers 0, 1, 2, and so on, and those that are about at one time are few
-//! and mostly lie close together. [`NumberTable`] keeps a value for each of some numbers so that a look-up mostly takes an
-//! index and no hash.
+//! The rounds and the jobs of a recording are numbered 0, 1, 2, and so on. Few of them are live at
+//! the same time, and most of those are close together. [`NumberTable`] stores a value for each
+//! live number. A look-up is mostly an array access without a hash.
 #![tactic(auto)]
 
 mod entry;

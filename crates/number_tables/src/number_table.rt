@@ -12,15 +12,15 @@ use crate::places::{make, may_stand_in, place_of, push_numbers, put, stands_in};
 use std::alloc::{AllocError, Global};
 use std::marker::Model;
 
-/// Values by number.
+/// A map from numbers to values.
 ///
-/// A number modulo the table's length is its place, which is looked at first. A number that finds another one in its place
-/// is in a map.
+/// The slot of a number is the number modulo the length of the table. A look-up checks that slot
+/// first. If another number occupies it, the value is in a map.
 #[derive(Debug, Drop)]
 pub struct NumberTable<V> {
-    // Empty until there is a first value.
+    // Empty until the first insertion.
     slots: Vec<Option<Entry<V>>>,
-    // None of them is in its place too.
+    // The numbers whose slot was occupied. None of them is in its slot too.
     others: Others<V>,
 }
 
@@ -40,7 +40,7 @@ impl<V> NumberTable<V> {
     ghost use Rattle.number_tables.specs.Numbered.{value_at, count_of};
     ghost use Rattle.number_tables.specs.Lent.{lends_value};
 
-    /// No values so far.
+    /// Creates an empty table.
     #[tactic(auto, unfolding(crate::specs::Numbered::value_at, crate::specs::Numbered::count_of))]
     pub fn new(alloc: Global) -> NumberTable<V>
         ensures values { (n : ℕ) → value_at result n ≡ None }
@@ -52,7 +52,7 @@ impl<V> NumberTable<V> {
         }
     }
 
-    /// The value of this number.
+    /// Returns the value of this number.
     #[inline(always)]
     #[tactic(auto, unfolding(crate::specs::Numbered::value_at))]
     pub fn get(&self, number: usize) -> Option<&V>
@@ -71,7 +71,7 @@ impl<V> NumberTable<V> {
         self.others.get(number)
     }
 
-    /// Whether the number has a value.
+    /// Returns whether the number has a value.
     #[inline(always)]
     pub fn contains(&self, number: usize) -> bool
         ensures { result ≡ is_some (value_at self.now number) }
@@ -79,7 +79,7 @@ impl<V> NumberTable<V> {
         self.get(number).is_some()
     }
 
-    /// The value of this number, to be changed.
+    /// Returns a mutable reference to the value of this number.
     #[inline(always)]
     pub fn get_mut(&mut self, number: usize) -> Option<&mut V>
         ensures* writes_back { sem 𝓛 (lends_value V.row self.entry number result) }
@@ -91,11 +91,11 @@ impl<V> NumberTable<V> {
         self.others.get_mut(number)
     }
 
-    /// The number has this value from now on.
+    /// Sets the value of this number.
     ///
     /// # Errors
     ///
-    /// `AllocError` where there is no memory for it. The values are then unchanged.
+    /// Returns `AllocError` if memory runs out. The table is then unchanged.
     #[inline(always)]
     #[tactic(auto, unfolding(crate::specs::Numbered::value_at, crate::specs::Numbered::count_of))]
     pub fn insert(&mut self, number: usize, value: V) -> Result<(), AllocError>
@@ -120,7 +120,7 @@ impl<V> NumberTable<V> {
         Ok(())
     }
 
-    /// The number has no value from now on. The one that it had.
+    /// Removes the entry and returns its value.
     #[inline(always)]
     #[tactic(auto, unfolding(crate::specs::Numbered::value_at, crate::specs::Numbered::count_of))]
     pub fn remove(&mut self, number: usize) -> Option<V>
@@ -138,11 +138,11 @@ impl<V> NumberTable<V> {
         self.others.remove(number)
     }
 
-    /// The numbers that have a value, each once, ascending.
+    /// Returns the numbers that have a value, each once, in ascending order.
     ///
     /// # Errors
     ///
-    /// `AllocError` where there is no memory for them.
+    /// Returns `AllocError` if memory runs out.
     pub fn numbers(&self, alloc: Global) -> Result<Vec<usize>, AllocError>
         ensures all { IfOk result (λ numbers.
             (n : ℕ) → is_member nat_eq numbers.items n ≡ is_some (value_at self.now n)) }

@@ -1,4 +1,4 @@
-//! The values whose places were taken.
+//! The values of numbers whose slot was occupied.
 
 ghost use Rattle.std.specs.Prelude.{◌≡◌, ◌+◌, ℕ, None, Some, OnOk, OnErr, IfOk, IsTrue, length, if◌then◌else◌, ◌==◌, nat_eq, is_some, []};
 ghost use Rattle.std.specs.Option.{option_copied, option_copied_mut};
@@ -11,10 +11,10 @@ use std::alloc::{AllocError, Global};
 use std::collections::HashMap;
 use std::marker::Model;
 
-/// Values by number, in a map.
+/// A map from numbers to values.
 ///
-/// Look-ups in it are rare. Each of its calls stays out of its callers, and a look-up that may miss asks first whether it is
-/// empty, since one in an empty map would hash all the same.
+/// Look-ups in it are rare, so its methods are not inlined. A look-up that may miss first checks
+/// whether the map is empty, since a look-up in an empty map would still hash the key.
 #[derive(Debug, Drop)]
 pub(crate) struct Others<V> {
     map: HashMap<usize, V>,
@@ -34,7 +34,7 @@ impl<V> Model for Others<V> {
 impl<V> Others<V> {
     ghost use Rattle.number_tables.specs.LentOther.{lends_other};
 
-    /// None so far.
+    /// Creates an empty map.
     pub(crate) fn new(alloc: Global) -> Others<V>
         ensures { result ≡ [] }
     {
@@ -50,7 +50,7 @@ impl<V> Others<V> {
         self.map.is_empty()
     }
 
-    /// The value of this number.
+    /// Returns the value of this number.
     #[inline(never)]
     pub(crate) fn get(&self, number: usize) -> Option<&V>
         ensures { option_copied result ≡ lookup (nat_eq number) self.now }
@@ -58,7 +58,7 @@ impl<V> Others<V> {
         self.map.get(&number)
     }
 
-    /// The value of this number, to be changed.
+    /// Returns a mutable reference to the value of this number.
     #[inline(never)]
     pub(crate) fn get_mut(&mut self, number: usize) -> Option<&mut V>
         ensures* writes_back { sem 𝓛 (lends_other V.row self.entry number result) }
@@ -67,11 +67,11 @@ impl<V> Others<V> {
         self.map.get_mut(&number)
     }
 
-    /// The number has this value from now on.
+    /// Sets the value of this number.
     ///
     /// # Errors
     ///
-    /// `AllocError` where there is no memory for it. The values are then unchanged.
+    /// Returns `AllocError` if memory runs out. The map is then unchanged.
     #[inline(never)]
     pub(crate) fn insert(&mut self, number: usize, value: V) -> Result<(), AllocError>
     where
@@ -89,7 +89,7 @@ impl<V> Others<V> {
         Ok(())
     }
 
-    /// The number has no value from now on. The one that it had.
+    /// Removes the entry and returns its value.
     #[inline(never)]
     pub(crate) fn remove(&mut self, number: usize) -> Option<V>
         ensures value { result ≡ lookup (nat_eq number) self.old }
@@ -101,7 +101,7 @@ impl<V> Others<V> {
         self.map.remove(&number)
     }
 
-    /// The number has no value from now on.
+    /// Removes the entry.
     #[inline(always)]
     pub(crate) fn forget(&mut self, number: usize)
     where
@@ -117,11 +117,11 @@ impl<V> Others<V> {
         }
     }
 
-    /// The numbers, each once, in some order.
+    /// Returns the numbers, each once, in any order.
     ///
     /// # Errors
     ///
-    /// `AllocError` where there is no memory for them.
+    /// Returns `AllocError` if memory runs out.
     pub(crate) fn numbers(&self, alloc: Global) -> Result<Vec<usize>, AllocError>
         ensures all { IfOk result (λ numbers.
             (n : ℕ) → is_member nat_eq numbers.items n ≡ is_some (lookup (nat_eq n) self.now)) }

@@ -1,4 +1,4 @@
-//! The places of a table.
+//! The slots of a table.
 
 ghost use Rattle.std.specs.Prelude.{◌≡◌, ◌<◌, ◌+◌, ◌&&◌, ◌||◌, ℕ, nat_lt, nat_eq, true, false, IsTrue, OnOk, vec_len, length, slice_set, Some, []};
 ghost use Rattle.std.specs.List.{IsDistinct};
@@ -9,10 +9,10 @@ ghost use Rattle.number_tables.specs.Numbered.{place_of, AreInPlace};
 use crate::entry::{Entry, has_number, is_free_for};
 use std::alloc::AllocError;
 
-// A power of two, so that the place of a number takes no division.
+// A power of two, so that the slot of a number needs no division.
 const TABLE_LEN: usize = 256;
 
-/// The place of a number.
+/// Returns the slot of a number.
 #[inline(always)]
 pub(crate) fn place_of(number: usize) -> usize
     ensures { result ≡ place_of number }
@@ -20,7 +20,7 @@ pub(crate) fn place_of(number: usize) -> usize
     number % TABLE_LEN
 }
 
-/// Whether the number stands in its place.
+/// Returns whether the number is in its slot.
 #[inline(always)]
 pub(crate) fn stands_in<V>(slots: &Vec<Option<Entry<V>>>, number: usize) -> bool
     ensures stands { result ≡ has_number number (entry_at slots.now.items (place_of number)) }
@@ -30,7 +30,7 @@ pub(crate) fn stands_in<V>(slots: &Vec<Option<Entry<V>>>, number: usize) -> bool
     place < slots.len() && has_number(&slots[place], number)
 }
 
-/// Whether the place of the number is free or its own.
+/// Returns whether the slot of the number is free or holds the number.
 #[inline(always)]
 pub(crate) fn may_stand_in<V>(slots: &Vec<Option<Entry<V>>>, number: usize) -> bool
     ensures { result
@@ -41,7 +41,7 @@ pub(crate) fn may_stand_in<V>(slots: &Vec<Option<Entry<V>>>, number: usize) -> b
     place < slots.len() && is_free_for(&slots[place], number)
 }
 
-/// The number stands in its place, with this value.
+/// Stores the number in its slot, with this value.
 #[inline(always)]
 pub(crate) fn put<V: Drop>(slots: &mut Vec<Option<Entry<V>>>, number: usize, value: V)
     requires { place_of number < vec_len slots.old }
@@ -52,11 +52,11 @@ pub(crate) fn put<V: Drop>(slots: &mut Vec<Option<Entry<V>>>, number: usize, val
     slots[place_of(number)] = Some(Entry { number, value });
 }
 
-/// Makes the places, where there is none.
+/// Allocates the slots if there are none.
 ///
 /// # Errors
 ///
-/// `AllocError` where there is no memory for them.
+/// Returns `AllocError` if memory runs out.
 #[inline(always)]
 pub(crate) fn make<V: Drop>(slots: &mut Vec<Option<Entry<V>>>) -> Result<(), AllocError>
     ensures { HasSameEntries slots.old.items slots.new.items }
@@ -67,7 +67,7 @@ pub(crate) fn make<V: Drop>(slots: &mut Vec<Option<Entry<V>>>) -> Result<(), All
     lay_out(slots, TABLE_LEN)
 }
 
-// The places, of which there is none, are so many from now on, and all are free.
+// Allocates `len` free slots. There must be none yet.
 #[cold]
 #[inline(never)]
 fn lay_out<V: Drop>(slots: &mut Vec<Option<Entry<V>>>, len: usize) -> Result<(), AllocError>
@@ -81,11 +81,11 @@ fn lay_out<V: Drop>(slots: &mut Vec<Option<Entry<V>>>, len: usize) -> Result<(),
     Ok(())
 }
 
-/// Puts the numbers that stand in their places behind others, none of which does.
+/// Appends the numbers that are in their slots to other numbers, which are not.
 ///
 /// # Errors
 ///
-/// `AllocError` where there is no memory for them.
+/// Returns `AllocError` if memory runs out.
 pub(crate) fn push_numbers<V>(
     slots: &Vec<Option<Entry<V>>>,
     numbers: &mut Vec<usize>,
