@@ -1,4 +1,4 @@
--- Lemmas on the last place of a list at which a test passes.
+-- Lemmas about the last place of a list at which a test passes.
 use Rattle.std.proofs.Common.{◌≡◌, ℕ, suc, ◌+◌, ◌<◌, ◌≤◌, Bool, true, false, List, [], ◌∷◌, ◌++◌, length, get_or, take, drop, Some, None, ⊎_elim, refl, sym, ap, ap₂, subst, ◌∙◌, arith, zero-add, get_or-drop, length-drop, append-nil}
 use Rattle.std.proofs.lemmas.Bool.{false_from_ne_true}
 use Rattle.std.proofs.lemmas.Option.{same_Some}
@@ -46,7 +46,7 @@ last_from test n (x ∷ xs) m last =
     let parts = places_from_split test n (x ∷ xs) m x last.inside in
     ap last_of (parts ∙ ap₂ (λ b ns. before ++ cons_if b (n + m) ns) (last.passes x) none) ∙ last_of_push before (n + m)
 
--- the last place is no lower than another one
+-- the last place is not below any other
 pub last_of-greatest : {X : Type 0} (test : X → Bool) (n : ℕ) (xs : List X) (m k : ℕ) (d : X) → last_of (places_from test n xs) ≡ Some (n + m) → k < length xs → test (get_or xs k d) ≡ true → k ≤ m
 last_of-greatest test n xs m k d e inside passes =
     let before = places_from test n (take k xs) in
@@ -75,7 +75,7 @@ last_where_is test xs m e = last_is test 0 xs m (e ∙ ap Some (sym (zero-add m)
 pub last_where_from : {X : Type 0} (test : X → Bool) (xs : List X) (m : ℕ) → IsLast test xs m → last_of (places_where test xs) ≡ Some m
 last_where_from test xs m last = last_from test 0 xs m last ∙ ap Some (zero-add m)
 
--- where there is no last place, none passes
+-- if there is no last place, no element passes
 pub none_where : {X : Type 0} (test : X → Bool) (xs : List X) → last_of (places_where test xs) ≡ None → (i : ℕ) (d : X) → i < length xs → test (get_or xs i d) ≡ false
 none_where test xs e i d inside = fails_everywhere test xs (none_from_last_of (places_where test xs) e) i d inside
 

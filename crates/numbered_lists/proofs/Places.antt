@@ -1,4 +1,4 @@
--- Lemmas on the places of a list at which a test passes.
+-- Lemmas about the places of a list at which a test passes.
 use Rattle.std.proofs.Common.{◌≡◌, ℕ, zero, suc, ◌+◌, ◌<◌, ◌≤◌, Bool, true, false, cond, not, eqb, ◌⊎◌, inl, inr, ⊎_elim, List, [], ◌∷◌, ◌++◌, map, filter, length, get_or, set, take, drop, count_by, AllPairs, refl, sym, ap, ap₂, subst, ◌∙◌, arith, zero-add}
 use Rattle.std.specs.List.{list_all}
 use Rattle.std.proofs.lemmas.Bool.{cases_Bool, false_from_ne_true, ne_eqb, eq-eqb}
@@ -12,7 +12,7 @@ use Rattle.numbered_lists.proofs.Members.{not_In_nil, In-get_or, Contains-from_I
 pub one_more : (n p : ℕ) → n + suc p ≡ n + 1 + p
 one_more n p = omega arith
 
--- ---- one number in front
+-- ---- one more number at the start
 pub cons_if-append : (b : Bool) (n : ℕ) (ns ms : List ℕ) → cons_if b n (ns ++ ms) ≡ cons_if b n ns ++ ms
 cons_if-append true n ns ms = refl
 cons_if-append false n ns ms = refl
@@ -30,7 +30,7 @@ In-cons_if_cases true n ns here = inl (refl, refl)
 In-cons_if_cases true n ns (there i) = inr i
 In-cons_if_cases false n ns i = inr i
 
--- ---- two lists that pass at the same places
+-- ---- two tests that agree at every place
 pub places_from-agree_at : {X Y : Type 0} (p : X → Bool) (q : Y → Bool) (n : ℕ) (xs : List X) (ys : List Y) (d : X) (e : Y) → length xs ≡ length ys → ((i : ℕ) → i < length xs → p (get_or xs i d) ≡ q (get_or ys i e))
     → places_from p n xs ≡ places_from q n ys
 places_from-agree_at p q n [] [] d e long same = refl
@@ -65,7 +65,7 @@ length-places_from test n (x ∷ xs) = length-cons_if (test x) n (places_from te
 pub length-places : {X : Type 0} (test : X → Bool) (xs : List X) → length (places_where test xs) ≡ count_by test xs
 length-places test xs = length-places_from test 0 xs
 
--- ---- what stands at a place
+-- ---- the element at a place
 pub record IsPlace {X : Type 0} (test : X → Bool) (n : ℕ) (xs : List X) (j : ℕ) : Type 0 where
   pub index : ℕ
   pub from : j ≡ n + index
@@ -93,7 +93,7 @@ In-places_from test n (x ∷ xs) (suc i) d inside passes =
 pub places_from-below : {X : Type 0} (test : X → Bool) (n : ℕ) (xs : List X) {j : ℕ} → In j (places_from test n xs) → (n ≤ j) × (j < n + length xs)
 places_from-below test n xs {j} i = let place = place_at_In test n xs j i in (omega (arith, place.from), omega (arith, place.from, place.inside))
 
--- the places stand in order, so none stands twice
+-- the places are in ascending order, so each occurs once
 ascends : (b : Bool) (n : ℕ) (ns : List ℕ) → ((k : ℕ) → In k ns → n < k) → AllPairs ◌<◌ ns → AllPairs ◌<◌ (cons_if b n ns)
 ascends true n ns above pairs zero zero d less inside = absurd (omega arith)
 ascends true n ns above pairs zero (suc j) d less inside = above (get_or ns j d) (In-get_or ns j d (omega arith))
@@ -106,7 +106,7 @@ places_from-ascend test n [] i j d less inside = absurd (omega arith)
 places_from-ascend test n (x ∷ xs) i j d less inside =
     ascends (test x) n (places_from test (n + 1) xs) (λ k i. let low = (places_from-below test (n + 1) xs i).0 in omega arith) (places_from-ascend test (n + 1) xs) i j d less inside
 
--- where none passes there is no place
+-- if no element passes, there is no place
 pub places_from_none : {X : Type 0} (test : X → Bool) (n : ℕ) (xs : List X) → ((i : ℕ) (d : X) → i < length xs → test (get_or xs i d) ≡ false) → places_from test n xs ≡ []
 places_from_none test n [] none = refl
 places_from_none test n (x ∷ xs) none = ap₂ (λ b ns. cons_if b n ns) (none 0 x (omega arith)) (places_from_none test (n + 1) xs (λ i d inside. none (suc i) d (omega arith)))
@@ -117,7 +117,7 @@ places_from-set_same test n [] i y d same = refl
 places_from-set_same test n (x ∷ xs) zero y d same = ap (λ b. cons_if b n (places_from test (n + 1) xs)) same
 places_from-set_same test n (x ∷ xs) (suc i) y d same = ap (cons_if (test x) n) (places_from-set_same test (n + 1) xs i y d same)
 
--- the places before i, i itself and those behind it
+-- the places before i, i itself and those after it
 pub places_from_split : {X : Type 0} (test : X → Bool) (n : ℕ) (xs : List X) (i : ℕ) (d : X) → i < length xs
     → places_from test n xs ≡ places_from test n (take i xs) ++ cons_if (test (get_or xs i d)) (n + i) (places_from test (n + i + 1) (drop (suc i) xs))
 places_from_split test n [] i d inside = absurd (omega arith)
@@ -142,11 +142,11 @@ filter-cons_if_dropped : (keep : ℕ → Bool) (b : Bool) (n : ℕ) (ns : List �
 filter-cons_if_dropped keep true n ns dropped = ap (λ b. cond b (n ∷ filter keep ns) (filter keep ns)) dropped
 filter-cons_if_dropped keep false n ns dropped = refl
 
--- whether k is another number than m
+-- whether k differs from m
 abbrev pub is_other : ℕ → ℕ → Bool
 is_other m k = not (eqb k m)
 
--- a new element that fails takes its place away
+-- a new element that fails removes its place
 pub places_from-set_fails : {X : Type 0} (test : X → Bool) (n : ℕ) (xs : List X) (i : ℕ) (y : X) → i < length xs → test y ≡ false → places_from test n (set xs i y) ≡ filter (is_other (n + i)) (places_from test n xs)
 places_from-set_fails test n [] i y inside fails = absurd (omega arith)
 places_from-set_fails test n (x ∷ xs) zero y inside fails =
@@ -171,7 +171,7 @@ above_middle before m behind k pairs i =
     let less = pairs (length before) (length before + suc found.0) k (omega arith) (omega (arith, found.1, length-append before (m ∷ behind))) in
     omega (arith, less, get_or-append-add before (m ∷ behind) (suc found.0) k, found.2, get_or_at before m behind k (length before) refl)
 
--- the same, where the place is pointed at between others
+-- the same if the place is between others
 pub places_from-set_removes : {X : Type 0} (test : X → Bool) (n : ℕ) (xs : List X) (i : ℕ) (y : X) (before behind : List ℕ) → i < length xs → test y ≡ false → places_from test n xs ≡ before ++ (n + i) ∷ behind
     → places_from test n (set xs i y) ≡ before ++ behind
 places_from-set_removes test n xs i y before behind inside fails e =
@@ -182,7 +182,7 @@ places_from-set_removes test n xs i y before behind inside fails e =
     let gone : filter keep ((n + i) ∷ behind) ≡ filter keep behind = filter-cons_if_dropped keep true (n + i) behind (ap not (eq-eqb (n + i) (n + i) refl)) in
     places_from-set_fails test n xs i y inside fails ∙ ap (filter keep) e ∙ filter-append keep before ((n + i) ∷ behind) ∙ ap₂ (λ ks ms. ks ++ ms) front (gone ∙ back)
 
--- a new element that passes, behind all others that do, adds its place at the end
+-- a new element that passes, after all others that do, appends its place
 pub places_from-set_last : {X : Type 0} (test : X → Bool) (n : ℕ) (xs : List X) (i : ℕ) (y : X) → i < length xs → test y ≡ true → ((k : ℕ) (d : X) → i ≤ k → k < length xs → test (get_or xs k d) ≡ false)
     → places_from test n (set xs i y) ≡ places_from test n xs ++ (n + i) ∷ []
 places_from-set_last test n [] i y inside passes none = absurd (omega arith)
@@ -194,7 +194,7 @@ places_from-set_last test n (x ∷ xs) (suc i) y inside passes none =
     ap (cons_if (test x) n) (places_from-set_last test (n + 1) xs i y (omega arith) passes (λ k d le lt. none (suc k) d (omega arith) (omega arith)) ∙ ap (λ k. places_from test (n + 1) xs ++ k ∷ []) (sym (one_more n i)))
     ∙ cons_if-append (test x) n (places_from test (n + 1) xs) ((n + suc i) ∷ [])
 
--- ---- the first place: what stands there passes, and without it the others are left
+-- ---- the first place: its element passes, and the rest are the other places
 pub record IsFirstPlace {X : Type 0} (test : X → Bool) (n : ℕ) (xs : List X) (j : ℕ) (rest : List ℕ) : Type 0 where
   pub index : ℕ
   pub from : j ≡ n + index
@@ -223,7 +223,7 @@ first_place test n (x ∷ xs) j rest e =
     })
     (cases_Bool (test x))
 
--- ---- a test on numbers that holds of each place
+-- ---- a property of numbers that holds for each place
 pub list_all_at_place : {X : Type 0} (good : ℕ → Bool) (test : X → Bool) (n : ℕ) (xs : List X) (i : ℕ) (d : X) → list_all good (places_from test n xs) ≡ true → i < length xs → test (get_or xs i d) ≡ true → good (n + i) ≡ true
 list_all_at_place good test n xs i d each inside passes = list_all_at_In good each (In-places_from test n xs i d inside passes)
 
@@ -231,7 +231,7 @@ pub list_all_from_places : {X : Type 0} (good : ℕ → Bool) (test : X → Bool
 list_all_from_places good test n xs d each =
     list_all_from_In good (places_from test n xs) (λ j i. let place = place_at_In test n xs j i in ap good place.from ∙ each place.index place.inside (place.passes d))
 
--- ---- where p passes more often than q, it passes somewhere without q
+-- ---- if more elements pass p than q, one of them passes p and not q
 pub record PassesWithout {X : Type 0} (p q : X → Bool) (xs : List X) : Type 0 where
   pub index : ℕ
   pub inside : index < length xs
