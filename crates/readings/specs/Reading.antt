@@ -1,27 +1,27 @@
--- A reading gives a value, or the first fault. Steps follow one another, and the first fault ends them.
+-- A reading gives a value or the first fault. Steps run in order, and the first fault ends them.
 use Rattle.std.specs.Prelude.{ℕ, ◌+◌, Bool, if◌then◌else◌, List, [], ◌∷◌, Option, None, Some, Result, Ok, Err}
 
--- the second step reads with what the first one gave
+-- the second step uses the value of the first
 infixl 10 ◌>>=◌
 abbrev pub ◌>>=◌ : {A B F : Type 0} → Result A F → (A → Result B F) → Result B F
 (Ok x) >>= f = f x
 (Err e) >>= f = Err e
 
--- nothing to give, and a fault where the test fails
+-- succeeds if the test holds, and otherwise fails with the fault
 abbrev pub holds_or : {F : Type 0} → Bool → F → Result (Unit {0}) F
 holds_or b fault = if b then Ok tt else Err fault
 
--- the value, and a fault where there is none
+-- the value, or the fault if there is none
 abbrev pub some_or : {A F : Type 0} → Option A → F → Result A F
 some_or (Some x) fault = Ok x
 some_or None fault = Err fault
 
--- a check of each element at its place, the first place being i
+-- checks each element with its index, counted from i
 abbrev pub check_each : {X F : Type 0} → (ℕ → X → Result (Unit {0}) F) → ℕ → List X → Result (Unit {0}) F
 check_each check i [] = Ok tt
 check_each check i (x ∷ xs) = check i x >>= λ _. check_each check (i + 1) xs
 
--- what each element gives at its place, the first place being i
+-- reads each element with its index, counted from i
 abbrev pub read_each : {X Y F : Type 0} → (ℕ → X → Result Y F) → ℕ → List X → Result (List Y) F
 read_each read i [] = Ok []
 read_each read i (x ∷ xs) = read i x >>= λ y. read_each read (i + 1) xs >>= λ ys. Ok (y ∷ ys)

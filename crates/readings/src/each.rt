@@ -1,4 +1,4 @@
-//! Elements that are read one after another.
+//! Reading the elements of a list in order.
 
 ghost use Rattle.std.specs.Prelude.{◌≡◌};
 ghost use Rattle.std.specs.Borrow.{Bor};
@@ -7,7 +7,8 @@ ghost use Rattle.readings.specs.Each.{IsReadOfEach};
 use crate::ReadError;
 use std::alloc::Global;
 
-/// What each element gives at its place, or the first error. The reader is told the element's place and the element.
+/// Reads each element and returns the values, or the first error. Calls the reader with each
+/// element and its index.
 pub fn read_each<'a, X, Y: Drop, F, R>(
     alloc: Global,
     elements: &'a [X],

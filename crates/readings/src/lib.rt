@@ -1,7 +1,7 @@
-//! What a reader gives: a value, or the first fault of a fixed order.
+//! Readers, which return a value or the first fault in a fixed order.
 //!
-//! The definitions in `specs/` let a reader's contract be one line: what it returned is what the definition of the same
-//! name gives.
+//! With the definitions in `specs/`, the contract of a reader is one line: it returns the value of
+//! the definition with the same name.
 #![tactic(auto)]
 
 mod each;

@@ -1,16 +1,16 @@
-//! Why a reader gave nothing.
+//! The error of a reader.
 
 ghost use Rattle.std.specs.Prelude.{◌≡◌};
 ghost use Rattle.readings.specs.declared.read_error.ReadError.TheVariants.{Memory};
 
 use std::alloc::{AllocError, AllocFailed};
 
-/// Why a reader gave nothing.
+/// The error of a reader.
 #[derive(Debug, Drop)]
 pub enum ReadError<F> {
-    /// Memory ran out.
+    /// Out of memory.
     Memory,
-    /// The first fault of what was read.
+    /// The first fault of the input.
     Fault(F),
 }
 
