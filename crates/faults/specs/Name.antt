@@ -1,4 +1,4 @@
--- The names of the faults by their numbers, and the words with which a fault's line begins.
+-- The names of the faults by their numbers, and the start of a fault's text.
 use Rattle.std.specs.Prelude.{ℕ, ◌==◌, ◌++◌, List, if◌then◌else◌, codes, decimal}
 use Rattle.faults.specs.declared.number.TheConstants.{NOT_TOML, TOO_MANY, UNKNOWN_KEY, MISSING_KEY, WRONG_TYPE, BAD_NAME, DOUBLE_NAME, BAD_NUMBER, NO_SUCH_POOL, NO_SUCH_CLASS, BAD_ACTION, SLOT_OPEN, SLOT_EMPTY, MEMORY, NOT_JSON, WRONG_SHAPE, WEIGHT_TOO_LARGE, VERSION, CERT_TOO_LONG, RUN_TOO_LARGE, STRANGE, MIXED, GATE, NO_SEPARATOR, BAD_EVENT, INPUT_TOO_LONG, BAD_RECORDING, READ_FAILED, WRITE_FAILED}
 

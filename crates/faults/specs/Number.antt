@@ -1,8 +1,8 @@
--- The numbers of the faults, written out: definitions and code read them from the constants that are named here.
+-- The numbers of the faults. Definitions and code use the constants.
 use Rattle.std.specs.Prelude.{◌≡◌}
 use Rattle.faults.specs.declared.number.TheConstants as fault
 
--- the numbers by which faults are told
+-- the number of each fault
 pub record FaultNumbersAreStated : Type 0 where
   pub not_toml : fault.NOT_TOML ≡ 1
   pub too_many : fault.TOO_MANY ≡ 2

@@ -1,4 +1,4 @@
-//! How the line of a fault begins.
+//! The start of a fault's text.
 
 ghost use Rattle.std.specs.Prelude.{Some};
 ghost use Rattle.faults.specs.Name as spec;
@@ -6,8 +6,8 @@ ghost use Rattle.faults.specs.Name as spec;
 use crate::name_of;
 use std::fmt;
 
-/// The number and the name of a fault, with which its line begins, as `fault 6 BadName`. What stands behind them says
-/// where the fault is.
+/// The number and name at the start of a fault's text, such as `fault 6 BadName`. The place of the
+/// fault can follow.
 #[derive(Clone, Copy, Debug, PartialEq, Eq)]
 pub struct Head(pub u8);
 

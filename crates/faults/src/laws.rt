@@ -1,8 +1,8 @@
-//! A law of the numbers, the contract of a function with nothing to do.
+//! A law about the fault numbers, as the contract of an empty function.
 
 ghost use Rattle.faults.specs.Number.{FaultNumbersAreStated};
 
-/// The numbers of the faults are those that the documents name.
+/// Proves that the numbers of the faults are the documented ones.
 pub fn fault_numbers_are_stated()
     ensures { FaultNumbersAreStated }
 {}

@@ -1,5 +1,5 @@
-//! The faults that the program tells: one table of their numbers and names, and the words with which the line of each
-//! begins.
+//! The faults that the program reports: a table of their numbers and names, and the start of the
+//! text of each.
 #![tactic(auto)]
 
 mod head;

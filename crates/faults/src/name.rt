@@ -5,7 +5,8 @@ ghost use Rattle.faults.specs.Name as spec;
 
 use crate::number::*;
 
-/// The name of the fault with this number, as `BadName` for 6, and `Unknown` where no fault has the number.
+/// Returns the name of the fault with this number, such as `BadName` for 6, or `Unknown` if no
+/// fault has the number.
 pub fn name_of(number: u8) -> &'static str
     ensures { result.now ≡ spec.name_of number }
 {

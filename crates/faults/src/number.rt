@@ -1,75 +1,76 @@
 //! The numbers of the faults.
 
-// ---- of a plan
+// ---- faults of a plan
 
 /// The text is not UTF-8, or not TOML.
 pub const NOT_TOML: u8 = 1;
-/// The text is too long, or a list has too many entries, or a body too many actions.
+/// The text is too long, a list has too many entries, or a body has too many actions.
 pub const TOO_MANY: u8 = 2;
-/// A table has a key that no plan has.
+/// A table has an unknown key.
 pub const UNKNOWN_KEY: u8 = 3;
 /// A table lacks a key.
 pub const MISSING_KEY: u8 = 4;
-/// A value is of another type than its key wants.
+/// A value has the wrong type for its key.
 pub const WRONG_TYPE: u8 = 5;
-/// A name is not a small letter with at most 31 small letters, digits and `_` behind it.
+/// A name is not a lowercase letter followed by at most 31 lowercase letters, digits and `_`.
 pub const BAD_NAME: u8 = 6;
 /// An earlier entry of the list has the name.
 pub const DOUBLE_NAME: u8 = 7;
-/// A size, a count or a length of work is out of its range.
+/// A size, a count or a length of work is out of range.
 pub const BAD_NUMBER: u8 = 8;
-/// A class names a pool that there is not.
+/// A class names a pool that does not exist.
 pub const NO_SUCH_POOL: u8 = 9;
-/// A submit names a class that there is not.
+/// A submit names a class that does not exist.
 pub const NO_SUCH_CLASS: u8 = 10;
-/// The text of an action is none of the four forms.
+/// The text of an action has none of the four forms.
 pub const BAD_ACTION: u8 = 11;
-/// A submit fills a slot that is filled already.
+/// A submit fills a slot that is already filled.
 pub const SLOT_OPEN: u8 = 12;
-/// A get names a slot that is empty, or a position at which no future waits for it.
+/// A get names an empty slot, or a position without a pending future.
 pub const SLOT_EMPTY: u8 = 13;
 
-// ---- of memory
+// ---- out of memory
 
 /// Memory ran out.
 pub const MEMORY: u8 = 20;
 
-// ---- of a certificate
+// ---- faults of a certificate
 
 /// The text is not JSON.
 pub const NOT_JSON: u8 = 30;
-/// A key is missing or unknown, or a value is of another type, length or range than its key wants.
+/// A key is missing or unknown, or a value has the wrong type, length or range for its key.
 pub const WRONG_SHAPE: u8 = 31;
 /// A number is above 1,000,000,000.
 pub const WEIGHT_TOO_LARGE: u8 = 32;
-/// The version is none that is read.
+/// The version is not supported.
 pub const VERSION: u8 = 33;
 /// The text is too long.
 pub const CERT_TOO_LONG: u8 = 34;
 
-// ---- of a run
+// ---- faults of a run
 
-/// A limit of a run is passed.
+/// A run exceeds a limit.
 pub const RUN_TOO_LARGE: u8 = 40;
-/// A receipt names what the history does not have, or what is not of its thread.
+/// A receipt names an event that the history does not have, or an event of another thread.
 pub const STRANGE: u8 = 41;
-/// The receipts are not those of the history, each once.
+/// The receipts are not the events of the history, each exactly once.
 pub const MIXED: u8 = 42;
-/// The gate of the declared work failed.
+/// The gate for declared work failed.
 pub const GATE: u8 = 43;
 
-// ---- of an input
+// ---- faults of an input
 
 /// No line is `%%`.
 pub const NO_SEPARATOR: u8 = 50;
-/// A line of events is none of the five forms, or names a pool that there is not.
+/// A line of events has none of the five forms, or names a pool that does not exist.
 pub const BAD_EVENT: u8 = 51;
-/// The input, or its event lines, are too long.
+/// The input or its event lines are too long.
 pub const INPUT_TOO_LONG: u8 = 52;
-/// A line of a recording has none of the forms of a line, or breaks a rule of the lines before it.
+/// A line of a recording has none of the forms of a line, or breaks a rule given the lines before
+/// it.
 pub const BAD_RECORDING: u8 = 53;
 
-// ---- of input and output
+// ---- input and output
 
 /// Reading failed.
 pub const READ_FAILED: u8 = 60;
