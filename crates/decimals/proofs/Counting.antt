@@ -6,13 +6,13 @@ use Rattle.std.proofs.lemmas.Bool.Decides.{nat_tests}
 use Rattle.std.proofs.lemmas.Fmt.{decimal_digit, decimal_step}
 use Rattle.decimals.specs.Tens.{tens_text}
 
--- a number above 0 is its digits
+-- the text of tens above 0 is their decimal digits
 pub tens_text_above : (tens : ℕ) → 0 < tens → tens_text tens ≡ decimal tens
 tens_text_above tens above =
     let other : (tens == 0) ≡ false = grind (arith, nat_tests) in
     ap (λ b. cond b [] (decimal tens)) other
 
--- the tens and the last digit behind them are the number
+-- the tens followed by the last digit are the number
 pub tens_text_digit : (tens digit : ℕ) → digit < 10 → tens * 10 + digit < 2 ^ 64 → tens_text tens ++ (48 + digit) ∷ [] ≡ decimal (tens * 10 + digit)
 tens_text_digit zero digit one fits =
     let same : zero * 10 + digit ≡ digit = omega arith in
@@ -24,7 +24,7 @@ tens_text_digit (suc tens) digit one fits =
     ap₂ (λ (q r : ℕ). decimal q ++ (48 + r) ∷ []) (digits_div (suc tens) one) (digits_mod (suc tens) one) in
     ap (λ (ds : List ℕ). ds ++ (48 + digit) ∷ []) (tens_text_above (suc tens) above) ∙ sym (decimal_step (suc tens * 10 + digit) many fits ∙ parts)
 
--- the last digit behind the others
+-- the last digit is appended to the others
 pub pushed_digit : {T E : Type 0} (r : Result T E) (new middle old front last : List ℕ) (tens digit number : ℕ) → middle ≡ old ++ front → front ≡ tens_text tens → last ≡ (48 + digit) ∷ []
     → new ≡ cond (is_ok r) (middle ++ last) middle → digit < 10 → tens * 10 + digit < 2 ^ 64 → tens * 10 + digit ≡ number → OnOk r (new ≡ old ++ decimal number)
 pushed_digit (Err e) new middle old front last tens digit number before is_front is_last pushed one fits is = tt

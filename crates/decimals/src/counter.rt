@@ -1,4 +1,4 @@
-//! A number that counts up.
+//! A counter with a cached text.
 
 ghost use Rattle.std.specs.Prelude.{◌≡◌, ◌+◌, ◌<◌, ◌^◌, OnOk, OnErr, decimal};
 ghost use Rattle.decimals.specs.Pushed.{Pushes};
@@ -7,9 +7,9 @@ use itoa::Buffer;
 use std::alloc::{AllocError, Global};
 use std::marker::Model;
 
-/// A number that counts up by one.
+/// A counter that counts up by one.
 ///
-/// The digits before its last one are kept as text, and change with each tenth number alone.
+/// Stores the text of all digits except the last. That text changes only with every tenth number.
 #[derive(Debug, Drop)]
 pub struct Counter {
     front: String,
@@ -29,7 +29,7 @@ impl Model for Counter {
 }
 
 impl Counter {
-    /// A counter at 0.
+    /// Creates a counter at 0.
     pub fn new(alloc: Global) -> Counter
         ensures { result ≡ 0 }
     {
@@ -40,11 +40,11 @@ impl Counter {
         }
     }
 
-    /// Counts one more.
+    /// Increments the counter.
     ///
     /// # Errors
     ///
-    /// [`AllocError`] where memory runs out. The counter is then as before.
+    /// Returns [`AllocError`] if memory runs out. The counter is then unchanged.
     #[inline(always)]
     #[tactic(auto, using(crate::proofs::Counting::tens_text_above))]
     pub fn count(&mut self) -> Result<(), AllocError>
@@ -64,18 +64,18 @@ impl Counter {
         Ok(())
     }
 
-    /// How far it has counted.
+    /// Returns the value of the counter.
     pub fn get(&self) -> u64
         ensures { result ≡ self.now }
     {
         self.tens * 10 + u64::from(self.last_digit)
     }
 
-    /// Puts the number behind the text, in decimal digits.
+    /// Appends the number in decimal digits.
     ///
     /// # Errors
     ///
-    /// [`AllocError`] where memory runs out. The text may then end with the first digits.
+    /// Returns [`AllocError`] if memory runs out. The text may then end with the first digits.
     #[inline(always)]
     #[tactic(auto, using(crate::proofs::Counting::tens_text_digit))]
     pub fn push_to(&self, text: &mut String) -> Result<(), AllocError>

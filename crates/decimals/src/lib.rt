@@ -1,5 +1,5 @@
-//! Numbers in the texts of answers. A formatter serves any value and any padding, at some thirty instructions more for
-//! each number.
+//! Decimal numbers in the texts of answers. A general formatter, which supports any value and
+//! padding, would take about thirty more instructions for each number.
 #![tactic(auto)]
 
 ghost use Rattle.std.specs.Prelude.{◌≡◌, OnErr, string_bytes, decimal};
@@ -11,11 +11,11 @@ pub use counter::Counter;
 use itoa::Buffer;
 use std::alloc::AllocError;
 
-/// Puts the number behind the text, in decimal digits.
+/// Appends the number in decimal digits.
 ///
 /// # Errors
 ///
-/// [`AllocError`] where memory runs out. The text is then as before.
+/// Returns [`AllocError`] if memory runs out. The text is then unchanged.
 #[inline(always)]
 #[tactic(auto, using(std::proofs::lemmas::Fmt::decimal_digit))]
 pub fn push_number(text: &mut String, number: u64) -> Result<(), AllocError>
