@@ -1,4 +1,4 @@
--- A text is what stands before the first byte of one kind, that byte, and what stands behind it, or it has no such byte.
+-- A text is the part before the first byte with a given value, that byte, and the part after it, unless it has no such byte.
 use Rattle.std.proofs.Common.{◌≡◌, inl, inr, ℕ, suc, ◌+◌, ◌-◌, ◌<◌, ◌≤◌, true, false, not, ◌==◌, nat_lt, List, [], ◌∷◌, ◌++◌, length, take, drop, get_or, position, Some, None, refl, sym, ap, ap₂, subst, ◌∙◌, arith, append_assoc, length-append, get_or-append-add, take-append-drop, length-drop}
 use Rattle.std.specs.List.{All, position_or_len, before_first, after_first}
 use Rattle.std.proofs.Math.Seq.{take-append-add}
@@ -11,7 +11,7 @@ use Rattle.line_words.specs.Pieces.{is_newline, without_last_newline, lines_of, 
 use Rattle.line_words.proofs.Splits.{has_no, cut_at}
 use Rattle.line_words.proofs.LastNewline.{lines_of_some, cut_off, stays}
 
--- the text before the first such byte, and behind it
+-- the parts before and after the first such byte
 abbrev pub before : ℕ → List ℕ → List ℕ
 before c text = before_first (λ b. b == c) text
 
@@ -21,13 +21,13 @@ behind c text = after_first (λ b. b == c) text
 abbrev pub place : ℕ → List ℕ → ℕ
 place c text = position_or_len (λ b. b == c) text
 
--- such a byte stands in the text
+-- the text has such a byte
 pub cut_there : (c : ℕ) (text : List ℕ) → place c text < length text → text ≡ before c text ++ c ∷ behind c text
 cut_there c text within =
     let here : get_or text (place c text) 0 ≡ c = eqb-true _ c (passes_at_first (λ b. b == c) text 0 within) in
     split_at_first (λ b. b == c) text 0 within ∙ ap (λ (b : ℕ). before c text ++ b ∷ behind c text) here
 
--- no such byte does
+-- the text has no such byte
 pub uncut : (c : ℕ) (text : List ℕ) → length text ≤ place c text → (text ≡ before c text) × (behind c text ≡ [])
 uncut c text past = (sym (take_all (place c text) text past), drop_all (place c text + 1) text (omega arith))
 
@@ -57,7 +57,7 @@ first_nowhere text none = (uncut 10 text (none_found text none)).0
 pub behind_nowhere : (text : List ℕ) → position is_newline text ≡ None → [] ≡ behind_line text
 behind_nowhere text none = sym (uncut 10 text (none_found text none)).1
 
--- no line ends within this front
+-- a prefix without a newline
 pub first_behind : (front rest : List ℕ) → has_no 10 front ≡ true → (first_line (front ++ rest) ≡ front ++ first_line rest) × (behind_line (front ++ rest) ≡ behind_line rest)
 first_behind [] rest none = (refl, refl)
 first_behind (b ∷ front) rest none =
@@ -69,7 +69,7 @@ first_behind (b ∷ front) rest none =
       ap (λ n. drop (n + 1) (b ∷ (front ++ rest))) one ∙ ap (λ n. drop n (b ∷ (front ++ rest))) one_more ∙ further.1,
     )
 
--- the text is its first line and more
+-- the text is its first line and the rest
 pub first_and_more : (text : List ℕ) → text ≡ first_line text ++ drop (place 10 text) text
 first_and_more text = sym (take-append-drop (place 10 text) text)
 
@@ -90,7 +90,7 @@ pub no_lines : lines_of [] ≡ []
 unfolding lines_of
 no_lines = refl
 
--- the lines of a text are the first one and those of what stands behind it
+-- the lines of a text are the first line and the lines of the text after it
 pub lines_first : (text : List ℕ) → 0 < length text → lines_of text ≡ first_line text ∷ lines_of (behind_line text)
 lines_first text some =
     elim (cases_lt (place 10 text) (length text)) [
@@ -123,6 +123,6 @@ lines_first text some =
               ∙ ap (λ (ls : List (List ℕ)). front ∷ ls) (sym (ap lines_of nothing ∙ no_lines))
         ]
 
--- what stands behind the first line is shorter
+-- the text after the first line is shorter
 pub behind_shorter : (text : List ℕ) → 0 < length text → length (behind_line text) < length text
 behind_shorter text some = omega (arith, length-drop (place 10 text + 1) text)

@@ -1,4 +1,4 @@
--- A text before and behind its first space, and its words.
+-- The parts of a text before and after its first space, and its words.
 use Rattle.std.proofs.Common.{◌≡◌, inl, inr, ℕ, ◌+◌, ◌-◌, ◌<◌, true, not, nat_lt, List, [], ◌∷◌, ◌++◌, length, take, drop, get_or, position, Option, Some, None, option_map, refl, sym, ap, ap₂, ◌∙◌, arith, append_assoc, length-append, length-drop, take_at, drop_at}
 use Rattle.std.specs.List.{position_or_len, before_first, after_first}
 use Rattle.std.proofs.lemmas.Bool.{and_parts, cases_lt, cond-true, lt-ltb, ltb-true, eqb-true}
@@ -15,14 +15,14 @@ pub split_nowhere : (text : List ℕ) → position is_space text ≡ None → sp
 unfolding split_space
 split_nowhere text e = rw e refl
 
--- what an index range past the space reads
+-- an index range past the space
 pub split_at : (text : List ℕ) (place : ℕ) → position is_space text ≡ Some place → Some (take place text, take (length text - (place + 1)) (drop (place + 1) text)) ≡ split_space text
 unfolding split_space
 split_at text place e =
     let whole : take (length text - (place + 1)) (drop (place + 1) text) ≡ drop (place + 1) text = take_rest text (place + 1) in
     rw (e, whole) refl
 
--- ---- a first space that is there
+-- ---- the text has a first space
 place_of_space : (front rest : List ℕ) → has_no 32 front ≡ true → position_or_len is_space (front ++ 32 ∷ rest) ≡ length front
 place_of_space [] rest none = refl
 place_of_space (b ∷ front) rest none =
@@ -53,7 +53,7 @@ split_parts text words read =
 abbrev pub place : List ℕ → ℕ
 place text = position_or_len is_space text
 
--- the first space is there
+-- the index of the first space
 pub space_there : (text word rest : List ℕ) → Some (word, rest) ≡ split_space text → (place text < length text) × (take (place text) text ≡ word) × (drop (place text + 1) text ≡ rest)
 unfolding split_space
 space_there text word rest read =

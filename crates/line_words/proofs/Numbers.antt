@@ -1,4 +1,4 @@
--- Numbers that a loop reads digit by digit, at the front of a text.
+-- Numbers at the start of a text that a loop parses digit by digit.
 use Rattle.std.proofs.Common.{◌≡◌, ◌≢◌, inl, inr, ℕ, zero, suc, ◌+◌, ◌-◌, ◌*◌, ◌<◌, ◌≤◌, true, false, not, ◌==◌, ◌&&◌, List, [], ◌∷◌, length, get_or, take, drop, Some, None, refl, sym, ap, ◌∙◌, arith}
 use Rattle.std.specs.Char.{is_ascii_digit, digit_value}
 use Rattle.std.specs.List.{list_all}
@@ -25,7 +25,7 @@ pub not_zero : (n : ℕ) → (n == 0) ≡ false → 0 < n
 not_zero n other = grind (arith, nat_tests)
 
 -- ---- the loop
--- one more digit
+-- after one more digit
 pub digits_more : (text : List ℕ) (i value : ℕ) → is_ascii_digit (get_or text i 0) ≡ true → i < length text → value ≡ digits_value 10 (take i text)
     → value * 10 + (get_or text i 0 - 48) ≡ digits_value 10 (take (i + 1) text)
 digits_more text i value digit inside e =
@@ -36,7 +36,7 @@ digits_more text i value digit inside e =
 pub more_digits : (text : List ℕ) (i : ℕ) → i < length text → list_all is_ascii_digit (take i text) ≡ true → is_ascii_digit (get_or text i 0) ≡ true → list_all is_ascii_digit (take (i + 1) text) ≡ true
 more_digits text i inside digits digit = list_all_more is_ascii_digit text i 0 inside ∙ and_from _ _ digits digit
 
--- the digits before a place are counted
+-- the bytes before an index are digits and are counted
 pub counted_to : (text : List ℕ) (i : ℕ) → i ≤ length text → list_all is_ascii_digit (take i text) ≡ true → i ≤ digit_count text
 counted_to text zero inside digits = omega arith
 counted_to [] (suc i) inside digits = absurd (omega arith)
@@ -44,7 +44,7 @@ counted_to (b ∷ text) (suc i) inside digits =
     let parts = and_parts (is_ascii_digit b) (list_all is_ascii_digit (take i text)) digits in
     rw parts.0 (omega (arith, counted_to text i (omega arith) parts.1))
 
--- and no more, where the digits end there
+-- if the digits end at the index, it is their number
 pub counted : (text : List ℕ) (i : ℕ) → i ≤ length text → list_all is_ascii_digit (take i text) ≡ true → (i < length text → is_ascii_digit (get_or text i 0) ≡ false) → digit_count text ≡ i
 counted text i inside digits stops =
     let least = counted_to text i inside digits in
@@ -55,7 +55,7 @@ counted text i inside digits stops =
       | inr all ↦ omega arith
     ]
 
--- a number whose first digits are above the limit gives none
+-- if a prefix of the digits is above the limit, the text is not a number
 past_limit : (text : List ℕ) (i value : ℕ) → value ≡ digits_value 10 (take i text) → MAX_LINE_NUMBER < value → number_of text ≡ None
 unfolding number_of
 past_limit text i value e past =
@@ -69,19 +69,19 @@ none_past text i value inside digits e past =
     let front : take i (take n text) ≡ take i text = take-take i n text (counted_to text i inside digits) in
     rw (past_limit (take n text) i value (e ∙ ap (digits_value 10) (sym front)) past) refl
 
--- digits that begin as no number are none
+-- digits that do not begin a number are not a number
 pub none_begun : (text : List ℕ) (i : ℕ) → digit_count text ≡ i → (not (length (take i text) == 0) && not (has_leading_zero (take i text))) ≡ false → None ≡ leading_number text
 unfolding leading_number number_of is_whole_number
 none_begun text i all begins = rw (all, begins) refl
 
--- all digits are read
+-- all digits are parsed
 pub some_read : (text : List ℕ) (i value : ℕ) → digit_count text ≡ i → list_all is_ascii_digit (take i text) ≡ true → (not (length (take i text) == 0) && not (has_leading_zero (take i text))) ≡ true
     → value ≡ digits_value 10 (take i text) → value ≤ MAX_LINE_NUMBER → Some (value, drop i text) ≡ leading_number text
 unfolding leading_number number_of is_whole_number
 some_read text i value all digits begins e within = rw (all, begins, digits, ← e) (grind (arith, nat_tests))
 
 -- ---- a whole text
--- a text with something else in it is no number
+-- a text with another byte in it is not a number
 no_number : (text : List ℕ) (i : ℕ) → i < length text → is_ascii_digit (get_or text i 0) ≡ false → number_of text ≡ None
 unfolding number_of is_whole_number
 no_number text i inside other =
@@ -91,7 +91,7 @@ no_number text i inside other =
 stops_at_count : (text : List ℕ) → digit_count text < length text → is_ascii_digit (get_or text (digit_count text) 0) ≡ false
 stops_at_count text within = prefix_len_stops is_ascii_digit text 0 within
 
--- what is read at the front, and what stands behind it
+-- the parsed number, and the rest
 pub front_read : (text : List ℕ) (n : ℕ) (rest : List ℕ) → Some (n, rest) ≡ leading_number text → (number_of (take (digit_count text) text) ≡ Some n) × (drop (digit_count text) text ≡ rest)
 unfolding leading_number
 front_read text n rest read =
@@ -129,7 +129,7 @@ no_newline b digit = grind (arith, nat_tests)
 no_digit : (b : ℕ) → (b == 10) ≡ true → is_ascii_digit b ≡ false
 no_digit b newline = grind (arith, nat_tests)
 
--- no newline stands within the digits
+-- the digits have no newline
 digits_in_line : (text : List ℕ) → digit_count text ≤ place 10 text
 digits_in_line text =
     elim (cases_lt (place 10 text) (digit_count text)) [
@@ -139,7 +139,7 @@ digits_in_line text =
       | inr more ↦ more
     ]
 
--- the line goes on behind the digits
+-- the line continues after the digits
 line_goes_on : (text : List ℕ) → digit_count text < place 10 text → number_of (first_line text) ≡ None
 line_goes_on text less =
     let inside : place 10 text ≤ length text = no_more_before 10 text in
@@ -165,7 +165,7 @@ line_none text read =
           split_none text (ap (λ i. number_of (take i text)) ends ∙ front_none text read)
     ]
 
--- nothing stands behind the number
+-- the number ends the text
 pub line_last : (text : List ℕ) (n : ℕ) (rest : List ℕ) → Some (n, rest) ≡ leading_number text → length rest ≡ 0 → Some (n, rest) ≡ split_number_line text
 line_last text n rest read none =
     let found = front_read text n rest read in
@@ -173,13 +173,13 @@ line_last text n rest read none =
     let ends : place 10 text ≡ digit_count text = omega (arith, digits_in_line text, no_more_before 10 text) in
     split_some text n rest (line_ends text n rest read ends) (nil_from_length rest none ∙ sym (drop_all (place 10 text + 1) text (omega arith)))
 
--- what stands at the place behind the digits
+-- the byte after the digits
 at_rest : (text : List ℕ) (n : ℕ) (rest : List ℕ) → Some (n, rest) ≡ leading_number text → get_or text (digit_count text) 0 ≡ get_or rest 0 0
 at_rest text n rest read =
     let found = front_read text n rest read in
     ap (λ i. get_or text i 0) (omega arith) ∙ sym (get_or-drop (digit_count text) text 0 0) ∙ ap (λ (t : List ℕ). get_or t 0 0) found.1
 
--- a newline does
+-- it is a newline
 pub line_newline : (text : List ℕ) (n : ℕ) (rest : List ℕ) → Some (n, 10 ∷ rest) ≡ leading_number text → Some (n, rest) ≡ split_number_line text
 line_newline text n rest read =
     let found = front_read text n (10 ∷ rest) read in
@@ -197,7 +197,7 @@ begins_with : (rest : List ℕ) → 0 < length rest → get_or rest 0 0 ≡ 10 �
 begins_with [] more newline = absurd (omega arith)
 begins_with (b ∷ rest) more newline = ap (λ (x : ℕ). x ∷ rest) newline
 
--- something else does
+-- it is another byte
 pub line_more : (text : List ℕ) (n : ℕ) (rest : List ℕ) → Some (n, rest) ≡ leading_number text → 0 < length rest → ((behind : List ℕ) → rest ≢ 10 ∷ behind) → None ≡ split_number_line text
 line_more text n rest read more other =
     let found = front_read text n rest read in

@@ -1,4 +1,4 @@
--- What a reading gives that may give nothing.
+-- The result of an optional parser.
 use Rattle.std.proofs.Common.{◌≡◌, Option, Some, None, option_map, refl}
 use Rattle.std.proofs.lemmas.Option.{none-some, same_Some}
 

@@ -1,15 +1,15 @@
--- Texts that are cut at each byte of one kind, and put together again.
+-- Texts that are split at each byte with a given value, and joined again.
 use Rattle.std.proofs.Common.{◌≡◌, ℕ, zero, suc, ◌+◌, ◌-◌, ◌<◌, Bool, true, false, not, ◌==◌, ◌&&◌, nat_lt, List, [], ◌∷◌, ◌++◌, length, get_or, map, flat_map, refl, sym, ap, ◌∙◌, arith, append_assoc, append-nil, length-append, get_or-append-add}
 use Rattle.std.specs.List.{list_all, slice_split, onto_first, join_with_byte}
 use Rattle.std.proofs.lemmas.Bool.{and_parts, and_from, eq-eqb, ltb-true}
 use Rattle.std.proofs.lemmas.Bool.Decides.{nat_tests}
 use Rattle.std.proofs.lemmas.List.Splits.{slice_split-cons_yes, slice_split-cons_no}
 
--- no byte of the text is this one
+-- the text does not contain the byte
 abbrev pub has_no : ℕ → List ℕ → Bool
 has_no c text = list_all (λ b. not (b == c)) text
 
--- what is cut at this byte
+-- the parts of a text between these bytes
 abbrev pub cut_at : ℕ → List ℕ → List (List ℕ)
 cut_at c text = slice_split (λ b. b == c) text
 
@@ -22,33 +22,33 @@ has_no-append c (b ∷ front) rest fronts rests =
     let parts = and_parts (not (b == c)) (has_no c front) fronts in
     and_from _ _ parts.0 (has_no-append c front rest parts.1 rests)
 
--- a text without the byte is one piece
+-- a text without the byte has one part
 pub cut_nowhere : (c : ℕ) (text : List ℕ) → has_no c text ≡ true → cut_at c text ≡ text ∷ []
 cut_nowhere c [] none = refl
 cut_nowhere c (b ∷ text) none =
     let parts = and_parts (not (b == c)) _ none in
     slice_split-cons_no (λ b. b == c) b text (not_this b c parts.0) ∙ ap (onto_first b) (cut_nowhere c text parts.1)
 
--- the first piece ends at the first such byte
+-- the first part ends at the first such byte
 pub cut_first : (c : ℕ) (front rest : List ℕ) → has_no c front ≡ true → cut_at c (front ++ c ∷ rest) ≡ front ∷ cut_at c rest
 cut_first c [] rest none = slice_split-cons_yes (λ b. b == c) c rest (eq-eqb c c refl)
 cut_first c (b ∷ front) rest none =
     let parts = and_parts (not (b == c)) _ none in
     slice_split-cons_no (λ b. b == c) b (front ++ c ∷ rest) (not_this b c parts.0) ∙ ap (onto_first b) (cut_first c front rest parts.1)
 
--- pieces that are put together with the byte between each two are cut there again
+-- parts without the byte that are joined with it are split into the same parts
 pub cut_joined : (c : ℕ) (piece : List ℕ) (pieces : List (List ℕ)) → list_all (has_no c) (piece ∷ pieces) ≡ true → cut_at c (join_with_byte c (piece ∷ pieces)) ≡ piece ∷ pieces
 cut_joined c piece [] none = cut_nowhere c piece (and_parts (has_no c piece) true none).0
 cut_joined c piece (next ∷ pieces) none =
     let parts = and_parts (has_no c piece) (list_all (has_no c) (next ∷ pieces)) none in
     cut_first c piece (join_with_byte c (next ∷ pieces)) parts.0 ∙ ap (λ (rest : List (List ℕ)). piece ∷ rest) (cut_joined c next pieces parts.1)
 
--- pieces with the byte before each
+-- parts with the byte before each
 pub joined_behind : (c : ℕ) (piece : List ℕ) (pieces : List (List ℕ)) → c ∷ join_with_byte c (piece ∷ pieces) ≡ flat_map (λ x. c ∷ x) (piece ∷ pieces)
 joined_behind c piece [] = ap (λ (x : List ℕ). c ∷ x) (sym (append-nil piece))
 joined_behind c piece (next ∷ pieces) = ap (λ (rest : List ℕ). c ∷ (piece ++ rest)) (joined_behind c next pieces)
 
--- pieces with the byte behind each
+-- parts with the byte after each
 pub joined_before : (c : ℕ) (piece : List ℕ) (pieces : List (List ℕ)) → join_with_byte c (piece ∷ pieces) ++ c ∷ [] ≡ flat_map (λ x. x ++ c ∷ []) (piece ∷ pieces)
 joined_before c piece [] = sym (append-nil (piece ++ c ∷ []))
 joined_before c piece (next ∷ pieces) =
@@ -56,27 +56,27 @@ joined_before c piece (next ∷ pieces) =
     ∙ (ap (λ (rest : List ℕ). piece ++ c ∷ rest) (joined_before c next pieces)
     ∙ sym (append_assoc piece (c ∷ []) (flat_map (λ x. x ++ c ∷ []) (next ∷ pieces))))
 
--- each piece's text is by a function
+-- the text of each part is computed by a function
 pub flat_map-map : {X Y : Type 0} (f : Y → List ℕ) (g : X → Y) (xs : List X) → flat_map f (map g xs) ≡ flat_map (λ x. f (g x)) xs
 flat_map-map f g [] = refl
 flat_map-map f g (x ∷ xs) = ap (λ (rest : List ℕ). f (g x) ++ rest) (flat_map-map f g xs)
 
 -- ---- the last byte
--- at no place stands the byte
+-- no index has the byte
 pub not_at : (c : ℕ) (text : List ℕ) (i : ℕ) → has_no c text ≡ true → i < length text → (get_or text i 0 == c) ≡ false
 not_at c [] i none within = absurd (omega arith)
 not_at c (b ∷ text) zero none within = not_this b c (and_parts (not (b == c)) _ none).0
 not_at c (b ∷ text) (suc i) none within = not_at c text i (and_parts (not (b == c)) _ none).1 (omega arith)
 
--- some byte, and none that is this one
+-- a nonempty text without the byte
 abbrev pub is_piece : ℕ → List ℕ → Bool
 is_piece c text = nat_lt 0 (length text) && has_no c text
 
--- the text is not empty, and does not end with the byte
+-- the text is not empty and does not end with the byte
 abbrev pub EndsOtherwise : ℕ → List ℕ → Type 0
 EndsOtherwise c text = (0 < length text) × ((get_or text (length text - 1) 0 == c) ≡ false)
 
--- pieces put together do not end with the byte between them
+-- nonempty parts joined with the byte do not end with it
 pub joined_ends : (c : ℕ) (piece : List ℕ) (pieces : List (List ℕ)) → list_all (is_piece c) (piece ∷ pieces) ≡ true → EndsOtherwise c (join_with_byte c (piece ∷ pieces))
 joined_ends c piece [] good =
     let parts = and_parts (nat_lt 0 (length piece)) (has_no c piece) (and_parts (is_piece c piece) true good).0 in

@@ -1,4 +1,4 @@
--- Whole numbers: decimal digits without a leading zero other than 0 itself, at most 1,000,000,000.
+-- Unsigned integers: decimal digits without a leading zero, except 0 itself, at most 1,000,000,000.
 use Rattle.std.specs.Prelude.{ℕ, Bool, ◌==◌, ◌&&◌, not, nat_lt, nat_le, if◌then◌else◌, List, length, take, drop, slice_index, Option, Some, None, option_map}
 use Rattle.std.specs.Char.{is_ascii_digit}
 use Rattle.std.specs.List.{list_all, prefix_len}
@@ -10,26 +10,26 @@ use Rattle.job_bodies.specs.declared.limits.TheConstants.{MAX_LINE_NUMBER}
 abbrev pub is_lawful_number : ℕ → Bool
 is_lawful_number n = nat_le n MAX_LINE_NUMBER
 
--- a 0 with something behind it
+-- a 0 followed by another byte
 abbrev pub has_leading_zero : List ℕ → Bool
 has_leading_zero text = nat_lt 1 (length text) && slice_index text 0 == 48
 
--- one digit, or more of which the first is not 0
+-- one digit, or several digits of which the first is not 0
 unfoldable pub is_whole_number : List ℕ → Bool
 is_whole_number text = not (length text == 0) && not (has_leading_zero text) && list_all is_ascii_digit text
 
--- the number that a text writes
+-- the number with this text
 unfoldable pub number_of : List ℕ → Option ℕ
 number_of text = if is_whole_number text && nat_le (digits_value 10 text) MAX_LINE_NUMBER then Some (digits_value 10 text) else None
 
--- how many digits stand at the front of a text
+-- the number of digits at the start of a text
 abbrev pub digit_count : List ℕ → ℕ
 digit_count text = prefix_len is_ascii_digit text
 
--- the number that the digits at the front of a text write, and what stands behind them
+-- the number of the digits at the start of a text, and the rest
 unfoldable pub leading_number : List ℕ → Option (ℕ × List ℕ)
 leading_number text = option_map (λ n. (n, drop (digit_count text) text)) (number_of (take (digit_count text) text))
 
--- the number that the first line of a text writes, and what stands behind that line
+-- the number on the first line of a text, and the text after that line
 abbrev pub split_number_line : List ℕ → Option (ℕ × List ℕ)
 split_number_line text = option_map (λ n. (n, behind_line text)) (number_of (first_line text))

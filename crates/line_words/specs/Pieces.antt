@@ -1,4 +1,4 @@
--- A text in pieces: its lines, and the words of a line.
+-- Splitting a text into lines, and a line into words.
 use Rattle.std.specs.Prelude.{ℕ, Bool, ◌-◌, ◌+◌, ◌==◌, if◌then◌else◌, List, [], length, take, drop, position, slice_index, Option, option_map}
 use Rattle.std.specs.List.{slice_split, before_first, after_first}
 
@@ -8,11 +8,11 @@ is_newline b = b == 10
 abbrev pub is_space : ℕ → Bool
 is_space b = b == 32
 
--- the text without the newline at its end, if it ends with one
+-- the text without its final newline, if it ends with one
 unfoldable pub without_last_newline : List ℕ → List ℕ
 without_last_newline text = if slice_index text (length text - 1) == 10 then take (length text - 1) text else text
 
--- the lines of a text, each without its newline, which the last line may lack; an empty text has none
+-- the lines of a text, each without its newline, which is optional on the last line; an empty text has none
 unfoldable pub lines_of : List ℕ → List (List ℕ)
 lines_of text = if length text == 0 then [] else slice_split is_newline (without_last_newline text)
 
@@ -20,14 +20,14 @@ lines_of text = if length text == 0 then [] else slice_split is_newline (without
 abbrev pub first_line : List ℕ → List ℕ
 first_line text = before_first is_newline text
 
--- what stands behind the first line and its newline
+-- the text after the first line and its newline
 abbrev pub behind_line : List ℕ → List ℕ
 behind_line text = after_first is_newline text
 
--- what stands before and after the first space
+-- the parts before and after the first space
 unfoldable pub split_space : List ℕ → Option (List ℕ × List ℕ)
 split_space text = option_map (λ place. (take place text, drop (place + 1) text)) (position is_space text)
 
--- the words of a text with a space between each two; two spaces have an empty word between them
+-- the words of a text, separated by single spaces; two adjacent spaces have an empty word between them
 unfoldable pub words_of : List ℕ → List (List ℕ)
 words_of text = slice_split is_space text

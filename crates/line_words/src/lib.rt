@@ -1,4 +1,4 @@
-//! The pieces of a text, which are its lines and their words, and the numbers that words write.
+//! Splitting a text into lines and words, and parsing numbers in words.
 #![tactic(auto)]
 
 mod number;

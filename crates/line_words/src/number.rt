@@ -1,11 +1,12 @@
-//! Whole numbers in a text.
+//! Unsigned integers in a text.
 
 ghost use Rattle.std.specs.Prelude.{◌≡◌, ◌==◌, ◌&&◌, not, length, option_map};
 ghost use Rattle.line_words.specs.Number as spec;
 
 use job_bodies::MAX_LINE_NUMBER;
 
-/// The number that a text writes: decimal digits without a leading zero other than `0` itself, at most [`MAX_LINE_NUMBER`].
+/// Parses a number: decimal digits without a leading zero, except `0` itself, at most
+/// [`MAX_LINE_NUMBER`].
 pub fn number_of(text: &[u8]) -> Option<usize>
     ensures { result ≡ spec.number_of text.now }
 {
@@ -17,7 +18,7 @@ pub fn number_of(text: &[u8]) -> Option<usize>
     }
 }
 
-/// The number that the digits at the front of a text write, and what stands behind them.
+/// Parses the digits at the start of a text, and returns the number with the rest.
 pub fn leading_number(text: &[u8]) -> Option<(usize, &[u8])>
     ensures { option_map (λ found. (found.0, found.1.now)) result ≡ spec.leading_number text.now }
 {

@@ -1,9 +1,9 @@
-//! A text in pieces: its lines, and the words of a line.
+//! Splitting a text into lines, and a line into words.
 
 ghost use Rattle.std.specs.Prelude.{◌≡◌, option_map};
 ghost use Rattle.line_words.specs.Pieces as spec;
 
-/// The first line of a text, without its newline, and what stands behind it.
+/// Splits off the first line without its newline, and returns it with the rest.
 pub fn split_line(text: &[u8]) -> (&[u8], &[u8])
     ensures line { result.0.now ≡ spec.first_line text.now }
     ensures behind { result.1.now ≡ spec.behind_line text.now }
@@ -14,7 +14,7 @@ pub fn split_line(text: &[u8]) -> (&[u8], &[u8])
     }
 }
 
-/// What stands before and after the first space.
+/// Splits a text at its first space.
 #[tactic(auto, unfolding(crate::specs::Pieces::split_space))]
 pub fn split_space(text: &[u8]) -> Option<(&[u8], &[u8])>
     ensures { option_map (λ parts. (parts.0.now, parts.1.now)) result ≡ spec.split_space text.now }
