@@ -1,19 +1,19 @@
--- What a sink in memory shows of itself.
+-- The state of a sink in memory.
 use Rattle.std.specs.Prelude.{ℕ, List, Option}
 use Rattle.byte_streams.specs.declared.memory_sink.MemorySink.{MemorySink}
 
--- the bytes that were written so far
+-- the bytes written so far
 abbrev pub written_to : MemorySink → List ℕ
 written_to sink = sink.bytes.items
 
--- the greatest number of bytes that a call takes
+-- the maximum number of bytes that a call accepts
 abbrev pub most_of : MemorySink → ℕ
 most_of sink = sink.most
 
--- how many calls succeed before one fails, if one is still to fail
+-- the number of successful calls before the next failure, if one is due
 abbrev pub calls_before_fault : MemorySink → Option ℕ
 calls_before_fault sink = sink.fault.calls_before
 
--- how many calls have failed
+-- the number of failed calls
 abbrev pub failure_count : MemorySink → ℕ
 failure_count sink = sink.failures.exact.value

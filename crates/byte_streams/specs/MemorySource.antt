@@ -1,4 +1,4 @@
--- What a source in memory shows of itself.
+-- The state of a source in memory.
 use Rattle.std.specs.Prelude.{ℕ, List, Option}
 use Rattle.byte_streams.specs.declared.memory_source.MemorySource.{MemorySource}
 
@@ -6,14 +6,14 @@ use Rattle.byte_streams.specs.declared.memory_source.MemorySource.{MemorySource}
 abbrev pub left : MemorySource → List ℕ
 left source = source.rest.now
 
--- the greatest number of bytes that a call gives
+-- the maximum number of bytes that a call returns
 abbrev pub most_of : MemorySource → ℕ
 most_of source = source.most
 
--- how many calls succeed before one fails, if one is still to fail
+-- the number of successful calls before the next failure, if one is due
 abbrev pub calls_before_fault : MemorySource → Option ℕ
 calls_before_fault source = source.fault.calls_before
 
--- how many calls have failed
+-- the number of failed calls
 abbrev pub failure_count : MemorySource → ℕ
 failure_count source = source.failures.exact.value

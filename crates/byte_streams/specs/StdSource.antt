@@ -1,4 +1,4 @@
--- What a source over a std reader shows of itself.
+-- The state of a source for a std reader.
 use Rattle.std.specs.Prelude.{ℕ}
 use Rattle.byte_streams.specs.declared.std_source.StdSource.{StdSource}
 
@@ -6,6 +6,6 @@ use Rattle.byte_streams.specs.declared.std_source.StdSource.{StdSource}
 abbrev pub reader_of : {R : Type 0} → StdSource R → R
 reader_of source = source.reader
 
--- how many calls have failed
+-- the number of failed calls
 abbrev pub failure_count : {R : Type 0} → StdSource R → ℕ
 failure_count source = source.failures.exact.value

@@ -1,11 +1,11 @@
-//! How many calls of a stream have failed.
+//! The number of failed calls of a stream.
 ghost use Rattle.std.specs.Prelude.{◌≡◌, ℕ, ◌+◌, ◌-◌, ◌^◌, min};
 ghost use Rattle.std.specs.Borrow.{ftrue};
 
 use std::marker::Model;
 
-/// A number that contracts alone see. It takes no bytes, so it never overflows. Nothing in memory
-/// holds it: `Failures` ties it to what the program counts.
+/// A number that only contracts see. It takes no memory and never overflows. `Failures` ties it to
+/// the number that the program counts.
 #[derive(Drop)]
 pub(crate) struct GhostCount {
     pub ghost value: { ℕ },
@@ -29,7 +29,7 @@ impl GhostCount {
     }
 }
 
-/// How many calls have failed: exactly in contracts, and up to `u64::MAX` when the program runs.
+/// The number of failed calls: exact in contracts, and at most `u64::MAX` at run time.
 #[derive(Drop)]
 pub(crate) struct Failures {
     pub(crate) exact: GhostCount,

@@ -1,8 +1,8 @@
-//! Where bytes come from and where they go, and how a failure of either is counted.
+//! Sources and sinks of bytes that count their failed calls.
 //!
-//! A program reads its whole input, up to a limit, by `read_up_to`, makes its whole answer, and only
-//! then writes it by `write_all`. Both work over any `Source` and `Sink`: bytes in memory, for
-//! tests, and whatever std reads and writes.
+//! A program reads its whole input, up to a limit, with `read_up_to`. It computes its whole answer,
+//! and only then writes it with `write_all`. Both accept any `Source` or `Sink`: bytes in memory,
+//! for tests, and every std reader and writer.
 #![tactic(auto)]
 
 mod failures;

@@ -1,4 +1,4 @@
-//! A sink that keeps what it is given in memory, for tests.
+//! A sink in memory, for tests.
 ghost use Rattle.std.specs.Prelude.{◌≡◌, ◌+◌, ◌-◌, ◌<◌, ◌^◌, ◌++◌, min, [], Some, None, IfOk, OnErr, is_ok, if◌then◌else◌, length, take, IsErr};
 ghost use Rattle.std.specs.Io.{WritesAtMost};
 ghost use Rattle.std.specs.Io.KnownBytes.{WriteAppends};
@@ -9,7 +9,7 @@ use crate::scripted_fault::ScriptedFault;
 use crate::{IoFault, Sink};
 use std::alloc::Global;
 
-/// Keeps the bytes that it is given, in the order in which they come.
+/// A sink that stores the bytes in order.
 #[derive(Drop)]
 pub struct MemorySink {
     bytes: Vec<u8>,
@@ -21,7 +21,7 @@ pub struct MemorySink {
 impl MemorySink {
     ghost use Rattle.byte_streams.specs.MemorySink.{written_to, most_of, calls_before_fault, failure_count};
 
-    /// Takes all bytes of a call, and fails only where memory is refused.
+    /// Creates a sink that accepts all bytes of each call, and fails only if memory runs out.
     pub fn new(alloc: Global) -> MemorySink
         ensures written { written_to result ≡ [] }
         ensures most { most_of result ≡ 2 ^ 64 - 1 }
@@ -36,8 +36,8 @@ impl MemorySink {
         }
     }
 
-    /// The same sink, which takes at most `most` bytes in a call. With 0 each call that has a byte
-    /// to write fails.
+    /// Limits the number of bytes that one call accepts. With a limit of 0, each call with at least
+    /// one byte fails.
     pub fn at_most(mut self, most: usize) -> MemorySink
         ensures written { written_to result ≡ written_to self }
         ensures most { most_of result ≡ most }
@@ -48,7 +48,7 @@ impl MemorySink {
         self
     }
 
-    /// The same sink, one call of which fails: the one after `calls` calls that don't.
+    /// Makes one call fail: the one after `calls` successful calls.
     pub fn failing_after(mut self, calls: u64) -> MemorySink
         ensures written { written_to result ≡ written_to self }
         ensures most { most_of result ≡ most_of self }
@@ -59,14 +59,14 @@ impl MemorySink {
         self
     }
 
-    /// What was written so far.
+    /// Returns the bytes written so far.
     pub fn written(&self) -> &[u8]
         ensures { result.now ≡ written_to self.now }
     {
         self.bytes.as_slice()
     }
 
-    /// How many calls have failed.
+    /// Returns the number of failed calls.
     pub fn failures(&self) -> u64
         ensures { result ≡ min (failure_count self.now) (2 ^ 64 - 1) }
     {

@@ -1,4 +1,4 @@
-//! A source over bytes in memory, for tests.
+//! A source of bytes in memory, for tests.
 ghost use Rattle.std.specs.Prelude.{◌≡◌, ◌+◌, ◌-◌, ◌<◌, ◌^◌, ◌↔◌, min, Some, None, Ok, IsErr, IfOk, OnErr, is_ok, if◌then◌else◌, length, take, drop, ◌++◌};
 ghost use Rattle.std.specs.Io.{ReadsAtMost};
 ghost use Rattle.std.specs.Io.KnownBytes.{ReadConsumes};
@@ -8,7 +8,7 @@ use crate::failures::Failures;
 use crate::scripted_fault::ScriptedFault;
 use crate::{IoFault, Source};
 
-/// Gives the bytes that it was made of, once, from their front.
+/// A source that returns given bytes once, in order.
 #[derive(Drop)]
 pub struct MemorySource<'a> {
     rest: &'a [u8],
@@ -21,7 +21,7 @@ pub struct MemorySource<'a> {
 impl<'a> MemorySource<'a> {
     ghost use Rattle.byte_streams.specs.MemorySource.{left, most_of, calls_before_fault, failure_count};
 
-    /// Gives `bytes`, as many in a call as find room, and never fails.
+    /// Creates a source of `bytes`. Each call returns as many of them as fit, and never fails.
     pub fn new(bytes: &'a [u8]) -> MemorySource<'a>
         ensures left { left result ≡ bytes.now }
         ensures most { most_of result ≡ 2 ^ 64 - 1 }
@@ -36,7 +36,7 @@ impl<'a> MemorySource<'a> {
         }
     }
 
-    /// The same source, which gives at most `most` bytes in a call.
+    /// Limits the number of bytes that one call returns.
     pub fn at_most(mut self, most: usize) -> MemorySource<'a>
         requires { 0 < most }
         ensures left { left result ≡ left self.entry }
@@ -48,7 +48,7 @@ impl<'a> MemorySource<'a> {
         self
     }
 
-    /// The same source, one call of which fails: the one after `calls` calls that don't.
+    /// Makes one call fail: the one after `calls` successful calls.
     pub fn failing_after(mut self, calls: u64) -> MemorySource<'a>
         ensures left { left result ≡ left self.entry }
         ensures most { most_of result ≡ most_of self.entry }
@@ -59,14 +59,14 @@ impl<'a> MemorySource<'a> {
         self
     }
 
-    /// The bytes that were not read yet.
+    /// Returns the bytes that were not read yet.
     pub fn remaining(&self) -> &'a [u8]
         ensures { result.now ≡ left self.now }
     {
         self.rest
     }
 
-    /// How many calls have failed.
+    /// Returns the number of failed calls.
     pub fn failures(&self) -> u64
         ensures { result ≡ min (failure_count self.now) (2 ^ 64 - 1) }
     {

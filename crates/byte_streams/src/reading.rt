@@ -1,4 +1,4 @@
-//! Sources of bytes, and how a whole input is read up to a limit.
+//! Sources of bytes, and reading a whole input up to a limit.
 ghost use Rattle.std.specs.Prelude.{◌≡◌, ℕ, ◌+◌, ◌≤◌, ◌<◌, List, Option, IfOk, IfSome, OnOk, OnErr, Some, is_ok, if◌then◌else◌, take, drop, vec_len};
 ghost use Rattle.std.specs.Io.{ReadsAtMost};
 ghost use Rattle.std.specs.Io.KnownBytes.{Consumes, IsAtEnd, Keeps, ReadConsumes};
@@ -10,26 +10,26 @@ use std::alloc::{AllocError, Global};
 use std::error::Error;
 use std::fmt;
 
-/// Where bytes come from.
+/// A source of bytes.
 pub trait Source {
-    // The bytes that calls will give from here on, where they are known.
+    // The bytes that later calls will return, if they are known.
     ghost remaining: { Self → Option (List ℕ) };
 
-    // How many calls have failed.
+    // The number of failed calls.
     ghost failures: { Self → ℕ };
 
-    /// Puts the next bytes into the front of `piece`, and answers how many: 0 for a piece with room
-    /// only at the end of the input. After a fault no byte is lost.
+    /// Reads the next bytes into the start of `piece`, and returns their number. For a nonempty
+    /// piece, 0 means the end of the input. A fault loses no bytes.
     fn read(&mut self, piece: &mut [u8]) -> Result<usize, IoFault>
         ensures bound { ReadsAtMost result piece.new }
         ensures bytes { ReadConsumes (remaining self.old) (remaining self.new) result piece.new }
         ensures failed { failures self.new ≡ failures self.old + (if is_ok result then 0 else 1) };
 }
 
-/// Why an input was not read.
+/// The error of reading an input.
 #[derive(Clone, Copy, Debug, PartialEq, Eq)]
 pub enum InputError {
-    /// There was no memory for its bytes.
+    /// Out of memory.
     Memory,
     /// A call of the source failed.
     Fault,
@@ -64,16 +64,21 @@ impl From<IoFault> for InputError {
     }
 }
 
-/// The room that is made for the first bytes of an input.
+/// The initial size of the buffer for an input, in bytes.
 const FIRST_ROOM: usize = 4096;
 
-/// The most room that is made at once. It is filled with zeros, so that a long input needs little room beside itself.
+/// The maximum growth of the buffer in one step, in bytes. New space is filled with zeros, so the
+/// limit keeps a long input from needing much more memory than its own size.
 const MOST_ROOM: usize = 65_536;
 
-/// Reads until the end of the input, or until `limit` bytes are there.
+/// Reads to the end of the input, or until `limit` bytes were read.
 ///
-/// Each turn but the last reads at least one byte. Fails with `Memory` where the bytes find no room,
-/// and with `Fault` where a call of the source fails; at most `limit` bytes are gone from it then.
+/// Each iteration except the last reads at least one byte.
+///
+/// # Errors
+///
+/// Returns `Memory` if memory runs out, and `Fault` if a call of the source fails. In both cases at
+/// most `limit` bytes are consumed.
 pub fn read_up_to<S: Source>(
     alloc: Global,
     source: &mut S,
@@ -101,8 +106,9 @@ pub fn read_up_to<S: Source>(
     Ok(bytes)
 }
 
-// Makes `bytes` longer than `filled`, by zeros, and no longer than `limit`. It doubles up to the most room
-// that is made at once, so that a short input takes few calls and all zeros are as many as its bytes.
+// Extends `bytes` with zeros beyond `filled`, up to `limit`. Doubles the size until the growth
+// reaches its maximum, so that a short input takes few calls and the number of zeros stays
+// proportional to the input.
 fn make_room(bytes: &mut Vec<u8>, filled: usize, limit: usize) -> Result<(), AllocError>
     requires filled { filled ≤ vec_len bytes.old }
     requires below { filled < limit }
@@ -120,7 +126,7 @@ fn make_room(bytes: &mut Vec<u8>, filled: usize, limit: usize) -> Result<(), All
     Ok(())
 }
 
-// One read into `bytes` after `filled`.
+// Reads once into `bytes` after `filled`.
 fn read_at<S: Source>(source: &mut S, bytes: &mut Vec<u8>, filled: usize) -> Result<usize, IoFault>
     requires { filled < vec_len bytes.old }
     ensures kept { take filled bytes.new.items ≡ take filled bytes.old.items }

@@ -1,8 +1,8 @@
-//! One call that is to fail, for tests.
+//! A scripted failure, for tests.
 ghost use Rattle.std.specs.Prelude.{◌≡◌, ◌-◌, None, Some, IsTrue, ◌↔◌};
 ghost use Rattle.byte_streams.specs.ScriptedFault.{calls_after};
 
-/// How many calls succeed before one fails; `None` where none is still to fail.
+/// The number of successful calls before the next failure, or `None` if no failure is due.
 #[derive(Clone, Copy)]
 pub(crate) struct ScriptedFault {
     pub(crate) calls_before: Option<u64>,
@@ -23,7 +23,7 @@ impl ScriptedFault {
         }
     }
 
-    /// Whether this call is the one that fails. Only one does: from then on none is to fail.
+    /// Returns whether this call fails. Only one call does, and no failure is due after it.
     pub(crate) fn is_due(&mut self) -> bool
         ensures due { IsTrue result ↔ (self.old.calls_before ≡ Some 0) }
         ensures left { self.new.calls_before ≡ calls_after self.old.calls_before }

@@ -1,4 +1,4 @@
-//! A sink over any std writer.
+//! A sink for any std writer.
 ghost use Rattle.std.specs.Prelude.{◌≡◌, ◌<◌, IfOk, length};
 ghost use Rattle.std.specs.Io.{WritesAtMost};
 ghost use Rattle.std.specs.Io.KnownBytes.{WriteAppends};
@@ -8,7 +8,7 @@ use crate::std_source::TRIES;
 use crate::{IoFault, Sink};
 use std::io::{ErrorKind, Write};
 
-/// Writes to `W`. What was written is known where `W` tells it.
+/// A sink that writes to `W`. The written bytes are known if the contracts of `W` state them.
 #[derive(Drop)]
 pub struct StdSink<W> {
     writer: W,
@@ -18,7 +18,7 @@ pub struct StdSink<W> {
 impl<W: Write> StdSink<W> {
     ghost use Rattle.byte_streams.specs.StdSink.{writer_of, failure_count};
 
-    /// A sink that passes each byte on to `writer`.
+    /// Creates a sink that forwards each byte to `writer`.
     pub fn new(writer: W) -> StdSink<W>
         ensures writer { writer_of result ≡ writer }
         ensures failures { failure_count result ≡ 0 }
@@ -29,7 +29,7 @@ impl<W: Write> StdSink<W> {
         }
     }
 
-    /// The writer, as the calls left it. One that holds bytes back is still to be flushed.
+    /// Returns the writer in its current state. The caller must flush a buffered writer.
     pub fn into_inner(self) -> W
         ensures { result ≡ writer_of self }
     {
@@ -44,8 +44,8 @@ impl<W: Write> Sink for StdSink<W> {
 
     ghost failures = { failure_count };
 
-    /// An interrupted call is made again, up to a million times. Any other error is a fault, and so
-    /// is a writer that takes no byte where there is one.
+    /// Retries an interrupted call up to a million times. Any other error is a fault, and so is a
+    /// writer that accepts no byte of a nonempty slice.
     fn write(&mut self, bytes: &[u8]) -> Result<usize, IoFault> {
         let outcome = write_retrying(&mut self.writer, bytes);
         if outcome.is_err() {
@@ -55,7 +55,7 @@ impl<W: Write> Sink for StdSink<W> {
     }
 }
 
-// One write, made again where a signal interrupts it.
+// Writes once, and retries if a signal interrupts the call.
 fn write_retrying<W: Write>(writer: &mut W, bytes: &[u8]) -> Result<usize, IoFault>
     ensures bound { WritesAtMost result bytes.now }
     ensures some { 0 < length bytes.now → IfOk result (λ count. 0 < count) }

@@ -1,4 +1,4 @@
-//! A source over any std reader.
+//! A source for any std reader.
 ghost use Rattle.std.specs.Prelude.{◌≡◌};
 ghost use Rattle.std.specs.Io.{ReadsAtMost};
 ghost use Rattle.std.specs.Io.KnownBytes.{ReadConsumes};
@@ -7,10 +7,10 @@ use crate::failures::Failures;
 use crate::{IoFault, Source};
 use std::io::{ErrorKind, Read};
 
-/// How often one call asks a reader or a writer that was interrupted.
+/// The maximum number of attempts for a call that is interrupted.
 pub(crate) const TRIES: u32 = 1_000_000;
 
-/// Reads from `R`. What remains is known where `R` tells it.
+/// A source that reads from `R`. The remaining bytes are known if the contracts of `R` state them.
 #[derive(Drop)]
 pub struct StdSource<R> {
     reader: R,
@@ -20,7 +20,7 @@ pub struct StdSource<R> {
 impl<R: Read> StdSource<R> {
     ghost use Rattle.byte_streams.specs.StdSource.{reader_of, failure_count};
 
-    /// A source of what `reader` has left.
+    /// Creates a source of the remaining bytes of `reader`.
     pub fn new(reader: R) -> StdSource<R>
         ensures reader { reader_of result ≡ reader }
         ensures failures { failure_count result ≡ 0 }
@@ -31,7 +31,7 @@ impl<R: Read> StdSource<R> {
         }
     }
 
-    /// The reader, as the calls left it.
+    /// Returns the reader in its current state.
     pub fn into_inner(self) -> R
         ensures { result ≡ reader_of self }
     {
@@ -46,7 +46,7 @@ impl<R: Read> Source for StdSource<R> {
 
     ghost failures = { failure_count };
 
-    /// An interrupted call is made again, up to a million times. Any other error is a fault.
+    /// Retries an interrupted call up to a million times. Any other error is a fault.
     fn read(&mut self, piece: &mut [u8]) -> Result<usize, IoFault> {
         let outcome = read_retrying(&mut self.reader, piece);
         if outcome.is_err() {
@@ -56,7 +56,7 @@ impl<R: Read> Source for StdSource<R> {
     }
 }
 
-// One read, made again where a signal interrupts it.
+// Reads once, and retries if a signal interrupts the call.
 fn read_retrying<R: Read>(reader: &mut R, piece: &mut [u8]) -> Result<usize, IoFault>
     ensures bound { ReadsAtMost result piece.new }
     ensures bytes { ReadConsumes (R.remaining reader.old) (R.remaining reader.new) result

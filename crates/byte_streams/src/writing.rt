@@ -1,4 +1,4 @@
-//! Sinks of bytes, and how a whole answer is written.
+//! Sinks of bytes, and writing a whole answer.
 ghost use Rattle.std.specs.Prelude.{◌≡◌, ℕ, ◌+◌, ◌<◌, List, Option, IfOk, OnOk, OnErr, is_ok, if◌then◌else◌, length};
 ghost use Rattle.std.specs.Io.{WritesAtMost};
 ghost use Rattle.std.specs.Io.KnownBytes.{Appends, WriteAppends};
@@ -6,16 +6,16 @@ ghost use Rattle.byte_streams.specs.Writing.{AppendsFront};
 
 use crate::IoFault;
 
-/// Where bytes go.
+/// A sink of bytes.
 pub trait Sink {
-    // The bytes that were written so far, where they are known.
+    // The bytes written so far, if they are known.
     ghost written: { Self → Option (List ℕ) };
 
-    // How many calls have failed.
+    // The number of failed calls.
     ghost failures: { Self → ℕ };
 
-    /// Takes a front of `bytes`, and answers how many: at least one, unless there are none.
-    /// A fault takes none.
+    /// Writes a prefix of `bytes` and returns its length, which is at least one unless `bytes` is
+    /// empty. A fault writes nothing.
     fn write(&mut self, bytes: &[u8]) -> Result<usize, IoFault>
         ensures bound { WritesAtMost result bytes.now }
         ensures some { 0 < length bytes.now → IfOk result (λ count. 0 < count) }
@@ -24,7 +24,7 @@ pub trait Sink {
 }
 
 /// Writes all of `bytes`, in as many calls as the sink needs. Stops at the first call that fails,
-/// with a front of them written.
+/// after a prefix of them.
 pub fn write_all<K: Sink>(sink: &mut K, bytes: &[u8]) -> Result<(), IoFault>
     ensures ok { OnOk result (Appends (K.written sink.old) (K.written sink.new) bytes.now) }
     ensures err { OnErr result (AppendsFront (K.written sink.old) (K.written sink.new) bytes.now) }

@@ -1,4 +1,4 @@
--- an interrupted write takes no byte
+-- an interrupted write writes no byte
 use Rattle.std.specs.Io.KnownBytes.{Keeps}
 use Rattle.byte_streams.proofs.std_sink.write_retrying.Given as goal
 

@@ -1,4 +1,4 @@
--- an interrupted read gives no byte
+-- an interrupted read reads no byte
 use Rattle.std.specs.Io.KnownBytes.{Keeps}
 use Rattle.byte_streams.proofs.std_source.read_retrying.Given as goal
 

@@ -1,4 +1,4 @@
--- What is gone from `rest` was appended, and no call failed.
+-- The bytes removed from `rest` were appended, and no call failed.
 use Rattle.std.proofs.Common.{◌≡◌, length}
 use Rattle.byte_streams.proofs.KnownBytes.{Written}
 use Rattle.byte_streams.proofs.writing.write_all.Given as goal
