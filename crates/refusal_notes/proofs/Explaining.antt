@@ -1,4 +1,4 @@
--- The lines of a certificate that have been told so far.
+-- The lines written so far.
 use Rattle.std.proofs.Common.{◌≡◌, ◌≤◌, ◌<◌, ◌+◌, ℕ, IsTrue, List, [], ◌∷◌, ◌++◌, length, filter, flat_map, get_or, refl, sym, ap, ◌∙◌, append_assoc, length-append}
 use Rattle.std.specs.List.{enumerate_from}
 use Rattle.std.proofs.lemmas.List.{take_all}
@@ -15,13 +15,13 @@ use Rattle.refusal_notes.specs.Line.{line}
 use Rattle.refusal_notes.specs.Explanation.{lines}
 use Rattle.refusal_notes.proofs.Telling.{note_fails, ToldTo, told_begins, told_goes_on}
 
--- the lines of two lists
+-- the lines of a concatenation
 lines-append : (plan : Plan) (xs ys : List Note) → lines plan (xs ++ ys) ≡ lines plan xs ++ lines plan ys
 lines-append plan [] ys = refl
 lines-append plan (x ∷ xs) ys =
     ap (λ (t : List ℕ). (line plan x ++ 10 ∷ []) ++ t) (lines-append plan xs ys) ∙ sym (append_assoc (line plan x ++ 10 ∷ []) (lines plan xs) (lines plan ys))
 
--- behind what the text had stand the lines of the ranks and of the first i pools, which are so many
+-- the old text, followed by the `count` lines of the ranks and of the first i pools
 pub record LinesTo (plan : Plan) (cert : Cert) (first text : List ℕ) (count i : ℕ) : Type 0 where
   pub notes : List Note
   pub told : ToldTo plan cert notes i
@@ -49,7 +49,7 @@ lines_go_on plan cert first text text' count count' i pool more fits inside here
       count_is = many ∙ (ap (λ (n : ℕ). n + length more) so_far.count_is ∙ sym (length-append so_far.notes more));
     }
 
--- all pools have been told
+-- after all pools
 pub record AllLines (plan : Plan) (cert : Cert) (first text : List ℕ) (count : ℕ) : Type 0 where
   pub text_is : text ≡ first ++ lines plan (failing plan cert)
   pub count_is : count ≡ length (failing plan cert)

@@ -1,4 +1,4 @@
--- The lines of some notes, computed from the definitions alone.
+-- The lines of short examples, computed from the definitions alone.
 use Rattle.std.proofs.Common.{◌≡◌, ℕ, List, [], ◌∷◌, false, refl}
 use Rattle.std.specs.Prelude.{codes}
 use Rattle.std.specs.Fmt.{digits}
@@ -14,7 +14,7 @@ use Rattle.refusal_notes.specs.Line.{line}
 abbrev named_pool : List ℕ → Pool
 named_pool name = record { name = name; core = 1; max = 1; queue = 5; prestart = false }
 
--- pools p and q, a class a that submits a class b, and a kind c of clients
+-- pools p and q, a class a that submits a class b, and a kind of client c
 abbrev two_pools : Plan
 two_pools = record {
   pools = named_pool (codes "p") ∷ named_pool (codes "q") ∷ [];
@@ -41,7 +41,7 @@ pub of_a_blocked_vector : line two_pools (note (section.Blocked 0) (row B2 place
 unfolding digits
 of_a_blocked_vector = refl
 
--- of a pool and a class that the plan does not have
+-- a pool and a class that the plan does not have
 pub of_no_names : line two_pools (note (section.Blocked 2) (row V4 (place.Class 2) 3 2)) ≡ codes "pool  blocked, class : V4 3 above 2"
 unfolding digits
 of_no_names = refl

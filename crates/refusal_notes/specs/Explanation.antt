@@ -1,4 +1,4 @@
--- What is told of the failing conditions of a certificate: a line for each, and how many they are.
+-- The text of all failing conditions of a certificate: a line for each, and their number.
 use Rattle.std.specs.Prelude.{ℕ, List, [], ◌∷◌, ◌++◌, codes, decimal, length}
 use Rattle.std.specs.List.{flat_map}
 use Rattle.job_bodies.specs.Plan.{Plan}

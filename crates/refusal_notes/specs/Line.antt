@@ -1,4 +1,4 @@
--- How a failing condition is told, as `pool p blocked, total: B2 1 above 0`.
+-- The text of a failing condition, such as `pool p blocked, total: B2 1 above 0`.
 use Rattle.std.specs.Prelude.{ℕ, List, ◌++◌, codes, decimal}
 use Rattle.job_bodies.specs.Plan.{Plan, pool_at, class_at, client_at}
 use Rattle.weights.specs.declared.row.Rule.{Rule}
@@ -16,7 +16,7 @@ section_text plan (Standing p) = codes "pool " ++ (pool_at plan p).name ++ codes
 section_text plan (Lifetime p) = codes "pool " ++ (pool_at plan p).name ++ codes " lifetime"
 section_text plan (Blocked p) = codes "pool " ++ (pool_at plan p).name ++ codes " blocked"
 
--- where the rule stands
+-- the place of the rule
 abbrev pub place_text : Plan → Place → List ℕ
 place_text plan (Class k) = codes "class " ++ (class_at plan k).name
 place_text plan (ClassAction k i) = codes "class " ++ (class_at plan k).name ++ codes " action " ++ decimal i
@@ -44,14 +44,14 @@ rule_text L5 = codes "L5"
 rule_text B1 = codes "B1"
 rule_text B2 = codes "B2"
 
--- how each line of the part of the certificate begins
+-- the head of each line of a section
 abbrev pub head : Plan → Section → List ℕ
 head plan section = section_text plan section ++ codes ", "
 
--- what each line tells behind its head: where, which rule, and both its sides
+-- the part of each line after its head: the place, the rule, and both sides
 abbrev pub condition : Plan → Note → List ℕ
 condition plan note = place_text plan note.place ++ codes ": " ++ rule_text note.rule ++ codes " " ++ decimal note.left ++ codes " above " ++ decimal note.right
 
--- a failing condition, without the newline
+-- the line of a failing condition, without the newline
 abbrev pub line : Plan → Note → List ℕ
 line plan note = head plan note.section ++ condition plan note

@@ -1,4 +1,4 @@
-//! The lines that explain a refusal.
+//! The text that explains a rejection.
 
 ghost use Rattle.std.specs.Prelude.{◌≡◌, ◌+◌, ◌++◌, ◌∷◌, [], IsTrue, IfOk, length};
 ghost use Rattle.decimals.specs.Pushed.{Pushes};
@@ -14,12 +14,13 @@ use certificates::Cert;
 use job_bodies::Plan;
 use std::alloc::{AllocError, Global};
 
-/// Puts a line for each failing condition behind the text, and then how many they are, as `failing 1`; answers how many.
-/// The notes are made pool by pool, so that they do not all lie beside the text.
+/// Appends a line for each failing condition, and then their number, such as `failing 1`. Returns
+/// that number. Processes the conditions pool by pool, so that they need little memory besides the
+/// text.
 ///
 /// # Errors
 ///
-/// [`AllocError`] where memory runs out.
+/// Returns [`AllocError`] if memory runs out.
 pub fn push_explanation(
     alloc: Global,
     text: &mut String,
@@ -36,7 +37,7 @@ pub fn push_explanation(
     Ok(count)
 }
 
-/// Tells the failing conditions of the ranks, and then those of each pool.
+/// Appends a line for each failing condition of the ranks, and then of each pool.
 fn push_all_lines(
     alloc: Global,
     text: &mut String,
@@ -61,15 +62,15 @@ fn push_all_lines(
     Ok(count)
 }
 
-/// The sum; a number past the last one is answered as out of memory.
+/// Returns the sum, or an error as if memory had run out if the sum overflows.
 fn sum(count: usize, more: usize) -> Result<usize, AllocError>
     ensures { IfOk result (λ sum. sum ≡ count + more) }
 {
     count.checked_add(more).ok_or(AllocError)
 }
 
-/// Tells the notes, a line each. What the lines of a section begin with is written once, as long as they follow one
-/// another.
+/// Appends a line for each note. The head of a section is formatted once for consecutive notes of
+/// that section.
 fn push_lines(
     alloc: Global,
     text: &mut String,
@@ -90,7 +91,7 @@ fn push_lines(
     Ok(())
 }
 
-/// Tells the note, behind the head of its section.
+/// Appends the line of the note, with this head of its section.
 fn push_line_behind(
     text: &mut String,
     head: &str,

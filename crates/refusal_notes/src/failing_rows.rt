@@ -10,17 +10,18 @@ use crate::{Note, Section};
 use std::alloc::{AllocError, Global};
 use weights::{Row, RowVisitor};
 
-/// Keeps the rows that fail. A visitor cannot answer an error, so this one remembers it.
+/// A visitor that collects the failing rows. A visitor cannot return an error, so this one stores
+/// it.
 #[derive(Drop)]
 pub struct FailingRows {
     /// The failing rows, in order.
     rows: Vec<Row>,
-    /// An error where memory ran out: rows are then missing.
+    /// An error if memory ran out. Rows are then missing.
     kept: Result<(), AllocError>,
 }
 
 impl FailingRows {
-    /// Has looked at no row yet.
+    /// Creates a visitor that has seen no row.
     pub fn new(alloc: Global) -> FailingRows
         ensures kept { IsOk result.kept }
         ensures none { Keeps result [] }
@@ -31,7 +32,7 @@ impl FailingRows {
         }
     }
 
-    /// Puts the failing ones of all rows that it has looked at behind the notes, as notes of this section.
+    /// Appends the failing rows to the notes, as notes of this section.
     pub fn push_notes(self, notes: &mut Vec<Note>, section: Section) -> Result<(), AllocError>
         ensures { (seen : List Seen)
             → Keeps self seen
@@ -53,7 +54,7 @@ impl RowVisitor for FailingRows {
     }
 }
 
-/// Puts the rows behind the notes, as notes of this section.
+/// Appends the rows to the notes, as notes of this section.
 fn push_section_notes(
     notes: &mut Vec<Note>,
     section: Section,
@@ -67,7 +68,7 @@ fn push_section_notes(
     Ok(())
 }
 
-/// The row, in this section.
+/// Returns a note for the row in this section.
 fn note(section: Section, row: Row) -> Note
     ensures { result ≡ spec.note section row }
 {

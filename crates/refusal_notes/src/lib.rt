@@ -1,4 +1,5 @@
-//! Why a certificate is refused: each of its conditions that fails, with both its sides, and the line that tells it.
+//! The reasons why a certificate is rejected: each failing condition, with its left and right side,
+//! and its text.
 #![tactic(auto)]
 
 mod explained;

@@ -19,7 +19,7 @@ use pool_ranks::{Ranks, RanksOf};
 use std::alloc::{AllocError, Global};
 use weights::{Bound, Vector};
 
-/// Tells the failing conditions of the ranks.
+/// Appends the failing conditions of the ranks.
 pub(crate) fn push_rank_notes(
     alloc: Global,
     notes: &mut Vec<Note>,
@@ -35,7 +35,7 @@ pub(crate) fn push_rank_notes(
     found.push_notes(notes, Section::Ranks)
 }
 
-/// The section in which the pool's bound stands.
+/// Returns the section of the pool's bound.
 fn section_of(pool: usize, bound: &Bound) -> Section
     ensures { result ≡ bound_section pool bound.now }
 {
@@ -45,7 +45,7 @@ fn section_of(pool: usize, bound: &Bound) -> Section
     }
 }
 
-/// Tells the failing conditions of the pool's bound.
+/// Appends the failing conditions of the pool's bound.
 fn push_bound_notes(
     alloc: Global,
     notes: &mut Vec<Note>,
@@ -63,7 +63,7 @@ fn push_bound_notes(
     found.push_notes(notes, section_of(pool, bound))
 }
 
-/// Tells the failing conditions of the pool's blocked vector.
+/// Appends the failing conditions of the pool's blocked vector.
 fn push_blocked_notes(
     alloc: Global,
     notes: &mut Vec<Note>,
@@ -84,7 +84,8 @@ fn push_blocked_notes(
     found.push_notes(notes, Section::Blocked(pool))
 }
 
-/// Tells the failing conditions of a pool: those of its bound, and then those of its blocked vector.
+/// Appends the failing conditions of a pool: those of its bound, and then those of its blocked
+/// vector.
 pub(crate) fn push_pool_notes(
     alloc: Global,
     notes: &mut Vec<Note>,
@@ -104,12 +105,12 @@ pub(crate) fn push_pool_notes(
     push_blocked_notes(alloc, notes, plan, ranks, number, &pool.blocked)
 }
 
-/// The failing conditions of a certificate, each with both its sides: of the ranks, and then, pool by pool, of its bound
-/// and of its blocked vector.
+/// Returns the failing conditions of a certificate, with both sides: those of the ranks, and then,
+/// for each pool, those of its bound and of its blocked vector.
 ///
 /// # Errors
 ///
-/// [`AllocError`] where memory runs out.
+/// Returns [`AllocError`] if memory runs out.
 pub fn notes(alloc: Global, plan: &Plan, cert: &Cert) -> Result<Vec<Note>, AllocError>
     requires fits { IsTrue (cert_fits plan.now cert.now) }
     ensures { IfOk result (λ notes. notes.items ≡ failing plan.now cert.now) }

@@ -1,4 +1,4 @@
-//! The line that tells a failing condition.
+//! The text of a failing condition.
 
 ghost use Rattle.std.specs.Prelude.{◌≡◌, ◌++◌, ◌∷◌, [], IfOk, string_bytes, codes, decimal};
 ghost use Rattle.decimals.specs.Pushed.{Pushes};
@@ -11,7 +11,7 @@ use job_bodies::Plan;
 use std::alloc::{AllocError, Global};
 use weights::{Place, Rule};
 
-/// The name of the rule.
+/// Returns the name of the rule.
 fn rule_name(rule: Rule) -> &'static str
     ensures { result.now ≡ spec.rule_text rule }
 {
@@ -36,7 +36,7 @@ fn rule_name(rule: Rule) -> &'static str
     }
 }
 
-/// A name, after the word that says what it names.
+/// Appends `word` and then a name.
 fn push_named(text: &mut String, word: &str, name: &str) -> Result<(), AllocError>
     ensures { Pushes result text.old text.new (word.now ++ name.now) }
 {
@@ -55,7 +55,7 @@ fn push_section(text: &mut String, plan: &Plan, section: Section) -> Result<(), 
     }
 }
 
-/// One vector of the pool's certificate.
+/// Appends a pool's name and the kind of one of its vectors.
 fn push_vector(text: &mut String, plan: &Plan, pool: usize, vector: &str) -> Result<(), AllocError>
     ensures { Pushes result text.old text.new
         (codes "pool " ++ (pool_at plan.now pool).name ++ vector.now) }
@@ -90,7 +90,7 @@ fn push_place(text: &mut String, plan: &Plan, place: Place) -> Result<(), AllocE
     }
 }
 
-/// What the note's rule compares.
+/// Appends the rule of the note and its two sides.
 fn push_sides(text: &mut String, note: &Note) -> Result<(), AllocError>
     ensures { Pushes result text.old text.new
         (spec.rule_text note.now.rule
@@ -113,7 +113,7 @@ fn push_head(text: &mut String, plan: &Plan, section: Section) -> Result<(), All
     text.push_str(", ")
 }
 
-/// How each line of the section begins.
+/// Returns the head of the lines of a section.
 pub(crate) fn head_of(alloc: Global, plan: &Plan, section: Section) -> Result<String, AllocError>
     ensures { IfOk result (λ head. string_bytes head ≡ spec.head plan.now section) }
 {
@@ -122,7 +122,7 @@ pub(crate) fn head_of(alloc: Global, plan: &Plan, section: Section) -> Result<St
     Ok(head)
 }
 
-/// What the line of the note tells behind its head.
+/// Appends the part of the note's line after its head.
 pub(crate) fn push_condition(text: &mut String, plan: &Plan, note: &Note) -> Result<(), AllocError>
     ensures { Pushes result text.old text.new (spec.condition plan.now note.now) }
 {
@@ -131,7 +131,7 @@ pub(crate) fn push_condition(text: &mut String, plan: &Plan, note: &Note) -> Res
     push_sides(text, note)
 }
 
-/// The line of the note, without its newline.
+/// Appends the line of the note, without its newline.
 fn push_note(text: &mut String, plan: &Plan, note: &Note) -> Result<(), AllocError>
     ensures { Pushes result text.old text.new (spec.line plan.now note.now) }
 {
@@ -139,12 +139,12 @@ fn push_note(text: &mut String, plan: &Plan, note: &Note) -> Result<(), AllocErr
     push_condition(text, plan, note)
 }
 
-/// Puts the line of the note behind the text, as `pool p blocked, total: B2 1 above 0`. A number that the plan does not
-/// have prints as an empty name.
+/// Appends the line of the note, such as `pool p blocked, total: B2 1 above 0`. An index that the
+/// plan does not have prints as an empty name.
 ///
 /// # Errors
 ///
-/// [`AllocError`] where memory runs out.
+/// Returns [`AllocError`] if memory runs out.
 pub fn push_line(text: &mut String, plan: &Plan, note: &Note) -> Result<(), AllocError>
     ensures { Pushes result text.old text.new (spec.line plan.now note.now ++ 10 ∷ []) }
 {
@@ -152,11 +152,11 @@ pub fn push_line(text: &mut String, plan: &Plan, note: &Note) -> Result<(), Allo
     text.push('\n')
 }
 
-/// The line of the note by itself, without its newline.
+/// Returns the line of the note, without its newline.
 ///
 /// # Errors
 ///
-/// [`AllocError`] where memory runs out.
+/// Returns [`AllocError`] if memory runs out.
 pub fn line(alloc: Global, note: &Note, plan: &Plan) -> Result<String, AllocError>
     ensures { IfOk result (λ text. string_bytes text ≡ spec.line plan.now note.now) }
 {

@@ -1,4 +1,4 @@
--- The rows before this one have been told.
+-- The rows before this one were written.
 use Rattle.std.proofs.Common.{◌≡◌, ◌++◌, take}
 use Rattle.headline.specs.Conditions.{in_section}
 use Rattle.refusal_notes.proofs.failing_rows.push_section_notes.Given as goal

@@ -1,4 +1,4 @@
--- The pools before this one have been told.
+-- The pools before this one were written.
 use Rattle.refusal_notes.proofs.Telling.{ToldTo}
 use Rattle.refusal_notes.proofs.told.notes.Given as goal
 
