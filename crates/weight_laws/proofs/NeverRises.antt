@@ -1,4 +1,4 @@
--- No event raises what a state weighs.
+-- No event increases the weight of a state.
 use Rattle.std.proofs.Common.{◌≡◌, ◌≢◌, ℕ, zero, suc, ◌+◌, ◌*◌, ◌<◌, ◌≤◌, cond, true, List, [], ◌∷◌, length, get_or, slice_get, sum_by, flat_map, Some, None, refl, sym, ap, subst, ◌∙◌, arith}
 use Rattle.std.specs.List.{enumerate_from}
 use Rattle.std.proofs.lemmas.List.Folds.{sum_by-replicate}
@@ -31,43 +31,43 @@ use Rattle.weights.specs.AtGet.{given_back, claimed_weight}
 use Rattle.weight_laws.specs.WeightedSum.{stage_weight}
 use Rattle.weight_laws.proofs.VectorLaws.{BodyLaws, VectorLaws}
 
--- ---- what is weighed
+-- ---- the parts of the weight
 
--- what jobs weigh
+-- the weight of jobs
 abbrev pub jobs_spent : AtGet → Plan → Vector → List Made → ℕ
 jobs_spent at_get plan v jobs = sum_by (λ (job : Made). stage_weight at_get plan v job.class job.stage) jobs
 
--- what the clients and jobs weigh
+-- the weight of the clients and jobs
 abbrev pub spent : AtGet → Plan → Vector → State → ℕ
 spent at_get plan v s = sum_by (λ (client : ClientState). client_weight v client.kind client.position) s.clients + jobs_spent at_get plan v s.jobs
 
--- what the worker of a job weighs that is at a position
+-- the weight of a job's worker if the job is at a position
 abbrev pub loan : Plan → Vector → ℕ → Stage → ℕ
 loan plan v k stage = cond (is_at stage) (workers_weight v (pool_of plan k)) 0
 
--- what the workers of these jobs weigh that are at a position
+-- the weight of the workers of those of these jobs that are at a position
 abbrev pub jobs_lent : Plan → Vector → List Made → ℕ
 jobs_lent plan v jobs = sum_by (λ (job : Made). loan plan v job.class job.stage) jobs
 
--- what the workers of all jobs weigh that are at a position
+-- the weight of the workers of all jobs that are at a position
 abbrev pub lent : Plan → Vector → State → ℕ
 lent plan v s = jobs_lent plan v s.jobs
 
--- what the clients weigh at the start
+-- the weight of the clients at the start
 abbrev pub given : Plan → Vector → ℕ
 given plan v = sum_by (λ (entry : ℕ × Client). entry.1.count * client_weight v entry.0 0) (enumerate_from 0 plan.clients)
 
--- the clients and jobs weigh no more than what was given and lent to them
+-- the weight of the clients and jobs is at most what the clients had at the start and what workers lend
 abbrev pub IsBalanced : AtGet → Plan → Vector → State → Type 0
 IsBalanced at_get plan v s = spent at_get plan v s ≤ given plan v + lent plan v s
 
--- the second state weighs no more than the first
+-- the weight of the second state is at most that of the first
 abbrev pub IsNoHeavier : AtGet → Plan → Vector → State → State → Type 0
 IsNoHeavier at_get plan v s s' = spent at_get plan v s' + lent plan v s ≤ spent at_get plan v s + lent plan v s'
 
--- ---- the start
+-- ---- the initial state
 
--- the clients weigh what is given to them, and there are no jobs
+-- the clients have their initial weight, and there are no jobs
 pub balanced_start : (at_get : AtGet) (plan : Plan) (v : Vector) → IsBalanced at_get plan v (start plan)
 balanced_start at_get plan v =
     let weight = λ (client : ClientState). client_weight v client.kind client.position in
@@ -78,9 +78,9 @@ balanced_start at_get plan v =
     (λ entry. sum_by-replicate weight entry.1.count (record { kind = entry.0; position = 0 })) in
     omega (arith, as_given)
 
--- ---- a job comes to another stage
+-- ---- a job changes its stage
 
--- the jobs weigh by the new stage in place of the old one
+-- the weight of the jobs changes by the difference of the two stages
 pub jobs_spent-staged : (at_get : AtGet) (plan : Plan) (v : Vector) (jobs : List Made) (j : ℕ) (stage was : Stage) → j < length jobs → (get_or jobs j no_job).stage ≡ was
     → jobs_spent at_get plan v (staged jobs j stage) + stage_weight at_get plan v (get_or jobs j no_job).class was ≡ jobs_spent at_get plan v jobs + stage_weight at_get plan v (get_or jobs j no_job).class stage
 jobs_spent-staged at_get plan v jobs j stage was inside e =
@@ -88,7 +88,7 @@ jobs_spent-staged at_get plan v jobs j stage was inside e =
     ap (λ (old : Stage). jobs_spent at_get plan v (staged jobs j stage) + stage_weight at_get plan v job.class old) (sym e)
     ∙ sum_by-set (λ (x : Made). stage_weight at_get plan v x.class x.stage) jobs j (record job { stage = stage }) no_job inside
 
--- and so do their workers
+-- and so does the weight of their workers
 pub jobs_lent-staged : (plan : Plan) (v : Vector) (jobs : List Made) (j : ℕ) (stage was : Stage) → j < length jobs → (get_or jobs j no_job).stage ≡ was
     → jobs_lent plan v (staged jobs j stage) + loan plan v (get_or jobs j no_job).class was ≡ jobs_lent plan v jobs + loan plan v (get_or jobs j no_job).class stage
 jobs_lent-staged plan v jobs j stage was inside e =
@@ -96,14 +96,14 @@ jobs_lent-staged plan v jobs j stage was inside e =
     ap (λ (old : Stage). jobs_lent plan v (staged jobs j stage) + loan plan v job.class old) (sym e)
     ∙ sum_by-set (λ (x : Made). loan plan v x.class x.stage) jobs j (record job { stage = stage }) no_job inside
 
--- ---- an actor comes to another position
+-- ---- an actor changes its position
 
--- what an actor weighs at position i
+-- the weight of an actor at position i
 abbrev pub actor_weight : Vector → State → Parent → ℕ → ℕ
 actor_weight v s (parent.Client c) i = client_weight v (client_state s c).kind i
 actor_weight v s (parent.Job j) i = job_weight v (job_at s j).class i
 
--- an actor that goes from i to i' changes its own weight alone
+-- an actor that moves from i to i' changes only its own weight
 pub spent-with_position : (at_get : AtGet) (plan : Plan) (v : Vector) (s : State) (a : Parent) (body : List Action) (i i' : ℕ) → point plan s a ≡ Some (record { body = body; position = i })
     → spent at_get plan v (with_position a i' s) + actor_weight v s a i ≡ spent at_get plan v s + actor_weight v s a i'
 spent-with_position at_get plan v s (parent.Client c) body i i' stands =
@@ -116,45 +116,45 @@ spent-with_position at_get plan v s (parent.Job j) body i i' stands =
     let was = (stage_of_standing plan (job_at s j).class (job_at s j).stage body i stands).0 in
     omega (arith, jobs_spent-staged at_get plan v s.jobs j (Stage.At i') (Stage.At i) (standing_made plan s j body i stands) was)
 
--- a job that was at a position is at one, so its worker weighs what it did
+-- a job that moves from one position to another keeps its worker's weight
 pub lent-with_position : (plan : Plan) (v : Vector) (s : State) (a : Parent) (body : List Action) (i i' : ℕ) → point plan s a ≡ Some (record { body = body; position = i }) → lent plan v (with_position a i' s) ≡ lent plan v s
 lent-with_position plan v s (parent.Client c) body i i' stands = refl
 lent-with_position plan v s (parent.Job j) body i i' stands =
     let was = (stage_of_standing plan (job_at s j).class (job_at s j).stage body i stands).0 in
     omega (arith, jobs_lent-staged plan v s.jobs j (Stage.At i') (Stage.At i) (standing_made plan s j body i stands) was)
 
--- the body of a client that stands in it
+-- the body of a client
 body_of_client : (plan : Plan) (s : State) (c : ℕ) (body : List Action) (i : ℕ) → point plan s (parent.Client c) ≡ Some (record { body = body; position = i }) → body ≡ (client_at plan (client_state s c).kind).body
 body_of_client plan s c body i stands =
     let client = client_standing plan (slice_get s.clients c) body i stands in
     client.2 ∙ ap (λ (x : ClientState). (client_at plan x.kind).body) (sym (get_or_from_slice_get s.clients c client.0 no_client_state client.1))
 
--- the laws of the body that the actor stands in
+-- the inequalities of the actor's body
 actor_laws : (at_get : AtGet) (plan : Plan) (v : Vector) (s : State) (a : Parent) (body : List Action) (i : ℕ) → VectorLaws at_get plan v → point plan s a ≡ Some (record { body = body; position = i }) → BodyLaws at_get plan v (actor_weight v s a) body
 actor_laws at_get plan v s (parent.Client c) body i laws stands =
     subst (BodyLaws at_get plan v (client_weight v (client_state s c).kind)) (sym (body_of_client plan s c body i stands)) (laws.clients (client_state s c).kind)
 actor_laws at_get plan v s (parent.Job j) body i laws stands =
     subst (BodyLaws at_get plan v (job_weight v (job_at s j).class)) (sym (stage_of_standing plan (job_at s j).class (job_at s j).stage body i stands).1) (laws.classes (job_at s j).class)
 
--- ---- a job is made
+-- ---- a job is created
 
--- a new job weighs by its stage
+-- the weight increases by that of the new job's stage
 pub spent-with_job : (at_get : AtGet) (plan : Plan) (v : Vector) (s : State) (job : Made) → spent at_get plan v (with_job job s) ≡ spent at_get plan v s + stage_weight at_get plan v job.class job.stage
 spent-with_job at_get plan v s job = omega (arith, sum_by_push (λ (x : Made). stage_weight at_get plan v x.class x.stage) s.jobs job)
 
--- and so does its worker
+-- and so does the weight of its worker
 pub lent-with_job : (plan : Plan) (v : Vector) (s : State) (job : Made) → lent plan v (with_job job s) ≡ lent plan v s + loan plan v job.class job.stage
 lent-with_job plan v s job = sum_by_push (λ (x : Made). loan plan v x.class x.stage) s.jobs job
 
 -- ---- each event
 
--- V2: work makes its actor no heavier
+-- V2: work does not increase the weight of its actor
 never_rises_works : (at_get : AtGet) (plan : Plan) (v : Vector) (s : State) (a : Parent) (body : List Action) (i u : ℕ) → VectorLaws at_get plan v → StandsAt plan s a body i (Some (action.Work u)) → IsNoHeavier at_get plan v s (with_position a (i + 1) s)
 never_rises_works at_get plan v s a body i u laws at =
     let falls = (actor_laws at_get plan v s a body i laws at.stands).work i u at.is_there in
     omega (arith, falls, spent-with_position at_get plan v s a body i (i + 1) at.stands, lent-with_position plan v s a body i (i + 1) at.stands)
 
--- V3 and V4: the actor pays for a queued job, and with a worker that pays for a job at work
+-- V3 and V4: the actor's weight covers a queued job and, with a worker's weight, a running job
 never_rises_starts : (at_get : AtGet) (plan : Plan) (v : Vector) (s : State) (a : Parent) (body : List Action) (i k : ℕ) → k < length plan.classes → VectorLaws at_get plan v → StandsAt plan s a body i (Some (action.Submit k))
     → IsNoHeavier at_get plan v s (with_job (new_job k a i (Stage.At 0)) (with_position a (i + 1) s))
 never_rises_starts at_get plan v s a body i k inside laws at =
@@ -163,7 +163,7 @@ never_rises_starts at_get plan v s a body i k inside laws at =
     let begins = laws.begins k inside in
     omega (arith, pays, begins, spent-with_position at_get plan v s a body i (i + 1) at.stands, lent-with_position plan v s a body i (i + 1) at.stands, spent-with_job at_get plan v (with_position a (i + 1) s) job, lent-with_job plan v (with_position a (i + 1) s) job)
 
--- a submit that is queued, whether or not the queue has room
+-- a queued submit, whether or not the queue has room
 pub never_rises_queued : (at_get : AtGet) (plan : Plan) (v : Vector) (s : State) (a : Parent) (body : List Action) (i k : ℕ) → VectorLaws at_get plan v → StandsAt plan s a body i (Some (action.Submit k))
     → IsNoHeavier at_get plan v s (queued_state plan s a i k)
 never_rises_queued at_get plan v s a body i k laws at =
@@ -171,12 +171,12 @@ never_rises_queued at_get plan v s a body i k laws at =
     let pays = (actor_laws at_get plan v s a body i laws at.stands).submit i k at.is_there in
     omega (arith, pays, spent-with_position at_get plan v s a body i (i + 1) at.stands, lent-with_position plan v s a body i (i + 1) at.stands, spent-with_job at_get plan v (with_position a (i + 1) s) job, lent-with_job plan v (with_position a (i + 1) s) job)
 
--- a done job that is got: what it gives back and what is left of it are its done number
+-- a get divides the weight of a done job into the part that it returns and the part that remains
 shares : (at_get : AtGet) (plan : Plan) (v : Vector) (k : ℕ) → given_back at_get plan v k + claimed_weight at_get plan v k ≡ done_weight plan v k
 shares GivesBack plan v k = omega arith
 shares GivesNothing plan v k = omega arith
 
--- a done job is at no position
+-- a done job is not at a position
 done_nowhere : {stage : Stage} → stage ≡ Stage.Done → (n : ℕ) → stage ≢ Stage.At n
 done_nowhere done n e = cc
 
@@ -184,7 +184,7 @@ done_nowhere done n e = cc
 done_unclaimed : {stage : Stage} → stage ≡ Stage.Done → stage ≢ Stage.Claimed
 done_unclaimed done e = cc
 
--- V5 or L5: the actor gets no more than the done job gives back
+-- V5 or L5: the weight of the actor increases by at most what the done job returns
 never_rises_gets : (at_get : AtGet) (plan : Plan) (v : Vector) (s : State) (a : Parent) (body : List Action) (i t j : ℕ) → IsOrdered plan → VectorLaws at_get plan v → Kept plan s → StandsAt plan s a body i (Some (action.Get t))
     → child s a t ≡ Some j → (job_at s j).stage ≡ Stage.Done → IsNoHeavier at_get plan v s (with_stage j Stage.Claimed (with_position a (i + 1) s))
 never_rises_gets at_get plan v s a body i t j ordered laws kept at is_child done =
@@ -210,19 +210,19 @@ never_rises_gets at_get plan v s a body i t j ordered laws kept at is_child done
       jobs_lent-staged plan v moved.jobs j Stage.Claimed Stage.Done inside still_done,
     )
 
--- where no action stands the body is at its end
+-- a position without an action is at or after the end of the body
 at_end : (body : List Action) (i : ℕ) → slice_get body i ≡ None → length body ≤ i
 at_end [] i e = omega arith
 at_end (x ∷ xs) zero e = absurd cc
 at_end (x ∷ xs) (suc i) e = let later = at_end xs i e in omega arith
 
--- an actor with no action before it stands at the end of its body
+-- an actor without a next action is at the end of its body
 stands_at_end : (plan : Plan) (s : State) (a : Parent) (body : List Action) (i : ℕ) → Kept plan s → StandsAt plan s a body i None → i ≡ length body
 stands_at_end plan s a body i kept at =
     let inside = (kept.actors a body i at.stands).inside in
     omega (arith, at_end body i at.is_there)
 
--- V6: a job at its end pays for the done job and its worker
+-- V6: the weight of a job at its end covers the done job and its worker
 never_rises_finishes : (at_get : AtGet) (plan : Plan) (v : Vector) (s : State) (j : ℕ) (body : List Action) (i : ℕ) → VectorLaws at_get plan v → Kept plan s → StandsAt plan s (parent.Job j) body i None
     → IsNoHeavier at_get plan v s (finished_job plan s j (pool_of plan (job_at s j).class))
 never_rises_finishes at_get plan v s j body i laws kept at =
@@ -234,7 +234,7 @@ never_rises_finishes at_get plan v s j body i laws kept at =
     let weighs = ap (job_weight v k) last in
     omega (arith, ends, weighs, jobs_spent-staged at_get plan v s.jobs j Stage.Done (Stage.At i) inside was.0, jobs_lent-staged plan v s.jobs j Stage.Done (Stage.At i) inside was.0)
 
--- V7: a client at its end pays for its beginning
+-- V7: the weight of a client at its end covers its weight at its start
 never_rises_loops : (at_get : AtGet) (plan : Plan) (v : Vector) (s : State) (c : ℕ) (client : ClientState) (body : List Action) (i : ℕ) → VectorLaws at_get plan v → Kept plan s → StandsAt plan s (parent.Client c) body i None
     → slice_get s.clients c ≡ Some client → (client_at plan client.kind).repeat ≡ true → IsNoHeavier at_get plan v s (with_position (parent.Client c) 0 s)
 never_rises_loops at_get plan v s c client body i laws kept at is_client repeats =
@@ -246,7 +246,7 @@ never_rises_loops at_get plan v s c client body i laws kept at is_client repeats
     let weighs = ap (client_weight v kind) last in
     omega (arith, pays, weighs, spent-with_position at_get plan v s (parent.Client c) body i 0 at.stands)
 
--- V4: a queued job and a worker pay for a job at work
+-- V4: the weights of a queued job and of a worker cover a running job
 never_rises_takes : (at_get : AtGet) (plan : Plan) (v : Vector) (s : State) (p j : ℕ) (queue : List ℕ) (idle : ℕ) → VectorLaws at_get plan v → Kept plan s → (pool_part s p).queue ≡ j ∷ queue → IsNoHeavier at_get plan v s (with_part p queue idle (with_stage j (Stage.At 0) s))
 never_rises_takes at_get plan v s p j queue idle laws kept is_queue =
     let head = head_of_queue plan s p j queue kept is_queue in
@@ -265,6 +265,6 @@ never_rises at_get plan v s s' o ordered laws kept (loops c client body i at is_
 never_rises at_get plan v s s' o ordered laws kept (takes p j queue idle is_queue is_idle) = never_rises_takes at_get plan v s p j queue idle laws kept is_queue
 never_rises at_get plan v s s' o ordered laws kept (retires p idle is_idle above_core) = omega arith
 
--- so what is balanced stays so
+-- a balanced state stays balanced
 pub balanced_step : (at_get : AtGet) (plan : Plan) (v : Vector) (s s' : State) → IsNoHeavier at_get plan v s s' → IsBalanced at_get plan v s → IsBalanced at_get plan v s'
 balanced_step at_get plan v s s' no_heavier balanced = omega arith

@@ -1,4 +1,4 @@
--- What the rows of a vector say, rule by rule.
+-- The inequalities that hold if the rows of a vector hold, rule by rule.
 use Rattle.std.proofs.Common.{◌≡◌, ℕ, ◌+◌, ◌<◌, ◌≤◌, true, false, inl, inr, List, [], ◌∷◌, length, flat_map, slice_get, Some, None, sym, ap, subst, cond, eqb, zero-add}
 use Rattle.std.specs.List.{enumerate_from}
 use Rattle.std.proofs.lemmas.Bool.{cases_lt, eq-eqb}
@@ -18,7 +18,7 @@ use Rattle.weights.specs.Vector.{Vector, workers_weight, queued_weight, job_weig
 use Rattle.weights.specs.AtGet.{given_back}
 use Rattle.weights.specs.Rows.{action_row, body_rows, class_rows, client_rows, rows, classes_of}
 
--- V2, V3, and V5 or L5, at each position of a body, whose actor weighs weight i at i
+-- V2, V3, and V5 or L5, at each position of a body whose actor has weight `weight i` at position i
 pub record BodyLaws (at_get : AtGet) (plan : Plan) (v : Vector) (weight : ℕ → ℕ) (body : List Action) : Type 0 where
   pub work : (i u : ℕ) → slice_get body i ≡ Some (action.Work u) → weight (i + 1) ≤ weight i
   pub submit : (i k : ℕ) → slice_get body i ≡ Some (action.Submit k) → weight (i + 1) + queued_weight v k ≤ weight i
@@ -32,21 +32,21 @@ pub record VectorLaws (at_get : AtGet) (plan : Plan) (v : Vector) : Type 0 where
   pub ends : (k : ℕ) → k < length plan.classes → done_weight plan v k + workers_weight v (class_at plan k).pool ≤ job_weight v k (length (class_at plan k).body)
   pub loops : (c : ℕ) → (client_at plan c).repeat ≡ true → client_weight v c 0 ≤ client_weight v c (length (client_at plan c).body)
 
--- ---- where the rows stand
+-- ---- the positions of the rows
 
--- each class stands in the list with its number
+-- each class is in the list with its index
 pub numbered_class : (plan : Plan) (k : ℕ) → k < length plan.classes → In (k, class_at plan k) (enumerate_from 0 plan.classes)
 numbered_class plan k inside = In-enumerate_from 0 plan.classes k (class_at plan k) k (slice_get-get_or plan.classes k no_class inside) (zero-add k)
 
--- and so does each kind of clients
+-- and so is each kind of client
 numbered_client : (plan : Plan) (c : ℕ) → c < length plan.clients → In (c, client_at plan c) (enumerate_from 0 plan.clients)
 numbered_client plan c inside = In-enumerate_from 0 plan.clients c (client_at plan c) c (slice_get-get_or plan.clients c no_client inside) (zero-add c)
 
--- and among the classes of its pool
+-- and each class is among the classes of its pool
 pub numbered_class_of : (plan : Plan) (p k : ℕ) → k < length plan.classes → (class_at plan k).pool ≡ p → In (k, class_at plan k) (classes_of plan p)
 numbered_class_of plan p k inside of_pool = In-filter (λ (entry : ℕ × Class). eqb entry.1.pool p) (numbered_class plan k inside) (eq-eqb (class_at plan k).pool p of_pool)
 
--- where an action stands in a class's body, the class exists
+-- if a class's body has an action, the class exists
 pub class_of_action : (plan : Plan) (k i : ℕ) (x : Action) → slice_get (class_at plan k).body i ≡ Some x → k < length plan.classes
 class_of_action plan k i x e = elim (cases_lt k (length plan.classes)) [
   | inl inside ↦ inside
@@ -55,14 +55,14 @@ class_of_action plan k i x e = elim (cases_lt k (length plan.classes)) [
       absurd cc
 ]
 
--- ---- what they say
+-- ---- the inequalities
 
 -- the row of each action of a body
 row_of_action : (at_get : AtGet) (plan : Plan) (v : Vector) (weight : ℕ → ℕ) (place_at : ℕ → Place) (body : List Action) (i : ℕ) (x : Action) → slice_get body i ≡ Some x
     → In (action_row at_get plan v weight place_at body i x) (body_rows at_get plan v weight place_at body)
 row_of_action at_get plan v weight place_at body i x e = In-map (λ (entry : ℕ × Action). action_row at_get plan v weight place_at body entry.0 entry.1) (In-enumerate_from 0 body i x i e (zero-add i))
 
--- where the rows of a body hold, its laws do
+-- if the rows of a body hold, its inequalities do
 body_laws : (at_get : AtGet) (plan : Plan) (v : Vector) (weight : ℕ → ℕ) (place_at : ℕ → Place) (body : List Action) → AllHold (body_rows at_get plan v weight place_at body) → BodyLaws at_get plan v weight body
 body_laws at_get plan v weight place_at body hold = record {
   work = λ i u e. hold _ (row_of_action at_get plan v weight place_at body i (action.Work u) e);
@@ -70,30 +70,30 @@ body_laws at_get plan v weight place_at body hold = record {
   get = λ i t e. hold _ (row_of_action at_get plan v weight place_at body i (action.Get t) e);
 }
 
--- an empty body keeps them
+-- an empty body satisfies them
 no_body_laws : (at_get : AtGet) (plan : Plan) (v : Vector) (weight : ℕ → ℕ) → BodyLaws at_get plan v weight []
 no_body_laws at_get plan v weight = body_laws at_get plan v weight place.Class [] (λ x i. absurd (not_In_nil i))
 
--- the rows of one class, and of one kind of clients
+-- the rows of one class hold
 class_holds : (at_get : AtGet) (plan : Plan) (v : Vector) → AllHold (rows at_get plan v) → (k : ℕ) → k < length plan.classes → AllHold (class_rows at_get plan v k (class_at plan k))
 class_holds at_get plan v hold k inside x i =
     hold x (In-append_left (flat_map (λ (entry : ℕ × Client). client_rows at_get plan v entry.0 entry.1) (enumerate_from 0 plan.clients))
     (In-flat_map (λ (entry : ℕ × Class). class_rows at_get plan v entry.0 entry.1) (numbered_class plan k inside) i))
 
--- of a kind of clients
+-- and so do those of one kind of client
 client_holds : (at_get : AtGet) (plan : Plan) (v : Vector) → AllHold (rows at_get plan v) → (c : ℕ) → c < length plan.clients → AllHold (client_rows at_get plan v c (client_at plan c))
 client_holds at_get plan v hold c inside x i =
     hold x (In-append_right (flat_map (λ (entry : ℕ × Class). class_rows at_get plan v entry.0 entry.1) (enumerate_from 0 plan.classes))
     (In-flat_map (λ (entry : ℕ × Client). client_rows at_get plan v entry.0 entry.1) (numbered_client plan c inside) i))
 
--- the laws of each class, also past the end of the list, where the body is empty
+-- the inequalities of each class; past the end of the list the body is empty
 class_body_laws : (at_get : AtGet) (plan : Plan) (v : Vector) → AllHold (rows at_get plan v) → (k : ℕ) → BodyLaws at_get plan v (job_weight v k) (class_at plan k).body
 class_body_laws at_get plan v hold k = elim (cases_lt k (length plan.classes)) [
   | inl inside ↦ body_laws at_get plan v (job_weight v k) (place.ClassAction k) (class_at plan k).body (λ x i. class_holds at_get plan v hold k inside x (there (In-append_left _ i)))
   | inr past ↦ subst (λ (class : Class). BodyLaws at_get plan v (job_weight v k) class.body) (sym (get_or_past plan.classes k no_class past)) (no_body_laws at_get plan v (job_weight v k))
 ]
 
--- and of each kind of clients
+-- and of each kind of client
 client_body_laws : (at_get : AtGet) (plan : Plan) (v : Vector) → AllHold (rows at_get plan v) → (c : ℕ) → BodyLaws at_get plan v (client_weight v c) (client_at plan c).body
 client_body_laws at_get plan v hold c = elim (cases_lt c (length plan.clients)) [
   | inl inside ↦ body_laws at_get plan v (client_weight v c) (place.ClientAction c) (client_at plan c).body (λ x i. client_holds at_get plan v hold c inside x (In-append_left _ i))
@@ -109,7 +109,7 @@ repeating_client plan c repeats = elim (cases_lt c (length plan.clients)) [
       absurd cc
 ]
 
--- a kind that repeats has its row at the end of its body
+-- the row at the end of the body of a kind that repeats
 client_loops : (at_get : AtGet) (plan : Plan) (v : Vector) → AllHold (rows at_get plan v) → (c : ℕ) → (client_at plan c).repeat ≡ true → client_weight v c 0 ≤ client_weight v c (length (client_at plan c).body)
 client_loops at_get plan v hold c repeats =
     let body = (client_at plan c).body in
@@ -117,7 +117,7 @@ client_loops at_get plan v hold c repeats =
     client_holds at_get plan v hold c (repeating_client plan c repeats) last
     (In-append_right (body_rows at_get plan v (client_weight v c) (place.ClientAction c) body) (subst (λ b. In last (cond b (last ∷ []) [])) (sym repeats) here))
 
--- where all rows hold, all laws do
+-- if all rows hold, all inequalities do
 pub vector_laws : (at_get : AtGet) (plan : Plan) (v : Vector) → AllHold (rows at_get plan v) → VectorLaws at_get plan v
 vector_laws at_get plan v hold = record {
   classes = class_body_laws at_get plan v hold;

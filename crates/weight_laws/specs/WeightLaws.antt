@@ -1,4 +1,4 @@
--- What the rows of a vector promise of every reached state.
+-- The guarantees of the rows of a vector for every reachable state.
 use Rattle.std.specs.Prelude.{◌≡◌, ◌≢◌, ◌≤◌, ℕ, IsTrue, Some}
 use Rattle.job_bodies.specs.Plan.{Plan}
 use Rattle.job_bodies.specs.WellFormed.{IsWellFormed}
@@ -18,20 +18,20 @@ use Rattle.weights.specs.Lifetime.{lifetime_rows}
 use Rattle.weights.specs.Bound.{bound_vector, bound_rows}
 use Rattle.weight_laws.specs.WeightedSum.{sum_of}
 
--- no event raises what a reached state weighs
+-- no event increases the weight of a reachable state
 abbrev pub SumNeverRises : Type 0
 SumNeverRises = (at_get : AtGet) (plan : Plan) (v : Vector) (s s' : State) (event : Event) (outcome : Outcome) → IsWellFormed plan → AllHold (rows at_get plan v) → IsReached plan s → step plan s event ≡ Some (s', outcome)
     → sum_of at_get plan v s' ≤ sum_of at_get plan v s
 
--- so it stays within the total
+-- the weight of a reachable state is at most the total
 abbrev pub SumStaysWithinTotal : Type 0
 SumStaysWithinTotal = (at_get : AtGet) (plan : Plan) (v : Vector) (s : State) → IsWellFormed plan → AllHold (rows at_get plan v) → IsReached plan s → sum_of at_get plan v s ≤ total plan v
 
--- a pool whose bound holds refuses no job, whatever is known of the other pools
+-- a pool whose bound holds rejects no job, whatever the other pools do
 abbrev pub BoundsRefuseNothing : Type 0
 BoundsRefuseNothing = (plan : Plan) (p : ℕ) (bound : Bound) (s s' : State) (event : Event) → IsWellFormed plan → IsTrue (vector_fits plan (bound_vector bound)) → AllHold (bound_rows plan p bound) → IsReached plan s
     → step plan s event ≢ Some (s', Refused p)
 
--- where the rows of a pool's lifetime vector hold, no more jobs of the pool are ever made than the total
+-- if the rows of a pool's lifetime vector hold, the number of jobs ever submitted to the pool is at most the total
 abbrev pub JobsStayWithinTotal : Type 0
 JobsStayWithinTotal = (plan : Plan) (p : ℕ) (v : Vector) (s : State) → IsWellFormed plan → IsTrue (vector_fits plan v) → AllHold (lifetime_rows plan p v) → IsReached plan s → jobs_made plan s p ≤ total plan v

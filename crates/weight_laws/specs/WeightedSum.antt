@@ -1,4 +1,4 @@
--- What a state weighs.
+-- The weight of a state.
 use Rattle.std.specs.Prelude.{ℕ, ◌+◌, ◌-◌, ◌*◌, sum_by}
 use Rattle.std.specs.List.{enumerate_from}
 use Rattle.job_bodies.specs.Plan.{Plan}
@@ -8,14 +8,15 @@ use Rattle.weights.specs.declared.at_get.AtGet.{AtGet}
 use Rattle.weights.specs.Vector.{Vector, workers_weight, queued_weight, job_weight, done_weight, client_weight}
 use Rattle.weights.specs.AtGet.{claimed_weight}
 
--- a job of class k that is so far
+-- the weight of a job of class k at this stage
 abbrev pub stage_weight : AtGet → Plan → Vector → ℕ → Stage → ℕ
 stage_weight at_get plan v k Queued = queued_weight v k
 stage_weight at_get plan v k (At i) = job_weight v k i
 stage_weight at_get plan v k Done = done_weight plan v k
 stage_weight at_get plan v k Claimed = claimed_weight at_get plan v k
 
--- the clients, the jobs, and the workers of each pool that are not at work; in a reached state no pool has more at work than max
+-- the weight of the clients, the jobs, and the workers of each pool that are not busy; in a reachable state no pool has more
+-- than max busy workers
 abbrev pub sum_of : AtGet → Plan → Vector → State → ℕ
 sum_of at_get plan v s =
     sum_by (λ client. client_weight v client.kind client.position) s.clients

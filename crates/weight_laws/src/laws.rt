@@ -1,24 +1,26 @@
-//! Laws of weights, each the contract of a function with nothing to do.
+//! Laws of weights, each as the contract of an empty function.
 
 ghost use Rattle.weight_laws.specs.WeightLaws.{SumNeverRises, SumStaysWithinTotal, BoundsRefuseNothing, JobsStayWithinTotal};
 
-/// Where the rows of a vector hold, no event raises what a reached state weighs.
+/// Proves that no event increases the weight of a reachable state if the rows of the vector hold.
 pub fn sum_never_rises()
     ensures { SumNeverRises }
 {}
 
-/// Where the rows of a vector hold, no reached state weighs more than the vector's total.
+/// Proves that the weight of a reachable state is at most the vector's total if the rows of the
+/// vector hold.
 pub fn sum_stays_within_total()
     ensures { SumStaysWithinTotal }
 {}
 
-/// A pool whose bound holds, by a standing or a lifetime vector, refuses no job in any state that a plan reaches, whatever
-/// is known of the other pools.
+/// Proves that a pool whose bound holds, by a standing or a lifetime vector, rejects no job in any
+/// reachable state. Nothing is assumed about the other pools.
 pub fn bounds_refuse_nothing()
     ensures { BoundsRefuseNothing }
 {}
 
-/// Where the rows of a pool's lifetime vector hold, no more jobs of the pool are ever made than the vector's total.
+/// Proves that the number of jobs ever submitted to a pool is at most the total of its lifetime
+/// vector if the rows of the vector hold.
 pub fn jobs_stay_within_total()
     ensures { JobsStayWithinTotal }
 {}

@@ -1,5 +1,5 @@
-//! What vectors of weights promise of every state that a plan reaches. The statements stand in `specs/`; nothing here runs,
-//! and the functions of `laws` have their contracts alone.
+//! The guarantees that vectors of weights give for every reachable state of a plan. The statements
+//! are in `specs/`. Nothing here runs: the functions in `laws` exist for their contracts.
 #![tactic(auto)]
 
 mod laws;
