@@ -1,4 +1,4 @@
--- Fewer jobs of a pool than core stand at counted gets.
+-- Fewer jobs of a pool than core are at counted gets.
 use Rattle.std.proofs.Common.{◌≡◌, ℕ, ◌<◌, ◌≤◌, Bool, true, eqb, length, slice_get, Option, Some, None, refl, arith}
 use Rattle.std.proofs.lemmas.Bool.{and_parts, eqb-true}
 use Rattle.numbered_lists.proofs.Sums.{count_by-le-sum_by}
@@ -18,21 +18,21 @@ use Rattle.weight_laws.proofs.ReachedLaws.{balanced}
 use Rattle.starvation_laws.specs.BlockedJobs.{is_counted_get, is_blocked_stage, is_blocked_in, blocked, FewerThanCoreAreBlocked}
 use Rattle.starvation_laws.proofs.BlockedLaws.{BlockedLaws, blocked_laws}
 
--- a job at a counted get weighs at least 1
+-- a job at a counted get has at least weight 1
 counted_get_weighs : (plan : Plan) (counted : ℕ → ℕ → Bool) (p : ℕ) (v : Vector) (k i : ℕ) (next : Option Action) → BlockedLaws plan counted p v → pool_of plan k ≡ p → slice_get (class_at plan k).body i ≡ next → is_counted_get counted k i next ≡ true → 1 ≤ job_weight v k i
 counted_get_weighs plan counted p v k i None laws of_pool is_next is_counted = absurd cc
 counted_get_weighs plan counted p v k i (Some (action.Work u)) laws of_pool is_next is_counted = absurd cc
 counted_get_weighs plan counted p v k i (Some (action.Submit k')) laws of_pool is_next is_counted = absurd cc
 counted_get_weighs plan counted p v k i (Some (action.Get t)) laws of_pool is_next is_counted = laws.blocked k i t of_pool is_next is_counted
 
--- so a blocked job weighs at least 1
+-- a blocked job has at least weight 1
 blocked_weighs : (plan : Plan) (counted : ℕ → ℕ → Bool) (p : ℕ) (v : Vector) (k : ℕ) (stage : Stage) → BlockedLaws plan counted p v → pool_of plan k ≡ p → is_blocked_stage plan counted k stage ≡ true → 1 ≤ stage_weight GivesBack plan v k stage
 blocked_weighs plan counted p v k Stage.Queued laws of_pool is_blocked = absurd cc
 blocked_weighs plan counted p v k (Stage.At i) laws of_pool is_blocked = counted_get_weighs plan counted p v k i (slice_get (class_at plan k).body i) laws of_pool refl is_blocked
 blocked_weighs plan counted p v k Stage.Done laws of_pool is_blocked = absurd cc
 blocked_weighs plan counted p v k Stage.Claimed laws of_pool is_blocked = absurd cc
 
--- what a balanced state weighs is within the total, which is below core
+-- the weight of a balanced state is at most the total, which is below core
 pub blocked-below_core : (plan : Plan) (counted : ℕ → ℕ → Bool) (v : Vector) (s : State) (p : ℕ) → IsOrdered plan → p < length plan.pools → BlockedLaws plan counted p v → Kept plan s → IsBalanced GivesBack plan v s
     → blocked plan counted s p < (pool_at plan p).core
 blocked-below_core plan counted v s p ordered inside laws kept balanced =
@@ -46,7 +46,7 @@ blocked-below_core plan counted v s p ordered inside laws kept balanced =
     let limit = laws.within in
     omega (arith, enough, spent-le-total GivesBack plan v s ordered kept balanced)
 
--- in every reached state
+-- in every reachable state
 pub fewer_than_core_are_blocked : FewerThanCoreAreBlocked
 fewer_than_core_are_blocked plan counted p v s well_formed inside hold reached =
     let laws = blocked_laws plan counted p v hold in

@@ -1,4 +1,4 @@
--- What the rows of a blocked vector say.
+-- The inequalities that hold if the rows of a blocked vector hold.
 use Rattle.std.proofs.Common.{◌≡◌, ℕ, ◌-◌, ◌≤◌, Bool, true, ◌&&◌, [], ◌∷◌, ◌++◌, flat_map, slice_get, Some, zero-add}
 use Rattle.numbered_lists.specs.In.{here}
 use Rattle.numbered_lists.proofs.Members.{In-append_left, In-append_right, In-map, In-flat_map, In-filter, In-enumerate_from}
@@ -20,7 +20,7 @@ pub record BlockedLaws (plan : Plan) (counted : ℕ → ℕ → Bool) (p : ℕ) 
   pub blocked : (k i t : ℕ) → (class_at plan k).pool ≡ p → slice_get (class_at plan k).body i ≡ Some (action.Get t) → counted k i ≡ true → 1 ≤ job_weight v k i
   pub within : total plan v ≤ (pool_at plan p).core - 1
 
--- they hold where the rows hold
+-- they hold if the rows hold
 pub blocked_laws : (plan : Plan) (counted : ℕ → ℕ → Bool) (p : ℕ) (v : Vector) → AllHold (blocked_rows plan p counted v) → BlockedLaws plan counted p v
 blocked_laws plan counted p v hold =
     let of_class = λ (entry : ℕ × Class). counted_rows counted v entry.0 entry.1 in

@@ -1,4 +1,4 @@
--- Each job event and each taking lowers what a state has to do, and the end of a thread leaves it as it is.
+-- Each job event and each take reduces the remaining work of a state, and the end of a thread leaves it unchanged.
 use Rattle.std.proofs.Common.{◌≡◌, ◌≢◌, ℕ, zero, suc, ◌+◌, ◌<◌, ◌≤◌, ◌⊎◌, inl, inr, Bool, true, false, List, [], ◌∷◌, ◌++◌, length, get_or, slice_get, sum_by, Some, None, refl, sym, ap, ◌∙◌, add-one, arith}
 use Rattle.std.proofs.lemmas.List.Sums.{sum_by-cons, sum_by_push, sum_by-set, sum_by-drop_more}
 use Rattle.std.proofs.lemmas.Option.{slice_get_within, get_or_from_slice_get}
@@ -25,7 +25,7 @@ use Rattle.starvation_laws.proofs.RankLaws.{RankLaws, rank_laws}
 
 -- ---- whole jobs
 
--- two sums whose terms agree at each element
+-- two sums whose terms agree for each element
 sum_by-agree_each : {X : Type 0} (f g : X → ℕ) (xs : List X) → ((i : ℕ) (x : X) → slice_get xs i ≡ Some x → f x ≡ g x) → sum_by f xs ≡ sum_by g xs
 sum_by-agree_each f g [] same = refl
 sum_by-agree_each f g (x ∷ xs) same =
@@ -33,17 +33,17 @@ sum_by-agree_each f g (x ∷ xs) same =
     let rest = sum_by-agree_each f g xs (λ i y e. same (suc i) y e) in
     omega (arith, sum_by-cons f x xs, sum_by-cons g x xs)
 
--- of one action, where the two agree at the class that it submits
+-- for one action, if the two functions agree for the class that it submits
 of_submit-agree : (f g : ℕ → ℕ) (x : Action) → ((k : ℕ) → x ≡ action.Submit k → f k ≡ g k) → of_submit f x ≡ of_submit g x
 of_submit-agree f g (action.Work u) same = refl
 of_submit-agree f g (action.Submit k) same = same k refl
 of_submit-agree f g (action.Get t) same = refl
 
--- the submits of a body, where the two agree at each class that it submits
+-- for the submits of a body, if the two functions agree for each class that it submits
 submits-agree : (f g : ℕ → ℕ) (body : List Action) → ((i k : ℕ) → slice_get body i ≡ Some (action.Submit k) → f k ≡ g k) → sum_by (of_submit f) body ≡ sum_by (of_submit g) body
 submits-agree f g body same = sum_by-agree_each (of_submit f) (of_submit g) body (λ i x e. of_submit-agree f g x (λ k is_submit. same i k (e ∙ ap Some is_submit)))
 
--- enough generations for some ranks, and enough for others, are the same
+-- any two sufficient numbers of generations, for any ranks, give the same
 full_within-agree : (plan : Plan) (ranks ranks' : Ranks) (n m k : ℕ) → RankLaws plan ranks → RankLaws plan ranks' → level ranks k < n → level ranks' k < m → full_within plan n k ≡ full_within plan m k
 full_within-agree plan ranks ranks' zero m k laws laws' low low' = absurd (omega arith)
 full_within-agree plan ranks ranks' (suc n) zero k laws laws' low low' = absurd (omega arith)
@@ -56,11 +56,11 @@ full_within-agree plan ranks ranks' (suc n) (suc m) k laws laws' low low' =
     let sinks' = laws'.sinks k i k' e in
     full_within-agree plan ranks ranks' n m k' laws laws' (omega arith) (omega arith)))
 
--- whole jobs have the same to do by all ranks
+-- the work of a whole job is the same for all ranks
 pub full_is_of_plan : (plan : Plan) (ranks ranks' : Ranks) (k : ℕ) → RankLaws plan ranks → RankLaws plan ranks' → full plan ranks k ≡ full plan ranks' k
 full_is_of_plan plan ranks ranks' k laws laws' = full_within-agree plan ranks ranks' (level ranks k + 1) (level ranks' k + 1) k laws laws' (omega arith) (omega arith)
 
--- the actions of a whole job, its taking and its end, and the whole jobs that it submits
+-- the work of a whole job is its actions, its take and its end, and the work of the whole jobs that it submits
 pub full_is : (plan : Plan) (ranks : Ranks) → RankLaws plan ranks → (k : ℕ) → full plan ranks k ≡ length (class_at plan k).body + 2 + sum_by (of_submit (full plan ranks)) (class_at plan k).body
 full_is plan ranks laws k =
     let body = (class_at plan k).body in
@@ -71,21 +71,21 @@ full_is plan ranks laws k =
     let sinks = laws.sinks k i k' e in
     full_within-agree plan ranks ranks (level ranks k) (level ranks k' + 1) k' laws laws (omega arith) (omega arith)))
 
--- the same, where the rows hold
+-- the same if the rows hold
 pub full_is_whole : FullIsWhole
 full_is_whole plan ranks k hold = full_is plan ranks (rank_laws plan ranks hold) k
 
--- and by all ranks whose rows hold
+-- and for all ranks whose rows hold
 pub full_is_of_the_plan : FullIsOfThePlan
 full_is_of_the_plan plan ranks ranks' k hold hold' = full_is_of_plan plan ranks ranks' k (rank_laws plan ranks hold) (rank_laws plan ranks' hold')
 
--- ---- what is to do after a change of the jobs
+-- ---- the remaining work after a change of the jobs
 
--- what these jobs have to do
+-- the remaining work of these jobs
 abbrev jobs_todo : Plan → Ranks → List Made → ℕ
 jobs_todo plan ranks jobs = sum_by (λ (job : Made). stage_todo plan ranks job.class job.stage) jobs
 
--- a job that comes to another stage has to do what that stage has
+-- the remaining work changes by the difference of the two stages
 jobs_todo-staged : (plan : Plan) (ranks : Ranks) (jobs : List Made) (j : ℕ) (stage was : Stage) → j < length jobs → (get_or jobs j no_job).stage ≡ was
     → jobs_todo plan ranks (staged jobs j stage) + stage_todo plan ranks (get_or jobs j no_job).class was ≡ jobs_todo plan ranks jobs + stage_todo plan ranks (get_or jobs j no_job).class stage
 jobs_todo-staged plan ranks jobs j stage was inside e =
@@ -93,11 +93,11 @@ jobs_todo-staged plan ranks jobs j stage was inside e =
     ap (λ (old : Stage). jobs_todo plan ranks (staged jobs j stage) + stage_todo plan ranks job.class old) (sym e)
     ∙ sum_by-set (λ (x : Made). stage_todo plan ranks x.class x.stage) jobs j (record job { stage = stage }) no_job inside
 
--- a job that is made adds what it has to do
+-- a new job adds its remaining work
 jobs_todo_push : (plan : Plan) (ranks : Ranks) (jobs : List Made) (job : Made) → jobs_todo plan ranks (jobs ++ job ∷ []) ≡ jobs_todo plan ranks jobs + stage_todo plan ranks job.class job.stage
 jobs_todo_push plan ranks jobs job = sum_by_push (λ (x : Made). stage_todo plan ranks x.class x.stage) jobs job
 
--- before an action, a job has that action to do, the jobs that it submits, and the rest
+-- before an action, the remaining work is that action, the jobs that it submits, and the rest
 todo_before : (plan : Plan) (ranks : Ranks) (k i : ℕ) (x : Action) → slice_get (class_at plan k).body i ≡ Some x → stage_todo plan ranks k (Stage.At i) ≡ stage_todo plan ranks k (Stage.At (i + 1)) + 1 + of_submit (full plan ranks) x
 todo_before plan ranks k i x e =
     let body = (class_at plan k).body in
@@ -105,7 +105,7 @@ todo_before plan ranks k i x e =
     let now = ap (of_submit (full plan ranks)) (get_or_from_slice_get body i x x e) in
     omega (arith, now, sum_by-drop_more (of_submit (full plan ranks)) body i x inside)
 
--- so a job that passes an action has so much less to do
+-- passing an action reduces the remaining work by that amount
 pub todo-passed : (plan : Plan) (ranks : Ranks) (s : State) (j : ℕ) (body : List Action) (i : ℕ) (x : Action) → StandsAt plan s (parent.Job j) body i (Some x)
     → todo plan ranks (with_position (parent.Job j) (i + 1) s) + 1 + of_submit (full plan ranks) x ≡ todo plan ranks s
 todo-passed plan ranks s j body i x at =
@@ -114,17 +114,17 @@ todo-passed plan ranks s j body i x at =
     let is_next : slice_get (class_at plan k).body i ≡ Some x = ap (λ (b : List Action). slice_get b i) (sym was.1) ∙ at.is_there in
     omega (arith, todo_before plan ranks k i x is_next, jobs_todo-staged plan ranks s.jobs j (Stage.At (i + 1)) (Stage.At i) (standing_made plan s j body i at.stands) was.0)
 
--- a job that was taken has all to do but the taking
+-- after its take, a job has all its work left except the take
 todo_taken : (plan : Plan) (ranks : Ranks) (k : ℕ) → RankLaws plan ranks → stage_todo plan ranks k (Stage.At 0) + 1 ≡ full plan ranks k
 todo_taken plan ranks k laws = omega (arith, full_is plan ranks laws k)
 
 -- ---- each event
 
--- the second state has less to do than the first
+-- the remaining work of the second state is less than that of the first
 abbrev HasLess : Plan → Ranks → State → State → Type 0
 HasLess plan ranks s s' = todo plan ranks s' + 1 ≤ todo plan ranks s
 
--- a job that gets passes one action
+-- a job at a get passes one action
 lowers_gets : (plan : Plan) (ranks : Ranks) (s : State) (n : ℕ) (body : List Action) (i t j : ℕ) → StandsAt plan s (parent.Job n) body i (Some (action.Get t)) → (job_at s j).stage ≡ Stage.Done → HasLess plan ranks s (with_stage j Stage.Claimed (with_position (parent.Job n) (i + 1) s))
 lowers_gets plan ranks s n body i t j at done =
     let moved : State = with_position (parent.Job n) (i + 1) s in
@@ -132,7 +132,7 @@ lowers_gets plan ranks s n body i t j at done =
     let inside : j < length moved.jobs = job_made moved j (λ claimed. cc) in
     omega (arith, todo-passed plan ranks s n body i (action.Get t) at, jobs_todo-staged plan ranks moved.jobs j Stage.Claimed Stage.Done inside still)
 
--- a job that finishes had its end to do
+-- a job that finishes performs its end
 lowers_finishes : (plan : Plan) (ranks : Ranks) (s : State) (j : ℕ) (body : List Action) (i : ℕ) → Kept plan s → StandsAt plan s (parent.Job j) body i None → HasLess plan ranks s (finished_job plan s j (pool_of plan (job_at s j).class))
 lowers_finishes plan ranks s j body i kept at =
     let k = (job_at s j).class in
@@ -141,13 +141,13 @@ lowers_finishes plan ranks s j body i kept at =
     let long = ap (λ (b : List Action). length b) was.1 in
     omega (arith, jobs_todo-staged plan ranks s.jobs j Stage.Done (Stage.At i) (standing_made plan s j body i at.stands) was.0)
 
--- a job that is taken had its taking to do
+-- a job that is taken performs its take
 lowers_takes : (plan : Plan) (ranks : Ranks) (s : State) (p j : ℕ) (queue : List ℕ) (idle : ℕ) → RankLaws plan ranks → Kept plan s → (pool_part s p).queue ≡ j ∷ queue → HasLess plan ranks s (with_part p queue idle (with_stage j (Stage.At 0) s))
 lowers_takes plan ranks s p j queue idle laws kept is_queue =
     let head = head_of_queue plan s p j queue kept is_queue in
     omega (arith, todo_taken plan ranks (job_at s j).class laws, jobs_todo-staged plan ranks s.jobs j (Stage.At 0) Stage.Queued head.inside head.queued)
 
--- every job event and every taking
+-- every job event and every take
 pub lowers : (plan : Plan) (ranks : Ranks) (s s' : State) (o : Outcome) (e : Event) → RankLaws plan ranks → Kept plan s → s.refusals ≡ 0 → s'.refusals ≡ 0 → is_of_job_or_pool e ≡ true → Happens plan s e s' o → todo plan ranks s' + 1 ≤ todo plan ranks s
 lowers plan ranks s s' o e laws kept none none' of_job_or_pool (works (parent.Client c) body i u at) = absurd cc
 lowers plan ranks s s' o e laws kept none none' of_job_or_pool (works (parent.Job j) body i u at) = omega (arith, todo-passed plan ranks s j body i (action.Work u) at)
@@ -169,7 +169,7 @@ lowers plan ranks s s' o e laws kept none none' of_job_or_pool (retires p idle i
 
 -- ---- the end of a thread
 
--- only the end of a thread is an event of no client, no job and no taking
+-- the end of a thread is the only event that is not an event of a client or a job, or a take
 abbrev pub ends_thread : Event → Bool
 ends_thread (event.Retire p) = true
 ends_thread _ = false
@@ -180,7 +180,7 @@ no_client_cases (event.Job j) of_no_client = inl refl
 no_client_cases (event.Take p) of_no_client = inl refl
 no_client_cases (event.Retire p) of_no_client = inr refl
 
--- it is no job event and no taking
+-- it is not a job event or a take
 pub not_counted : (e : Event) → ends_thread e ≡ true → is_of_job_or_pool e ≡ false
 not_counted (event.Client c) is_end = refl
 not_counted (event.Job j) is_end = absurd cc
@@ -192,7 +192,7 @@ pub no_actor : (a : Parent) → ends_thread (event_of a) ≢ true
 no_actor (parent.Client c) is_end = cc
 no_actor (parent.Job j) is_end = cc
 
--- the jobs are what they were
+-- the jobs are unchanged
 pub same_jobs : (plan : Plan) (s s' : State) (o : Outcome) {e : Event} → ends_thread e ≡ true → Happens plan s e s' o → s'.jobs ≡ s.jobs
 same_jobs plan s s' o is_end (works a body i u at) = absurd (no_actor a is_end)
 same_jobs plan s s' o is_end (starts a body i k at below) = absurd (no_actor a is_end)
@@ -204,6 +204,6 @@ same_jobs plan s s' o is_end (loops c client body i at is_client repeats) = absu
 same_jobs plan s s' o is_end (takes p j queue idle is_queue is_idle) = absurd cc
 same_jobs plan s s' o is_end (retires p idle is_idle above_core) = refl
 
--- so they have the same to do
+-- their remaining work is unchanged
 pub same_todo : (plan : Plan) (ranks : Ranks) (s s' : State) (o : Outcome) {e : Event} → ends_thread e ≡ true → Happens plan s e s' o → todo plan ranks s' ≡ todo plan ranks s
 same_todo plan ranks s s' o is_end happened = ap (jobs_todo plan ranks) (same_jobs plan s s' o is_end happened)

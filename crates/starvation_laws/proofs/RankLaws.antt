@@ -1,4 +1,4 @@
--- What the rows of ranks say.
+-- The inequalities that hold if the rows of ranks hold.
 use Rattle.std.proofs.Common.{◌≡◌, ℕ, ◌+◌, ◌<◌, ◌≤◌, length, slice_get, Some, zero-add}
 use Rattle.numbered_lists.specs.In.{here, there}
 use Rattle.numbered_lists.proofs.Members.{In-flat_map, In-enumerate_from}
@@ -19,13 +19,13 @@ pub record RankLaws (plan : Plan) (ranks : Ranks) : Type 0 where
 class_holds : (plan : Plan) (ranks : Ranks) → AllHold (rank_rows plan ranks) → (k : ℕ) → k < length plan.classes → AllHold (rank_rows_of_class ranks k (class_at plan k))
 class_holds plan ranks hold k inside x i = hold x (In-flat_map (λ (entry : ℕ × Class). rank_rows_of_class ranks entry.0 entry.1) (numbered_class plan k inside) i)
 
--- and of one action of its body
+-- and those of one action of its body
 action_holds : (plan : Plan) (ranks : Ranks) → AllHold (rank_rows plan ranks) → (k i : ℕ) (x : Action) → slice_get (class_at plan k).body i ≡ Some x → AllHold (rank_rows_of_action ranks k (class_at plan k).body i x)
 action_holds plan ranks hold k i x is_next y at =
     let body = (class_at plan k).body in
     class_holds plan ranks hold k (class_of_action plan k i x is_next) y (there (In-flat_map (λ (entry : ℕ × Action). rank_rows_of_action ranks k body entry.0 entry.1) (In-enumerate_from 0 body i x i is_next (zero-add i)) at))
 
--- they hold where the rows hold
+-- they hold if the rows hold
 pub rank_laws : (plan : Plan) (ranks : Ranks) → AllHold (rank_rows plan ranks) → RankLaws plan ranks
 rank_laws plan ranks hold = record {
   reaches = λ k inside. class_holds plan ranks hold k inside _ here;

@@ -1,6 +1,7 @@
-//! What blocked vectors and ranks promise of every state that a plan reaches: a worker is left in each pool, following the
-//! jobs that gets wait for comes to an end, and the work of each job is bounded. The statements stand in `specs/`; nothing
-//! here runs, and the functions of `laws` have their contracts alone.
+//! The guarantees that blocked vectors and ranks give for every reachable state of a plan: each
+//! pool has a worker that is not blocked, each chain of jobs that wait for each other ends, and the
+//! work of each job is bounded. The statements are in `specs/`. Nothing here runs: the functions in
+//! `laws` exist for their contracts.
 #![tactic(auto)]
 
 mod laws;
