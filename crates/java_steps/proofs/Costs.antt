@@ -1,4 +1,4 @@
--- What a job event or a taking costs of what jobs have still to do, the steps of calls counted.
+-- The cost of a job event or a take: how much it reduces the remaining work, counting the steps of calls.
 use Rattle.std.proofs.Common.{◌≡◌, ◌≢◌, ℕ, ◌+◌, ◌*◌, ◌<◌, ◌≤◌, ⊎_elim, Bool, true, false, List, ◌∷◌, length, get_or, slice_get, Some, refl, sym, ap, ap₂, subst, ◌∙◌, arith, zero-add}
 use Rattle.std.specs.List.{enumerate_from}
 use Rattle.std.proofs.lemmas.Bool.{false≢true, false_from_ne_true, cases_eq, ne_eqb}
@@ -30,7 +30,7 @@ use Rattle.java_steps.proofs.Marks.{makes, steps_done, mark, steps_done-le, mark
 
 -- ---- the jobs of a state
 
--- no event takes a job away
+-- no event removes a job
 no_fewer_jobs : (plan : Plan) (s s' : State) (o : Outcome) {e : Event} → Happens plan s e s' o → length s.jobs ≤ length s'.jobs
 no_fewer_jobs plan s s' o (works a body i u at) = omega (arith, length-moved s a (i + 1))
 no_fewer_jobs plan s s' o (starts a body i k at below) = omega (arith, length-moved s a (i + 1), length_push (moved_jobs a (i + 1) s) (new_job k a i (Stage.At 0)))
@@ -42,12 +42,12 @@ no_fewer_jobs plan s s' o (loops c client body i at is_client repeats) = omega a
 no_fewer_jobs plan s s' o (takes p j queue idle is_queue is_idle) = omega (arith, length-staged s.jobs j (Stage.At 0))
 no_fewer_jobs plan s s' o (retires p idle is_idle above_core) = omega arith
 
--- ---- the steps that are done of the calls under way
+-- ---- the completed steps of the calls in progress
 
 abbrev pub calls_done : JavaState → ℕ
 calls_done s = by_place (mark s) 0 s.machine.jobs
 
--- where the calls of one job are over, at most two steps fewer are done
+-- if the calls of one job end, the number of completed steps falls by at most two
 calls_done-ended : (s s' : JavaState) (n : ℕ) → s'.offering ≡ of_others (parent.Job n) s.offering → s'.asking ≡ of_others (parent.Job n) s.asking → length s.machine.jobs ≤ length s'.machine.jobs → calls_done s ≤ calls_done s' + 2
 calls_done-ended s s' n offering asking longer =
     let fewer = by_place-but_one (mark s) (mark s') n 2 (omega (arith, mark-le_two s n))
@@ -59,14 +59,14 @@ calls_done-ended s s' n offering asking longer =
         subst (λ (x : List Call). makes x i ≡ true) (sym are_others)
         (others_make (parent.Job n) calls i (ne_eqb n i (λ (same : n ≡ i). other (sym same))) makes_it)
 
--- where a job comes to the next step of its call, one more is done
+-- if a job reaches the next step of its call, the number of completed steps rises by one
 calls_done-more : (s s' : JavaState) (n : ℕ) → n < length s.machine.jobs → s'.machine ≡ s.machine → mark s n + 1 ≤ mark s' n → ((i : ℕ) → i ≢ n → mark s i ≤ mark s' i) → calls_done s + 1 ≤ calls_done s'
 calls_done-more s s' n inside same here others =
     subst (λ (x : State). calls_done s + 1 ≤ by_place (mark s') 0 x.jobs) (sym same)
     (by_place-more (mark s) (mark s') n 0 s.machine.jobs (omega arith) (omega arith) here
     (λ i. ⊎_elim (λ (own : i ≡ n). subst (λ (x : ℕ). mark s x ≤ mark s' x) (sym own) (omega arith)) (λ other. others i other) (cases_eq i n)))
 
--- a job calls one pool at a time
+-- a job calls at most one pool at a time
 pub one_pool : (plan : Plan) (job : Made) (p q : ℕ) → StandsBefore plan job p → StandsBefore plan job q → p ≡ q
 one_pool plan job p q first second =
     let stages : Stage.At first.position ≡ Stage.At second.position = sym first.stage ∙ second.stage in
@@ -75,7 +75,7 @@ one_pool plan job p q first second =
     let class : first.submitted ≡ second.submitted = cc in
     first.to_pool ∙ ap (pool_of plan) class ∙ sym second.to_pool
 
--- so one that makes no call of these to that pool makes none
+-- a job without a call to that pool among these has no call among them
 makes_none : (plan : Plan) (job : Made) (n p : ℕ) (calls : List Call) → ((q : ℕ) → is_calling calls (parent.Job n) q ≡ true → StandsBefore plan job q) → StandsBefore plan job p → is_calling calls (parent.Job n) p ≡ false → makes calls n ≡ false
 makes_none plan job n p calls each here not_calling =
     false_from_ne_true (makes calls n)
@@ -84,7 +84,7 @@ makes_none plan job n p calls each here not_calling =
     let same = one_pool plan job to.0 p (each to.0 to.1) here in
     false≢true (sym not_calling ∙ ap (is_calling calls (parent.Job n)) (sym same) ∙ to.1))
 
--- a job that finds core threads is one step further
+-- a job that finds core threads completes a step
 core_found : (plan : Plan) (s : JavaState) (n : ℕ) (body : List Action) (i k : ℕ) → JobCalls plan s → StandsAt plan s.machine (parent.Job n) body i (Some (action.Submit k)) → is_calling s.asking (parent.Job n) (pool_of plan k) ≡ false
     → is_calling s.offering (parent.Job n) (pool_of plan k) ≡ false → calls_done s + 1 ≤ calls_done (record s { offering = record { actor = parent.Job n; pool = pool_of plan k } ∷ s.offering })
 core_found plan s n body i k calls at not_asking not_offering =
@@ -99,7 +99,7 @@ core_found plan s n body i k calls at not_asking not_offering =
     let after_is : mark after n ≡ 1 = ap₂ steps_done asks (new_makes n p s.offering) in
     calls_done-more s after n (standing_made plan s.machine n body i at.stands) refl (omega arith) (λ j other. mark-le s after j (λ it. it) (λ it. more_make call s.offering j it))
 
--- and so is one that finds a full queue
+-- and so does a job that finds a full queue
 full_found : (plan : Plan) (s : JavaState) (n : ℕ) (body : List Action) (i k : ℕ) → JobCalls plan s → StandsAt plan s.machine (parent.Job n) body i (Some (action.Submit k)) → is_calling s.asking (parent.Job n) (pool_of plan k) ≡ false
     → calls_done s + 1 ≤ calls_done (record s { offering = of_others (parent.Job n) s.offering; asking = record { actor = parent.Job n; pool = pool_of plan k } ∷ s.asking })
 full_found plan s n body i k calls at not_asking =
@@ -112,12 +112,12 @@ full_found plan s n body i k calls at not_asking =
     calls_done-more s after n (standing_made plan s.machine n body i at.stands) refl (omega arith)
     (λ j other. mark-le s after j (λ it. more_make call s.asking j it) (λ it. others_make (parent.Job n) s.offering j (ne_eqb n j (λ (same : n ≡ j). other (sym same))) it))
 
--- ---- what an event costs
+-- ---- the cost of an event
 
 abbrev pub Costs : Plan → Ranks → JavaState → JavaState → Type 0
 Costs plan ranks s s' = 3 * todo plan ranks s'.machine + calls_done s + 1 ≤ 3 * todo plan ranks s.machine + calls_done s'
 
--- every job event and every taking
+-- every job event and every take
 pub costs : (plan : Plan) (ranks : Ranks) (s s' : JavaState) (e : Event) → RankLaws plan ranks → Kept plan s.machine → s.machine.refusals ≡ 0 → s'.machine.refusals ≡ 0 → JobCalls plan s → is_of_job_or_pool e ≡ true → JavaHappens plan s e s' → Costs plan ranks s s'
 costs plan ranks s s' e laws kept none none' calls of_job_or_pool (is_written f after o no_submit happened) =
     omega (arith, lowers plan ranks s.machine after o f laws kept none none' of_job_or_pool happened, by_place-longer (mark s) 0 s.machine.jobs after.jobs (no_fewer_jobs plan s.machine after o happened))
@@ -132,7 +132,7 @@ costs plan ranks s s' e laws kept none none' calls of_job_or_pool (finds_all a b
 
 -- ---- the end of a thread
 
--- it costs nothing
+-- it has no cost
 pub costs_nothing : (plan : Plan) (ranks : Ranks) (s s' : JavaState) (e : Event) → ends_thread e ≡ true → JavaHappens plan s e s' → 3 * todo plan ranks s'.machine + calls_done s ≤ 3 * todo plan ranks s.machine + calls_done s'
 costs_nothing plan ranks s s' e is_end (is_written f after o no_submit happened) =
     let todo_is = same_todo plan ranks s.machine after o is_end happened in
@@ -143,16 +143,16 @@ costs_nothing plan ranks s s' e is_end (finds_core a body i k at not_asking not_
 costs_nothing plan ranks s s' e is_end (finds_full a body i k at not_asking no_room) = absurd (no_actor a is_end)
 costs_nothing plan ranks s s' e is_end (finds_all a body i k at asking all_started) = absurd (no_actor a is_end)
 
--- ---- calls are of jobs that have something to do
+-- ---- a job in a call has remaining work
 
--- a job before a submit has that to do
+-- the remaining work of a job before a submit includes that submit
 todo_before_submit : (plan : Plan) (ranks : Ranks) (job : Made) (p : ℕ) → StandsBefore plan job p → 1 ≤ stage_todo plan ranks job.class job.stage
 todo_before_submit plan ranks job p before =
     let inside = slice_get_within (class_at plan job.class).body before.position (action.Submit before.submitted) before.submits in
     let todo_is = ap (stage_todo plan ranks job.class) before.stage in
     omega arith
 
--- so no job has done more steps than twice that
+-- the number of completed steps of a job is at most twice its remaining work
 mark-le_todo : (plan : Plan) (ranks : Ranks) (s : JavaState) (n : ℕ) → JobCalls plan s → (asking offering : Bool) → makes s.asking n ≡ asking → makes s.offering n ≡ offering
     → mark s n ≤ stage_todo plan ranks (job_at s.machine n).class (job_at s.machine n).stage + stage_todo plan ranks (job_at s.machine n).class (job_at s.machine n).stage
 mark-le_todo plan ranks s n calls true offering asks offers =

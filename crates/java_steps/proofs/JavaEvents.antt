@@ -1,4 +1,4 @@
--- Every event, where submits are the steps of Java's execute, is one of these.
+-- The kinds of events, if submits are the steps of Java's execute.
 use Rattle.std.proofs.Common.{◌≡◌, ℕ, ◌<◌, ◌≤◌, ◌⊎◌, inl, inr, ⊎_elim, Bool, true, false, cond, not, ◌&&◌, eqb, ltb, List, ◌∷◌, length, slice_get, Option, Some, None, refl, ap, subst, ◌∙◌}
 use Rattle.std.proofs.lemmas.Bool.{and_parts, or_cases, not-true, ltb-true, ltb-false, eqb-true}
 use Rattle.std.proofs.lemmas.Option.{none-some, same_Some}
@@ -22,7 +22,7 @@ use Rattle.java_steps.specs.Execute.{Call, JavaState, is_calling, of_others, ans
 
 -- ---- calls
 
--- a call of the others was there, and is not the actor's
+-- a call among those of others existed before and is not the actor's
 pub call_of_others : (a b : Parent) (p : ℕ) (calls : List Call) → is_calling (of_others a calls) b p ≡ true → (is_calling calls b p ≡ true) × (same_parent a b ≡ false)
 call_of_others a b p calls is_there =
     let to_pool = λ (call : Call). same_parent b call.actor && eqb p call.pool in
@@ -32,7 +32,7 @@ call_of_others a b p calls is_there =
     let actor : b ≡ found.0.actor = same_actor_true b found.0.actor (and_parts (same_parent b found.0.actor) (eqb p found.0.pool) found.2).0 in
     (list_any_at_In to_pool kept.0 found.2, ap (same_parent a) actor ∙ not-true (same_parent a found.0.actor) kept.1)
 
--- one more call is the actor's to this pool, or the call was there
+-- with one more call, a call is the new one or existed before
 pub one_more : (call : Call) (calls : List Call) (b : Parent) (p : ℕ) → is_calling (call ∷ calls) b p ≡ true → ((b ≡ call.actor) × (p ≡ call.pool)) ⊎ (is_calling calls b p ≡ true)
 one_more call calls b p is_there =
     ⊎_elim
@@ -41,10 +41,10 @@ one_more call calls b p is_there =
     inl (same_actor_true b call.actor parts.0, eqb-true p call.pool parts.1))
     inr (or_cases (same_parent b call.actor && eqb p call.pool) (is_calling calls b p) is_there)
 
--- ---- what happens
+-- ---- the kinds of events
 
 pub data JavaHappens (plan : Plan) (s : JavaState) : Event → JavaState → Type 0 where
-  -- an event that is none of a submit
+  -- an event that is not part of a submit
   is_written : (e : Event) (after : State) (o : Outcome) → submission plan s.machine e ≡ None → Happens plan s.machine e after o → JavaHappens plan s e (record s { machine = after })
   -- the end of a submit
   ends : (a : Parent) (body : List Action) (i k : ℕ) (after : State) (o : Outcome) → StandsAt plan s.machine a body i (Some (action.Submit k)) → Happens plan s.machine (event_of a) after o
@@ -53,22 +53,22 @@ pub data JavaHappens (plan : Plan) (s : JavaState) : Event → JavaState → Typ
   finds_core : (a : Parent) (body : List Action) (i k : ℕ) → StandsAt plan s.machine a body i (Some (action.Submit k)) → is_calling s.asking a (pool_of plan k) ≡ false → is_calling s.offering a (pool_of plan k) ≡ false
       → (pool_at plan (pool_of plan k)).core ≤ threads plan s.machine (pool_of plan k)
       → JavaHappens plan s (event_of a) (record s { offering = record { actor = a; pool = pool_of plan k } ∷ s.offering })
-  -- and then a full queue
+  -- it then finds a full queue
   finds_full : (a : Parent) (body : List Action) (i k : ℕ) → StandsAt plan s.machine a body i (Some (action.Submit k)) → is_calling s.asking a (pool_of plan k) ≡ false
       → (pool_at plan (pool_of plan k)).queue ≤ length (pool_part s.machine (pool_of plan k)).queue
       → JavaHappens plan s (event_of a) (record s { offering = of_others a s.offering; asking = record { actor = a; pool = pool_of plan k } ∷ s.asking })
-  -- and then all threads
+  -- it then finds that all threads exist
   finds_all : (a : Parent) (body : List Action) (i k : ℕ) → StandsAt plan s.machine a body i (Some (action.Submit k)) → is_calling s.asking a (pool_of plan k) ≡ true
       → (pool_at plan (pool_of plan k)).max ≤ threads plan s.machine (pool_of plan k)
       → JavaHappens plan s (event_of a) (answers plan s a i k offer.Refused)
 
 -- ---- the steps of a submit
 
--- those that offer found core threads
+-- the pools of the calls that offer had core threads
 abbrev pub OfferAtCore : Plan → JavaState → Type 0
 OfferAtCore plan s = (a : Parent) (p : ℕ) → p < length plan.pools → is_calling s.offering a p ≡ true → (pool_at plan p).core ≤ threads plan s.machine p
 
--- the look
+-- the check
 looks_happens : (plan : Plan) (s : JavaState) (a : Parent) (body : List Action) (i k : ℕ) → StandsAt plan s.machine a body i (Some (action.Submit k)) → is_calling s.asking a (pool_of plan k) ≡ false → is_calling s.offering a (pool_of plan k) ≡ false
     → (below : Bool) → ltb (threads plan s.machine (pool_of plan k)) (pool_at plan (pool_of plan k)).core ≡ below
     → JavaHappens plan s (event_of a) (cond below (answers plan s a i k offer.Started) (record s { offering = record { actor = a; pool = pool_of plan k } ∷ s.offering }))
@@ -94,7 +94,7 @@ asks_happens plan s a body i k at asking true is_below =
 asks_happens plan s a body i k at asking false is_below =
     finds_all a body i k at asking (ltb-false (threads plan s.machine (pool_of plan k)) (pool_at plan (pool_of plan k)).max is_below)
 
--- the next of them
+-- the next of these steps
 executes_happens : (plan : Plan) (s : JavaState) (a : Parent) (body : List Action) (i k : ℕ) → IsOrdered plan → OfferAtCore plan s → StandsAt plan s.machine a body i (Some (action.Submit k))
     → (asking offering : Bool) → is_calling s.asking a (pool_of plan k) ≡ asking → is_calling s.offering a (pool_of plan k) ≡ offering
     → JavaHappens plan s (event_of a) (cond asking (asks plan s a i k) (cond offering (offers plan s a i k) (looks plan s a i k)))
@@ -106,9 +106,9 @@ executes_happens plan s a body i k ordered at_core at false true is_asking is_of
 executes_happens plan s a body i k ordered at_core at false false is_asking is_offering =
     looks_happens plan s a body i k at is_asking is_offering (ltb (threads plan s.machine (pool_of plan k)) (pool_at plan (pool_of plan k)).core) refl
 
--- ---- who submits
+-- ---- the submitter
 
--- the actor of the event stands at this submit
+-- the actor of the event is at this submit
 pub record IsSubmission (plan : Plan) (s : State) (e : Event) (x : Submission) : Type 0 where
   pub body : List Action
   pub at : StandsAt plan s x.actor body x.position (Some (action.Submit x.class))
@@ -140,7 +140,7 @@ is_submission plan s (event.Retire p) x is_one = absurd (none-some x is_one)
 
 -- ---- every event
 
--- one that is as it is written
+-- an event that is that of the machine
 written_happens : (plan : Plan) (s : JavaState) (e : Event) (found : Option (State × Outcome)) (s' : JavaState) → submission plan s.machine e ≡ None → step plan s.machine e ≡ found → as_written s found ≡ Some s' → JavaHappens plan s e s'
 written_happens plan s e None s' none is_step is_after = absurd (none-some s' is_after)
 written_happens plan s e (Some (after, o)) s' none is_step is_after =

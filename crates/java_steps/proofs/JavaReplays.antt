@@ -1,4 +1,4 @@
--- What holds at the start and stays through every event holds in every reached state; and what is possible.
+-- Invariants of reachable states, by induction over events; and which events are possible.
 use Rattle.std.proofs.Common.{◌≡◌, true, List, [], ◌∷◌, ◌++◌, Option, Some, None, is_some, refl, sym, subst}
 use Rattle.std.proofs.lemmas.Option.{same_Some}
 use Rattle.job_bodies.specs.Plan.{Plan}
@@ -8,20 +8,20 @@ use Rattle.written_machine.specs.State.{State}
 use Rattle.written_machine.specs.Step.{step}
 use Rattle.java_steps.specs.Execute.{JavaState, Submission, as_written, java_stepped, java_step, java_replay}
 
--- ---- what stays through every event
+-- ---- induction over events
 
 -- after an impossible event there is no state
 pub java_replay_none : (plan : Plan) (events : List Event) → java_replay plan None events ≡ None
 java_replay_none plan [] = refl
 java_replay_none plan (e ∷ events) = refl
 
--- one event after another
+-- two lists of events in order
 pub java_replay-append : (plan : Plan) (s : Option JavaState) (first second : List Event) → java_replay plan s (first ++ second) ≡ java_replay plan (java_replay plan s first) second
 java_replay-append plan s [] second = refl
 java_replay-append plan None (e ∷ first) second = sym (java_replay_none plan second)
 java_replay-append plan (Some s) (e ∷ first) second = java_replay-append plan (java_step plan s e) first second
 
--- the fact goes from each state to the states after its events
+-- the property is preserved by every event
 abbrev JavaStays : Plan → (JavaState → Type 0) → Type 0
 JavaStays plan holds = (s : JavaState) (e : Event) (s' : JavaState) → holds s → java_step plan s e ≡ Some s' → holds s'
 
@@ -32,7 +32,7 @@ after_event plan holds stays s e events s' onward held None is_step replayed =
     absurd cc
 after_event plan holds stays s e events s' onward held (Some next) is_step replayed = onward next (stays s e next held is_step) replayed
 
--- what each event keeps holds after every list of events
+-- a property that each event preserves is preserved by every list of events
 pub java_replay_keeps : (plan : Plan) (holds : JavaState → Type 0) → ((s : JavaState) (e : Event) (s' : JavaState) → holds s → java_step plan s e ≡ Some s' → holds s') → (events : List Event) (s s' : JavaState) → holds s → java_replay plan (Some s) events ≡ Some s' → holds s'
 java_replay_keeps plan holds stays [] s s' held replayed = subst holds (same_Some s s' replayed) held
 java_replay_keeps plan holds stays (e ∷ events) s s' held replayed =
@@ -40,7 +40,7 @@ java_replay_keeps plan holds stays (e ∷ events) s s' held replayed =
 
 -- ---- what is possible
 
--- what is possible as it is written is possible
+-- an event that the machine allows is possible
 written_possible : (s : JavaState) (found : Option (State × Outcome)) → is_some found ≡ true → is_some (as_written s found) ≡ true
 written_possible s None possible = absurd cc
 written_possible s (Some x) possible = refl

@@ -1,4 +1,4 @@
--- What an event does to the number of a pool's threads.
+-- The effect of an event on the number of a pool's threads.
 use Rattle.std.proofs.Common.{◌≡◌, ℕ, ◌+◌, ◌<◌, ◌≤◌, List, [], ◌∷◌, ◌++◌, length, Some, refl, sym, ap, ◌∙◌, arith}
 use Rattle.job_bodies.specs.declared.action.Action.{Action}
 use Rattle.job_bodies.specs.Plan.{Plan, pool_at}
@@ -18,22 +18,22 @@ use Rattle.written_machine.proofs.KeptPools.{pools_with_part}
 use Rattle.written_machine.proofs.KeptStep.{done_still}
 use Rattle.written_machine.proofs.JobsMade.{made_jobs, made_jobs-staged, made_jobs-moved, made_jobs_push}
 
--- where pool p has this part and these jobs after s: its threads are more only by jobs that were made, and not below core
--- if they were not
+-- the threads of pool p after a change of its part and the jobs: their number grows at most with the number of jobs
+-- submitted, and does not fall below core
 pub record Goes (plan : Plan) (s : State) (jobs : List Made) (p : ℕ) (part : PoolPart) : Type 0 where
   pub by_jobs : part.idle + busy_jobs plan jobs p + made_jobs plan s.jobs p ≤ threads plan s p + made_jobs plan jobs p
   pub at_core : (pool_at plan p).core ≤ threads plan s p → (pool_at plan p).core ≤ part.idle + busy_jobs plan jobs p
 
--- where the threads are as many
+-- the number of threads is unchanged
 goes_same : (plan : Plan) (s : State) (jobs : List Made) (p : ℕ) (part : PoolPart) → part.idle + busy_jobs plan jobs p ≡ threads plan s p → made_jobs plan s.jobs p ≤ made_jobs plan jobs p → Goes plan s jobs p part
 goes_same plan s jobs p part same no_fewer = record { by_jobs = omega arith; at_core = λ enough. omega arith }
 
--- an actor comes to another position
+-- an actor changes its position
 goes_moved : (plan : Plan) (s : State) (a : Parent) (body : List Action) (i i' p : ℕ) → point plan s a ≡ Some (record { body = body; position = i }) → Goes plan s (moved_jobs a i' s) p (pool_part s p)
 goes_moved plan s a body i i' p stands =
     goes_same plan s (moved_jobs a i' s) p (pool_part s p) (omega (arith, busy-moved plan s a body i i' p stands)) (omega (arith, made_jobs-moved plan s a i' p))
 
--- a job is made that is at work from the beginning
+-- a new job starts running
 goes_starts : (plan : Plan) (s : State) (a : Parent) (body : List Action) (i k p : ℕ) → point plan s a ≡ Some (record { body = body; position = i })
     → Goes plan s (moved_jobs a (i + 1) s ++ new_job k a i (Stage.At 0) ∷ []) p (pool_part s p)
 goes_starts plan s a body i k p stands =
@@ -45,7 +45,7 @@ goes_starts plan s a body i k p stands =
     let as_made = made_jobs-moved plan s a (i + 1) p in
     record { by_jobs = omega arith; at_core = λ enough. omega arith }
 
--- a job is made that waits in its pool's queue
+-- a new job is queued
 goes_queues : (plan : Plan) (s : State) (a : Parent) (body : List Action) (i k : ℕ) (part : PoolPart) (p : ℕ) → point plan s a ≡ Some (record { body = body; position = i }) → part.idle ≡ (pool_part s p).idle
     → Goes plan s (moved_jobs a (i + 1) s ++ new_job k a i Stage.Queued ∷ []) p part
 goes_queues plan s a body i k part p stands same_idle =
@@ -55,7 +55,7 @@ goes_queues plan s a body i k part p stands same_idle =
     (omega (arith, busy_push_same plan jobs job p refl, busy-moved plan s a body i (i + 1) p stands))
     (omega (arith, made_jobs_push plan jobs job p, made_jobs-moved plan s a (i + 1) p))
 
--- a get claims a job that is done
+-- a get claims a done job
 goes_gets : (plan : Plan) (s : State) (a : Parent) (body : List Action) (i j p : ℕ) → point plan s a ≡ Some (record { body = body; position = i }) → (job_at s j).stage ≡ Stage.Done
     → Goes plan s (staged (moved_jobs a (i + 1) s) j Stage.Claimed) p (pool_part s p)
 goes_gets plan s a body i j p stands done =
@@ -66,7 +66,7 @@ goes_gets plan s a body i j p stands done =
     (omega (arith, busy-moved plan s a body i (i + 1) p stands))
     (omega (arith, made_jobs-staged plan jobs j Stage.Claimed p, made_jobs-moved plan s a (i + 1) p))
 
--- a job's worker comes or goes
+-- a worker takes or finishes a job
 goes_worker : (plan : Plan) (s : State) (j : ℕ) (stage : Stage) (q : ℕ) (queue : List ℕ) (idle : ℕ) → length s.pools ≡ length plan.pools → pool_of plan (job_at s j).class ≡ q → idle + busy_jobs plan (staged s.jobs j stage) q ≡ threads plan s q
     → (p : ℕ) → p < length plan.pools → Goes plan s (staged s.jobs j stage) p (pool_part (with_part q queue idle s) p)
 goes_worker plan s j stage q queue idle as_many of_pool same =

@@ -11,7 +11,7 @@ use Rattle.written_machine.specs.Reach.{start}
 use Rattle.java_steps.specs.Execute.{JavaState, java_replay, between_calls}
 use Rattle.java_steps.specs.WithRoom.{WithRoom, RefusedWithRoom, StartedWithRoom}
 
--- one pool with one core thread, a maximum of two and a queue of one, and clients that each submit one piece of work
+-- one pool with one core thread, a maximum of two and a queue of one, and clients that each submit one job
 abbrev one_pool : ℕ → Plan
 one_pool clients = record {
   pools = record { name = 112 ∷ []; core = 1; max = 2; queue = 1; prestart = false } ∷ [];
@@ -19,16 +19,15 @@ one_pool clients = record {
   clients = record { name = 99 ∷ []; count = clients; repeat = false; body = Submit 0 ∷ [] } ∷ [];
 }
 
--- what is seen of a state: how many submits were refused, how many threads the pool has, how many of them are idle, and how
--- many jobs wait in its queue
+-- the numbers of rejected submits, of threads of the pool, of idle threads, and of queued jobs
 abbrev seen : Plan → JavaState → ℕ × ℕ × ℕ × ℕ
 seen plan s = (s.machine.refusals, threads plan s.machine 0, (pool_part s.machine 0).idle, length (pool_part s.machine 0).queue)
 
--- after these events, from the start
+-- these numbers after the events, from the initial state
 abbrev seen_after : ℕ → List Event → Option (ℕ × ℕ × ℕ × ℕ)
 seen_after clients events = option_map (seen (one_pool clients)) (java_replay (one_pool clients) (Some (between_calls (start (one_pool clients)))) events)
 
--- client 0 submits; client 1 looks and offers, and its job fills the queue; client 2 looks, and its offer fails
+-- client 0 submits; client 1 checks and offers, and its job fills the queue; client 2 checks, and its offer fails
 abbrev offer_fails : List Event
 offer_fails = event.Client 0 ∷ event.Client 1 ∷ event.Client 1 ∷ event.Client 2 ∷ event.Client 2 ∷ []
 
@@ -36,39 +35,39 @@ offer_fails = event.Client 0 ∷ event.Client 1 ∷ event.Client 1 ∷ event.Cli
 abbrev queue_empties : List Event
 queue_empties = event.Job 0 ∷ event.Job 0 ∷ event.Take 0 ∷ []
 
--- the queue is empty by then, and still client 2 gets a second thread
+-- the queue is empty then, but client 2 still gets a second thread
 one_job_at_work : seen_after 3 (offer_fails ++ queue_empties) ≡ Some (0, 1, 0, 0)
 one_job_at_work = refl
 
 second_thread_though_queue_has_room : seen_after 3 (offer_fails ++ queue_empties ++ event.Client 2 ∷ []) ≡ Some (0, 2, 0, 0)
 second_thread_though_queue_has_room = refl
 
--- client 3 looks, its offer fails, and it gets the last thread
+-- client 3 checks, its offer fails, and it gets the last thread
 abbrev last_thread_goes : List Event
 last_thread_goes = event.Client 3 ∷ event.Client 3 ∷ event.Client 3 ∷ []
 
--- job 1 ends too: nothing is queued and one thread is idle, and still client 2 is refused
+-- job 1 ends too: no job is queued and one thread is idle, but client 2 is still rejected
 one_thread_idle : seen_after 4 (offer_fails ++ last_thread_goes ++ queue_empties ++ event.Job 1 ∷ event.Job 1 ∷ []) ≡ Some (0, 2, 1, 0)
 one_thread_idle = refl
 
 refused_though_queue_has_room : seen_after 4 (offer_fails ++ last_thread_goes ++ queue_empties ++ event.Job 1 ∷ event.Job 1 ∷ event.Client 2 ∷ []) ≡ Some (1, 2, 1, 0)
 refused_though_queue_has_room = refl
 
--- a client between two steps of its submit may stand still while all others come to an end
+-- a client between two steps of its submit can pause while all others finish
 others_go_on : seen_after 4 (offer_fails ++ queue_empties ++ event.Job 1 ∷ event.Job 1 ∷ event.Client 3 ∷ event.Client 3 ∷ event.Take 0 ∷ event.Job 2 ∷ event.Job 2 ∷ []) ≡ Some (0, 1, 1, 0)
 others_go_on = refl
 
--- and a client whose body is at its end has no step
+-- a client at the end of its body has no step
 over : seen_after 3 (event.Client 0 ∷ event.Client 0 ∷ []) ≡ None
 over = refl
 
 -- ---- as laws
 
--- the state after these events of so many clients
+-- the state after these events, with this number of clients
 abbrev after_events : ℕ → List Event → JavaState
 after_events clients events = unwrap_or (java_replay (one_pool clients) (Some (between_calls (start (one_pool clients)))) events) (between_calls (start (one_pool clients)))
 
--- so few clients make a well-formed plan
+-- three clients make a well-formed plan
 three_well_formed : IsWellFormed (one_pool 3)
 three_well_formed = record { few_pools = omega arith; few_classes = omega arith; few_clients = omega arith; pool_names = refl; class_names = refl; client_names = refl; pools = refl; classes = refl; clients = refl }
 
@@ -79,7 +78,7 @@ four_well_formed = record { few_pools = omega arith; few_classes = omega arith; 
 abbrev both_done : List Event
 both_done = queue_empties ++ event.Job 1 ∷ event.Job 1 ∷ []
 
--- client 2 asks
+-- client 2 requests a thread
 abbrev started_with_room : WithRoom (one_pool 3) 0
 started_with_room = record {
   before = after_events 3 (offer_fails ++ both_done);

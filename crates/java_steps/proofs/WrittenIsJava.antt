@@ -1,4 +1,5 @@
--- Whatever the written machine reaches, submits in Java's steps reach: those that nothing comes between.
+-- Each state that the machine with atomic submits reaches is reachable in Java's steps, without other events between the
+-- steps of a submit.
 use Rattle.std.proofs.Common.{◌≡◌, ℕ, Bool, true, false, cond, not, ◌&&◌, eqb, ltb, List, [], ◌∷◌, ◌++◌, length, Option, Some, None, refl, sym, ap, subst, ◌∙◌}
 use Rattle.std.proofs.lemmas.Bool.{and_from, or_left, eq-eqb}
 use Rattle.std.proofs.lemmas.Option.{same_Some}
@@ -20,23 +21,23 @@ use Rattle.java_steps.specs.JavaSafe.{WrittenStatesAreReached}
 use Rattle.java_steps.proofs.JavaEvents.{is_submission}
 use Rattle.java_steps.proofs.JavaReplays.{java_replay-append}
 
--- ---- an actor's own call
+-- ---- the call of one actor
 
--- its call, alone
+-- its call alone
 abbrev own : Parent → ℕ → List Call
 own a p = record { actor = a; pool = p } ∷ []
 
--- is one of its calls
+-- it is one of the actor's calls
 own_is_calling : (a : Parent) (p : ℕ) → is_calling (own a p) a p ≡ true
 own_is_calling a p = or_left (same_parent a a && eqb p p) false (and_from (same_parent a a) (eqb p p) (same_actor_refl a) (eq-eqb p p refl))
 
--- and none of the others'
+-- and not a call of another actor
 own_is_over : (a : Parent) (p : ℕ) → of_others a (own a p) ≡ []
 own_is_over a p = ap (λ (b : Bool). cond (not b) (own a p) []) (same_actor_refl a)
 
--- ---- the steps of a submit with nothing between them
+-- ---- the steps of a submit without other events between them
 
--- some list of events leads from s to s', no call under way at either
+-- some list of events leads from s to s', with no call in progress at either
 abbrev Follows : Plan → State → State → Type 0
 Follows plan s s' = (events : List Event) × (java_replay plan (Some (between_calls s)) events ≡ Some (between_calls s'))
 
@@ -55,13 +56,13 @@ asks_next s a p = record { machine = s; offering = []; asking = own a p }
 abbrev is_answered : Plan → State → Parent → ℕ → ℕ → Offer → JavaState
 is_answered plan s a i k given = between_calls (answered plan s a i k given).0
 
--- first it looks
+-- first the check
 look : (plan : Plan) (s : State) (e : Event) (a : Parent) (i k : ℕ) (below : Bool) → IsNextStep plan s e a i k → ltb (threads plan s (pool_of plan k)) (pool_at plan (pool_of plan k)).core ≡ below
     → java_step plan (between_calls s) e ≡ Some (cond below (is_answered plan s a i k offer.Started) (offers_next s a (pool_of plan k)))
 look plan s e a i k below next is_below =
     next [] [] ∙ ap (λ (b : Bool). Some (cond b (is_answered plan s a i k offer.Started) (offers_next s a (pool_of plan k)))) is_below
 
--- then it offers
+-- then the offer
 offer_it : (plan : Plan) (s : State) (e : Event) (a : Parent) (i k : ℕ) (room : Bool) → IsNextStep plan s e a i k → ltb (length (pool_part s (pool_of plan k)).queue) (pool_at plan (pool_of plan k)).queue ≡ room
     → java_step plan (offers_next s a (pool_of plan k)) e ≡ Some (cond room (is_answered plan s a i k offer.Queued) (asks_next s a (pool_of plan k)))
 offer_it plan s e a i k room next has_room =
@@ -72,7 +73,7 @@ offer_it plan s e a i k room next has_room =
     ∙ ap (λ (b : Bool). Some (cond b (answers plan now a i k offer.Queued) (record now { offering = of_others a now.offering; asking = own a p }))) has_room
     ∙ ap (λ (calls : List Call). Some (cond room (record (is_answered plan s a i k offer.Queued) { offering = calls }) (record (asks_next s a p) { offering = calls }))) (own_is_over a p)
 
--- then it asks
+-- then the request
 ask : (plan : Plan) (s : State) (e : Event) (a : Parent) (i k : ℕ) (below : Bool) → IsNextStep plan s e a i k → ltb (threads plan s (pool_of plan k)) (pool_at plan (pool_of plan k)).max ≡ below
     → java_step plan (asks_next s a (pool_of plan k)) e ≡ Some (is_answered plan s a i k (cond below offer.Started offer.Refused))
 ask plan s e a i k below next is_below =
@@ -83,7 +84,7 @@ ask plan s e a i k below next is_below =
     ∙ ap (λ (b : Bool). Some (answers plan now a i k (cond b offer.Started offer.Refused))) is_below
     ∙ ap (λ (calls : List Call). Some (record (is_answered plan s a i k (cond below offer.Started offer.Refused)) { asking = calls })) (own_is_over a p)
 
--- so the submit comes to the answer that it has where it is one event
+-- the submit has the same answer as the atomic submit
 submit_follows : (plan : Plan) (s : State) (e : Event) (a : Parent) (i k : ℕ) (below_core room below_max : Bool) → IsNextStep plan s e a i k
     → ltb (threads plan s (pool_of plan k)) (pool_at plan (pool_of plan k)).core ≡ below_core
     → ltb (length (pool_part s (pool_of plan k)).queue) (pool_at plan (pool_of plan k)).queue ≡ room
@@ -99,7 +100,7 @@ submit_follows plan s e a i k false false below_max next is_below has_room is_be
       ∙ ask plan s e a i k below_max next is_below_max,
 )
 
--- ---- a written event
+-- ---- an event of the machine
 
 -- the event of an actor
 step_of : (plan : Plan) (s : State) (a : Parent) → step plan s (event_of a) ≡ stepped plan s a (point plan s a)
@@ -120,7 +121,7 @@ event_follows plan s e x (Some y) is_found is_step =
 
 -- ---- lists of events
 
--- one list of events after another
+-- two lists of events in order
 follows_twice : (plan : Plan) (s s₁ s₂ : State) → Follows plan s s₁ → Follows plan s₁ s₂ → Follows plan s s₂
 follows_twice plan s s₁ s₂ first second = (
   first.0 ++ second.0,

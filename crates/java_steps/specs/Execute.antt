@@ -1,5 +1,6 @@
--- A submit in the steps of Java's execute. Each step looks at the pool, or changes it, at one moment, and events of all others
--- may come between two steps: the look below core, the offer to the queue, and where that fails the request for a thread.
+-- A submit in the steps of Java's execute. Each step reads or changes the pool at one moment, and other events can occur
+-- between two steps. The steps are the check below core, the offer to the queue, and, if that fails, the request for a
+-- thread.
 use Rattle.std.specs.Prelude.{ℕ, ◌==◌, ◌&&◌, not, nat_lt, Bool, List, [], ◌∷◌, length, filter, Option, Some, None, slice_get, if◌then◌else◌}
 use Rattle.std.specs.List.{list_any}
 use Rattle.job_bodies.specs.declared.action.Action.{Action}
@@ -15,29 +16,29 @@ use Rattle.written_machine.specs.declared.event.Outcome.{Outcome}
 use Rattle.written_machine.specs.State.{State, same_parent, pool_of, pool_part, threads}
 use Rattle.written_machine.specs.Step.{Point, point, answered, step}
 
--- a call of execute that is under way: who makes it, and the pool
+-- a call of execute in progress: its actor, and the pool
 pub record Call : Type 0 where
   pub actor : Parent
   pub pool : ℕ
 
--- the machine; the calls that found core threads, and offer their job to the queue next; and those of them whose job the
--- queue did not take, and that ask for a thread next
+-- the machine; the calls that found core threads and offer their job to the queue next; and the calls whose offer failed and
+-- that request a thread next
 pub record JavaState : Type 0 where
   pub machine : State
   pub offering : List Call
   pub asking : List Call
 
--- the actor's call to this pool is among these
+-- one of these calls is the actor's call to this pool
 abbrev pub is_calling : List Call → Parent → ℕ → Bool
 is_calling calls a p = list_any (λ call. same_parent a call.actor && p == call.pool) calls
 
--- the calls of the others
+-- the calls of other actors
 abbrev pub of_others : Parent → List Call → List Call
 of_others a calls = filter (λ call. not (same_parent a call.actor)) calls
 
 -- ---- the steps of a submit of a job of class k by an actor at position i
 
--- the call is over, with this answer of the pool
+-- the call ends with this answer of the pool
 abbrev pub answers : Plan → JavaState → Parent → ℕ → ℕ → Offer → JavaState
 answers plan s a i k given = record {
   machine = (answered plan s.machine a i k given).0;
@@ -45,20 +46,20 @@ answers plan s a i k given = record {
   asking = of_others a s.asking;
 }
 
--- first it looks: where there are fewer than core threads, a new one starts the job
+-- the check: if there are fewer than core threads, a new thread runs the job
 abbrev pub looks : Plan → JavaState → Parent → ℕ → ℕ → JavaState
 looks plan s a i k =
     if nat_lt (threads plan s.machine (pool_of plan k)) (pool_at plan (pool_of plan k)).core then answers plan s a i k Started
     else record s { offering = record { actor = a; pool = pool_of plan k } ∷ s.offering }
 
--- then it offers: where the queue has room, the job goes into it
+-- the offer: if the queue has room, the job is queued
 abbrev pub offers : Plan → JavaState → Parent → ℕ → ℕ → JavaState
 offers plan s a i k =
     if nat_lt (length (pool_part s.machine (pool_of plan k)).queue) (pool_at plan (pool_of plan k)).queue then answers plan s a i k Queued
     else record s { offering = of_others a s.offering; asking = record { actor = a; pool = pool_of plan k } ∷ s.asking }
 
--- then it asks: where there are fewer than max threads, a new one starts the job, also where the queue has room by now; else
--- the job is refused, also where the queue has room by now
+-- the request: if there are fewer than max threads, a new thread runs the job, and otherwise the job is rejected; in both
+-- cases the queue may have room again
 abbrev pub asks : Plan → JavaState → Parent → ℕ → ℕ → JavaState
 asks plan s a i k = answers plan s a i k (if nat_lt (threads plan s.machine (pool_of plan k)) (pool_at plan (pool_of plan k)).max then Started else Refused)
 
@@ -71,7 +72,7 @@ executes plan s a i k =
 
 -- ---- events
 
--- who submits, at which position, a job of which class
+-- a submit: its actor, its position, and the class of the job
 pub record Submission : Type 0 where
   pub actor : Parent
   pub position : ℕ
@@ -85,7 +86,7 @@ abbrev pub submission_of : Parent → Option Point → Option Submission
 submission_of a None = None
 submission_of a (Some at) = submission_at a at.position (slice_get at.body at.position)
 
--- the submit before which the event's actor stands, if it stands before one
+-- the submit at which the event's actor is, if it is at one
 abbrev pub submission : Plan → State → Event → Option Submission
 submission plan s (Client c) = submission_of (parent.Client c) (point plan s (parent.Client c))
 submission plan s (Job j) = submission_of (parent.Job j) (point plan s (parent.Job j))
@@ -99,17 +100,17 @@ abbrev pub java_stepped : Plan → JavaState → Event → Option Submission →
 java_stepped plan s e None = as_written s (step plan s.machine e)
 java_stepped plan s e (Some x) = Some (executes plan s x.actor x.position x.class)
 
--- the state after the event, or None where it is not possible: an actor before a submit makes the next step of that, and
--- every other event is as it is written
+-- the state after the event, or None if it is not possible; the event of an actor at a submit is the next step of that
+-- submit, and every other event is that of the machine
 abbrev pub java_step : Plan → JavaState → Event → Option JavaState
 java_step plan s e = java_stepped plan s e (submission plan s.machine e)
 
--- the state after the events, or None where one of them is not possible
+-- the state after the events, or None if one of them is not possible
 abbrev pub java_replay : Plan → Option JavaState → List Event → Option JavaState
 java_replay plan s [] = s
 java_replay plan None (e ∷ events) = None
 java_replay plan (Some s) (e ∷ events) = java_replay plan (java_step plan s e) events
 
--- no call is under way
+-- no call is in progress
 abbrev pub between_calls : State → JavaState
 between_calls s = record { machine = s; offering = []; asking = [] }

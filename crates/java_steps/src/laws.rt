@@ -1,21 +1,22 @@
-//! Laws of submits in Java's steps, each the contract of a function with nothing to do.
+//! Laws of submits in Java's steps, each as the contract of an empty function.
 
 ghost use Rattle.java_steps.specs.JavaSafe.{WrittenStatesAreReached};
 ghost use Rattle.java_steps.specs.WithRoom.{RefusedWithRoom, StartedWithRoom};
 
-/// Whatever a list of events reaches with submits as they are written, in one event each, a list of events reaches with submits
-/// in Java's steps, with no call under way: the steps of a submit may follow one another with nothing between them.
+/// Proves that each state that the machine with atomic submits reaches is also reachable in Java's
+/// steps, with no call in progress: the steps of a submit can follow each other directly.
 pub fn written_states_are_reached()
     ensures { WrittenStatesAreReached }
 {}
 
-/// Java may refuse a submit though the queue has room and a thread is idle: the queue was full when the call offered its job,
-/// and by the time it asks for a thread, others have all of them.
+/// Proves that Java can reject a submit while the queue has room and a thread is idle: the queue
+/// was full when the call offered its job, and the other callers have all threads when it requests
+/// one.
 pub fn java_may_refuse_with_room()
     ensures { RefusedWithRoom }
 {}
 
-/// And it may start a thread above core though the queue has room and a thread is idle.
+/// Proves that Java can start a thread above core while the queue has room and a thread is idle.
 pub fn java_may_start_with_room()
     ensures { StartedWithRoom }
 {}

@@ -1,6 +1,6 @@
-//! Submits in the steps of Java's `execute`: what a state is while calls of it are under way, what an event does to it, and
-//! which states a list of events reaches. The definitions stand in `specs/`; nothing here runs, and the functions of `laws`
-//! have their contracts alone.
+//! Submits in the separate steps of Java's `execute`: a state in which calls are in progress, the
+//! effect of an event on it, and the states that a list of events reaches. The definitions are in
+//! `specs/`. Nothing here runs: the functions in `laws` exist for their contracts.
 #![tactic(auto)]
 
 mod laws;
