@@ -1,4 +1,4 @@
--- What a choice to leave a submit out does, and what stays through lists of choices.
+-- The effect of a choice to skip a submit, and the properties that lists of choices preserve.
 use Rattle.std.proofs.Common.{◌≡◌, ℕ, Bool, true, false, cond, List, [], ◌∷◌, Option, Some, None, refl, subst}
 use Rattle.std.proofs.lemmas.Bool.{or_parts}
 use Rattle.std.proofs.lemmas.Option.{none-some, same_Some}
@@ -15,9 +15,9 @@ use Rattle.leaving_out.specs.LeavingOut.{Choice, left_out, has_begun, leaves_out
 use Rattle.leaving_out.specs.LeavingOut.Choice.{LeavesOut}
 use Rattle.leaving_out.proofs.LeftOut.{left}
 
--- ---- a submit that is left out
+-- ---- a skipped submit
 
--- its actor stands at it, and has not begun it
+-- its actor is at it and has not begun it
 pub data IsLeftOut (plan : Plan) (s : JavaState) : Event → JavaState → Type 0 where
   leaves : (a : Parent) (body : List Action) (i k : ℕ) → StandsAt plan s.machine a body i (Some (action.Submit k)) → is_calling s.offering a (pool_of plan k) ≡ false → is_calling s.asking a (pool_of plan k) ≡ false
       → IsLeftOut plan s (event_of a) (record s { machine = left s.machine a i k })
@@ -51,7 +51,7 @@ after_choice plan holds stays s x choices s' onward held None is_step replayed =
     absurd cc
 after_choice plan holds stays s x choices s' onward held (Some next) is_step replayed = onward next (stays s x next held is_step) replayed
 
--- what each choice keeps holds after every list of choices
+-- a property that each choice preserves is preserved by every list of choices
 pub choices_keep : (plan : Plan) (holds : JavaState → Type 0) → ((s : JavaState) (x : Choice) (s' : JavaState) → holds s → choice_step plan s x ≡ Some s' → holds s') → (choices : List Choice) (s s' : JavaState) → holds s → choices_replay plan (Some s) choices ≡ Some s' → holds s'
 choices_keep plan holds stays [] s s' held replayed = subst holds (same_Some s s' replayed) held
 choices_keep plan holds stays (x ∷ choices) s s' held replayed =

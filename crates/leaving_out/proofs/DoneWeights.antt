@@ -1,4 +1,4 @@
--- A done job weighs no more than a queued one: along a body, gets give back at most what submits took.
+-- The weight of a done job is at most that of a queued job: along a body, gets return at most the weight that submits took.
 use Rattle.std.proofs.Common.{◌≡◌, ◌≢◌, ℕ, zero, suc, ◌+◌, ◌<◌, ◌≤◌, false, inl, inr, ⊎_elim, List, [], ◌∷◌, length, get_or, slice_get, sum_by, Option, Some, refl, sym, ap, subst, ◌∙◌, add-one, arith}
 use Rattle.std.proofs.lemmas.Bool.{cases_lt}
 use Rattle.std.proofs.lemmas.List.Sums.{sum_by-cons}
@@ -20,15 +20,15 @@ use Rattle.weight_laws.proofs.VectorLaws.{BodyLaws, VectorLaws, vector_laws}
 use Rattle.starvation_laws.proofs.RankLaws.{RankLaws, rank_laws}
 use Rattle.leaving_out.specs.LeavingOut.{DoneWithinQueued}
 
--- ---- one number taken out of a list
+-- ---- one number removed from a list
 
--- the others, and what is left of a sum
+-- the other numbers, and the rest of the sum
 record Without (f : ℕ → ℕ) (t : ℕ) (us : List ℕ) : Type 0 where
   rest : List ℕ
   sum : sum_by f rest + f t ≡ sum_by f us
   others : (u : ℕ) → u ≢ t → In u us → In u rest
 
--- a number of the list can be taken out
+-- a number of the list can be removed
 without : (f : ℕ → ℕ) (t : ℕ) {us : List ℕ} → In t us → Without f t us
 without f t (here {xs = xs}) = record {
   rest = xs;
@@ -45,26 +45,26 @@ without f t (there {y = y} {xs = xs} i) =
 
 -- ---- along a body
 
--- what the gets of these submits give back
+-- the weight that the gets of these submits return
 abbrev owed : AtGet → Plan → Vector → List Action → List ℕ → ℕ
 owed at_get plan v body slots = sum_by (λ (t : ℕ). given_back at_get plan v (class_got body t)) slots
 
--- at position i: with what is owed for the submits that are still to be got, the actor weighs no more than at the beginning
+-- at position i, the weight of the actor and the weight that later gets return are at most the actor's initial weight
 record Walked (at_get : AtGet) (plan : Plan) (v : Vector) (weight : ℕ → ℕ) (body : List Action) (i : ℕ) : Type 0 where
   slots : List ℕ
   pays : weight i + owed at_get plan v body slots ≤ weight 0
   among : (g t : ℕ) → i ≤ g → t < i → slice_get body g ≡ Some (action.Get t) → In t slots
 
--- each class that the body submits weighs no more done than queued
+-- for each class that the body submits, the weight of a done job is at most that of a queued job
 abbrev SubmitsPay : Plan → Vector → List Action → Type 0
 SubmitsPay plan v body = (i k : ℕ) → slice_get body i ≡ Some (action.Submit k) → done_weight plan v k ≤ queued_weight v k
 
--- a get gives back no more than the done job weighs
+-- a get returns at most the weight of the done job
 given_back-le : (at_get : AtGet) (plan : Plan) (v : Vector) (k : ℕ) → given_back at_get plan v k ≤ done_weight plan v k
 given_back-le GivesBack plan v k = omega arith
 given_back-le GivesNothing plan v k = omega arith
 
--- no get that is to come names a position that is no submit's
+-- a later get does not name a position that is not a submit
 walked_past : (plan : Plan) (body : List Action) (slots : List ℕ) (i : ℕ) (x : Action) → IsLawful plan body → slice_get body i ≡ Some x → submits (Some x) ≡ false
     → ((g t : ℕ) → i ≤ g → t < i → slice_get body g ≡ Some (action.Get t) → In t slots)
     → (g t : ℕ) → i + 1 ≤ g → t < i + 1 → slice_get body g ≡ Some (action.Get t) → (t < i) × In t slots
@@ -86,7 +86,7 @@ module _ (at_get : AtGet) (plan : Plan) (v : Vector) (weight : ℕ → ℕ) (bod
         among = λ g t low below is_get. (walked_past plan body walked.slots i (action.Work u) lawful is_there refl walked.among g t low below is_get).1;
       }
 
-  -- a submit takes the queued weight, and its get will give back no more
+  -- a submit takes the weight of the queued job, and its get returns at most that weight
   walked_submits : (i k : ℕ) → SubmitsPay plan v body → BodyLaws at_get plan v weight body → slice_get body i ≡ Some (action.Submit k) → Walked at_get plan v weight body i → Walked at_get plan v weight body (i + 1)
   walked_submits i k pay laws is_there walked =
       let takes = laws.submit i k is_there in
@@ -103,7 +103,7 @@ module _ (at_get : AtGet) (plan : Plan) (v : Vector) (weight : ℕ → ℕ) (bod
         ];
       }
 
-  -- a get gives back what was owed for its submit, which no other get names
+  -- a get returns the weight of its submit, which no other get names
   walked_gets : (i t : ℕ) → IsLawful plan body → BodyLaws at_get plan v weight body → slice_get body i ≡ Some (action.Get t) → Walked at_get plan v weight body i → Walked at_get plan v weight body (i + 1)
   walked_gets i t lawful laws is_there walked =
       let gives = laws.get i t is_there in
@@ -116,13 +116,13 @@ module _ (at_get : AtGet) (plan : Plan) (v : Vector) (weight : ℕ → ℕ) (bod
             taken.others u (λ (same : u ≡ t). lawful.once i g t (omega arith) is_there (is_get ∙ ap (λ (n : ℕ). Some (action.Get n)) same)) before.1;
       }
 
-  -- whatever action stands there
+  -- any action
   walked_one : (i : ℕ) (x : Action) → IsLawful plan body → SubmitsPay plan v body → BodyLaws at_get plan v weight body → slice_get body i ≡ Some x → Walked at_get plan v weight body i → Walked at_get plan v weight body (i + 1)
   walked_one i (action.Work u) lawful pay laws is_there walked = walked_works i u lawful laws is_there walked
   walked_one i (action.Submit k) lawful pay laws is_there walked = walked_submits i k pay laws is_there walked
   walked_one i (action.Get t) lawful pay laws is_there walked = walked_gets i t lawful laws is_there walked
 
-  -- so at each position
+  -- at each position
   walked_to : (i : ℕ) → i ≤ length body → IsLawful plan body → SubmitsPay plan v body → BodyLaws at_get plan v weight body → Walked at_get plan v weight body i
   walked_to zero inside lawful pay laws = record { slots = []; pays = omega arith; among = λ g t low below is_get. absurd (omega arith) }
   walked_to (suc i) inside lawful pay laws =
@@ -146,11 +146,11 @@ done_below at_get plan v ranks (suc n) k ordered ranked laws low inside =
     let ends = laws.ends k inside in
     omega (arith, walked.pays)
 
--- and all
+-- all classes
 pub done-le-queued : (at_get : AtGet) (plan : Plan) (v : Vector) (ranks : Ranks) (k : ℕ) → IsOrdered plan → RankLaws plan ranks → VectorLaws at_get plan v → k < length plan.classes → done_weight plan v k ≤ queued_weight v k
 done-le-queued at_get plan v ranks k ordered ranked laws inside = done_below at_get plan v ranks (level ranks k + 1) k ordered ranked laws (omega arith) inside
 
--- as a law
+-- the same in terms of the rows
 pub done_within_queued : DoneWithinQueued
 done_within_queued at_get plan v ranks k well_formed ranks_hold rows_hold inside =
     done-le-queued at_get plan v ranks k (ordered plan well_formed) (rank_laws plan ranks ranks_hold) (vector_laws at_get plan v rows_hold) inside

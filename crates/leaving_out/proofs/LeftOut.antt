@@ -1,4 +1,4 @@
--- A submit that is left out keeps what every reached state keeps, and makes no state heavier.
+-- A skipped submit preserves the invariants of reachable states, and does not increase the weight of a state.
 use Rattle.std.proofs.Common.{◌≡◌, ◌≢◌, ℕ, ◌+◌, ◌≤◌, List, [], ◌∷◌, ◌++◌, length, Some, refl, ◌∙◌, arith}
 use Rattle.job_bodies.specs.declared.action.Action.{Action}
 use Rattle.job_bodies.specs.declared.action.Action.TheVariants as action
@@ -22,11 +22,11 @@ use Rattle.weight_laws.proofs.VectorLaws.{VectorLaws}
 use Rattle.weight_laws.proofs.NeverRises.{IsNoHeavier, spent-with_job, lent-with_job, never_rises_queued}
 use Rattle.java_steps.proofs.ThreadsGo.{Goes}
 
--- the state after it, by its parts
+-- the state after it, part by part
 abbrev pub left : State → Parent → ℕ → ℕ → State
 left s a i k = with_job (new_job k a i Stage.Done) (with_position a (i + 1) s)
 
--- ---- what every reached state keeps
+-- ---- the invariants of reachable states
 
 -- a done job is neither claimed nor at a position
 done_unclaimed : Stage.Done ≢ Stage.Claimed
@@ -35,7 +35,7 @@ done_unclaimed e = cc
 done_nowhere : (n : ℕ) → Stage.Done ≡ Stage.At n → n ≡ 0
 done_nowhere n e = absurd cc
 
--- the new job is in no queue and at no work
+-- the new job is neither queued nor running
 pub kept_left : (plan : Plan) (s : State) (a : Parent) (body : List Action) (i k : ℕ) → IsOrdered plan → Kept plan s → StandsAt plan s a body i (Some (action.Submit k)) → Kept plan (left s a i k)
 kept_left plan s a body i k ordered kept at =
     let jobs = moved_jobs a (i + 1) s in
@@ -53,7 +53,7 @@ kept_left plan s a body i k ordered kept at =
 
 -- ---- threads
 
--- no pool has more or fewer
+-- the number of threads of each pool is unchanged
 pub goes_left : (plan : Plan) (s : State) (a : Parent) (body : List Action) (i k p : ℕ) → StandsAt plan s a body i (Some (action.Submit k)) → Goes plan s (moved_jobs a (i + 1) s ++ new_job k a i Stage.Done ∷ []) p (pool_part s p)
 goes_left plan s a body i k p at =
     let jobs = moved_jobs a (i + 1) s in
@@ -62,7 +62,7 @@ goes_left plan s a body i k p at =
     let as_before = busy-moved plan s a body i (i + 1) p at.stands in
     record { by_jobs = omega (arith, made_jobs_push plan jobs job p, made_jobs-moved plan s a (i + 1) p); at_core = λ at_core. omega arith }
 
--- and no fewer jobs were made
+-- the number of submitted jobs does not fall
 pub have_jobs_left : (plan : Plan) (s : State) (a : Parent) (body : List Action) (i k : ℕ) → HaveJobs plan s → StandsAt plan s a body i (Some (action.Submit k)) → HaveJobs plan (left s a i k)
 have_jobs_left plan s a body i k have at p inside =
     let had = have p inside in
@@ -71,7 +71,7 @@ have_jobs_left plan s a body i k have at p inside =
 
 -- ---- weights
 
--- it costs no more than the queued job would
+-- it costs at most the weight of the queued job
 pub no_heavier_left : (at_get : AtGet) (plan : Plan) (v : Vector) (s : State) (a : Parent) (body : List Action) (i k : ℕ) → VectorLaws at_get plan v → done_weight plan v k ≤ queued_weight v k → StandsAt plan s a body i (Some (action.Submit k))
     → IsNoHeavier at_get plan v s (left s a i k)
 no_heavier_left at_get plan v s a body i k laws no_more at =

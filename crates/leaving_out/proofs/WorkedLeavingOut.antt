@@ -1,4 +1,4 @@
--- Replays of a small plan in which submits are left out, computed from the definitions alone.
+-- Replays of a small plan with skipped submits, computed from the definitions alone.
 use Rattle.std.proofs.Common.{◌≡◌, ℕ, List, [], ◌∷◌, Option, Some, None, true, false, refl}
 use Rattle.std.specs.List.{count_by}
 use Rattle.std.specs.Option.{option_map}
@@ -18,7 +18,7 @@ use Rattle.leaving_out.specs.LeavingOut.Choice.{Acts, LeavesOut}
 abbrev one_thread : Pool
 one_thread = record { name = 112 ∷ []; core = 1; max = 1; queue = 1; prestart = false }
 
--- an outer job submits an inner one and waits for it, in the same pool; a client submits outer jobs one after another
+-- an outer job submits an inner job of the same pool and waits for it; a client repeatedly submits outer jobs
 abbrev nested : Plan
 nested = record {
   pools = one_thread ∷ [];
@@ -26,44 +26,44 @@ nested = record {
   clients = record { name = 99 ∷ []; count = 1; repeat = true; body = Submit 0 ∷ Get 0 ∷ [] } ∷ [];
 }
 
--- what is asked of the state that the choices reach
+-- a property of the state that the choices reach
 abbrev after : {X : Type 0} → List Choice → (JavaState → X) → Option X
 after choices ask = option_map ask (choices_replay nested (Some (between_calls (start nested))) choices)
 
--- how many submits were refused, and how many jobs were made and are unfinished
+-- the numbers of rejected submits, of jobs, and of unfinished jobs
 abbrev ends : JavaState → ℕ × ℕ × ℕ
 ends s = (s.machine.refusals, count_by (λ job. true) s.machine.jobs, count_by (λ job. is_unfinished job.stage) s.machine.jobs)
 
--- ---- with nothing left out
+-- ---- without a skip
 
--- the inner job waits in the queue for the only thread, whose job waits for the inner one
+-- the inner job waits in the queue for the only thread, whose job waits for the inner job
 pub all_is_submitted : after (Acts (event.Client 0) ∷ Acts (event.Job 0) ∷ Acts (event.Job 0) ∷ []) (λ s. is_waiting_set nested s.machine (0 ∷ 1 ∷ [])) ≡ Some true
 all_is_submitted = refl
 
--- ---- with submits left out
+-- ---- with skipped submits
 
--- the outer job leaves the inner one out, gets it at once and ends; the client gets the outer job and begins again
+-- the outer job skips the inner one, passes its get and ends; the client gets the outer job and begins again
 pub inner_left_out : after (Acts (event.Client 0) ∷ LeavesOut (event.Job 0) ∷ Acts (event.Job 0) ∷ Acts (event.Job 0) ∷ Acts (event.Client 0) ∷ Acts (event.Client 0) ∷ []) ends ≡ Some (0, 2, 0)
 inner_left_out = refl
 
--- the next time it is submitted
+-- the next outer job submits the inner one
 pub decided_anew : after (Acts (event.Client 0) ∷ LeavesOut (event.Job 0) ∷ Acts (event.Job 0) ∷ Acts (event.Job 0) ∷ Acts (event.Client 0) ∷ Acts (event.Client 0) ∷ Acts (event.Client 0) ∷ Acts (event.Client 0) ∷ Acts (event.Take 0) ∷ []) ends ≡ Some (0, 3, 1)
 decided_anew = refl
 
--- a client that leaves its submit out touches no pool
+-- a client that skips its submit changes no pool
 pub outer_left_out : after (LeavesOut (event.Client 0) ∷ Acts (event.Client 0) ∷ Acts (event.Client 0) ∷ []) (λ s. s.machine.pools) ≡ Some (record { queue = []; idle = 0 } ∷ [])
 outer_left_out = refl
 
--- ---- what cannot be left out
+-- ---- choices that are not possible
 
--- a get alone
+-- to skip a get alone
 pub no_get_is_left_out : choices_replay nested (Some (between_calls (start nested))) (LeavesOut (event.Client 0) ∷ LeavesOut (event.Client 0) ∷ []) ≡ None
 no_get_is_left_out = refl
 
--- a submit that has begun: the outer job has looked, and found core threads
+-- to skip a submit that has begun: the outer job has checked and found core threads
 pub no_begun_is_left_out : choices_replay nested (Some (between_calls (start nested))) (Acts (event.Client 0) ∷ Acts (event.Job 0) ∷ LeavesOut (event.Job 0) ∷ []) ≡ None
 no_begun_is_left_out = refl
 
--- a taking
+-- to skip a take
 pub no_taking_is_left_out : choices_replay nested (Some (between_calls (start nested))) (LeavesOut (event.Take 0) ∷ []) ≡ None
 no_taking_is_left_out = refl

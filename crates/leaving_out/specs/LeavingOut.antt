@@ -1,5 +1,5 @@
--- Actors that leave out submits of their bodies, each with its get, as an `if` around both does. Which ones they leave out is
--- decided anew each time.
+-- Actors that skip submits of their bodies together with their gets, like an `if` around both. An actor decides each time
+-- anew which submits to skip.
 use Rattle.std.specs.Prelude.{◌≡◌, ◌≤◌, ◌<◌, ◌+◌, ◌*◌, ◌||◌, if◌then◌else◌, ℕ, Bool, IsTrue, IsFalse, List, [], ◌∷◌, length, Option, Some, None, count_by}
 use Rattle.std.specs.List.{list_all}
 use Rattle.job_bodies.specs.Plan.{Plan}
@@ -18,12 +18,12 @@ use Rattle.starvation_laws.specs.Drain.{todo, is_of_no_client}
 use Rattle.java_steps.specs.Execute.{JavaState, Submission, is_calling, submission, java_step, between_calls}
 use Rattle.java_steps.specs.JavaSafe.{JavaCanGoOn, IsJavaAtRest}
 
--- an event; or in its place its actor, before a submit, leaves that out
+-- an event, or its actor skips the submit at which it is
 pub data Choice : Type 0 where
   Acts : Event → Choice
   LeavesOut : Event → Choice
 
--- the actor stands behind the submit, no pool is touched, and a get of it finds a job that is done
+-- the actor is after the submit, no pool changes, and a get of the submit finds a done job
 abbrev pub left_out : State → Submission → State
 left_out s x = with_job (new_job x.class x.actor x.position Stage.Done) (with_position x.actor (x.position + 1) s)
 
@@ -31,17 +31,17 @@ left_out s x = with_job (new_job x.class x.actor x.position Stage.Done) (with_po
 abbrev pub has_begun : Plan → JavaState → Submission → Bool
 has_begun plan s x = is_calling s.offering x.actor (pool_of plan x.class) || is_calling s.asking x.actor (pool_of plan x.class)
 
--- only a submit that has not begun is left out
+-- only a submit that has not begun can be skipped
 abbrev pub leaves_out : Plan → JavaState → Option Submission → Option JavaState
 leaves_out plan s None = None
 leaves_out plan s (Some x) = if has_begun plan s x then None else Some (record s { machine = left_out s.machine x })
 
--- the state after it, or None where it is not possible
+-- the state after the choice, or None if it is not possible
 abbrev pub choice_step : Plan → JavaState → Choice → Option JavaState
 choice_step plan s (Acts e) = java_step plan s e
 choice_step plan s (LeavesOut e) = leaves_out plan s (submission plan s.machine e)
 
--- the state after all of them, or None where one is not possible
+-- the state after all choices, or None if one is not possible
 abbrev pub choices_replay : Plan → Option JavaState → List Choice → Option JavaState
 choices_replay plan s [] = s
 choices_replay plan None (x ∷ xs) = None
@@ -50,37 +50,37 @@ choices_replay plan (Some s) (x ∷ xs) = choices_replay plan (choice_step plan 
 abbrev pub ChoicesReach : Plan → List Choice → JavaState → Type 0
 ChoicesReach plan choices s = choices_replay plan (Some (between_calls (start plan))) choices ≡ Some s
 
--- every state that is reached so is safe
+-- every state that choices reach is safe
 abbrev pub LeavingOutIsSafe : Plan → Type 0
 LeavingOutIsSafe plan = (choices : List Choice) (s : JavaState) → ChoicesReach plan choices s → IsSafe plan s.machine
 
--- in every such state, as long as a job is unfinished, an event of a job or a taking is possible, with nothing left out
+-- in every such state, if a job is unfinished, an event of a job or a take is possible without a skip
 abbrev pub LeavingOutGoesOn : Plan → Type 0
 LeavingOutGoesOn plan = (choices : List Choice) (s : JavaState) → ChoicesReach plan choices s → (j : ℕ) → IsTrue (is_unfinished (job_at s.machine j).stage) → JavaCanGoOn plan s
 
--- ---- coming to rest
+-- ---- draining
 
 abbrev pub event_in : Choice → Event
 event_in (Acts e) = e
 event_in (LeavesOut e) = e
 
--- a job's event, a taking, or a job that leaves a submit out
+-- a job's event, a take, or a job that skips a submit
 abbrev pub is_of_jobs : Choice → Bool
 is_of_jobs x = is_of_job_or_pool (event_in x)
 
--- no client acts in the list, and it leads from the reached state s to s'
+-- the choices lead from the reached state s to s', and none of them is of a client
 pub record ChoicesLeadTo (plan : Plan) (s : JavaState) (choices : List Choice) (s' : JavaState) : Type 0 where
   pub before : List Choice
   pub reached : ChoicesReach plan before s
   pub of_no_client : IsTrue (list_all (λ x. is_of_no_client (event_in x)) choices)
   pub replayed : choices_replay plan (Some s) choices ≡ Some s'
 
--- where no client acts, though threads above core may end: at most three times as many follow as the first state has to do, and
--- where no job event and no taking is possible any more no job is unfinished
+-- If no client acts, the number of such choices that follow is at most three times the remaining work of the first state,
+-- and when no job event and no take is possible, no job is unfinished. Threads above core may end in between.
 pub record LeavingOutDrains (plan : Plan) (ranks : Ranks) : Type 0 where
   pub bounded : (s s' : JavaState) (choices : List Choice) → ChoicesLeadTo plan s choices s' → count_by is_of_jobs choices ≤ 3 * todo plan ranks s.machine
   pub drained : (s s' : JavaState) (choices : List Choice) → ChoicesLeadTo plan s choices s' → IsJavaAtRest plan s' → (j : ℕ) → IsFalse (is_unfinished (job_at s'.machine j).stage)
 
--- where the rows of a vector and of the ranks hold, a done job weighs no more than a queued one
+-- if the rows of a vector and of the ranks hold, the weight of a done job is at most that of a queued job
 abbrev pub DoneWithinQueued : Type 0
 DoneWithinQueued = (at_get : AtGet) (plan : Plan) (v : Vector) (ranks : Ranks) (k : ℕ) → IsWellFormed plan → AllHold (rank_rows plan ranks) → AllHold (rows at_get plan v) → k < length plan.classes → done_weight plan v k ≤ queued_weight v k

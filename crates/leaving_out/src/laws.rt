@@ -1,9 +1,10 @@
-//! Laws of submits that are left out, each the contract of a function with nothing to do.
+//! Laws of skipped submits, each as the contract of an empty function.
 
 ghost use Rattle.leaving_out.specs.LeavingOut.{DoneWithinQueued};
 
-/// Where the rows of a vector and of the ranks hold, a job that is done weighs no more than one that is queued: so a submit
-/// that is left out, which makes a job that is done at once, costs its actor no less than that job weighs.
+/// Proves that the weight of a done job is at most that of a queued job if the rows of a vector and
+/// of the ranks hold. A skipped submit creates a done job, so it costs its actor at least the
+/// weight of that job.
 pub fn done_within_queued()
     ensures { DoneWithinQueued }
 {}

@@ -1,5 +1,6 @@
-//! Actors that leave out submits of their bodies, each with its get, as an `if` around both does. The statements stand in
-//! `specs/`; nothing here runs, and the functions of `laws` have their contracts alone.
+//! Actors that skip submits of their bodies together with their gets, like an `if` around both. The
+//! statements are in `specs/`. Nothing here runs: the functions in `laws` exist for their
+//! contracts.
 #![tactic(auto)]
 
 mod laws;
