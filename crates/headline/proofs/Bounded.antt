@@ -1,4 +1,4 @@
--- What every state keeps that a plan reaches of which each pool has a bound that holds.
+-- The invariants of the reachable states of a plan whose pools all have a bound that holds.
 use Rattle.std.proofs.Common.{◌≡◌, ℕ, ◌<◌, length, refl}
 use Rattle.job_bodies.specs.Plan.{Plan}
 use Rattle.job_bodies.proofs.Bodies.{IsOrdered, ordered}
@@ -20,18 +20,18 @@ use Rattle.weight_laws.proofs.NeverRises.{IsBalanced, balanced_start, never_rise
 use Rattle.weight_laws.proofs.NoRefusal.{not_refused}
 use Rattle.headline.specs.Headline.{KeepsSizes, BoundedPlansRefuseNothing}
 
--- what every reached state keeps, each pool's bound is balanced, and nothing was refused
+-- the invariants of reachable states hold, each pool's bound is balanced, and no submit was rejected
 pub record Bounded (plan : Plan) (bounds : ℕ → Bound) (s : State) : Type 0 where
   pub kept : Kept plan s
   pub have_jobs : HaveJobs plan s
   pub balanced : (p : ℕ) → p < length plan.pools → IsBalanced (bound_at_get (bounds p)) plan (bound_vector (bounds p)) s
   pub none_refused : s.refusals ≡ 0
 
--- each pool's bound says what it has to
+-- the inequalities of each pool's bound hold
 abbrev pub BoundsHold : Plan → (ℕ → Bound) → Type 0
 BoundsHold plan bounds = (p : ℕ) → p < length plan.pools → BoundLaws plan p (bounds p)
 
--- the start keeps it
+-- the initial state satisfies them
 pub bounded_start : (plan : Plan) (bounds : ℕ → Bound) → IsOrdered plan → Bounded plan bounds (start plan)
 bounded_start plan bounds ordered = record {
   kept = kept_start plan ordered;
@@ -40,7 +40,7 @@ bounded_start plan bounds ordered = record {
   none_refused = refl;
 }
 
--- no event is a refusal
+-- no event is a rejection
 refuses_nothing : (plan : Plan) (bounds : ℕ → Bound) (s s' : State) (o : Outcome) {e : Event} → IsOrdered plan → BoundsHold plan bounds → Bounded plan bounds s → Happens plan s e s' o → s'.refusals ≡ 0
 refuses_nothing plan bounds s s' o ordered laws bounded (works a body i u at) = bounded.none_refused
 refuses_nothing plan bounds s s' o ordered laws bounded (starts a body i k at below) = bounded.none_refused
@@ -55,7 +55,7 @@ refuses_nothing plan bounds s s' o ordered laws bounded (loops c client body i a
 refuses_nothing plan bounds s s' o ordered laws bounded (takes p j queue idle is_queue is_idle) = bounded.none_refused
 refuses_nothing plan bounds s s' o ordered laws bounded (retires p idle is_idle above_core) = bounded.none_refused
 
--- every event keeps it
+-- every event preserves them
 pub bounded_step : (plan : Plan) (bounds : ℕ → Bound) (s s' : State) (o : Outcome) {e : Event} → IsOrdered plan → BoundsHold plan bounds → Bounded plan bounds s → Happens plan s e s' o → Bounded plan bounds s'
 bounded_step plan bounds s s' o ordered laws bounded happened = record {
   kept = kept_step plan s s' o ordered bounded.kept happened;
@@ -67,7 +67,7 @@ bounded_step plan bounds s s' o ordered laws bounded happened = record {
   none_refused = refuses_nothing plan bounds s s' o ordered laws bounded happened;
 }
 
--- so nothing is refused, and the machine itself keeps each pool's sizes
+-- no submit was rejected, and the machine keeps each pool within its limits
 pub keeps_sizes : (plan : Plan) (bounds : ℕ → Bound) (s : State) → Bounded plan bounds s → KeepsSizes plan s
 keeps_sizes plan bounds s bounded = record {
   none_refused = bounded.none_refused;
@@ -75,7 +75,7 @@ keeps_sizes plan bounds s bounded = record {
   within_queue = λ p inside. (bounded.kept.pools p inside).within_queue;
 }
 
--- as a law
+-- the same in terms of the rows of the bounds
 pub bounded_plans_refuse_nothing : BoundedPlansRefuseNothing
 bounded_plans_refuse_nothing plan bounds well_formed hold events s reached =
     let is_ordered = ordered plan well_formed in

@@ -1,4 +1,4 @@
--- What is known of the pools to which calls are under way, and that no call is refused.
+-- The pools with calls in progress, and that no call is rejected.
 use Rattle.std.proofs.Common.{◌≡◌, ℕ, ◌+◌, ◌<◌, ◌≤◌, ⊎_elim, true, List, length, Some, sym, subst, arith}
 use Rattle.std.proofs.lemmas.Bool.{false≢true}
 use Rattle.job_bodies.specs.declared.action.Action.{Action}
@@ -27,7 +27,8 @@ use Rattle.headline.proofs.Bounded.{Bounded, BoundsHold}
 
 -- ---- a pool whose queue was full at some time
 
--- one with a standing vector never is; for the threads of one with a lifetime vector and a full queue, jobs were made
+-- the queue of a pool with a standing vector never was; if the queue of a pool with a lifetime vector was full, jobs were
+-- submitted for its threads and its queue
 abbrev pub WasFull : Plan → Bound → State → ℕ → Type 0
 WasFull plan (Standing v) s p = ⊥
 WasFull plan (Lifetime v) s p = (pool_at plan p).queue + threads plan s p ≤ jobs_made plan s p + first_workers (pool_at plan p)
@@ -40,14 +41,14 @@ was_full plan (Lifetime v) s a body i k ordered laws kept have balanced at no_ro
     let had = have (pool_of plan k) (ordered.pools k (class_exists plan s a body i k ordered at)) in
     omega arith
 
--- one that was full, after an event: threads are more only by jobs that were made
+-- the property is preserved by an event: the number of threads grows at most with the number of jobs submitted
 stays_full : (plan : Plan) (bound : Bound) (s s' : State) (o : Outcome) (p : ℕ) {e : Event} → Kept plan s → p < length plan.pools → Happens plan s e s' o → WasFull plan bound s p → WasFull plan bound s' p
 stays_full plan (Standing v) s s' o p kept inside happened full = full
 stays_full plan (Lifetime v) s s' o p kept inside happened full =
     let by_jobs = (threads_go plan s s' o kept happened p inside).by_jobs in
     omega arith
 
--- and a submit to it finds fewer than max threads
+-- a submit to the pool finds fewer than max threads
 leaves_room : (plan : Plan) (bound : Bound) (s : State) (a : Parent) (body : List Action) (i k : ℕ) → IsOrdered plan → BoundLaws plan (pool_of plan k) bound → Kept plan s → IsBalanced (bound_at_get bound) plan (bound_vector bound) s → StandsAt plan s a body i (Some (action.Submit k))
     → WasFull plan bound s (pool_of plan k) → (pool_at plan (pool_of plan k)).max ≤ threads plan s (pool_of plan k) → ⊥
 leaves_room plan (Standing v) s a body i k ordered laws kept balanced at full all_started = full
@@ -55,16 +56,16 @@ leaves_room plan (Lifetime v) s a body i k ordered laws kept balanced at full al
 
 -- ---- the calls
 
--- calls that offer found core threads, and calls that ask a full queue
+-- calls that offer found core threads, and calls that request found a full queue
 pub record CallsKept (plan : Plan) (bounds : ℕ → Bound) (s : JavaState) : Type 0 where
   pub offering : OfferAtCore plan s
   pub asking : (a : Parent) (p : ℕ) → p < length plan.pools → is_calling s.asking a p ≡ true → WasFull plan (bounds p) s.machine p
 
--- where no call is under way, there is nothing to know
+-- no call is in progress
 pub calls_none : (plan : Plan) (bounds : ℕ → Bound) (s : State) → CallsKept plan bounds (between_calls s)
 calls_none plan bounds s = record { offering = λ a p inside is_there. absurd (false≢true is_there); asking = λ a p inside is_there. absurd (false≢true is_there) }
 
--- so no call that asks is refused
+-- no call that requests a thread is rejected
 pub refused_never : (plan : Plan) (bounds : ℕ → Bound) (s : JavaState) (a : Parent) (body : List Action) (i k : ℕ) → IsOrdered plan → BoundsHold plan bounds → Bounded plan bounds s.machine → CallsKept plan bounds s → StandsAt plan s.machine a body i (Some (action.Submit k))
     → is_calling s.asking a (pool_of plan k) ≡ true → (pool_at plan (pool_of plan k)).max ≤ threads plan s.machine (pool_of plan k) → ⊥
 refused_never plan bounds s a body i k ordered laws bounded calls at asking all_started =
@@ -72,7 +73,7 @@ refused_never plan bounds s a body i k ordered laws bounded calls at asking all_
     let inside = ordered.pools k (class_exists plan s.machine a body i k ordered at) in
     leaves_room plan (bounds p) s.machine a body i k ordered (laws p inside) bounded.kept (bounded.balanced p inside) at (calls.asking a p inside asking) all_started
 
--- what each event of the machine keeps, each event here keeps
+-- a property that each event of the machine preserves is preserved by each event here
 pub machine_keeps : (plan : Plan) (bounds : ℕ → Bound) (holds : State → Type 0) (s s' : JavaState) {e : Event} → IsOrdered plan → BoundsHold plan bounds → Bounded plan bounds s.machine → CallsKept plan bounds s
     → ((e' : Event) (after : State) (o : Outcome) → Happens plan s.machine e' after o → holds after) → holds s.machine → JavaHappens plan s e s' → holds s'.machine
 machine_keeps plan bounds holds s s' ordered laws bounded calls each held (is_written e after o none happened) = each e after o happened
@@ -81,7 +82,7 @@ machine_keeps plan bounds holds s s' ordered laws bounded calls each held (finds
 machine_keeps plan bounds holds s s' ordered laws bounded calls each held (finds_full a body i k at not_asking no_room) = held
 machine_keeps plan bounds holds s s' ordered laws bounded calls each held (finds_all a body i k at asking all_started) = absurd (refused_never plan bounds s a body i k ordered laws bounded calls at asking all_started)
 
--- and so does every event
+-- and so is this one
 pub calls_step : (plan : Plan) (bounds : ℕ → Bound) (s s' : JavaState) {e : Event} → IsOrdered plan → BoundsHold plan bounds → Bounded plan bounds s.machine → CallsKept plan bounds s → JavaHappens plan s e s' → CallsKept plan bounds s'
 calls_step plan bounds s s' ordered laws bounded calls (is_written e after o none happened) = record {
   offering = λ b p inside is_there. (threads_go plan s.machine after o bounded.kept happened p inside).at_core (calls.offering b p inside is_there);

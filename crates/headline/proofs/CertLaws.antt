@@ -1,4 +1,4 @@
--- What an accepted certificate says, rule by rule.
+-- The inequalities that hold if a certificate is accepted, rule by rule.
 use Rattle.std.proofs.Common.{◌≡◌, ℕ, ◌<◌, true, ltb, List, [], ◌∷◌, length, flat_map, IsTrue, refl, zero-add}
 use Rattle.std.specs.List.{enumerate_from}
 use Rattle.std.proofs.lemmas.Bool.{and_parts, ltb-false}
@@ -22,29 +22,29 @@ use Rattle.headline.specs.declared.note.Note.{Note}
 use Rattle.headline.specs.Conditions.{note, in_section, bound_section, pool_conditions, conditions, failing}
 use Rattle.headline.specs.Accepted.{is_nil, accepted}
 
--- what the vectors of each pool and the ranks say
+-- the inequalities of each pool's vectors and of the ranks
 pub record CertLaws (plan : Plan) (cert : Cert) : Type 0 where
   pub bound : (p : ℕ) → p < length plan.pools → BoundLaws plan p (pool_cert_at cert p).bound
   pub blocked : (p : ℕ) → p < length plan.pools → BlockedLaws plan (is_counted plan cert.ranks) p (pool_cert_at cert p).blocked
   pub ranks : RankLaws plan cert.ranks
 
--- a list that passes the test is empty
+-- if is_nil holds, the list is empty
 pub is_nil_means : (notes : List Note) → is_nil notes ≡ true → notes ≡ []
 is_nil_means [] nil = refl
 is_nil_means (x ∷ xs) nil = absurd cc
 
--- each row of a part of the certificate holds
+-- each row of a section holds
 pub section_holds : (plan : Plan) (cert : Cert) (part : Section) (rows : List Row) → failing plan cert ≡ [] → ((x : Note) → In x (in_section part rows) → In x (conditions plan cert)) → AllHold rows
 section_holds plan cert part rows none among x i =
     ltb-false x.right x.left (test_of_none (λ (y : Note). ltb y.right y.left) (conditions plan cert) (note part x) none (among (note part x) (In-map (note part) i)))
 
--- what stands among the conditions of a pool stands among all
+-- the conditions of a pool are among all conditions
 pub pool_inside : (plan : Plan) (cert : Cert) (p : ℕ) (x : Note) → p < length plan.pools → In x (pool_conditions plan cert p) → In x (conditions plan cert)
 pool_inside plan cert p x inside i =
     In-append_right (in_section section.Ranks (rank_rows plan cert.ranks))
     (In-flat_map (λ (entry : ℕ × Pool). pool_conditions plan cert entry.0) (In-enumerate_from 0 plan.pools p (pool_at plan p) p (slice_get-get_or plan.pools p no_pool inside) (zero-add p)) i)
 
--- where the certificate is accepted, all of them hold
+-- if the certificate is accepted, all of them hold
 pub cert_laws : (plan : Plan) (cert : Cert) → IsTrue (accepted plan cert) → CertLaws plan cert
 cert_laws plan cert is_accepted =
     let parts = and_parts (cert_fits plan cert) (is_nil (failing plan cert)) is_accepted in

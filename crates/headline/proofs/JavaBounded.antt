@@ -1,5 +1,5 @@
--- Plans of which each pool has a bound that holds refuse nothing, and ask no pool with a standing vector for a thread, where
--- submits are the steps of Java's execute.
+-- Plans whose pools all have a bound that holds reject nothing, and no call requests a thread from a pool with a standing
+-- vector, if submits are the steps of Java's execute.
 use Rattle.std.proofs.Common.{◌≡◌, ℕ, List, Some, subst}
 use Rattle.std.proofs.lemmas.Bool.{false_from_ne_true}
 use Rattle.job_bodies.specs.Plan.{Plan}
@@ -16,12 +16,12 @@ use Rattle.headline.specs.Headline.{BoundedPlansJavaRefuseNothing, StandingPools
 use Rattle.headline.proofs.Bounded.{Bounded, BoundsHold, bounded_start, bounded_step, keeps_sizes}
 use Rattle.headline.proofs.Calls.{WasFull, CallsKept, calls_none, machine_keeps, calls_step}
 
--- what every reached state keeps
+-- the invariants of reachable states
 record JavaBounded (plan : Plan) (bounds : ℕ → Bound) (s : JavaState) : Type 0 where
   bounded : Bounded plan bounds s.machine
   calls : CallsKept plan bounds s
 
--- every event keeps it
+-- every event preserves them
 java_bounded_step : (plan : Plan) (bounds : ℕ → Bound) → IsOrdered plan → BoundsHold plan bounds → (s : JavaState) (e : Event) (s' : JavaState) → JavaBounded plan bounds s → java_step plan s e ≡ Some s' → JavaBounded plan bounds s'
 java_bounded_step plan bounds ordered laws s e s' held is_step =
     let happened = java_happens plan s e s' ordered held.calls.offering is_step in
@@ -35,12 +35,12 @@ java_bounded plan bounds ordered laws events s reached =
     java_replay_keeps plan (JavaBounded plan bounds) (java_bounded_step plan bounds ordered laws) events (between_calls (start plan)) s
     (record { bounded = bounded_start plan bounds ordered; calls = calls_none plan bounds (start plan) }) reached
 
--- so none has refused anything, and each pool keeps its sizes
+-- no submit was rejected, and each pool is within its limits
 pub bounded_plans_java_refuse_nothing : BoundedPlansJavaRefuseNothing
 bounded_plans_java_refuse_nothing plan bounds well_formed hold events s reached =
     keeps_sizes plan bounds s.machine (java_bounded plan bounds (ordered plan well_formed) (λ p inside. bound_laws plan p (bounds p) (hold p inside).0 (hold p inside).1) events s reached).bounded
 
--- and a pool with a standing vector is asked for no thread
+-- no call requests a thread from a pool with a standing vector
 pub standing_pools_are_not_asked : StandingPoolsAreNotAsked
 standing_pools_are_not_asked plan bounds p v events s a well_formed hold inside is_standing reached =
     let held = java_bounded plan bounds (ordered plan well_formed) (λ q within. bound_laws plan q (bounds q) (hold q within).0 (hold q within).1) events s reached in

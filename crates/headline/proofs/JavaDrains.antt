@@ -1,4 +1,4 @@
--- Accepted plans drain, where submits are the steps of Java's execute.
+-- Accepted plans drain if submits are the steps of Java's execute.
 use Rattle.std.proofs.Common.{◌≡◌, ℕ, ◌+◌, ◌*◌, ◌≤◌, ⊎_elim, true, false, List, [], ◌∷◌, Option, Some, None, is_some, refl, sym, ap, subst, ◌∙◌, arith}
 use Rattle.std.specs.List.{list_all, count_by}
 use Rattle.std.proofs.lemmas.Bool.{and_parts, false_from_ne_true}
@@ -24,7 +24,7 @@ use Rattle.headline.specs.Headline.{AcceptedPlansJavaDrain}
 use Rattle.headline.proofs.CertLaws.{CertLaws, cert_laws}
 use Rattle.headline.proofs.JavaTheorem.{JavaSound, java_sound_start, java_sound_step, java_goes_on}
 
--- ---- what every state keeps that an accepted plan reaches, with the calls of its jobs
+-- ---- the invariants of the reachable states of an accepted plan, with the calls of its jobs
 
 pub record JavaHeld (plan : Plan) (cert : Cert) (s : JavaState) : Type 0 where
   pub java : JavaSound plan cert s
@@ -39,7 +39,7 @@ held_step plan cert ordered laws s e s' held is_step =
       jobs = job_calls_step plan s s' held.java.sound.bounded.kept (java'.sound.bounded.none_refused ∙ sym held.java.sound.bounded.none_refused) held.jobs (java_happens plan s e s' ordered held.java.calls.offering is_step);
     }
 
--- so every reached state
+-- in every reachable state
 java_held : (plan : Plan) (cert : Cert) → IsOrdered plan → CertLaws plan cert → (s : JavaState) → IsJavaReached plan s → JavaHeld plan cert s
 java_held plan cert ordered laws s reached =
     java_replay_keeps plan (JavaHeld plan cert) (held_step plan cert ordered laws) reached.0 (between_calls (start plan)) s
@@ -47,7 +47,7 @@ java_held plan cert ordered laws s reached =
 
 -- ---- lists of events
 
--- so many job events and takings, paid from three times what is to do, the steps of calls counted
+-- n job events and takes are paid for by three times the remaining work, counting the steps of calls
 abbrev pub Pays : Plan → Cert → ℕ → JavaState → JavaState → Type 0
 Pays plan cert n s s' = n + 3 * todo plan cert.ranks s'.machine + calls_done s ≤ 3 * todo plan cert.ranks s.machine + calls_done s'
 
@@ -62,7 +62,7 @@ event_pays plan cert s e s' ordered laws held held' of_no_client is_step =
     (λ (is_end : ends_thread e ≡ true). omega (arith, ap one_if (not_counted e is_end), costs_nothing plan cert.ranks s s' e is_end happened))
     (no_client_cases e of_no_client)
 
--- the first of several, and then the others
+-- the first of several events, and then the others
 after_first : (plan : Plan) (cert : Cert) (s : JavaState) (e : Event) (events : List Event) (s' : JavaState) → IsOrdered plan → CertLaws plan cert → JavaHeld plan cert s → is_of_no_client e ≡ true
     → ((next : JavaState) → JavaHeld plan cert next → java_replay plan (Some next) events ≡ Some s' → Pays plan cert (count_by is_of_job_or_pool events) next s')
     → (found : Option JavaState) → java_step plan s e ≡ found → java_replay plan found events ≡ Some s' → Pays plan cert (count_by is_of_job_or_pool (e ∷ events)) s s'
@@ -79,12 +79,12 @@ events_pay plan cert (e ∷ events) s s' ordered laws held each replayed =
     let parts = and_parts (is_of_no_client e) (list_all is_of_no_client events) each in
     after_first plan cert s e events s' ordered laws held parts.0 (λ next held' rest. events_pay plan cert events next s' ordered laws held' parts.1 rest) (java_step plan s e) refl replayed
 
--- so job events and takings come to an end, and where none is possible no job is unfinished
+-- the number of job events and takes is bounded, and when none is possible, no job is unfinished
 pub accepted_plans_java_drain : AcceptedPlansJavaDrain
 accepted_plans_java_drain plan cert well_formed is_accepted =
     let is_ordered = ordered plan well_formed in
     let laws = cert_laws plan cert is_accepted in
-    -- what is kept at the end of the list
+    -- the invariants at the end of the list
     let held_after : (s s' : JavaState) (events : List Event) → IsJavaReached plan s → java_replay plan (Some s) events ≡ Some s' → JavaHeld plan cert s' =
     λ s s' events reached replayed. java_replay_keeps plan (JavaHeld plan cert) (held_step plan cert is_ordered laws) events s s' (java_held plan cert is_ordered laws s reached) replayed in
     record {

@@ -1,4 +1,4 @@
--- Accepted plans are safe, and go on, where submits are the steps of Java's execute.
+-- Accepted plans are safe and make progress if submits are the steps of Java's execute.
 use Rattle.std.proofs.Common.{◌≡◌, ℕ, true, List, Some}
 use Rattle.job_bodies.specs.Plan.{Plan}
 use Rattle.job_bodies.proofs.Bodies.{IsOrdered, ordered}
@@ -16,13 +16,13 @@ use Rattle.headline.proofs.CertLaws.{CertLaws, cert_laws}
 use Rattle.headline.proofs.Theorem.{bound_of, Sound, sound_start, sound_step, sound_waits, sound_safe}
 use Rattle.headline.proofs.Calls.{CallsKept, calls_none, machine_keeps, calls_step}
 
--- ---- what every state keeps that an accepted plan reaches
+-- ---- the invariants of the reachable states of an accepted plan
 
 pub record JavaSound (plan : Plan) (cert : Cert) (s : JavaState) : Type 0 where
   pub sound : Sound plan cert s.machine
   pub calls : CallsKept plan (bound_of cert) s
 
--- the start
+-- the initial state
 pub java_sound_start : (plan : Plan) (cert : Cert) → IsOrdered plan → JavaSound plan cert (between_calls (start plan))
 java_sound_start plan cert ordered = record { sound = sound_start plan cert ordered; calls = calls_none plan (bound_of cert) (start plan) }
 
@@ -36,26 +36,26 @@ java_sound_step plan cert ordered laws s e s' held is_step =
       calls = calls_step plan bounds s s' ordered laws.bound held.sound.bounded held.calls happened;
     }
 
--- so every reached state keeps it
+-- every reachable state satisfies them
 pub java_sound : (plan : Plan) (cert : Cert) → IsOrdered plan → CertLaws plan cert → (events : List Event) (s : JavaState) → JavaReaches plan events s → JavaSound plan cert s
 java_sound plan cert ordered laws events s reached = java_replay_keeps plan (JavaSound plan cert) (java_sound_step plan cert ordered laws) events (between_calls (start plan)) s (java_sound_start plan cert ordered) reached
 
 -- ---- the laws
 
--- every reached state is safe
+-- every reachable state is safe
 pub accepted_plans_are_java_safe : AcceptedPlansAreJavaSafe
 accepted_plans_are_java_safe plan cert well_formed is_accepted events s reached =
     let is_ordered = ordered plan well_formed in
     let laws = cert_laws plan cert is_accepted in
     sound_safe plan cert s.machine is_ordered laws (java_sound plan cert is_ordered laws events s reached).sound
 
--- what is possible as it is written is possible
+-- an event that the machine allows is possible
 pub java_goes_on : (plan : Plan) (cert : Cert) (s : JavaState) (j : ℕ) → IsOrdered plan → CertLaws plan cert → JavaSound plan cert s → is_unfinished (job_at s.machine j).stage ≡ true → JavaCanGoOn plan s
 java_goes_on plan cert s j ordered laws held still =
     let goes = goes_on plan s.machine j ordered held.sound.bounded.kept (sound_waits plan cert s.machine ordered laws held.sound) still in
     record { event = goes.event; of_job_or_pool = goes.of_job_or_pool; possible = java_possible plan s goes.event (submission plan s.machine goes.event) goes.possible }
 
--- every reached state with an unfinished job goes on
+-- every reachable state with an unfinished job makes progress
 pub accepted_plans_java_go_on : AcceptedPlansJavaGoOn
 accepted_plans_java_go_on plan cert well_formed is_accepted events s reached j still =
     let is_ordered = ordered plan well_formed in

@@ -1,4 +1,4 @@
--- Accepted plans drain, where actors leave out submits with their gets.
+-- Accepted plans drain if actors skip submits together with their gets.
 use Rattle.std.proofs.Common.{◌≡◌, ⊎_elim, true, false, List, [], ◌∷◌, Option, Some, None, is_some, refl, sym, ap, subst, ◌∙◌, arith}
 use Rattle.std.specs.List.{list_all, count_by}
 use Rattle.std.proofs.lemmas.Bool.{false≢true, and_parts, false_from_ne_true}
@@ -28,7 +28,7 @@ use Rattle.headline.proofs.LeavingOut.{choice_keeps}
 
 -- ---- every choice
 
--- what every state keeps that an accepted plan reaches, with the calls of its jobs
+-- the invariants of the reachable states of an accepted plan, with the calls of its jobs
 choice_held : (plan : Plan) (cert : Cert) → IsOrdered plan → CertLaws plan cert → (s : JavaState) (x : Choice) (s' : JavaState) → JavaHeld plan cert s → choice_step plan s x ≡ Some s' → JavaHeld plan cert s'
 choice_held plan cert ordered laws s (Acts e) s' held is_step = held_step plan cert ordered laws s e s' held is_step
 choice_held plan cert ordered laws s (LeavesOut e) s' held is_step = record {
@@ -36,13 +36,13 @@ choice_held plan cert ordered laws s (LeavesOut e) s' held is_step = record {
   jobs = (left_costs plan cert.ranks s e s' (is_left_out plan s e s' is_step)).calls held.jobs;
 }
 
--- so every reached state
+-- in every reachable state
 choices_held : (plan : Plan) (cert : Cert) → IsOrdered plan → CertLaws plan cert → (choices : List Choice) (s : JavaState) → ChoicesReach plan choices s → JavaHeld plan cert s
 choices_held plan cert ordered laws choices s reached =
     choices_keep plan (JavaHeld plan cert) (choice_held plan cert ordered laws) choices (between_calls (start plan)) s
     (record { java = java_sound_start plan cert ordered; jobs = job_calls_start plan (start plan) }) reached
 
--- a choice of no client is paid from what is to do
+-- a choice that is not of a client is paid for by the remaining work
 choice_pays : (plan : Plan) (cert : Cert) (s : JavaState) (x : Choice) (s' : JavaState) → IsOrdered plan → CertLaws plan cert → JavaHeld plan cert s → JavaHeld plan cert s' → is_of_no_client (event_in x) ≡ true → choice_step plan s x ≡ Some s' → Pays plan cert (one_if (is_of_jobs x)) s s'
 choice_pays plan cert s (Acts e) s' ordered laws held held' of_no_client is_step = event_pays plan cert s e s' ordered laws held held' of_no_client is_step
 choice_pays plan cert s (LeavesOut e) s' ordered laws held held' of_no_client is_step =
@@ -54,7 +54,7 @@ choice_pays plan cert s (LeavesOut e) s' ordered laws held held' of_no_client is
 
 -- ---- lists of choices
 
--- the first of several, and then the others
+-- the first of several choices, and then the others
 after_first : (plan : Plan) (cert : Cert) (s : JavaState) (x : Choice) (choices : List Choice) (s' : JavaState) → IsOrdered plan → CertLaws plan cert → JavaHeld plan cert s → is_of_no_client (event_in x) ≡ true
     → ((next : JavaState) → JavaHeld plan cert next → choices_replay plan (Some next) choices ≡ Some s' → Pays plan cert (count_by is_of_jobs choices) next s')
     → (found : Option JavaState) → choice_step plan s x ≡ found → choices_replay plan found choices ≡ Some s' → Pays plan cert (count_by is_of_jobs (x ∷ choices)) s s'
@@ -72,12 +72,12 @@ choices_pay plan cert (x ∷ choices) s s' ordered laws held each replayed =
     let parts = and_parts (is_of_no_client (event_in x)) (list_all (λ (y : Choice). is_of_no_client (event_in y)) choices) each in
     after_first plan cert s x choices s' ordered laws held parts.0 (λ next held' rest. choices_pay plan cert choices next s' ordered laws held' parts.1 rest) (choice_step plan s x) refl replayed
 
--- so they come to an end, and where none is possible no job is unfinished
+-- the number of choices is bounded, and when none is possible, no job is unfinished
 pub accepted_plans_leaving_out_drain : AcceptedPlansLeavingOutDrain
 accepted_plans_leaving_out_drain plan cert well_formed is_accepted =
     let is_ordered = ordered plan well_formed in
     let laws = cert_laws plan cert is_accepted in
-    -- what is kept at the end of the list
+    -- the invariants at the end of the list
     let held_after : (s s' : JavaState) (before choices : List Choice) → ChoicesReach plan before s → choices_replay plan (Some s) choices ≡ Some s' → JavaHeld plan cert s' =
     λ s s' before choices reached replayed. choices_keep plan (JavaHeld plan cert) (choice_held plan cert is_ordered laws) choices s s' (choices_held plan cert is_ordered laws before s reached) replayed in
     record {

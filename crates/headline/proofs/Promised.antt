@@ -1,4 +1,4 @@
--- All that an accepted certificate promises.
+-- All guarantees of an accepted certificate.
 use Rattle.std.proofs.Common.{IsTrue}
 use Rattle.job_bodies.specs.Plan.{Plan}
 use Rattle.job_bodies.specs.WellFormed.{IsWellFormed}

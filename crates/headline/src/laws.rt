@@ -1,4 +1,4 @@
-//! Laws of accepted certificates, each the contract of a function with nothing to do.
+//! Laws of accepted certificates, each as the contract of an empty function.
 
 ghost use Rattle.headline.specs.Headline.{
   AcceptedPlansAreSafe,
@@ -13,79 +13,83 @@ ghost use Rattle.headline.specs.Headline.{
 };
 ghost use Rattle.headline.specs.Headline.{AcceptedPlansMayLeaveOut, AcceptedPlansLeavingOutGoOn, AcceptedPlansLeavingOutDrain};
 
-/// Where a certificate accepts a well-formed plan, every state that any list of events reaches is safe: nothing was refused,
-/// each pool keeps its sizes, and no set of unfinished jobs waits only for its own members.
+/// Proves that every reachable state is safe if a certificate accepts a well-formed plan: no submit
+/// was rejected, each pool is within its limits, and no set of unfinished jobs waits only for its
+/// own members.
 pub fn accepted_plans_are_safe()
     ensures { AcceptedPlansAreSafe }
 {}
 
-/// Where a certificate accepts a well-formed plan, an event of a job or a taking is possible in every state that any list of
-/// events reaches, as long as a job is unfinished.
+/// Proves that an event of a job or a take is possible in every reachable state with an unfinished
+/// job if a certificate accepts a well-formed plan.
 pub fn accepted_plans_go_on()
     ensures { AcceptedPlansGoOn }
 {}
 
-/// Where a certificate accepts a well-formed plan: while no client acts, though threads above core may end, no more job events
-/// and takings can follow a reached state than its jobs have still to do, and where none is possible any more no job is
-/// unfinished.
+/// Proves that a plan that a certificate accepts drains. If no client acts, the number of job
+/// events and takes after a reachable state is at most the remaining work of its jobs, and when
+/// none is possible, no job is unfinished. Threads above core may end in between.
 pub fn accepted_plans_drain()
     ensures { AcceptedPlansDrain }
 {}
 
-/// Where each pool of a well-formed plan has a standing or a lifetime vector whose conditions hold, no list of events
-/// reaches a state in which a submit was refused or a pool has more threads or queued jobs than it may. Nothing need be
-/// known of ranks and of jobs that wait for jobs.
+/// Proves that, if each pool of a well-formed plan has a standing or a lifetime vector whose
+/// conditions hold, no reachable state has a rejected submit or a pool with more threads or queued
+/// jobs than its limits allow. Needs no ranks and no condition on jobs that wait for jobs.
 pub fn bounded_plans_refuse_nothing()
     ensures { BoundedPlansRefuseNothing }
 {}
 
-/// Where a certificate accepts a well-formed plan, every state that any list of events reaches is safe, also where a submit is
-/// the steps of Java's `execute`, with any events of all others between them.
+/// Proves that every reachable state is safe if a certificate accepts a well-formed plan, even if a
+/// submit takes the separate steps of Java's `execute` with other events between them.
 pub fn accepted_plans_are_java_safe()
     ensures { AcceptedPlansAreJavaSafe }
 {}
 
-/// Where a certificate accepts a well-formed plan, an event of a job or a taking is possible in every state that any list of
-/// events reaches, as long as a job is unfinished, also where a submit is the steps of Java's `execute`.
+/// Proves that an event of a job or a take is possible in every reachable state with an unfinished
+/// job if a certificate accepts a well-formed plan, even if a submit takes the separate steps of
+/// Java's `execute`.
 pub fn accepted_plans_java_go_on()
     ensures { AcceptedPlansJavaGoOn }
 {}
 
-/// Where a certificate accepts a well-formed plan, and a submit is the steps of Java's `execute`: while no client acts, though
-/// threads above core may end, at most three times as many job events and takings can follow a reached state as its jobs
-/// have still to do, and where none is possible any more no job is unfinished.
+/// Proves that a plan that a certificate accepts drains even if a submit takes the separate steps
+/// of Java's `execute`. If no client acts, the number of job events and takes after a reachable
+/// state is at most three times the remaining work of its jobs, and when none is possible, no job
+/// is unfinished. Threads above core may end in between.
 pub fn accepted_plans_java_drain()
     ensures { AcceptedPlansJavaDrain }
 {}
 
-/// Where each pool of a well-formed plan has a standing or a lifetime vector whose conditions hold, no list of events
-/// reaches a state in which a submit was refused or a pool has more threads or queued jobs than it may, also where a submit
-/// is the steps of Java's `execute`.
+/// Proves that, if each pool of a well-formed plan has a standing or a lifetime vector whose
+/// conditions hold, no reachable state has a rejected submit or a pool with more threads or queued
+/// jobs than its limits allow, even if a submit takes the separate steps of Java's `execute`.
 pub fn bounded_plans_java_refuse_nothing()
     ensures { BoundedPlansJavaRefuseNothing }
 {}
 
-/// Where in such a plan the vector of a pool is a standing one, no call ever finds that pool's queue full, so none asks it for
-/// a thread above core.
+/// Proves that in such a plan no call ever finds the queue of a pool with a standing vector full.
+/// So no call requests a thread above core from that pool.
 pub fn standing_pools_are_not_asked()
     ensures { StandingPoolsAreNotAsked }
 {}
 
-/// Where a certificate accepts a well-formed plan, every state is safe that is reached where each client and each job may leave
-/// out any submit of its body together with its get, decided anew each time it comes there, and a submit is the steps of Java's
-/// `execute`.
+/// Proves that every reachable state is safe if a certificate accepts a well-formed plan, even if a
+/// submit takes the separate steps of Java's `execute` and each client and each job may skip any
+/// submit of its body together with its get. An actor decides anew each time it reaches the submit.
 pub fn accepted_plans_may_leave_out()
     ensures { AcceptedPlansMayLeaveOut }
 {}
 
-/// In every such state, as long as a job is unfinished, an event of a job or a taking is possible, with nothing left out.
+/// Proves that in every such state with an unfinished job an event of a job or a take is possible
+/// without a skip.
 pub fn accepted_plans_leaving_out_go_on()
     ensures { AcceptedPlansLeavingOutGoOn }
 {}
 
-/// While no client acts, though threads above core may end, at most three times as many job events, takings and submits that
-/// jobs leave out can follow such a state as its jobs have still to do, and where no job event and no taking is possible any
-/// more no job is unfinished.
+/// Proves that such a plan drains. If no client acts, the number of job events, takes and skips by
+/// jobs after such a state is at most three times the remaining work of its jobs, and when no job
+/// event and no take is possible, no job is unfinished. Threads above core may end in between.
 pub fn accepted_plans_leaving_out_drain()
     ensures { AcceptedPlansLeavingOutDrain }
 {}

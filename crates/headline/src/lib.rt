@@ -1,6 +1,7 @@
-//! What an accepted certificate promises of every state that its plan reaches: nothing is refused, no set of jobs waits only
-//! for its own members, and what was begun comes to an end. The statements stand in `specs/`; nothing here runs, and the
-//! functions of `laws` have their contracts alone.
+//! The guarantees of an accepted certificate for every reachable state of its plan: no submit is
+//! rejected, no set of jobs waits only for its own members, and work that has begun ends. The
+//! statements are in `specs/`. Nothing here runs: the functions in `laws` exist for their
+//! contracts.
 #![tactic(auto)]
 
 mod laws;

@@ -1,8 +1,8 @@
-//! The failing conditions of a certificate, as they are told.
+//! The failing conditions of a certificate, as reported.
 
 use weights::{Place, Rule};
 
-/// One part of a certificate's conditions: the ranks, or one vector of the pool of this number.
+/// A section of a certificate's conditions: the ranks, or one vector of the pool with this index.
 #[derive(Clone, Copy, Debug, PartialEq, Eq)]
 pub enum Section {
     Ranks,
@@ -11,7 +11,7 @@ pub enum Section {
     Blocked(usize),
 }
 
-/// A rule at its place, and the part of the certificate that it stands in. It reads left at most right.
+/// A rule at its place, and its section of the certificate: the inequality `left <= right`.
 #[derive(Clone, Copy, Debug, PartialEq, Eq)]
 pub struct Note {
     pub section: Section,
