@@ -4,7 +4,7 @@ mod sizes;
 
 use std::alloc::{AllocError, Global};
 
-/// Returns the lines of the sizes found for a plan's text.
+/// Returns the lines of the sizes that the search finds for a plan's text.
 pub fn sizes_for(alloc: Global, plan: &[u8]) -> Result<String, AllocError> {
     let plan = String::from_utf8_lossy(alloc, plan)?;
     let lines = sizes::answer(alloc, plan.as_str())?;

@@ -1,4 +1,4 @@
-//! Tests in rows of files: the inputs of `data/`, and by hand what each of them is answered.
+//! Tests in rows of files: the inputs in `data/`, with answers written by hand.
 #![tactic(auto)]
 
 mod files;

@@ -1,4 +1,4 @@
-//! What the program does on threads: inputs, and by hand what each of them is answered.
+//! Calls of the program that use threads: inputs, with answers written by hand.
 
 mod ask;
 mod certify;
@@ -24,28 +24,33 @@ use std::alloc::{AllocError, Global};
 use std::sync::Wait;
 use std::thread::Threads;
 
-/// What the input of a kind is answered.
+/// Returns the answer to an input of a kind.
 ///
-/// - `certify` is a plan's text. Its answer is what the command writes, with the status on a last line. It is asked with 64
-///   workers too, and where it is short with two, a byte at a time and with a source and a sink that fail.
-/// - `certify and check` is the same, but in place of a bundle stands what `check` answers to it: its first line and its
-///   status.
-/// - `check` is a bundle. Its answer is the verdict or the fault of the check on threads, with each number of workers.
-/// - `fit` and `fit bundle` are a plan's text. Their answer is what the command writes for the sizes and for a bundle, with
-///   the status on a last line. It is asked a byte at a time too, and where the text is short with a source and a sink that
-///   fail.
-/// - `fit and check` is the same for a bundle, but in its place stands what `check` answers to it, its first line and its
-///   status, and then what `fit` answers to the plan in it.
-/// - `run` is a line with a number of rounds, and a bundle, which is run for so many. Its answer is what the command
-///   writes, with the status on a last line. Where the rounds are few it is asked for a byte at a time too, and with a
-///   source and a sink that fail.
-/// - `refute`, `refute head` and `refute bundle` are a plan's text. Their answer is what the command writes of a witness, whole
-///   or in its first line, and for a bundle, with the status on a last line; `refute briefly` is the first line where it may go
-///   through one state alone. `refute and replay` is what `replay` answers to the bundle.
-/// - `ask` and `ask strict` are a plan's text, and `ask with` and `ask with strict` a bundle of one with a certificate. Their
-///   answer is what the command writes, with the status on a last line; `ask head` is the first line. `ask json`, `ask json
-///   strict`, `ask json with` and `ask dot` are the same in another form.
-/// - `sizes` is a plan's text. Its answer is the lines of the sizes that are found, where no certificate is looked for first.
+/// - `certify` is a plan's text. The answer is the output of the command, with the exit status on a
+///   last line. The test repeats it with 64 workers. If the text is short, it also repeats it with
+///   two workers, byte by byte, and with a failing source and sink.
+/// - `certify and check` is the same, but a bundle is replaced by the first line and the status of
+///   `check` for it.
+/// - `check` is a bundle. The answer is the verdict or the fault of the check on threads, with each
+///   number of workers.
+/// - `fit` and `fit bundle` are a plan's text. The answer is the output of the command for the
+///   sizes and for a bundle, with the exit status on a last line. The test repeats it byte by byte
+///   and, if the text is short, with a failing source and sink.
+/// - `fit and check` is the same for a bundle, but the bundle is replaced by the first line and the
+///   status of `check` for it, followed by the answer of `fit` to its plan.
+/// - `run` is a line with a number of rounds, and a bundle to run for that many rounds. The answer
+///   is the output of the command, with the exit status on a last line. If there are few rounds,
+///   the test repeats it byte by byte, and with a failing source and sink.
+/// - `refute`, `refute head` and `refute bundle` are a plan's text. The answer is the output of the
+///   command for a witness, in full or its first line, and for a bundle, with the exit status on a
+///   last line. `refute briefly` is the first line with a limit of one state. `refute and replay`
+///   is the answer of `replay` to the bundle.
+/// - `ask` and `ask strict` are a plan's text, and `ask with` and `ask with strict` are a bundle of
+///   one with a certificate. The answer is the output of the command, with the exit status on a
+///   last line. `ask head` is the first line. `ask json`, `ask json strict`, `ask json with` and
+///   `ask dot` are the same in another format.
+/// - `sizes` is a plan's text. The answer is the lines of the sizes that the search finds, without
+///   a search for a certificate first.
 pub fn answered<R: Threads + Wait + Sync>(
     rt: &R,
     alloc: Global,

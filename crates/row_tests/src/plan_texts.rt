@@ -1,4 +1,4 @@
-//! Texts of plans, and by hand the line that each of them is answered.
+//! Texts of plans, with answers of one line written by hand.
 
 mod answers;
 mod lists;
@@ -8,14 +8,15 @@ use crate::plan_texts::answers::answered;
 use crate::plan_texts::lists::{built, written};
 use std::alloc::{AllocError, Global};
 
-/// Texts of plans.
+/// A suite for texts of plans.
 ///
 /// - `plan` is a text.
-/// - `spelling` is a text that is also read with a carriage return before each newline, and with a byte order mark before
-///   that. All three are answered alike.
+/// - `spelling` is a text that is also read with a carriage return before each newline, and with a
+///   byte order mark before that. All three have the same answer.
 /// - `lists` are the lists of a plan, a line for each entry.
-/// - `written` are such lists, which are answered by the text that is written of their plan.
-/// - `change` is a text, a line `%%`, and a line `OLD -> NEW`: the text is read with NEW in place of OLD.
+/// - `written` are such lists. The answer is the text that is written for their plan.
+/// - `change` is a text, a line `%%`, and a line `OLD -> NEW`: the text is read with NEW in place
+///   of OLD.
 pub struct PlanTexts;
 
 impl Suite for PlanTexts {

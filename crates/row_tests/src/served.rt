@@ -1,4 +1,4 @@
-//! Inputs of the program, from bytes to bytes, and by hand what each of them is answered.
+//! Inputs of the program, from bytes to bytes, with answers written by hand.
 
 mod ended;
 mod failing;
@@ -13,21 +13,23 @@ use crate::served::words::asked;
 use sizing_cli::{MemorySink, MemorySource, Reading, Review};
 use std::alloc::{AllocError, Global};
 
-/// What the program is given.
+/// A suite for commands that use no threads.
 ///
-/// - `replay`, `check`, `explain`, `conform` and `learn` are the whole input of the command. Its answer is what is written, with the status on a
-///   last line. An input that is short is also read and answered where a call of the source or of the sink fails.
-/// - `check and explain` is an input of both commands. Its answer is that of the first, and behind it that of the second
-///   where that is another.
-/// - `fronts of a replay`, `fronts of a check` and `fronts of an explain` are an input whose shorter fronts are all answered.
-///   The answer is that to the shortest, and behind it each that is not as the one before, with the length of its front.
-/// - `words` are the words of a command line, with a newline behind each.
+/// - `replay`, `check`, `explain`, `conform` and `learn` are the whole input of the command. The
+///   answer is the output, with the exit status on a last line. The test repeats a short input with
+///   a source and a sink that fail at each call in turn.
+/// - `check and explain` is an input of both commands. The answer is that of the first, followed by
+///   that of the second if it differs.
+/// - `fronts of a replay`, `fronts of a check` and `fronts of an explain` are an input of which
+///   each shorter prefix is answered too. The answer is that to the shortest prefix, followed by
+///   each answer that differs from the one before, with the length of its prefix.
+/// - `words` are the arguments of a command line, each followed by a newline.
 pub struct Served;
 
-// An input of at most so many bytes is short.
+// The maximum size of a short input, in bytes.
 const SHORT: usize = 250;
 
-// An input of more bytes is long.
+// A larger input is long, in bytes.
 const LONG: usize = 20_000;
 
 impl Suite for Served {
@@ -53,7 +55,7 @@ fn whole(alloc: Global, query: Query, input: &[u8]) -> Result<Ended, AllocError>
     serve(alloc, query, &mut MemorySource::new(input), sink)
 }
 
-// What is answered where a call reads and writes at most so many bytes.
+// Returns the answer if each call reads and writes at most `most` bytes.
 fn in_pieces(alloc: Global, query: Query, input: &[u8], most: usize) -> Result<Ended, AllocError>
     requires { 0 < most }
 {
@@ -70,7 +72,7 @@ fn answered(alloc: Global, query: Query, input: &[u8]) -> Result<String, AllocEr
     Ok(answer)
 }
 
-// Says where it is answered otherwise in pieces, or, where it is short, as a call fails.
+// Reports if the answer differs in pieces or, for a short input, with a failing call.
 fn push_otherwise(
     alloc: Global,
     query: Query,

@@ -1,4 +1,4 @@
-//! Events of worlds, and by hand what comes of each and what a look-up says after it.
+//! Events of worlds, with the outcome of each and the look-ups after it written by hand.
 
 mod facts;
 mod follow;
@@ -10,17 +10,20 @@ use interleaving::World;
 use plan_text::read_plan;
 use std::alloc::{AllocError, Global};
 
-/// The text of a plan, a line `%%`, and lines that a world of the plan is to follow.
+/// A suite for worlds. An input is the text of a plan, a line `%%`, and lines for a world of the
+/// plan.
 ///
-/// A line is an event, as `client 0`, `job 0`, `take 0` and `retire 0`; or `start`, which asks for all that a world says;
-/// or `stuck 0 1`, which asks whether these jobs are stuck; or `see client 0` or `see job 0`. Clients, jobs and pools have
-/// their numbers. What is answered to an event is what comes of it, and behind that
+/// A line is an event, such as `client 0`, `job 0`, `take 0` and `retire 0`; or `start`, which
+/// prints all look-ups of the world; or `stuck 0 1`, which tests whether these jobs are stuck; or
+/// `see client 0` or `see job 0`. Clients, jobs and pools are identified by their numbers. The
+/// answer to an event is its outcome, followed by
 ///
-/// - `facts`: each thing that a look-up says otherwise than before;
-/// - `sets`: which sets of the first six jobs are stuck;
+/// - `facts`: each look-up that changed;
+/// - `sets`: the sets of the first six jobs that are stuck;
 /// - `outcomes`: nothing.
 ///
-/// `counts` answers one line to all lines: how many events happened, and what the world counts behind the last.
+/// `counts` answers all lines with one line: the number of events that happened, and the counts of
+/// the world after the last.
 pub struct Worlds;
 
 impl Suite for Worlds {

@@ -2,16 +2,16 @@
 
 use std::alloc::{AllocError, Global};
 
-// For no pools, classes and clients.
+// For a plan without pools, classes and clients.
 const EMPTY: &str = r#"{"version":1,"pools":[],"ranks":{"pools":[],"reach":[],"levels":[]}}"#;
 
-// For one pool: each client has a job at most, which weighs 1 until it is got.
+// For one pool: each client has at most one job at a time, whose weight is 1 until its get.
 const STANDING: &str = r#"{"version":1,"pools":[
 {"standing":{"workers":[0],"classes":[[1,1,1,1]],"clients":[[1,0,1]]},
 "blocked":{"workers":[0],"classes":[[0,0,0,0]],"clients":[[0,0,0]]}}],
 "ranks":{"pools":[0],"reach":[0],"levels":[0]}}"#;
 
-// For a nested pool: the outer job gives its weight to the inner one, and gets it back.
+// For a nested pool: the outer job passes its weight to the inner one, and the get returns it.
 const NESTED: &str = r#"{"version":1,"pools":[
 {"standing":{"workers":[0],"classes":[[1,1,0,1,1],[1,1,1,1]],"clients":[[1,0,1]]},
 "blocked":{"workers":[0],"classes":[[1,1,1,1,1],[0,0,0,0]],"clients":[[1,0,1]]}}],
@@ -23,7 +23,8 @@ const FAN_OUT: &str = r#"{"version":1,"pools":[
 "blocked":{"workers":[0],"classes":[[1,1,1,1,1,1,1,1,1],[0,0,0,0]],"clients":[[1,0,1]]}}],
 "ranks":{"pools":[0],"reach":[0,0],"levels":[1,0]}}"#;
 
-// For a front pool and a back pool: in the second vector each worker of the front pool lends its weight to its job.
+// For pools `front` and `back`: in the second vector each worker of `front` passes its weight to
+// its job.
 const FRONT_AND_BACK: &str = r#"{"version":1,"pools":[
 {"standing":{"workers":[0,0],"classes":[[1,1,1,1,1],[0,0,0,0]],"clients":[[1,0,1]]},
 "blocked":{"workers":[0,0],"classes":[[0,0,0,0,0],[0,0,0,0]],"clients":[[0,0,0]]}},
@@ -31,7 +32,8 @@ const FRONT_AND_BACK: &str = r#"{"version":1,"pools":[
 "blocked":{"workers":[0,0],"classes":[[0,0,0,0,0],[0,0,0,0]],"clients":[[0,0,0]]}}],
 "ranks":{"pools":[1,0],"reach":[1,0],"levels":[1,0]}}"#;
 
-// For two pools whose jobs wait for jobs of the other: of the gets of the first pool none counts.
+// For two pools with jobs that wait for jobs of the other pool: no get of the first pool is
+// counted.
 const TWO_POOLS: &str = r#"{"version":1,"pools":[
 {"standing":{"workers":[0,0],"classes":[[1,1,1,1,1],[0,0,0,0],[1,1,0,1,1],[1,1,1,1]],
 "clients":[[1,0,1],[1,0,1]]},
@@ -43,7 +45,8 @@ const TWO_POOLS: &str = r#"{"version":1,"pools":[
 "clients":[[0,0,0],[1,0,1]]}}],
 "ranks":{"pools":[1,0],"reach":[1,0,1,1],"levels":[1,0,1,0]}}"#;
 
-// For a job that waits for another pool, whose job waits for the first pool again: its get counts, and weighs nothing.
+// For a job that waits for a job of another pool, which waits for a job of the first pool again:
+// its get is counted, and its weight there is 0.
 const THERE_AND_BACK: &str = r#"{"version":1,"pools":[
 {"standing":{"workers":[0,0],"classes":[[1,1,0,1,1],[1,1,0,1,1],[1,1,1,1]],"clients":[[1,0,1]]},
 "blocked":{"workers":[0,0],"classes":[[0,0,0,0,0],[0,0,0,0,0],[0,0,0,0]],"clients":[[0,0,0]]}},
@@ -57,14 +60,14 @@ const ONE_SHOT: &str = r#"{"version":1,"pools":[
 "blocked":{"workers":[0],"classes":[[0,0,0,0]],"clients":[[0,0]]}}],
 "ranks":{"pools":[0],"reach":[0],"levels":[0]}}"#;
 
-// For one pool and clients that each have one job ever.
+// For one pool and clients that each submit one job in total.
 const LIFETIME: &str = r#"{"version":2,"pools":[
 {"lifetime":{"workers":[0],"classes":[[1,1,1,1]],"clients":[[1,0,0]]},
 "blocked":{"workers":[0],"classes":[[0,0,0,0]],"clients":[[0,0,0]]}}],
 "ranks":{"pools":[0],"reach":[0],"levels":[0]}}"#;
 
-/// The text of the certificate with this name. Of the words behind the name, the second stands in place of the first where
-/// that stands first in the text, and so do the fourth in place of the third, and more.
+/// Returns the text of the certificate with this name. The words after the name are pairs of an old
+/// and a new text: the first occurrence of each old text is replaced by the new one.
 pub fn sample_cert(alloc: Global, words: &str) -> Result<Option<String>, AllocError> {
     let (name, changes) = words.split_once(' ').unwrap_or((words, ""));
     let Some(template) = template(name) else {
@@ -83,7 +86,7 @@ pub fn sample_cert(alloc: Global, words: &str) -> Result<Option<String>, AllocEr
     Ok(Some(text))
 }
 
-// The text with the new piece in place of the first old one. A text without the old one stays as it is.
+// Replaces the first occurrence of `old`, if there is one.
 fn changed(alloc: Global, text: &str, old: &str, new: &str) -> Result<String, AllocError> {
     let (before, behind) = match text.split_once(old) {
         Some(around) => around,

@@ -1,4 +1,4 @@
-//! Texts with gaps.
+//! Substitution in texts.
 
 use crate::files::certs::sample_cert;
 use crate::files::plans::sample_plan;
@@ -9,7 +9,7 @@ use std::alloc::{AllocError, Global};
 // The names of the columns.
 const COLUMNS: &str = "123456789";
 
-/// The text with these columns in place of `$1`, `$2` and so on.
+/// Replaces `$1`, `$2` and so on by these columns.
 pub fn with_columns(alloc: Global, text: &str, columns: &[&str]) -> Result<String, AllocError> {
     let mut filled = String::new(alloc);
     for (number, piece) in text.split('$').enumerate() {
@@ -22,7 +22,7 @@ pub fn with_columns(alloc: Global, text: &str, columns: &[&str]) -> Result<Strin
     Ok(filled)
 }
 
-// Adds what stands behind a `$`, with the column that it names where it names one.
+// Appends the text after a `$`, with the column in place of its name if it begins with one.
 fn push_column(filled: &mut String, piece: &str, columns: &[&str]) -> Result<(), AllocError> {
     for (name, column) in COLUMNS.chars().zip(columns) {
         if let Some(behind) = piece.strip_prefix(name) {
@@ -34,7 +34,7 @@ fn push_column(filled: &mut String, piece: &str, columns: &[&str]) -> Result<(),
     filled.push_str(piece)
 }
 
-/// The text with what the names stand for in place of `$(NAME)`.
+/// Replaces `$(NAME)` by the text that the name stands for.
 pub fn with_names(alloc: Global, text: &str, row: &Row) -> Result<String, AllocError> {
     let mut filled = String::new(alloc);
     for (number, piece) in text.split("$(").enumerate() {
@@ -49,7 +49,7 @@ pub fn with_names(alloc: Global, text: &str, row: &Row) -> Result<String, AllocE
     Ok(filled)
 }
 
-// The row's own part of this name, or else the sample certificate or plan.
+// Returns the row's own part with this name, or otherwise the sample certificate or plan.
 fn named(alloc: Global, name: &str, row: &Row) -> Result<String, AllocError> {
     let head = format!(in alloc; "let {name}")?;
     if let Some(text) = row.part(&head) {

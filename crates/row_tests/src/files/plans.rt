@@ -3,8 +3,8 @@
 use crate::files::fill::with_columns;
 use std::alloc::{AllocError, Global};
 
-// A pool of these sizes (core, maximum, queue) and so many looping clients that each submit one piece of work and wait for
-// it.
+// A pool of these sizes (core, maximum, queue) and `$4` looping clients that each submit one job
+// and wait for it.
 const ONE_POOL: &str = r#"[[pool]]
 name = "p"
 core = $1
@@ -20,7 +20,7 @@ count = $4
 repeat = true
 body = ["submit a as x", "get x"]"#;
 
-// The same with clients that go through their bodies once.
+// The same with clients that run their bodies once.
 const ONE_POOL_ONCE: &str = r#"[[pool]]
 name = "p"
 core = $1
@@ -75,7 +75,7 @@ count = 1
 repeat = true
 body = ["submit outer as x", "get x"]"#;
 
-// A pool in front, whose jobs wait for jobs of a pool behind it.
+// A pool `front`, whose jobs wait for jobs of a pool `back`.
 const FRONT_AND_BACK: &str = r#"[[pool]]
 name = "front"
 core = 4
@@ -100,7 +100,8 @@ count = 1000
 repeat = true
 body = ["submit f as x", "get x"]"#;
 
-// Two pools, of one thread and of so many, whose jobs wait for jobs of the other.
+// A pool of one thread and a pool of the given number, each with jobs that wait for jobs of the
+// other.
 const TWO_POOLS: &str = r#"[[pool]]
 name = "p"
 core = 1
@@ -138,7 +139,7 @@ count = 1
 repeat = true
 body = ["submit c as x", "get x"]"#;
 
-// A third pool behind those two, with a class and a client of its own.
+// A third pool after those two, with a class and a client of its own.
 const A_THIRD_POOL: &str = r#"
 [[pool]]
 name = "r"
@@ -155,7 +156,7 @@ count = 1
 repeat = true
 body = ["submit e as x", "get x"]"#;
 
-// A job waits for another pool, whose job waits for the first pool again.
+// A job waits for a job of another pool, which waits for a job of the first pool again.
 const THERE_AND_BACK: &str = r#"[[pool]]
 name = "p"
 core = 1
@@ -184,8 +185,8 @@ count = 1
 repeat = true
 body = ["submit a as x", "get x"]"#;
 
-// A pool of these sizes with each action in a class and in a client. Whether that client repeats comes behind the sizes;
-// beside it another one works, again and again.
+// A pool of these sizes with each action in a class and in a client. The argument after the sizes
+// tells whether that client repeats. Another client only works, and repeats.
 const EACH_ACTION: &str = r#"[[pool]]
 name = "p"
 core = $1
@@ -210,7 +211,8 @@ count = 1
 repeat = true
 body = ["work 1"]"#;
 
-/// The text of the plan with this name and these sizes. The text is that of no plan where the name is of none.
+/// Returns the text of the plan with this name and these sizes. For an unknown name the text is not
+/// a valid plan.
 pub fn sample_plan(alloc: Global, words: &str) -> Result<String, AllocError> {
     let (name, sizes) = words.split_once(' ').unwrap_or((words, ""));
     let columns = sizes.split(' ').collect::<Vec<&str>>(alloc)?;

@@ -1,9 +1,9 @@
-//! Texts that stand many times.
+//! Repetition of texts.
 
 use crate::files::spelling::spelled;
 use std::alloc::{AllocError, Global};
 
-/// The text with each `^<64 TEXT^>` written out.
+/// Expands each `^<64 TEXT^>` in the text.
 pub fn repeated(alloc: Global, text: &str) -> Result<String, AllocError> {
     let mut whole = String::new(alloc);
     for (number, piece) in text.split("^<").enumerate() {
@@ -18,7 +18,7 @@ pub fn repeated(alloc: Global, text: &str) -> Result<String, AllocError> {
     Ok(whole)
 }
 
-// Adds the text behind the number so many times.
+// Appends the text after the number, repeated that many times.
 fn push_repeated(alloc: Global, whole: &mut String, inner: &str) -> Result<(), AllocError> {
     let (bytes, inner) = match inner.strip_prefix("to ") {
         Some(inner) => (spelled(alloc, whole)?.len(), inner),
@@ -35,10 +35,10 @@ fn push_repeated(alloc: Global, whole: &mut String, inner: &str) -> Result<(), A
     Ok(())
 }
 
-// How many copies are added at once.
+// The number of copies to append at once.
 const BLOCK: usize = 1_000;
 
-// Adds so many copies of the piece.
+// Appends this number of copies of the piece.
 fn push_copies(
     alloc: Global,
     whole: &mut String,
@@ -58,7 +58,8 @@ fn push_copies(
     Ok(())
 }
 
-// Adds the piece with its number, counted from 0, in place of `^#`, and counted from 1 in place of `^+`.
+// Appends the piece with its number, counted from 0, in place of `^#`, and counted from 1 in place
+// of `^+`.
 fn push_numbered(whole: &mut String, piece: &str, number: usize) -> Result<(), AllocError> {
     let next = number.saturating_add(1);
     for (place, part) in piece.split("^#").enumerate() {

@@ -2,14 +2,14 @@
 
 use std::alloc::{AllocError, Global};
 
-/// A row: its name, and its parts in their order.
+/// A row: its name, and its parts in order.
 #[derive(Drop)]
 pub struct Row<'a> {
     pub name: &'a str,
     pub parts: Vec<Part<'a>>,
 }
 
-/// A part of a row: the words of its first line, and the lines behind that.
+/// A part of a row: the text of its first line, and the lines after it.
 #[derive(Clone, Copy)]
 pub struct Part<'a> {
     pub head: &'a str,
@@ -17,7 +17,7 @@ pub struct Part<'a> {
 }
 
 impl<'a> Row<'a> {
-    /// The text of the part with this head.
+    /// Returns the text of the part with this head.
     pub fn part(&self, head: &str) -> Option<&'a str> {
         for part in &self.parts {
             if part.head == head {
@@ -28,7 +28,7 @@ impl<'a> Row<'a> {
     }
 }
 
-/// The rows of the file.
+/// Parses the rows of the file.
 pub fn read_rows(alloc: Global, file: &str) -> Result<Vec<Row<'_>>, AllocError> {
     let mut rows = Vec::new(alloc);
     for text in file.split("\n== ").skip(1) {

@@ -1,8 +1,8 @@
-//! Bytes that are spelled.
+//! Escaped bytes.
 
 use std::alloc::{AllocError, Global};
 
-/// The bytes of the text, each of those that are spelled with `^` as it is.
+/// Returns the bytes of the text, with each `^` escape replaced by its byte.
 pub fn spelled(alloc: Global, text: &str) -> Result<Vec<u8>, AllocError> {
     let mut bytes = Vec::new(alloc);
     for (number, piece) in text.split('^').enumerate() {
@@ -15,7 +15,7 @@ pub fn spelled(alloc: Global, text: &str) -> Result<Vec<u8>, AllocError> {
     Ok(bytes)
 }
 
-// Adds what stands behind a `^`.
+// Appends the text after a `^`.
 fn push_spelled(bytes: &mut Vec<u8>, piece: &[u8]) -> Result<(), AllocError> {
     let (byte, behind) = match piece {
         [b'n', behind @ ..] => (b'\n', behind),
@@ -29,7 +29,7 @@ fn push_spelled(bytes: &mut Vec<u8>, piece: &[u8]) -> Result<(), AllocError> {
     bytes.extend_from_slice(behind)
 }
 
-// The value of the hexadecimal digit, and 0 of another byte.
+// Returns the value of a hexadecimal digit, and 0 for another byte.
 fn digit(letter: u8) -> u8 {
     match letter {
         b'0'..=b'9' => letter - b'0',

@@ -1,4 +1,4 @@
-//! What a program does with the rows of its files.
+//! Running the rows of files.
 
 use crate::files::fill::{with_columns, with_names};
 use crate::files::repeat::repeated;
@@ -8,13 +8,14 @@ use std::alloc::{AllocError, Global};
 use std::rt::Files;
 use std::{fs, io};
 
-/// What inputs are answered.
+/// The code under test, which answers inputs.
 pub trait Suite {
-    /// The answer to the input of this kind.
+    /// Returns the answer to the input of this kind.
     fn answer(&self, alloc: Global, kind: &str, input: &[u8]) -> Result<String, AllocError>;
 }
 
-/// Prints each row of the files that is not answered as wanted, and then how many rows there are and how many differ.
+/// Prints each row of the files with an unexpected answer, and then the numbers of all rows and of
+/// those that differ.
 pub fn run_files<S: Suite, R: Files + Print + AllocGlobal>(
     rt: &R,
     suite: &S,
@@ -34,7 +35,7 @@ pub fn run_files<S: Suite, R: Files + Print + AllocGlobal>(
     println!(rt; "{rows} rows, {differing} differ")
 }
 
-// How many inputs were answered, and how many of them otherwise than wanted.
+// The number of inputs, and how many of their answers were unexpected.
 #[derive(Drop)]
 struct Count {
     rows: u64,
@@ -72,13 +73,13 @@ fn is_input(part: &Part) -> bool {
     !matches!(word, "answer" | "answers" | "lines" | "let")
 }
 
-// What stands before the last arrow of a line, and what stands behind it.
+// Splits a line at its last arrow.
 fn sides(line: &str) -> (&str, &str) {
     let (left, right) = line.rsplit_once("=> ").unwrap_or((line, ""));
     (left.strip_suffix(' ').unwrap_or(left), right)
 }
 
-// The text with the left sides of the lines behind it, and the right sides.
+// Returns the text with the left sides of the lines appended, and the right sides.
 fn in_columns(alloc: Global, text: &str, lines: &str) -> Result<(String, String), AllocError> {
     let mut left = String::from_str(alloc, text)?;
     let mut right = String::new(alloc);
@@ -91,7 +92,7 @@ fn in_columns(alloc: Global, text: &str, lines: &str) -> Result<(String, String)
     Ok((left, right))
 }
 
-// Prints the row where its input is not answered as wanted.
+// Prints the row if the answer to its input is unexpected.
 fn run_input<S: Suite>(
     rt: &(impl Print + AllocGlobal),
     suite: &S,
@@ -115,7 +116,7 @@ fn run_input<S: Suite>(
     Ok(())
 }
 
-// The bytes that the text of an input says.
+// Returns the bytes of an input from its text.
 fn written(alloc: Global, row: &Row, text: &str, columns: &[&str]) -> Result<Vec<u8>, AllocError> {
     let text = with_columns(alloc, text, columns)?;
     let text = with_names(alloc, &text, row)?;
@@ -123,7 +124,7 @@ fn written(alloc: Global, row: &Row, text: &str, columns: &[&str]) -> Result<Vec
     spelled(alloc, &text)
 }
 
-// The answer that is wanted of an input at this place.
+// Returns the expected answer to an input at this place.
 fn wanted_at(alloc: Global, row: &Row, place: &str, text: &str) -> Result<String, AllocError> {
     let text = with_names(alloc, text, row)?;
     let text = repeated(alloc, &text)?;

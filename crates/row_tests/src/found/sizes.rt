@@ -1,4 +1,4 @@
-//! What sizes are found for a plan, in the lines that `fit` tells.
+//! The sizes that the search finds for a plan, in the lines that `fit` writes.
 
 use job_bodies::Plan;
 use plan_text::read_plan;
@@ -6,7 +6,7 @@ use size_lines::{push_no_sizes, push_sizes};
 use size_search::{SizesFound, search_sizes};
 use std::alloc::{AllocError, Global};
 
-/// The lines of the sizes that are found for the plan of this text, or of why there are none.
+/// Returns the lines of the sizes for the plan with this text, or of the reason why there are none.
 pub fn answer(alloc: Global, text: &str) -> Result<String, AllocError> {
     let mut told = String::new(alloc);
     match read_plan(alloc, text.as_bytes()) {
@@ -16,7 +16,7 @@ pub fn answer(alloc: Global, text: &str) -> Result<String, AllocError> {
     Ok(told)
 }
 
-// Unlike `fit` it looks for no certificate first.
+// Unlike `fit`, it does not search for a certificate first.
 fn push_found(alloc: Global, told: &mut String, plan: &Plan) -> Result<(), AllocError> {
     match search_sizes(alloc, plan, None)? {
         SizesFound::Found { plan: fit, .. } => {

@@ -1,4 +1,4 @@
-//! Plans of which the one question is asked.
+//! Inputs of the command `ask`.
 
 ghost use Rattle.command_line.specs.Command.{IsInRange};
 
@@ -9,7 +9,7 @@ use std::alloc::{AllocError, Global};
 use std::sync::Wait;
 use std::thread::Threads;
 
-/// The question of a plan alone, or of a plan with a certificate.
+/// Returns the command for a plan alone, or for a plan with a certificate.
 fn question(given: Given, strict: bool, form: Form) -> Command
     ensures { IsInRange result }
 {
@@ -19,7 +19,7 @@ fn question(given: Given, strict: bool, form: Form) -> Command
     })
 }
 
-/// What `ask` answers to an input of this kind, where it is one.
+/// Returns the answer of `ask` to an input of this kind, if it is one.
 pub fn asked<R: Threads + Wait + Sync>(
     rt: &R,
     alloc: Global,

@@ -1,4 +1,4 @@
-//! Plans for which a certificate is looked for.
+//! Inputs of the command `certify`.
 
 use crate::on_threads::ended::Ended;
 use crate::on_threads::failing;
@@ -7,12 +7,12 @@ use std::alloc::{AllocError, Global};
 use std::sync::Wait;
 use std::thread::Threads;
 
-// An input of at most so many bytes is short.
+// The maximum size of a short input, in bytes.
 const SHORT: usize = 250;
 
 const ONE_WORKER: Command = Command::OnThreads(Task::Certify { workers: 1 });
 
-/// What `certify` answers to a plan's text.
+/// Returns the answer of `certify` to a plan's text.
 pub fn certified<R: Threads + Wait + Sync>(
     rt: &R,
     alloc: Global,
@@ -24,7 +24,7 @@ pub fn certified<R: Threads + Wait + Sync>(
     Ok(answer)
 }
 
-/// What `certify` answers to a plan's text; where that is a bundle, what `check` says of it.
+/// Returns the answer of `certify` to a plan's text, or the answer of `check` if it is a bundle.
 pub fn certified_and_checked<R: Threads + Wait + Sync>(
     rt: &R,
     alloc: Global,
@@ -36,7 +36,7 @@ pub fn certified_and_checked<R: Threads + Wait + Sync>(
     Ok(answer)
 }
 
-// What was answered to the plan; where that is a bundle, what `check` says of it.
+// Returns the answer to the plan, or the answer of `check` if it is a bundle.
 fn checked(alloc: Global, plan: &[u8], ended: &Ended) -> Result<String, AllocError> {
     if ended.outcome != Ok(Status::Done) {
         return ended.shown(alloc);
@@ -48,7 +48,7 @@ fn checked(alloc: Global, plan: &[u8], ended: &Ended) -> Result<String, AllocErr
     Ok(answer)
 }
 
-// The plan stands there, ended by a newline, and then the line that separates it from the certificate.
+// Returns whether the bundle begins with the plan, a newline and the separator line.
 fn is_bundle_of(plan: &[u8], bundle: &[u8]) -> bool {
     let Some(mut rest) = bundle.strip_prefix(plan) else {
         return false;
@@ -62,8 +62,8 @@ fn is_bundle_of(plan: &[u8], bundle: &[u8]) -> bool {
     rest.starts_with(b"%%\n")
 }
 
-// Says where the plan is answered otherwise than with one worker: with 64 workers; and where it is short with two, read and
-// written a byte at a time or by calls that fail.
+// Reports if the answer differs from that of one worker: with 64 workers and, if the plan is short,
+// with two workers, byte by byte or with failing calls.
 fn push_otherwise<R: Threads + Wait + Sync>(
     rt: &R,
     alloc: Global,

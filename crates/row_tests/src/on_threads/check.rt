@@ -6,7 +6,7 @@ use plan_text::read_plan;
 use std::alloc::{AllocError, Global};
 use std::thread::Threads;
 
-/// A gate that lets each pool be looked at.
+/// A gate that always opens.
 #[derive(Clone, Copy)]
 struct Open;
 
@@ -16,7 +16,8 @@ impl PoolGate for Open {
     }
 }
 
-/// What `check` answers to the plan and the certificate of a bundle, and where the check on threads answers otherwise.
+/// Returns the answer of `check` to a bundle, and reports if the check on threads answers
+/// differently.
 pub fn checked<R: Threads + Sync>(
     rt: &R,
     alloc: Global,
@@ -29,7 +30,7 @@ pub fn checked<R: Threads + Sync>(
     }
 }
 
-// What is told of the two texts.
+// Formats the result for the two texts.
 fn told_of_texts<R: Threads + Sync>(
     rt: &R,
     alloc: Global,
@@ -44,7 +45,7 @@ fn told_of_texts<R: Threads + Sync>(
     Ok(answer)
 }
 
-// The text of a plan, and what is read of it, and that of a certificate.
+// The text of a plan with its parse result, and the text of a certificate.
 #[derive(Drop)]
 struct Texts<'a> {
     plan: &'a [u8],
@@ -53,7 +54,7 @@ struct Texts<'a> {
 }
 
 impl Texts<'_> {
-    // Where workers of some number answer otherwise than the check alone.
+    // Reports if some number of workers answers differently from the check without threads.
     fn told_otherwise<R: Threads + Sync>(
         &self,
         rt: &R,
@@ -72,7 +73,7 @@ impl Texts<'_> {
     }
 }
 
-// The verdict or the fault of a check.
+// Formats the verdict or the fault of a check.
 fn told(
     alloc: Global,
     plan: &Result<Plan, PlanFault>,

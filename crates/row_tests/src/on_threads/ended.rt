@@ -1,4 +1,4 @@
-//! How a call that serves ended.
+//! The result of a served command.
 
 ghost use Rattle.command_line.specs.Command.{IsInRange};
 
@@ -9,7 +9,7 @@ use std::alloc::{AllocError, Global};
 use std::sync::Wait;
 use std::thread::Threads;
 
-/// What was written, and how the call ended.
+/// The output of a command, and its outcome.
 #[derive(PartialEq, Drop)]
 pub struct Ended {
     pub written: Vec<u8>,
@@ -17,7 +17,7 @@ pub struct Ended {
 }
 
 impl Ended {
-    /// Serves an input to the command, whole.
+    /// Serves a whole input to the command.
     pub fn of_input<R: Threads + Wait + Sync>(
         rt: &R,
         alloc: Global,
@@ -30,7 +30,7 @@ impl Ended {
         Ended::of_source(rt, alloc, command, &mut MemorySource::new(input), sink)
     }
 
-    /// Serves what the source gives to the command.
+    /// Serves the input from the source to the command.
     pub fn of_source<R: Threads + Wait + Sync, S: Source>(
         rt: &R,
         alloc: Global,
@@ -59,14 +59,14 @@ impl Ended {
         Ok(Ended { written, outcome })
     }
 
-    /// What was written, with how the call ended behind it.
+    /// Returns the output, followed by the outcome.
     pub fn shown(&self, alloc: Global) -> Result<String, AllocError> {
         let mut text = String::from_utf8_lossy(alloc, &self.written)?;
         self.push_outcome(&mut text)?;
         Ok(text)
     }
 
-    /// The first line of what was written, with how the call ended behind it.
+    /// Returns the first line of the output, followed by the outcome.
     pub fn first_line(&self, alloc: Global) -> Result<String, AllocError> {
         let written = String::from_utf8_lossy(alloc, &self.written)?;
         let mut text = String::new(alloc);

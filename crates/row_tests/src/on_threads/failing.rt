@@ -1,4 +1,4 @@
-//! Sources and sinks that take a byte in each of their calls, or fail at one of them.
+//! Sources and sinks that handle one byte in each call, or fail at one call.
 
 ghost use Rattle.command_line.specs.Command.{IsInRange};
 
@@ -12,10 +12,11 @@ const READ_FAILED: ServeFault = ServeFault { number: 60 };
 
 const WRITE_FAILED: ServeFault = ServeFault { number: 61 };
 
-// How many bytes a call reads or writes.
+// The number of bytes that a call reads or writes.
 const PIECE: usize = 250;
 
-/// What the command answers, and whether it answers otherwise a byte at a time, or to a source or a sink that fails.
+/// Returns the answer of the command, and reports if it differs byte by byte, or with a failing
+/// source or sink.
 pub fn tried<R: Threads + Wait + Sync>(
     rt: &R,
     alloc: Global,
@@ -30,7 +31,7 @@ pub fn tried<R: Threads + Wait + Sync>(
     Ok(answer)
 }
 
-/// Says where the command ends otherwise than so, a byte at a time or where a call fails.
+/// Reports if the outcome differs byte by byte or with a failing call.
 pub fn push_otherwise<R: Threads + Wait + Sync>(
     rt: &R,
     alloc: Global,
@@ -48,7 +49,7 @@ pub fn push_otherwise<R: Threads + Wait + Sync>(
     push_failing_writes(rt, alloc, command, input, ended, answer)
 }
 
-// What is answered where a call reads and writes one byte.
+// Returns the answer if each call reads and writes one byte.
 fn in_bytes<R: Threads + Wait + Sync>(
     rt: &R,
     alloc: Global,
@@ -62,8 +63,8 @@ fn in_bytes<R: Threads + Wait + Sync>(
     Ended::of_source(rt, alloc, command, &mut source, sink)
 }
 
-// Says where a source that fails does not give 60 with nothing written. One call more than those that give the bytes is
-// made, which tells their end; a failure of a later call is never met.
+// Reports if a failing source does not result in fault 60 and no output. The program makes one call
+// more than those that return bytes, to find the end of the input. It never makes a later call.
 fn push_failing_reads<R: Threads + Wait + Sync>(
     rt: &R,
     alloc: Global,
@@ -90,8 +91,8 @@ fn push_failing_reads<R: Threads + Wait + Sync>(
     Ok(())
 }
 
-// Says where a sink that fails does not give 61 with a front of the answer. A failure of a later call than those that take
-// the answer is never met.
+// Reports if a failing sink does not result in fault 61 and a prefix of the answer. The program
+// makes no call after those that write the answer.
 fn push_failing_writes<R: Threads + Wait + Sync>(
     rt: &R,
     alloc: Global,
@@ -115,7 +116,8 @@ fn push_failing_writes<R: Threads + Wait + Sync>(
     Ok(())
 }
 
-// So many bytes were written and the call failed; where there are no more, it ended well.
+// Returns whether `length` bytes were written and the call failed. If the answer has only that many
+// bytes, returns whether the call succeeded.
 fn is_front_of(failed: &Ended, ended: &Ended, length: usize) -> bool {
     let whole = ended.written.len();
     let outcome = if length < whole {

@@ -1,4 +1,4 @@
-//! Plans for which sizes are looked for.
+//! Inputs of the command `fit`.
 
 ghost use Rattle.command_line.specs.Command.{IsInRange};
 
@@ -9,7 +9,7 @@ use std::alloc::{AllocError, Global};
 use std::sync::Wait;
 use std::thread::Threads;
 
-// An input of at most so many bytes is short.
+// The maximum size of a short input, in bytes.
 const SHORT: usize = 250;
 
 const SIZES: Command = Command::OnThreads(Task::Fit {
@@ -20,7 +20,7 @@ const BUNDLE: Command = Command::OnThreads(Task::Fit {
     wanted: SizesForm::Bundle,
 });
 
-/// What `fit` answers to a plan's text.
+/// Returns the answer of `fit` to a plan's text.
 pub fn fitted<R: Threads + Wait + Sync>(
     rt: &R,
     alloc: Global,
@@ -29,7 +29,7 @@ pub fn fitted<R: Threads + Wait + Sync>(
     served(rt, alloc, SIZES, plan)
 }
 
-/// The bundle that `fit` writes for a plan's text.
+/// Returns the bundle that `fit` writes for a plan's text.
 pub fn fitted_bundle<R: Threads + Wait + Sync>(
     rt: &R,
     alloc: Global,
@@ -38,7 +38,8 @@ pub fn fitted_bundle<R: Threads + Wait + Sync>(
     served(rt, alloc, BUNDLE, plan)
 }
 
-/// What `check` says of the bundle that `fit` writes for a plan's text, and behind it what `fit` says of the plan in it.
+/// Returns the answer of `check` to the bundle that `fit` writes for a plan's text, followed by the
+/// answer of `fit` to its plan.
 pub fn fitted_and_checked<R: Threads + Wait + Sync>(
     rt: &R,
     alloc: Global,
@@ -53,7 +54,7 @@ pub fn fitted_and_checked<R: Threads + Wait + Sync>(
     Ok(answer)
 }
 
-// What `fit` says of the plan in a bundle.
+// Returns the answer of `fit` to the plan in a bundle.
 fn fitted_again<R: Threads + Wait + Sync>(
     rt: &R,
     alloc: Global,
@@ -66,8 +67,8 @@ fn fitted_again<R: Threads + Wait + Sync>(
     }
 }
 
-// What the command answers; and where the plan is short, whether it answers otherwise a byte at a time, or to a source or a
-// sink that fails.
+// Returns the answer of the command. If the plan is short, reports if it differs byte by byte, or
+// with a failing source or sink.
 pub(crate) fn served<R: Threads + Wait + Sync>(
     rt: &R,
     alloc: Global,

@@ -1,4 +1,4 @@
-//! Plans against which a witness is looked for.
+//! Inputs of the command `refute`.
 
 use crate::on_threads::ended::Ended;
 use crate::on_threads::fit::served;
@@ -22,7 +22,7 @@ const BUNDLE: Command = Command::OnThreads(Task::Refute {
     shown: Shown::Bundle,
 });
 
-/// What `refute` answers to a plan's text.
+/// Returns the answer of `refute` to a plan's text.
 pub fn refuted<R: Threads + Wait + Sync>(
     rt: &R,
     alloc: Global,
@@ -31,7 +31,7 @@ pub fn refuted<R: Threads + Wait + Sync>(
     served(rt, alloc, STORY, plan)
 }
 
-/// The first line that `refute` answers to a plan's text.
+/// Returns the first line of the answer of `refute` to a plan's text.
 pub fn refuted_head<R: Threads + Wait + Sync>(
     rt: &R,
     alloc: Global,
@@ -40,7 +40,7 @@ pub fn refuted_head<R: Threads + Wait + Sync>(
     Ended::of_input(rt, alloc, STORY, plan)?.first_line(alloc)
 }
 
-/// The first line that `refute` answers to a plan's text where it may go through one state alone.
+/// Returns the first line of the answer of `refute` to a plan's text, with a limit of one state.
 pub fn refuted_briefly<R: Threads + Wait + Sync>(
     rt: &R,
     alloc: Global,
@@ -49,7 +49,7 @@ pub fn refuted_briefly<R: Threads + Wait + Sync>(
     Ended::of_input(rt, alloc, BRIEF, plan)?.first_line(alloc)
 }
 
-/// The bundle that `refute` writes for a plan's text.
+/// Returns the bundle that `refute` writes for a plan's text.
 pub fn refuted_bundle<R: Threads + Wait + Sync>(
     rt: &R,
     alloc: Global,
@@ -58,7 +58,7 @@ pub fn refuted_bundle<R: Threads + Wait + Sync>(
     served(rt, alloc, BUNDLE, plan)
 }
 
-/// What `replay` answers to the bundle that `refute` writes for a plan's text.
+/// Returns the answer of `replay` to the bundle that `refute` writes for a plan's text.
 pub fn refuted_and_replayed<R: Threads + Wait + Sync>(
     rt: &R,
     alloc: Global,

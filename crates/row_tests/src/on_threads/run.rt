@@ -1,4 +1,4 @@
-//! Bundles that are run.
+//! Inputs of the command `run`.
 
 ghost use Rattle.std.specs.Prelude.{◌≤◌};
 
@@ -9,10 +9,10 @@ use std::alloc::{AllocError, Global};
 use std::sync::Wait;
 use std::thread::Threads;
 
-// A run of at most so many rounds is short.
+// The maximum number of rounds of a short run.
 const SHORT: u64 = 3;
 
-/// What `run` answers to a bundle for so many rounds.
+/// Returns the answer of `run` to a bundle for this number of rounds.
 pub fn ran<R: Threads + Wait + Sync>(
     rt: &R,
     alloc: Global,
@@ -29,7 +29,7 @@ pub fn ran<R: Threads + Wait + Sync>(
     Ended::of_input(rt, alloc, command, bundle)?.shown(alloc)
 }
 
-/// What `run` answers to a bundle, behind a line with the number of rounds, 1 to 1,000,000.
+/// Returns the answer of `run` to a bundle after a line with the number of rounds, 1 to 1,000,000.
 pub fn ran_for<R: Threads + Wait + Sync>(
     rt: &R,
     alloc: Global,

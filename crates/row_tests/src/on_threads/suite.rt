@@ -1,12 +1,13 @@
-//! A suite that answers on threads.
+//! A suite whose answers use threads.
 
 use crate::files::Suite;
 use std::alloc::{AllocError, Global};
 
-/// Answers an input of a kind.
+/// A function that answers an input of a kind.
 pub type Answer = Box<dyn Fn(Global, &str, &[u8]) -> Result<String, AllocError> + Drop>;
 
-/// A suite that answers by a call. The method of a suite is passed nothing that may start threads; what is called has it.
+/// A suite that calls a function. The method of a suite gets no handle that can start threads, but
+/// the function has one.
 #[derive(Drop)]
 pub struct OnThreads {
     answer: Answer,

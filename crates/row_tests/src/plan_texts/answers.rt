@@ -1,15 +1,15 @@
-//! What a text is answered, in one line.
+//! The answer to a text, in one line.
 
 use job_bodies::{Action, Plan, PlanFault};
 use plan_text::read_plan;
 use std::alloc::{AllocError, Global};
 
-/// The plan of the text in one line, or its fault.
+/// Returns the plan of the text in one line, or its fault.
 pub fn answered(alloc: Global, text: &[u8]) -> Result<String, AllocError> {
     line_of(alloc, read_plan(alloc, text))
 }
 
-/// The plan or the fault in one line.
+/// Formats the plan or the fault in one line.
 pub fn line_of(alloc: Global, answer: Result<Plan, PlanFault>) -> Result<String, AllocError> {
     match answer {
         Ok(plan) => plan_line(alloc, &plan),

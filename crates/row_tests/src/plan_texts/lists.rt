@@ -1,4 +1,4 @@
-//! Plans of lists, without a text.
+//! Plans that are built from lists, without a text.
 
 use crate::plan_texts::answers::line_of;
 use job_bodies::{Action, Class, Client, Plan, PlanFault, Pool};
@@ -6,13 +6,13 @@ use plan_text::read_plan;
 use plan_writer::write_plan;
 use std::alloc::{AllocError, Global};
 
-/// The plan of the lists or their fault, in one line.
+/// Returns the plan of the lists or their fault, in one line.
 pub fn built(alloc: Global, lines: &[u8]) -> Result<String, AllocError> {
     line_of(alloc, plan_of(alloc, lines)?)
 }
 
-/// The text that is written of the plan of the lists, where it is read as a plan whose text is the same; else the fault of
-/// reading it.
+/// Returns the text that is written for the plan of the lists, if that text reads as a plan that
+/// writes the same text. Otherwise returns the fault of reading it.
 pub fn written(alloc: Global, lines: &[u8]) -> Result<String, AllocError> {
     let text = match plan_of(alloc, lines)? {
         Ok(plan) => write_plan(alloc, &plan)?,
@@ -28,8 +28,9 @@ pub fn written(alloc: Global, lines: &[u8]) -> Result<String, AllocError> {
     Ok(text)
 }
 
-// The plan of the lists, a line for each entry: pools by name, core, maximum, queue and `prestarted`; classes by name, pool and
-// body; looping clients by name, count and body, and other clients by the same.
+// Parses the plan of the lists, a line for each entry: pools by name, core, maximum, queue and
+// `prestarted`; classes by name, pool and body; looping clients by name, count and body, and other
+// clients by the same.
 fn plan_of(alloc: Global, lines: &[u8]) -> Result<Result<Plan, PlanFault>, AllocError> {
     let lines = String::from_utf8_lossy(alloc, lines)?;
     let mut pools = Vec::new(alloc);

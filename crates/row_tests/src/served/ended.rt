@@ -1,11 +1,11 @@
-//! Serves inputs to memory.
+//! Serving inputs from and to memory.
 
 use sizing_cli::{
     MemorySink, Reading, Review, ServeFault, Sink, Source, Status, serve_alone, serve_recording,
 };
 use std::alloc::{AllocError, Global};
 
-/// What is asked of an input without any thread.
+/// A command that uses no threads.
 #[derive(Clone, Copy)]
 pub enum Query {
     Review(Review),
@@ -13,7 +13,7 @@ pub enum Query {
 }
 
 impl Query {
-    /// Serves one input to it.
+    /// Serves one input to the command.
     pub fn serve<S: Source, K: Sink>(
         self,
         alloc: Global,
@@ -27,7 +27,7 @@ impl Query {
     }
 }
 
-/// What was written, and how the call ended.
+/// The output of a command, and its outcome.
 #[derive(PartialEq, Drop)]
 pub struct Ended {
     pub written: Vec<u8>,
@@ -35,7 +35,7 @@ pub struct Ended {
 }
 
 impl Ended {
-    /// What was written, with how the call ended behind it.
+    /// Returns the output, followed by the outcome.
     pub fn shown(&self, alloc: Global) -> Result<String, AllocError> {
         let mut text = String::from_utf8_lossy(alloc, &self.written)?;
         match self.outcome {
@@ -49,7 +49,7 @@ impl Ended {
     }
 }
 
-/// Serves what the source gives.
+/// Serves the input from the source.
 pub fn serve<S: Source>(
     alloc: Global,
     query: Query,

@@ -1,4 +1,4 @@
-//! Sources and sinks that fail at one of their calls.
+//! Sources and sinks that fail at one call.
 
 ghost use Rattle.std.specs.Prelude.{◌<◌};
 
@@ -12,10 +12,10 @@ const READ_FAILED: ServeFault = ServeFault { number: 60 };
 
 const WRITE_FAILED: ServeFault = ServeFault { number: 61 };
 
-// How many bytes a writer takes in a call that later takes none.
+// The number of bytes that a stalling writer accepts in a call before it accepts none.
 const STALLING_PIECE: usize = 60;
 
-/// An input, and what a command answers to it where no call fails.
+/// An input, and the answer of a command to it without a failing call.
 #[derive(Drop)]
 pub struct Case<'a> {
     pub input: &'a [u8],
@@ -23,7 +23,7 @@ pub struct Case<'a> {
 }
 
 impl Case<'_> {
-    /// Says where a failing call ends otherwise than it must.
+    /// Reports if a failing call has an unexpected outcome.
     pub fn push_otherwise(
         &self,
         alloc: Global,
@@ -35,8 +35,8 @@ impl Case<'_> {
         self.push_stalling_writes(alloc, query, answer)
     }
 
-    // A source that fails gives 60, and nothing is written. One call more than those that give the bytes is made, which
-    // tells their end. A failure of a later call is never met.
+    // A failing source results in fault 60, and no output. The program makes one call more than
+    // those that return bytes, to find the end of the input. It never makes a later call.
     fn push_failing_reads(
         &self,
         alloc: Global,
@@ -67,8 +67,8 @@ impl Case<'_> {
         Ok(())
     }
 
-    // A sink that fails gives 61, and what it has is a front of the answer. A failure of a later call than those that take
-    // the answer is never met.
+    // A failing sink results in fault 61, and its content is a prefix of the answer. The program
+    // makes no call after those that write the answer.
     fn push_failing_writes(
         &self,
         alloc: Global,
@@ -94,7 +94,8 @@ impl Case<'_> {
         Ok(())
     }
 
-    // A writer that takes no byte has failed. A sink may not take none itself: its contract wants a byte or a fault.
+    // A writer that accepts no byte has failed. A sink cannot do so itself: its contract requires a
+    // byte or a fault.
     fn push_stalling_writes(
         &self,
         alloc: Global,
@@ -124,7 +125,8 @@ impl Case<'_> {
     }
 }
 
-// So many bytes were written and the call failed; where there are no more, it ended well.
+// Returns whether `length` bytes were written and the call failed. If the answer has only that many
+// bytes, returns whether the call succeeded.
 fn is_front_of(failed: &Ended, ended: &Ended, length: usize) -> bool {
     let whole = ended.written.len();
     let outcome = if length < whole {
@@ -137,7 +139,7 @@ fn is_front_of(failed: &Ended, ended: &Ended, length: usize) -> bool {
         && ended.written.starts_with(&failed.written)
 }
 
-// Takes a piece in each of so many calls, and then none.
+// A writer that accepts a piece in each of `calls` calls, and then none.
 #[derive(Drop)]
 struct Stalling {
     taken: Vec<u8>,

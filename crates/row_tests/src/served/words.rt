@@ -1,9 +1,9 @@
-//! The words of the command line.
+//! The arguments of the command line.
 
 use command_line::{Asked, Command, read_words};
 use std::alloc::{AllocError, Global};
 
-/// What the words ask for, each with a newline behind it: a command and the files that are named, none, or how they are refused.
+/// Returns the command of the arguments, each followed by a newline, with its files, or the error.
 pub fn asked(alloc: Global, lines: &[u8]) -> Result<String, AllocError> {
     let lines = String::from_utf8_lossy(alloc, lines)?;
     let words = lines.lines().collect::<Vec<&str>>(alloc)?;
@@ -31,7 +31,7 @@ fn push_asked(text: &mut String, asked: &Asked<'_>) -> Result<(), AllocError> {
     push_file(text, "certificate", asked.certificate)
 }
 
-// Adds the file of this name, where it is named.
+// Appends the name of the file, if there is one.
 fn push_file(text: &mut String, name: &str, file: Option<&str>) -> Result<(), AllocError> {
     match file {
         Some(file) => write!(text, ", {name} {file}"),

@@ -1,4 +1,4 @@
-//! What the look-ups of a world say.
+//! The look-ups of a world.
 
 ghost use Rattle.interleaving.specs.OfPlan.{IsOf};
 
@@ -7,11 +7,11 @@ use job_bodies::Plan;
 use pool_machine::PoolState;
 use std::alloc::{AllocError, Global};
 
-// No plan of these tests has more than three clients, so that the last number here is always nobody's.
+// No plan of these tests has more than three clients, so the last number here never exists.
 const CLIENTS_SHOWN: usize = 4;
 
-/// Each thing that a look-up of the world says: the counts, the pools, the clients, and the jobs with the two numbers behind
-/// the last, which no job has.
+/// Returns all look-ups of the world: the counts, the pools, the clients, and the jobs with two
+/// numbers after the last, which do not exist.
 pub fn facts(alloc: Global, plan: &Plan, world: &World) -> Result<Vec<String>, AllocError>
     requires { IsOf plan.now world.now.view }
 {
@@ -32,7 +32,7 @@ pub fn facts(alloc: Global, plan: &Plan, world: &World) -> Result<Vec<String>, A
     Ok(facts)
 }
 
-/// What the world counts: refusals, jobs and places.
+/// Returns the counts of the world: rejected submits, jobs and places.
 pub fn counts(alloc: Global, world: &World) -> Result<Vec<String>, AllocError> {
     let mut facts = Vec::new(alloc);
     facts.push(format!(in alloc; "refusals {}", world.refusals())?)?;
@@ -58,7 +58,7 @@ fn push_pool(
     Ok(())
 }
 
-/// Adds a number, or `none`.
+/// Appends a number, or `none`.
 pub fn push_number(text: &mut String, number: Option<usize>) -> Result<(), AllocError> {
     match number {
         Some(number) => write!(text, "{number}"),
@@ -66,7 +66,7 @@ pub fn push_number(text: &mut String, number: Option<usize>) -> Result<(), Alloc
     }
 }
 
-/// Adds a job's class, parent, slot and phase, or `none`.
+/// Appends a job's class, parent, slot and phase, or `none`.
 pub fn push_job(text: &mut String, job: Option<JobView>) -> Result<(), AllocError> {
     let Some(job) = job else {
         return text.push_str("none");
@@ -86,7 +86,7 @@ pub fn push_job(text: &mut String, job: Option<JobView>) -> Result<(), AllocErro
     }
 }
 
-/// Adds each of the facts that was another before. A number that is new was nobody's.
+/// Appends each look-up that changed. A new number did not exist before.
 pub fn push_changed(
     said: &mut String,
     before: &[String],
@@ -104,7 +104,7 @@ pub fn push_changed(
     Ok(())
 }
 
-/// Adds a fact behind those that are said.
+/// Appends a fact to the others.
 pub fn push_fact(said: &mut String, fact: &str) -> Result<(), AllocError> {
     if !said.is_empty() {
         said.push_str("; ")?;

@@ -1,4 +1,4 @@
-//! Lines, and what a world answers to each.
+//! Lines, and the answers of a world.
 
 ghost use Rattle.interleaving.specs.OfPlan.{IsOf};
 
@@ -8,7 +8,7 @@ use interleaving::{Event, Outcome, World};
 use job_bodies::Plan;
 use std::alloc::{AllocError, Global};
 
-/// What is said to each of the lines, a line for each.
+/// Returns the answer to each of the lines, a line for each.
 pub fn followed(
     alloc: Global,
     kind: &str,
@@ -29,7 +29,8 @@ pub fn followed(
     Ok(answer)
 }
 
-/// How many of the lines are events that happen, and what the world counts behind the last.
+/// Returns the number of the lines that are possible events, and the counts of the world after the
+/// last.
 pub fn counted(
     alloc: Global,
     plan: &Plan,
@@ -51,7 +52,7 @@ pub fn counted(
     Ok(said)
 }
 
-// Whether the line is an event that is possible. It is made then.
+// Applies the event of the line if it is possible, and returns whether it is.
 fn happens(plan: &Plan, world: &mut World, line: &str) -> Result<bool, AllocError>
     requires { IsOf plan.now world.old.view }
     ensures { IsOf plan.now world.new.view }
@@ -62,7 +63,7 @@ fn happens(plan: &Plan, world: &mut World, line: &str) -> Result<bool, AllocErro
     }
 }
 
-// What comes of the line where it is an event, and else what it asks for.
+// Returns the outcome of the line's event, or the look-up if it is not an event.
 fn said_to(alloc: Global, plan: &Plan, world: &mut World, line: &str) -> Result<String, AllocError>
     requires { IsOf plan.now world.old.view }
     ensures { IsOf plan.now world.new.view }
@@ -74,7 +75,7 @@ fn said_to(alloc: Global, plan: &Plan, world: &mut World, line: &str) -> Result<
     looked_up(alloc, plan, world, line)
 }
 
-// Adds what this kind of rows says behind each line.
+// Appends the look-ups that this kind of row shows after each line.
 fn push_view(
     said: &mut String,
     alloc: Global,
@@ -124,7 +125,7 @@ fn outcome_text(alloc: Global, outcome: Option<Outcome>) -> Result<String, Alloc
     }
 }
 
-// What the line asks for, which is no event.
+// Returns the look-up of a line that is not an event.
 fn looked_up(alloc: Global, plan: &Plan, world: &World, line: &str) -> Result<String, AllocError>
     requires { IsOf plan.now world.now.view }
 {

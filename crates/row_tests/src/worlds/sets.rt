@@ -1,4 +1,4 @@
-//! Which sets of jobs wait only for their own members.
+//! Sets of jobs that wait only for their own members.
 
 ghost use Rattle.interleaving.specs.OfPlan.{IsOf};
 
@@ -7,10 +7,10 @@ use interleaving::World;
 use job_bodies::Plan;
 use std::alloc::{AllocError, Global};
 
-// No world of these tests makes more jobs, so that the last number is always nobody's.
+// No world of these tests creates more jobs, so the last number never exists.
 const JOBS_SHOWN: u32 = 6;
 
-/// Adds those sets of the first numbers that are stuck.
+/// Appends the sets of the first numbers that are stuck.
 pub fn push_stuck_sets(
     said: &mut String,
     alloc: Global,
