@@ -1,4 +1,5 @@
-//! Inputs that are read whole and answers that are written whole, by each kind of source and sink.
+//! Inputs that are read whole and answers that are written whole, with each kind of source and
+//! sink.
 
 use byte_streams::{
     InputError, IoFault, MemorySink, MemorySource, Sink, Source, StdSink, StdSource, read_up_to,
@@ -8,13 +9,13 @@ use std::io;
 use std::io::{ErrorKind, Read, Write};
 use std::test::Fail;
 
-/// A limit, what is read of `one two three` below it, and what is left.
+/// A limit, the bytes that are read of `one two three` up to it, and the rest.
 const LIMITED: &[(usize, &[u8], &[u8])] = &[
     (100, b"one two three", b""),
     (7, b"one two", b" three"),
 ];
 
-/// All bytes up to the limit are read in pieces, and none past it. A fault in mid-stream is told.
+/// Reads all bytes up to the limit in pieces, and none past it. Reports a fault in the middle.
 #[test]
 fn inputs_of_memory(rt: HostRuntime) -> Result<(), Fail> {
     for (limit, read, left) in LIMITED.iter().copied() {
@@ -35,7 +36,7 @@ fn inputs_of_memory(rt: HostRuntime) -> Result<(), Fail> {
     Ok(())
 }
 
-/// All bytes are written in pieces, up to the first call that fails. A sink that takes no byte fails.
+/// Writes all bytes in pieces, up to the first call that fails. A sink that accepts no byte fails.
 #[test]
 fn outputs_of_memory(rt: HostRuntime) -> Result<(), Fail> {
     let mut sink = MemorySink::new(rt.alloc()).at_most(3);
@@ -77,7 +78,7 @@ impl Read for Interrupted {
     }
 }
 
-/// A std reader is read whole, and asked again where it was interrupted.
+/// Reads a std reader to its end, and retries interrupted calls.
 #[test]
 fn std_readers(rt: HostRuntime) -> Result<(), Fail> {
     let mut source = StdSource::new(b"one two three".as_slice());
@@ -97,7 +98,7 @@ fn std_readers(rt: HostRuntime) -> Result<(), Fail> {
     Ok(())
 }
 
-/// A writer that takes no byte.
+/// A writer that accepts no byte.
 struct Full;
 
 impl Write for Full {
@@ -110,7 +111,7 @@ impl Write for Full {
     }
 }
 
-/// A std writer is given all bytes. One that takes none fails.
+/// Writes all bytes to a std writer. A writer that accepts none fails.
 #[test]
 fn std_writers(rt: HostRuntime) -> Result<(), Fail> {
     let mut sink = StdSink::new(Vec::new(rt.alloc()));

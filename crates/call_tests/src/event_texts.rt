@@ -45,7 +45,8 @@ const EVENTS_READ: &[Event] = &[
     Event::Retire(0),
 ];
 
-/// Each form of line is read. A line of none of them is told in its place, and the lines around it are read.
+/// Each form of line is read. A line with none of the forms is reported at its place, and the lines
+/// around it are read.
 #[test]
 fn lines_that_are_read(rt: HostRuntime) -> Result<(), Fail> {
     let plan = plan_of_p_and_q(rt.alloc())?;

@@ -1,4 +1,4 @@
-//! Plans that are fitted to certificates: the sizes that come of it, worked out by hand.
+//! Plans that are fitted to certificates, with sizes computed by hand.
 
 use cert_check::{Cert, read_cert};
 use fitted_sizes::{Unfit, fitted, smallest, widened};
@@ -9,13 +9,13 @@ use std::alloc::{AllocError, Global};
 use std::process::Abort;
 use std::test::*;
 
-// Clients that each have a job at most, which weighs 1 until it is got.
+// Clients with at most one job each, whose weight is 1 until its get.
 const STANDING: &str = r#"{"version":1,"pools":[
 {"standing":{"workers":[0],"classes":[[1,1,1,1]],"clients":[[1,0,1]]},
 "blocked":{"workers":[0],"classes":[[0,0,0,0]],"clients":[[0,0,0]]}}],
 "ranks":{"pools":[0],"reach":[0],"levels":[0]}}"#;
 
-// The same, but a queued job weighs nothing.
+// The same, but the weight of a queued job is 0.
 const WEIGHTLESS: &str = r#"{"version":1,"pools":[
 {"standing":{"workers":[0],"classes":[[0,0,0,0]],"clients":[[0,0,0]]},
 "blocked":{"workers":[0],"classes":[[0,0,0,0]],"clients":[[0,0,0]]}}],
@@ -27,7 +27,7 @@ const NESTED: &str = r#"{"version":1,"pools":[
 "blocked":{"workers":[0],"classes":[[1,1,1,1,1],[0,0,0,0]],"clients":[[1,0,1]]}}],
 "ranks":{"pools":[0],"reach":[0,0],"levels":[1,0]}}"#;
 
-// Core, maximum and queue of the pool, and how many clients there are.
+// Core, maximum and queue of the pool, and the number of clients.
 type Sizes = [u64; 4];
 
 fn one_pool(alloc: Global, sizes: Sizes) -> Result<String, AllocError> {
@@ -74,7 +74,7 @@ fn cert_of(rt: &impl Abort, alloc: Global, text: &str, plan: &Plan) -> Cert {
     read_cert(alloc, text.as_bytes(), plan).expect(rt, "the certificate is read")
 }
 
-// Core, maximum and queue of the first pool; nothing where there is none.
+// Returns core, maximum and queue of the first pool, or zeros if there is none.
 fn sizes_of(plan: &Plan) -> [u64; 3] {
     match plan.pool_at(0) {
         Some(pool) => [pool.core, pool.max, pool.queue],
@@ -82,7 +82,7 @@ fn sizes_of(plan: &Plan) -> [u64; 3] {
     }
 }
 
-// What came of a plan: the sizes of its pool, or why there are none.
+// The result for a plan: the sizes of its pool, or the reason why there are none.
 #[derive(Clone, Copy, Debug, PartialEq, Eq)]
 enum Answer {
     Sizes([u64; 3]),
@@ -111,13 +111,13 @@ fn widen(alloc: Global, plan: &Plan, cert: &Cert) -> Result<Answer, AllocError> 
     })
 }
 
-// The least sizes for the certificate, whatever the plan declares.
+// Returns the least sizes for the certificate, independent of the sizes of the plan.
 fn fit_smallest(alloc: Global, plan: &Plan, cert: &Cert) -> Result<Answer, AllocError> {
     let small = smallest(alloc, plan)?;
     fit(alloc, small, cert)
 }
 
-// What is widened, fitted, smallest of all, and a copy.
+// Returns the widened, the fitted and the smallest sizes, and those of a copy.
 fn answers(alloc: Global, plan: Plan, cert: &Cert) -> Result<[Answer; 4], AllocError> {
     let copy = Answer::Sizes(sizes_of(&plan.copied(alloc)?));
     let wide = widen(alloc, &plan, cert)?;
@@ -127,7 +127,7 @@ fn answers(alloc: Global, plan: Plan, cert: &Cert) -> Result<[Answer; 4], AllocE
 
 const CORE: Answer = Answer::Unfit(Unfit::Core(0));
 
-// What a plan declares, and what it is widened and fitted to, and what of its sizes is enough.
+// The sizes of a plan, its widened and its fitted sizes, and the least sizes that suffice.
 type Case = (Sizes, Answer, Answer, Answer);
 
 const OF_ONE_POOL: &[Case] = &[
@@ -163,7 +163,8 @@ const OF_NESTED: &[Case] = &[
     ([1, 1, 1, 1_000_000], CORE, CORE, CORE),
 ];
 
-// Asserts that the plan with this text and the certificate are answered so, and that a copy of the plan has its sizes.
+// Asserts the answers for the plan with this text and the certificate, and that a copy of the plan
+// has its sizes.
 fn assert_answers(
     rt: &impl Abort,
     alloc: Global,
@@ -211,7 +212,7 @@ fn a_certificate_whose_conditions_fail_fits_no_sizes(rt: HostRuntime) {
     assert_eq!(rt; fit(alloc, plan, &weightless).ok(), Some(Answer::Condition));
 }
 
-// What a search finds: the sizes of the first pool, and the certificate.
+// Returns the result of a search: the sizes of the first pool, and the certificate.
 fn found(
     alloc: Global,
     plan: &Plan,
@@ -226,20 +227,20 @@ fn found(
 #[test]
 fn a_certificate_that_accepts_the_plan_changes_nothing(rt: HostRuntime) {
     let alloc = rt.alloc();
-    // With a certificate in which each job weighs 1, a queue of 9 is more than is needed.
+    // With a certificate in which the weight of each job is 1, a queue of 9 is larger than needed.
     let plan = plan_of(&rt, alloc, one_pool(alloc, [1, 1, 9, 2]));
     let first = cert_of(&rt, alloc, STANDING, &plan);
     let (same, cert) = found(alloc, &plan, Some(first))
         .expect(&rt, "there is memory")
         .expect(&rt, "it is accepted");
     assert_eq!(rt; sizes_of(&same), [1, 1, 9]);
-    // Of another plan it is not the one that is found.
+    // For another plan, the search finds another certificate.
     let other = plan_of(&rt, alloc, nested(alloc, [1, 1, 5, 1]));
     let (fit, cert) = found(alloc, &other, Some(cert))
         .expect(&rt, "there is memory")
         .expect(&rt, "another one is found");
     assert_eq!(rt; sizes_of(&fit), [2, 2, 5]);
-    // And of the plan that was found it is.
+    // For the plan that the search found, it finds the same certificate.
     let (same, _cert) = found(alloc, &fit, Some(cert))
         .expect(&rt, "there is memory")
         .expect(&rt, "it is accepted");

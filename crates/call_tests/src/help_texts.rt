@@ -1,9 +1,9 @@
-//! The texts of help.
+//! Help texts.
 
 use command_line::read_words;
 use std::test::*;
 
-/// Words, and what the help that they ask for says.
+/// Arguments, and texts that their help contains.
 const TABLE: &[(&[&str], &[&str])] = &[
     (
         &["sizing", "--help"],
@@ -128,7 +128,7 @@ const TABLE: &[(&[&str], &[&str])] = &[
     ),
 ];
 
-/// What help prints says where to begin, and the help of each command has an example with its answer.
+/// The help names the first steps, and the help of each command has an example with its answer.
 #[test]
 fn words_that_ask_for_help(rt: HostRuntime) -> Result<(), Fail> {
     for (words, parts) in TABLE.iter().copied() {

@@ -12,7 +12,7 @@ use std::alloc::{AllocError, Global};
 use std::test::*;
 use weights::{Bound, Place, Row, Rule};
 
-// ---- a pool, and two clients that each submit one piece of work and wait for it, again and again
+// ---- a pool, and two clients that each repeatedly submit one job and wait for it
 
 const ONE_POOL: &str = "
     pool = [{ name = 'p', core = 1, max = 1, queue = 2 }]
@@ -38,7 +38,7 @@ const WITH_CORE_ABOVE_MAX: &str = "
     client = [{ name = 'c', count = 2, repeat = true, body = ['submit a as x', 'get x'] }]
 ";
 
-// Clients that ask but once, as many as two threads and a queue of 1 take.
+// Clients that run once: as many as two threads and a queue of 1 have room for.
 const ONCE: &str = "
     pool = [{ name = 'p', core = 2, max = 2, queue = 1 }]
     class = [{ name = 'a', pool = 'p', body = ['work 1'] }]
@@ -95,7 +95,8 @@ const FORGETTING_CERT: &str = r#"{"version": 1, "pools": [{
 
 // ---- jobs that wait for jobs
 
-// An outer job submits three inner ones to its own pool, of a queue of 2, and then waits for them.
+// An outer job submits three inner ones to its own pool, with a queue of 2, and then waits for
+// them.
 const FAN_OUT: &str = "
     pool = [{ name = 'p', core = 2, max = 2, queue = 2 }]
     client = [{ name = 'c', count = 1, repeat = true, body = ['submit outer as x', 'get x'] }]
@@ -114,7 +115,7 @@ const FAN_OUT_CERT: &str = r#"{"version": 1, "pools": [{
     "blocked": {"workers": [0], "classes": [[1, 1, 1, 1, 1, 1, 1, 1, 1], [0, 0, 0, 0]], "clients": [[1, 0, 1]]}}],
     "ranks": {"pools": [0], "reach": [0, 0], "levels": [1, 0]}}"#;
 
-// A job waits for another pool, whose job waits for the first pool again.
+// A job waits for a job of another pool, which waits for a job of the first pool again.
 const THERE_AND_BACK: &str = "
     pool = [{ name = 'p', core = 1, max = 1, queue = 2 }, { name = 'q', core = 2, max = 2, queue = 2 }]
     class = [
@@ -138,7 +139,8 @@ fn read(alloc: Global, plan: &str, cert: &str) -> Result<(Plan, Cert), Fail> {
     Ok((plan, cert))
 }
 
-/// What each part of a certificate says of the first pool: a total, and the conditions that fail first.
+/// The results for the first pool: a total, and the first failing condition of each part of a
+/// certificate.
 #[derive(Clone, Copy, Debug, PartialEq, Eq)]
 struct Findings {
     total: u64,
@@ -191,7 +193,7 @@ const TOO_HEAVY: Row = Row {
     right: 1,
 };
 
-/// A plan, a certificate for it, and what fails first.
+/// A plan, a certificate for it, and the first failing conditions.
 const FINDINGS: &[(&str, &str, Findings)] = &[
     (ONE_POOL, ONE_POOL_CERT, NONE_FAILS),
     (
@@ -286,7 +288,8 @@ fn the_first_condition_that_fails(rt: HostRuntime) -> Result<(), Fail> {
     Ok(())
 }
 
-/// Whether the get at this position of the class is counted; None where the ranks do not fit or there is no such get.
+/// Returns whether the get at this position of the class is counted, or `None` if the ranks do not
+/// fit or there is no such get.
 fn is_counted(plan: &Plan, ranks: &Ranks, class: usize, position: usize) -> Option<bool> {
     let found = plan.class_at(class)?;
     if position >= found.body.len() || !ranks.fits(plan) {
@@ -295,7 +298,7 @@ fn is_counted(plan: &Plan, ranks: &Ranks, class: usize, position: usize) -> Opti
     Some(RanksOf::new(plan, ranks).counted(class, position))
 }
 
-/// The jobs of class a wait at their get for jobs of class b, those of b for jobs of d, and those for none.
+/// The jobs of class a wait for jobs of class b, those of b for jobs of d, and those of d for none.
 #[test]
 fn gets_that_are_counted(rt: HostRuntime) -> Result<(), Fail> {
     let (plan, cert) = read(rt.alloc(), THERE_AND_BACK, THERE_AND_BACK_CERT)?;
@@ -320,7 +323,8 @@ fn higher(alloc: Global) -> Result<Ranks, AllocError> {
     })
 }
 
-/// A plan and a certificate, whether the standing vectors alone are accepted, and whether the whole is.
+/// A plan, a certificate, whether its standing vectors alone are accepted, and whether all of it
+/// is.
 type Judged = (&'static str, &'static str, bool, bool);
 
 const JUDGED: &[Judged] = &[
@@ -343,7 +347,7 @@ fn what_is_accepted(rt: HostRuntime) -> Result<(), Fail> {
     Ok(())
 }
 
-/// A certified plan and its certificate, and those that are not certified, are handed back as they were handed in.
+/// A plan and a certificate are returned unchanged, whether certified or not.
 #[test]
 fn what_is_certified(rt: HostRuntime) -> Result<(), Fail> {
     for (plan, cert, _, is_accepted) in JUDGED.iter().copied() {
@@ -356,7 +360,7 @@ fn what_is_certified(rt: HostRuntime) -> Result<(), Fail> {
     Ok(())
 }
 
-// Whether the plan is certified, and what is handed back.
+// Returns whether the plan is certified, and the returned plan and certificate.
 fn certified(alloc: Global, plan: Plan, cert: Cert) -> Result<(bool, String), AllocError> {
     match Certified::check(plan, cert) {
         Ok(both) => Ok((true, shown(alloc, both.plan(), both.cert())?)),
@@ -368,7 +372,7 @@ fn shown(alloc: Global, plan: &Plan, cert: &Cert) -> Result<String, AllocError> 
     format!(in alloc; "{plan:?} {cert:?}")
 }
 
-/// Both sides of the bounds of each pool, in plan order.
+/// The totals and limits of each pool, in plan order.
 #[test]
 fn verdicts(rt: HostRuntime) -> Result<(), Fail> {
     let (plan, cert) = read(rt.alloc(), THERE_AND_BACK, THERE_AND_BACK_CERT)?;
@@ -392,7 +396,7 @@ fn verdicts(rt: HostRuntime) -> Result<(), Fail> {
     Ok(())
 }
 
-/// From bytes to a verdict, or to the first fault: the plan's before the certificate's.
+/// From bytes to a verdict, or to the first fault: that of the plan before that of the certificate.
 #[test]
 fn what_is_checked(rt: HostRuntime) -> Result<(), Fail> {
     let line = PoolLine {

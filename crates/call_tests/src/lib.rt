@@ -1,4 +1,4 @@
-//! Tests of calls, where a row of a file cannot say what is asked.
+//! Tests of calls that a row of a file cannot express.
 #![tactic(auto)]
 
 #[cfg(test)]

@@ -1,11 +1,11 @@
-//! A source that fails where the longest input ends.
+//! A source that fails at the end of the longest input.
 
 ghost use Rattle.std.specs.Prelude.{None, if◌then◌else◌};
 
 use sizing_cli::{IoFault, MemorySink, Review, ServeFault, Source, Status, serve_alone};
 use std::test::Fail;
 
-/// A source that gives a byte in each call, and fails once when none is left.
+/// A source that returns one byte in each call, and fails once after the last.
 #[derive(Drop)]
 struct Failing {
     left: usize,
@@ -31,7 +31,7 @@ impl Source for Failing {
     }
 }
 
-/// After 2,097,156 bytes no further call is made, so a failure there is never met.
+/// After 2,097,156 bytes the program makes no further call, so it never meets a failure there.
 #[test]
 fn a_source_that_fails_at_the_limit(rt: HostRuntime) -> Result<(), Fail> {
     for (left, ended, written) in [

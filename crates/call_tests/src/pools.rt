@@ -1,4 +1,4 @@
-//! One pool alone, without a plan around it.
+//! A pool without a plan.
 
 ghost use Rattle.std.specs.Prelude.{◌≡◌, [], false};
 
@@ -7,7 +7,7 @@ use pool_machine::{Offer, PoolState};
 use std::alloc::Global;
 use std::test::Fail;
 
-// A pool as a plan describes it. Its name is of no account here.
+// Returns a pool with these sizes. Its name does not matter here.
 fn described(alloc: Global, core: u64, max: u64, queue: u64) -> Pool
     ensures { result
         ≡ record { name = []; core = core; max = max; queue = queue; prestart = false } }

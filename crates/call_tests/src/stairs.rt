@@ -1,4 +1,4 @@
-//! A plan in which each pool that gets more threads makes another one need more.
+//! A plan in which each pool that gets more threads makes another pool need more.
 
 use crate::fits::plan_of;
 use job_bodies::Plan;
@@ -6,11 +6,11 @@ use size_search::{SizesFound, search_sizes};
 use std::alloc::{AllocError, Global};
 use std::test::*;
 
-// How many pools there are.
+// The number of pools.
 const STEPS: u64 = 12;
 
-// In each pool jobs `a` wait for a leaf there, and jobs `x` for the `a` of the pool before. Clients have many `x` of each
-// pool, and 3 `a` of the last one.
+// In each pool jobs `a` wait for a leaf there, and jobs `x` wait for the `a` of the pool before.
+// Clients have many `x` of each pool, and 3 `a` of the last one.
 fn stairs(alloc: Global) -> Result<String, AllocError> {
     let mut text = String::new(alloc);
     for step in 0..STEPS {
@@ -50,7 +50,7 @@ fn stairs(alloc: Global) -> Result<String, AllocError> {
     Ok(text)
 }
 
-// Core and maximum of each pool of the plan that is found; none where it finds no sizes.
+// Returns core and maximum of each pool of the found plan, or nothing if the search finds no sizes.
 fn threads_found(alloc: Global, plan: &Plan) -> Result<Vec<[u64; 2]>, AllocError> {
     let mut threads = Vec::new(alloc);
     if let SizesFound::Found { plan: fit, .. } = search_sizes(alloc, plan, None)? {
@@ -67,7 +67,7 @@ fn pools_that_widen_one_another_are_soon_wide_enough(rt: HostRuntime) {
     let plan = plan_of(&rt, alloc, stairs(alloc));
     let threads = threads_found(alloc, &plan).expect(&rt, "there is memory");
     assert_eq!(rt; threads.len() as u64, STEPS);
-    // In the last pool 3 jobs wait, and in each other one as many as there are threads behind it.
+    // In the last pool 3 jobs wait, and in each other pool as many as the next pool has threads.
     let mut enough = 3u64;
     for threads in threads.iter().rev() {
         enough = enough.saturating_add(1);

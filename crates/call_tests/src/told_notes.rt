@@ -1,4 +1,4 @@
-//! The line of a note, of each part of a certificate and at each place.
+//! The line of a note for each section of a certificate and each place.
 
 use plan_text::read_plan;
 use refusal_notes::{Note, Section, line};

@@ -1,4 +1,4 @@
-//! Which lists of events are a witness, and how it ends.
+//! Lists of events that are witnesses, and their ends.
 
 use plan_text::read_plan;
 use plan_witnesses::{Event, Vector, Witness, confirmed};
@@ -11,7 +11,7 @@ const TWO_CLIENTS: &str = "
     client = [{ name = 'c', count = 2, repeat = true, body = ['submit a as x', 'get x'] }]
 ";
 
-// A job that waits for another one of its own pool, which has one thread.
+// A job that waits for another job of its own pool, which has one thread.
 const NESTED: &str = "
     pool = [{ name = 'p', core = 1, max = 1, queue = 5 }]
     class = [
@@ -21,7 +21,7 @@ const NESTED: &str = "
     client = [{ name = 'c', count = 1, repeat = true, body = ['submit outer as x', 'get x'] }]
 ";
 
-// The same in a pool that may have eight threads.
+// The same in a pool with a maximum of eight threads.
 const UNUSED_MAX: &str = "
     pool = [{ name = 'p', core = 1, max = 8, queue = 5 }]
     class = [
@@ -31,7 +31,7 @@ const UNUSED_MAX: &str = "
     client = [{ name = 'c', count = 1, repeat = true, body = ['submit outer as x', 'get x'] }]
 ";
 
-// The same with so many clients.
+// The same with this number of clients.
 fn unused_max(alloc: Global, count: u64) -> Result<String, AllocError> {
     format!(in alloc;
         "
@@ -45,7 +45,8 @@ fn unused_max(alloc: Global, count: u64) -> Result<String, AllocError> {
     )
 }
 
-// A round of client 0, its next submit, which is queued, and that of client 1, which is refused while the thread is idle.
+// A round of client 0, its next submit, which is queued, and the submit of client 1, which is
+// rejected while the thread is idle.
 const REFUSED: [Event; 7] = [
     Event::Client(0),
     Event::Job(0),
@@ -56,7 +57,7 @@ const REFUSED: [Event; 7] = [
     Event::Client(1),
 ];
 
-// The same without its end, and without its begin.
+// The same without the last event, and without the first.
 const NOT_YET_REFUSED: [Event; 6] = [
     Event::Client(0),
     Event::Job(0),
@@ -80,7 +81,7 @@ const STUCK: [Event; 2] = [Event::Client(0), Event::Job(0)];
 
 const NOT_YET_STUCK: [Event; 1] = [Event::Client(0)];
 
-// The weights of a standing vector of the nested plans: 2 in all, of a queue of 5.
+// The weights of a standing vector of the nested plans, with a total of 2 for a queue of 5.
 fn standing(alloc: Global, client: u64) -> Result<Vector, AllocError> {
     let mut classes = Vec::new(alloc);
     classes.push(Vec::from_slice(alloc, &[2, 2, 1, 2, 2])?)?;
@@ -104,7 +105,7 @@ fn told(alloc: Global, found: Option<Witness>) -> Result<String, AllocError> {
     }
 }
 
-/// A plan, events, the jobs that are named, and what is found.
+/// A plan, events, the named jobs, and the result.
 type Case = (
     &'static str,
     &'static [Event],
@@ -130,8 +131,9 @@ const CASES: &[Case] = &[
     (UNUSED_MAX, &STUCK, &[0, 1], "StuckNow([0, 1]) after 2"),
 ];
 
-/// A list is a witness where its last event is refused, or where the jobs that are named, in rising order, wait only for each
-/// other behind it; and for ever where the pool is full, or a standing vector is given that shows that it stays at core.
+/// A list is a witness if its last event is a rejection, or if the named jobs, in ascending order,
+/// wait only for each other after it. They wait forever if the pool has all its threads, or if a
+/// standing vector shows that it stays at core.
 #[test]
 fn lists_that_are_witnesses(rt: HostRuntime) -> Result<(), Fail> {
     let alloc = rt.alloc();
@@ -145,7 +147,7 @@ fn lists_that_are_witnesses(rt: HostRuntime) -> Result<(), Fail> {
     Ok(())
 }
 
-/// Events behind the first refusal are left out.
+/// Events after the first rejection are ignored.
 #[test]
 fn a_witness_ends_at_its_first_refusal(rt: HostRuntime) -> Result<(), Fail> {
     let plan = read_plan(rt.alloc(), TWO_CLIENTS.as_bytes())?;
@@ -157,8 +159,9 @@ fn a_witness_ends_at_its_first_refusal(rt: HostRuntime) -> Result<(), Fail> {
     Ok(())
 }
 
-/// A vector whose conditions hold shows that the pool never has more than its one core thread. One whose total is above the
-/// queue of 5, as of three clients that weigh 2, or that breaks a rule, shows nothing.
+/// A vector whose conditions hold shows that the pool never has more than its one core thread. A
+/// vector whose total exceeds the queue of 5, such as three clients of weight 2, or that breaks a
+/// rule, shows nothing.
 #[test]
 fn a_standing_vector_shows_that_jobs_wait_for_ever(rt: HostRuntime) -> Result<(), Fail> {
     let alloc = rt.alloc();

@@ -1,4 +1,4 @@
-//! The words of a command line, the files that they name, and what is answered.
+//! The arguments of a command line, the files that they name, and the answers.
 
 ghost use Rattle.std.specs.Prelude.{None};
 
@@ -12,7 +12,7 @@ const PLAN: &str = "pool = [{ name = 'p', core = 1, max = 1, queue = 2 }]
 class = [{ name = 'a', pool = 'p', body = ['work 1'] }]
 client = [{ name = 'c', count = 2, repeat = true, body = ['submit a as x', 'get x'] }]";
 
-// The same with a place less in the queue than its clients need.
+// The same with a queue one smaller than its clients need.
 const SMALL_QUEUE: &str = "pool = [{ name = 'p', core = 1, max = 1, queue = 1 }]
 class = [{ name = 'a', pool = 'p', body = ['work 1'] }]
 client = [{ name = 'c', count = 2, repeat = true, body = ['submit a as x', 'get x'] }]";
@@ -24,7 +24,7 @@ const CERT: &str = r#"{"version": 1, "pools": [
 
 const EVENTS: &str = "client 0\nclient 0\n";
 
-// The plan has no newline at its end, and a line with `%%` gets one before it.
+// The plan has no newline at its end, so a newline is inserted before the line `%%`.
 const PLAN_AND_EVENTS: &str = "pool = [{ name = 'p', core = 1, max = 1, queue = 2 }]
 class = [{ name = 'a', pool = 'p', body = ['work 1'] }]
 client = [{ name = 'c', count = 2, repeat = true, body = ['submit a as x', 'get x'] }]
@@ -33,7 +33,7 @@ client 0
 client 0
 ";
 
-/// Some files, by their names.
+/// Files, by name.
 #[derive(Clone, Copy)]
 struct Kept;
 
@@ -77,7 +77,7 @@ impl TextFiles for Kept {
     }
 }
 
-/// The text of the certificate that is given and found, as it is written.
+/// The text of the certificate that is given and found.
 const CERT_FOUND: &str =
     "{\"pools\":[{\"blocked\":{\"classes\":[[0,0,0,0]],\"clients\":[[0,0,0]],\"workers\":[0]},\"standing\":{\"classes\":[[1,1,1,1]],\"clients\":[[1,0,1]],\"workers\":[0]}}],\"ranks\":{\"levels\":[0],\"pools\":[0],\"reach\":[0]},\"version\":1}\n";
 
@@ -94,7 +94,7 @@ const NO_CHANGE: &str = "pool p: core 1, max 1, queue 2\nchanges 0\n";
 
 const RUN: &str = "jobs 4, units 4, refused 0\n";
 
-/// Words after the program's name, standard input, the status and what is written.
+/// Arguments after the program's name, standard input, the exit status and the output.
 type Case = (&'static [&'static str], &'static str, Status, &'static str);
 
 const ANSWERS: &[Case] = &[
@@ -182,7 +182,7 @@ const ANSWERS: &[Case] = &[
     ),
 ];
 
-/// Texts come from the files that the words name, and from standard input where they name none, or `-`.
+/// Texts come from the named files, and from standard input if no file is named, or `-`.
 #[test]
 fn texts_come_from_files(rt: HostRuntime) -> Result<(), Fail> {
     for (words, given, status, written) in ANSWERS.iter().copied() {
@@ -196,7 +196,7 @@ fn texts_come_from_files(rt: HostRuntime) -> Result<(), Fail> {
     Ok(())
 }
 
-/// Words after which nothing is answered, what is told, and the exit status.
+/// Arguments that get no answer, the message, and the exit status.
 const NO_ANSWERS: &[(&[&str], &str, u8)] = &[
     (
         &["sizing", "check", "none.toml", "cert.json"],
@@ -212,7 +212,7 @@ const NO_ANSWERS: &[(&[&str], &str, u8)] = &[
     (&["sizing", "check", "-", "-"], "input twice", 2),
     (&["sizing", "fit", "--bundle", "--", "-x"], "unread -x", 3),
     (&["sizing"], "no command", 2),
-    // a word that is missing or misplaced makes no file that is there a certificate
+    // a missing or misplaced argument never overwrites an existing file with a certificate
     (
         &["sizing", "ask", "--certificate", "plan.toml", "plan.toml"],
         "occupied plan.toml",
@@ -246,7 +246,7 @@ const NO_ANSWERS: &[(&[&str], &str, u8)] = &[
     (&["sizing", "--help"], "words DisplayHelp", 2),
 ];
 
-/// What is told where there is no answer, with its exit status.
+/// The message and the exit status without an answer.
 #[test]
 fn words_without_an_answer(rt: HostRuntime) -> Result<(), Fail> {
     for (words, wanted, code) in NO_ANSWERS.iter().copied() {
@@ -272,7 +272,8 @@ fn words_without_an_answer(rt: HostRuntime) -> Result<(), Fail> {
     Ok(())
 }
 
-/// A certificate that cannot be kept is told behind the whole answer, where there is no file, or one with a certificate.
+/// If the certificate cannot be written, the call writes the whole answer and returns the error,
+/// for a missing folder and for an existing certificate.
 #[test]
 fn an_unwritten_certificate(rt: HostRuntime) -> Result<(), Fail> {
     for name in ["none/kept.json", "cert.json"] {

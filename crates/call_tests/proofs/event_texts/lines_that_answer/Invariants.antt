@@ -1,4 +1,4 @@
--- As many lines are counted as replies are pushed.
+-- The number of lines counted is the number of replies pushed.
 use Rattle.std.proofs.Common.{◌≡◌, length}
 use Rattle.call_tests.proofs.event_texts.lines_that_answer.Given as goal
 
