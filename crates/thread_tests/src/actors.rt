@@ -1,10 +1,11 @@
-//! Which actor's work a gate is asked for, and how much of it.
+//! The actors for whose work a gate is called, and the units of their work.
 
 use crate::gates::Shares;
 use crate::plans::totals;
 use std::test::Fail;
 
-// Two clients that repeat, and a third one. Each job is of the one class, so its work is the same whoever submits it.
+// Two clients that repeat, and a third one. Each job belongs to the one class, so its work is the
+// same for each submitter.
 const DIFFERENT_WORK: &str = "
     pool = [{ name = 'p', core = 2, max = 2, queue = 4 }]
     class = [{ name = 'a', pool = 'p', body = ['work 3', 'work 4'] }]
@@ -17,7 +18,7 @@ const DIFFERENT_WORK: &str = "
 #[test]
 fn each_actor_does_its_own_work(rt: HostRuntime) -> Result<(), Fail> {
     let alloc = rt.alloc();
-    // Two clients of three rounds and one of a single round make 7 jobs.
+    // Two clients of three rounds and one of a single round submit 7 jobs.
     let gate = Shares::new(alloc, 3, 7)?;
     let run = totals(&rt, alloc, DIFFERENT_WORK, 3, &gate);
     assert_eq!(rt; run, Ok((7, 62)));

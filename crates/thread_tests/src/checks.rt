@@ -9,7 +9,7 @@ use std::test::*;
 use std::thread;
 use std::time::{Clock, Duration};
 
-// Two pools whose jobs wait for jobs of the other.
+// Two pools, each with jobs that wait for jobs of the other.
 const TWO_POOLS: &str = "
     pool = [
         { name = 'p', core = 1, max = 1, queue = 2 },
@@ -42,7 +42,8 @@ const TWO_POOLS_CERT: &str = r#"{"version": 1, "pools": [
         "clients": [[0, 0, 0], [1, 0, 1]]}}],
     "ranks": {"pools": [1, 0], "reach": [1, 0, 1, 1], "levels": [1, 0, 1, 0]}}"#;
 
-/// Holds the pool that begins first until another has begun, for at most 10,000 turns of a millisecond.
+/// A gate that holds the first pool until another has begun, for at most 10,000 turns of a
+/// millisecond.
 #[derive(Drop)]
 struct Meeting<'a, C> {
     clock: &'a C,
@@ -64,7 +65,7 @@ impl<C: Clock + Sync> PoolGate for Meeting<'_, C> {
     }
 }
 
-/// Lets one pool alone be looked at.
+/// A gate that opens for one pool only.
 #[derive(Drop)]
 struct Only(usize);
 
@@ -74,7 +75,7 @@ impl PoolGate for Only {
     }
 }
 
-/// Two workers look at two pools at once: one alone would never let the gate go.
+/// Two workers check two pools concurrently: one worker alone would never pass the gate.
 #[test]
 fn two_pools_are_looked_at_at_once(rt: HostRuntime) -> Result<(), Fail> {
     let gate = Meeting {
@@ -90,7 +91,7 @@ fn two_pools_are_looked_at_at_once(rt: HostRuntime) -> Result<(), Fail> {
     Ok(())
 }
 
-/// A no of the gate, of whichever pool, is told by any number of workers.
+/// If the gate refuses any pool, the check reports it with any number of workers.
 #[test]
 fn a_no_of_the_gate(rt: HostRuntime) -> Result<(), Fail> {
     let (plan, cert) = (TWO_POOLS.as_bytes(), TWO_POOLS_CERT.as_bytes());
@@ -105,7 +106,7 @@ fn a_no_of_the_gate(rt: HostRuntime) -> Result<(), Fail> {
     Ok(())
 }
 
-/// Lets every pool but one be looked at.
+/// A gate that opens for every pool except one.
 #[derive(Drop)]
 struct AllBut(usize);
 
@@ -115,10 +116,10 @@ impl PoolGate for AllBut {
     }
 }
 
-/// How many pools a plan may have at most.
+/// The maximum number of pools of a plan.
 const MANY: usize = 64;
 
-/// So many pools, and nobody who submits to them.
+/// Returns a plan with the maximum number of pools, and no client.
 fn many_pools(alloc: Global) -> Result<String, AllocError> {
     let mut text = String::new(alloc);
     for pool in 0..MANY {
@@ -130,7 +131,7 @@ fn many_pools(alloc: Global) -> Result<String, AllocError> {
     Ok(text)
 }
 
-/// So many zeros with commas between.
+/// Returns that many zeros, separated by commas.
 fn zeros(alloc: Global) -> Result<String, AllocError> {
     let mut text = String::new(alloc);
     text.push_str("0")?;
@@ -140,7 +141,7 @@ fn zeros(alloc: Global) -> Result<String, AllocError> {
     Ok(text)
 }
 
-/// The certificate of those pools: nobody weighs anything.
+/// Returns the certificate of those pools, in which all weights are 0.
 fn cert_of_many(alloc: Global) -> Result<String, AllocError> {
     let zeros = zeros(alloc)?;
     let nobody = format!(in alloc; "{{\"workers\":[{zeros}],\"classes\":[],\"clients\":[]}}")?;
@@ -157,7 +158,8 @@ fn cert_of_many(alloc: Global) -> Result<String, AllocError> {
     Ok(text)
 }
 
-/// Whichever of 64 pools the gate refuses, the check and the search say so, with a worker for each pool too.
+/// If the gate refuses any of 64 pools, the check and the search report it, also with a worker for
+/// each pool.
 #[test]
 fn a_no_for_each_of_many_pools(rt: HostRuntime) -> Result<(), Fail> {
     let plan = many_pools(rt.alloc()).expect(&rt, "there is memory");

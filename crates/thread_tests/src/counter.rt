@@ -5,14 +5,14 @@ ghost use Rattle.std.specs.Prelude.{◌≡◌, ℕ};
 use held_machines::Machine;
 use std::alloc::{AllocError, Global};
 
-/// What may happen to a counter.
+/// An event of a counter.
 #[derive(Clone, Copy, Debug, PartialEq, Eq)]
 pub enum Change {
     Up,
     Down,
 }
 
-/// A counter that starts at 0, and goes neither below it nor above its greatest value.
+/// A counter that starts at 0 and stays between 0 and its maximum.
 #[derive(Clone, Copy, Debug, Drop)]
 pub struct Tally {
     pub most: u64,

@@ -6,18 +6,19 @@ use std::test::Fail;
 
 const NO_PLAN: &str = "";
 
-// Nobody comes to the pool.
+// A pool without clients.
 const NO_CLIENTS: &str = "
     pool = [{ name = 'p', core = 2, max = 3, queue = 1, prestart = true }]
     class = [{ name = 'a', pool = 'p', body = ['work 1'] }]
 ";
 
-// Two clients that work by themselves.
+// Two clients that only work.
 const NO_POOLS: &str = "
     client = [{ name = 'c', count = 2, repeat = true, body = ['work 2'] }]
 ";
 
-// A client that leaves before its job is done, while other threads of two pools wait for one: the job's end ends them all.
+// A client that ends before its job is done, while other threads of two pools wait for a job: the
+// end of the job ends them all.
 const NO_GET: &str = "
     pool = [
         { name = 'p', core = 2, max = 3, queue = 2 },
@@ -27,7 +28,7 @@ const NO_GET: &str = "
     client = [{ name = 'c', count = 1, body = ['submit a'] }]
 ";
 
-// A body of no actions, and a job of none.
+// A body without actions, and a job of such a body.
 const NOTHING_TO_DO: &str = "
     pool = [{ name = 'p', core = 1, max = 1, queue = 4 }]
     class = [{ name = 'a', pool = 'p', body = [] }]
@@ -37,14 +38,14 @@ const NOTHING_TO_DO: &str = "
     ]
 ";
 
-// Three clients that go through their bodies once, however many rounds there are.
+// Three clients that run their bodies once, however many rounds there are.
 const ONCE: &str = "
     pool = [{ name = 'p', core = 2, max = 2, queue = 1 }]
     class = [{ name = 'a', pool = 'p', body = ['work 1'] }]
     client = [{ name = 'c', count = 3, body = ['submit a as x', 'get x'] }]
 ";
 
-// A job that waits for three others of its pool.
+// A job that waits for three other jobs of its pool.
 const FAN_OUT: &str = "
     pool = [{ name = 'p', core = 2, max = 2, queue = 3 }]
     class = [
@@ -56,7 +57,7 @@ const FAN_OUT: &str = "
     client = [{ name = 'c', count = 1, repeat = true, body = ['submit outer as x', 'get x'] }]
 ";
 
-// Two pools, whose jobs wait for jobs of the other.
+// Two pools, each with jobs that wait for jobs of the other.
 const TWO_POOLS: &str = "
     pool = [
         { name = 'p', core = 1, max = 1, queue = 2 },
@@ -74,7 +75,7 @@ const TWO_POOLS: &str = "
     ]
 ";
 
-// Plans and rounds, and how many jobs and units the run has, and how often it calls its gate.
+// Plans and rounds, the numbers of jobs and units of the run, and the number of its gate calls.
 const RUNS: &[(&str, u64, u64, u64, u64)] = &[
     (NO_PLAN, 1, 0, 0, 0),
     (NO_CLIENTS, 2, 0, 0, 0),

@@ -6,7 +6,7 @@ use std::sync::atomic::{AtomicU64, Ordering};
 use std::thread;
 use std::time::{Clock, Duration};
 
-// A gate that lets each call through but one, and counts them and their units.
+// A gate that fails at one call, and counts its calls and their units.
 #[derive(Drop)]
 pub(crate) struct Counting {
     calls: AtomicU64,
@@ -19,7 +19,7 @@ impl Counting {
         Counting::failing_at(u64::MAX)
     }
 
-    // It fails at this call, counted from 1.
+    // Creates a gate that fails at this call, counted from 1.
     pub(crate) fn failing_at(call: u64) -> Counting {
         Counting {
             calls: AtomicU64::new(0),
@@ -49,14 +49,15 @@ impl Gate for Counting {
     }
 }
 
-// What one actor did.
+// The work of one actor.
 #[derive(Drop)]
 struct Share {
     calls: AtomicU64,
     units: AtomicU64,
 }
 
-// A gate that counts the calls and the units of each actor by itself. It fails for an actor whom it does not know.
+// A gate that counts the calls and the units of each actor separately. It fails for an unknown
+// actor.
 #[derive(Drop)]
 pub(crate) struct Shares {
     clients: Vec<Share>,
@@ -64,7 +65,7 @@ pub(crate) struct Shares {
 }
 
 impl Shares {
-    // It knows so many clients, and so many jobs.
+    // Creates a gate that knows this number of clients and of jobs.
     pub(crate) fn new(alloc: Global, clients: usize, jobs: usize) -> Result<Shares, AllocError> {
         Ok(Shares {
             clients: unmade_work(alloc, clients)?,
@@ -72,12 +73,12 @@ impl Shares {
         })
     }
 
-    // The calls and the units of each client.
+    // Returns the calls and the units of each client.
     pub(crate) fn of_clients(&self, alloc: Global) -> Result<Vec<(u64, u64)>, AllocError> {
         self.clients.iter().map(counted).collect(alloc)
     }
 
-    // The calls and the units of each job.
+    // Returns the calls and the units of each job.
     pub(crate) fn of_jobs(&self, alloc: Global) -> Result<Vec<(u64, u64)>, AllocError> {
         self.jobs.iter().map(counted).collect(alloc)
     }
@@ -116,7 +117,8 @@ fn counted(share: &Share) -> (u64, u64) {
     )
 }
 
-// A gate whose work takes no time, or up to a third of a millisecond, by chance that begins at a seed.
+// A gate whose work takes between no time and a third of a millisecond, chosen by a random
+// generator with a seed.
 #[derive(Drop)]
 pub(crate) struct Napping<'a, C: Clock + Sync> {
     clock: &'a C,
@@ -144,7 +146,7 @@ impl<C: Clock + Sync> Gate for Napping<'_, C> {
     }
 }
 
-// A number by chance for each number: the mixing of SplitMix64.
+// Returns a pseudorandom number for each number: the mixing function of SplitMix64.
 fn drawn_from(number: u64) -> u64 {
     let mixed = number.wrapping_mul(0x9e37_79b9_7f4a_7c15);
     let mixed = (mixed ^ (mixed >> 30)).wrapping_mul(0xbf58_476d_1ce4_e5b9);
@@ -152,15 +154,15 @@ fn drawn_from(number: u64) -> u64 {
     mixed ^ (mixed >> 31)
 }
 
-// Whose work is held.
+// The actors whose work is held.
 #[derive(Clone, Copy, PartialEq, Eq)]
 pub(crate) enum Who {
     Clients,
     Jobs,
 }
 
-// A gate that holds the first pieces of work of these actors until so many of them have begun, for at most 10,000 turns of
-// a millisecond each.
+// A gate that holds the first work of these actors until a given number of them have begun, each
+// for at most 10,000 turns of a millisecond.
 #[derive(Drop)]
 pub(crate) struct Meeting<'a, C: Clock + Sync> {
     clock: &'a C,

@@ -6,7 +6,7 @@ use std::alloc::AllocError;
 use std::process::Abort;
 use std::test::Fail;
 
-// Changes, the number of each one's receipt, and the count behind it: it goes neither below 0 nor above 2.
+// Changes, the number of each receipt, and the count after it, which stays between 0 and 2.
 const CHANGES: &[(Change, Option<u64>, u64)] = &[
     (Change::Down, None, 0),
     (Change::Up, Some(0), 1),
@@ -19,7 +19,7 @@ const NONE: &[Change] = &[];
 
 const MADE: &[Change] = &[Change::Up, Change::Up, Change::Down];
 
-// Makes the changes, each of which comes to what stands beside it.
+// Applies the changes and checks each result.
 fn change_it<R: Abort>(rt: &R, held: &mut Held<Tally>) -> Result<(), AllocError> {
     for (change, number, count) in CHANGES.iter().copied() {
         let wanted = number.map(|number| Receipt {

@@ -5,8 +5,9 @@ use crate::plans::{NESTED, totals};
 use locked_runner::RunFault;
 use std::test::Fail;
 
-// The first round has 8 events before the next one begins, and the second 10; the inner job's work comes after the client's
-// submit and the outer job's, in a later round after a taking of each too.
+// The first round has 8 events before the next one begins, and the second has 10. The inner job's
+// work comes after the submits of the client and of the outer job and, in a later round, also after
+// a take of each job.
 #[test]
 fn a_gate_that_fails_ends_the_run_where_it_stands(rt: HostRuntime) -> Result<(), Fail> {
     for (call, events) in [(1, 2), (2, 12), (3, 22)] {

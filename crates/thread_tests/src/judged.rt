@@ -1,4 +1,4 @@
-//! What is answered to what no run's threads hand back: histories and receipts by hand.
+//! The answers to histories and receipts that no run returns, written by hand.
 
 use crate::plans::certified;
 use held_machines::Receipt;
@@ -10,7 +10,7 @@ use std::sync::Wait;
 use std::test::Fail;
 use std::thread::Threads;
 
-// A client that submits a piece of work and waits for it.
+// A client that submits a job and waits for it.
 const ONE_CLIENT: &str = "
     pool = [{ name = 'p', core = 1, max = 1, queue = 1 }]
     class = [{ name = 'a', pool = 'p', body = ['work 1'] }]
@@ -31,7 +31,7 @@ const NUMBERS: RunNumbers = RunNumbers {
     events: 6,
 };
 
-// The receipts of these events at these numbers, which are below 2 to the 32.
+// Returns the receipts of these events at these numbers, which are below 2 to the 32.
 fn receipts(alloc: Global, list: &[(u64, Event)]) -> Result<Vec<KeptReceipt>, AllocError> {
     let mut receipts = Vec::new(alloc);
     for (number, event) in list {
@@ -46,7 +46,7 @@ fn receipts(alloc: Global, list: &[(u64, Event)]) -> Result<Vec<KeptReceipt>, Al
     Ok(receipts)
 }
 
-// What a client's and a carrier's thread hand back.
+// Builds the results of a client's and a carrier's thread.
 fn met(
     alloc: Global,
     history: &[Event],
@@ -66,14 +66,14 @@ fn met(
     })
 }
 
-// What a thread hands back: events at their numbers.
+// The result of a thread: events at their numbers.
 type Handed = &'static [(u64, Event)];
 
 const CLIENT: Handed = &[(0, Event::Client(0)), (3, Event::Client(0))];
 
 const CARRIER: Handed = &[(1, Event::Job(0)), (2, Event::Job(0))];
 
-// What is answered to what was met on the plan of one client.
+// Returns the answer to these results for the plan with one client.
 fn judged<R: Abort + Threads + Wait + Sync>(
     rt: &R,
     alloc: Global,
@@ -123,7 +123,8 @@ const AGAIN: &[Event] = &[
     Event::Client(0),
 ];
 
-// A name, what is handed back (history, receipts of the client and of the carrier, what a thread met), and the fault.
+// A name, the results (history, receipts of the client and of the carrier, the fault that a thread
+// met), and the expected fault.
 type Case = (
     &'static str,
     &'static [Event],
@@ -181,7 +182,8 @@ const NO_RUNS: &[Case] = &[
     ),
 ];
 
-// 41 where a receipt is strange, whatever else is wrong; 42 where each fits and it is no run; before both what a thread met.
+// Fault 41 if a receipt is strange, whatever else is wrong. Fault 42 if each receipt fits and the
+// whole is not a run. The fault that a thread met comes before both.
 #[test]
 fn what_is_no_run_has_its_fault(rt: HostRuntime) -> Result<(), Fail> {
     let alloc = rt.alloc();

@@ -1,6 +1,7 @@
-//! Tests of calls that use threads, of what no clause says: that a run, a search and a check end, on more threads than one,
-//! whose work their gates are asked for, and which fault they tell; what is answered to what threads hand back; and a
-//! second machine beside the world of a plan, a counter that cannot go below 0, held and under a lock.
+//! Tests of calls that use threads, of properties that no contract states. A run, a search and a
+//! check end on several threads. They call their gates for the right work, and report the right
+//! faults. Hand-made results of threads get the right answers. A second machine besides the world
+//! of a plan, a counter that cannot go below 0, is held and shared under a lock.
 #![tactic(auto)]
 
 mod counter;

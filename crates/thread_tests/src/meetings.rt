@@ -1,12 +1,13 @@
-//! Work that is only done where other threads work at the same time: a run on one thread does not get through, nor one with
-//! fewer carriers than the pool has threads, nor one that calls the gate under the lock.
+//! Work that ends only if other threads work at the same time. A run on one thread does not end,
+//! and neither does a run with fewer carriers than the pool has threads, or one that calls the gate
+//! under the lock.
 
 use crate::gates::{Meeting, Who};
 use crate::plans::{TWO_CLIENTS, WORKING_CLIENTS, totals};
 use std::test::Fail;
 
-// A plan, how many threads and clients it gets in place of two, whose work is held until so many of them are at it, and the jobs
-// and the units of work.
+// A plan, the number of threads and clients that replaces two, the actors whose work is held, the
+// number of them to wait for, and the numbers of jobs and units of work.
 type Case = (&'static str, &'static str, Who, u64, (u64, u64));
 
 const CASES: &[Case] = &[
@@ -16,7 +17,8 @@ const CASES: &[Case] = &[
     (WORKING_CLIENTS, "= 3", Who::Clients, 3, (3, 6)),
 ];
 
-// Each plan as it stands, with three threads and clients in place of two, and each with threads that are started beforehand.
+// Each plan with its own sizes, with three threads and clients in place of two, and with prestarted
+// threads.
 #[test]
 fn all_work_at_once(rt: HostRuntime) -> Result<(), Fail> {
     for (plan, size, who, enough, numbers) in CASES.iter().copied() {

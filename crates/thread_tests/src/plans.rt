@@ -9,8 +9,9 @@ use std::process::Abort;
 use std::sync::Wait;
 use std::thread::Threads;
 
-// A job that submits another one to its own pool, and waits for it: in each round 2 jobs, and a unit of work. A client's
-// round is 2 events and a loop, the outer job's life 4 events at most, the inner one's 3.
+// A job that submits another one to its own pool and waits for it: each round has 2 jobs and one
+// unit of work. A client's round has 2 events and a loop, the outer job has at most 4 events, and
+// the inner one 3.
 pub(crate) const NESTED: &str = "
     pool = [{ name = 'p', core = 2, max = 2, queue = 5 }]
     class = [
@@ -20,21 +21,22 @@ pub(crate) const NESTED: &str = "
     client = [{ name = 'c', count = 1, repeat = true, body = ['submit outer as x', 'get x'] }]
 ";
 
-// Two clients, each of which submits a piece of work and waits for it.
+// Two clients that each submit a job and wait for it.
 pub(crate) const TWO_CLIENTS: &str = "
     pool = [{ name = 'p', core = 2, max = 2, queue = 2 }]
     class = [{ name = 'a', pool = 'p', body = ['work 1'] }]
     client = [{ name = 'c', count = 2, repeat = true, body = ['submit a as x', 'get x'] }]
 ";
 
-// The same clients, which work by themselves first.
+// The same clients, which first do work of their own.
 pub(crate) const WORKING_CLIENTS: &str = "
     pool = [{ name = 'p', core = 2, max = 2, queue = 2 }]
     class = [{ name = 'a', pool = 'p', body = ['work 1'] }]
     client = [{ name = 'c', count = 2, repeat = true, body = ['work 1', 'submit a as x', 'get x'] }]
 ";
 
-// So many clients, each of which submits a piece of work once and waits for it, before a pool of so many threads.
+// Returns a plan with clients that each submit one job once and wait for it, and a pool with the
+// given number of threads.
 pub(crate) fn crowd(alloc: Global, clients: u64, threads: u64) -> Result<String, AllocError> {
     format!(in alloc;
         "
@@ -45,7 +47,7 @@ pub(crate) fn crowd(alloc: Global, clients: u64, threads: u64) -> Result<String,
     )
 }
 
-// Lets each pool begin.
+// A gate that always opens.
 #[derive(Clone, Copy)]
 struct Open;
 
@@ -55,7 +57,8 @@ impl PoolGate for Open {
     }
 }
 
-// The plan with the certificate that is found for it; None where there is none, or the plan has a fault.
+// Returns the plan with the certificate that the search finds, or `None` if it finds none or the
+// plan has a fault.
 pub(crate) fn certified<R: Threads + Wait + Sync>(
     rt: &R,
     alloc: Global,
@@ -66,7 +69,8 @@ pub(crate) fn certified<R: Threads + Wait + Sync>(
     Certified::check(plan, cert).ok()
 }
 
-// How many jobs and how many units of work the run of the plan had, with so many rounds and the certificate that is found.
+// Returns the numbers of jobs and of units of work of a run of the plan, for these rounds and the
+// certificate that the search finds.
 pub(crate) fn totals<R: Abort + Threads + Wait + Sync, G: Gate>(
     rt: &R,
     alloc: Global,

@@ -1,4 +1,4 @@
-//! How many rounds a run has, and the limits of a run.
+//! The number of rounds of a run, and its limits.
 
 use crate::gates::Counting;
 use crate::plans::{NESTED, certified, crowd, totals};
@@ -8,13 +8,14 @@ use std::sync::Wait;
 use std::test::Fail;
 use std::thread::Threads;
 
-// A limit is passed, and nothing was started.
+// A limit is exceeded, and nothing was started.
 const TOO_LARGE: RunFault = RunFault {
     number: 40,
     events: 0,
 };
 
-// In no rounds a client that repeats makes no event, and does not stand at its body's end: the run is not complete.
+// With no rounds, a client that repeats has no event, and is not at the end of its body: the run is
+// not complete.
 const NO_RUN: RunFault = RunFault {
     number: 42,
     events: 0,
@@ -23,13 +24,14 @@ const NO_RUN: RunFault = RunFault {
 // Jobs and units of work, or a fault.
 type Totals = Result<(u64, u64), RunFault>;
 
-// A client that works by itself: each of its rounds is 2 events, the last one 1.
+// A client that only works: each of its rounds has 2 events, and the last one has 1.
 const ALONE: &str = "
     client = [{ name = 'c', count = 1, repeat = true, body = ['work 1'] }]
 ";
 
-// A plan and rounds, what its run comes to, and how often it calls its gate. A round of the nested plan is 10 events and the
-// last one 9, so that 100,001 would be 1,000,009; 500,000 rounds of the client alone are 999,999, and one more is 1,000,001.
+// A plan and rounds, the result of its run, and the number of its gate calls. A round of the nested
+// plan has 10 events and the last one 9, so 100,001 rounds would have 1,000,009. 500,000 rounds of
+// the client alone have 999,999 events, and one more has 1,000,001.
 const ROUNDS: &[(&str, u64, Totals, u64)] = &[
     (NESTED, 0, Err(NO_RUN), 0),
     (NESTED, 3, Ok((6, 3)), 3),
@@ -50,7 +52,8 @@ fn as_many_rounds_as_a_run_may_have(rt: HostRuntime) -> Result<(), Fail> {
     Ok(())
 }
 
-// Clients and threads, of which a run may have 64 each, what a run of them comes to, and how often it calls its gate.
+// The numbers of clients and threads, at most 64 each in a run, the result of their run, and the
+// number of its gate calls.
 const CROWDS: &[(u64, u64, Totals, u64)] = &[
     (64, 64, Ok((64, 64)), 64),
     (65, 64, Err(TOO_LARGE), 0),
@@ -69,7 +72,8 @@ fn at_most_64_clients_and_64_threads_of_pools(rt: HostRuntime) -> Result<(), Fai
     Ok(())
 }
 
-// The lists of receipts that a run hands back, how long the first one is, and how many events the history has.
+// Returns the number of receipt lists that a run returns, the length of the first one, and the
+// number of events of the history.
 fn handed_back<R: Threads + Wait + Sync>(
     rt: &R,
     alloc: Global,
@@ -82,8 +86,8 @@ fn handed_back<R: Threads + Wait + Sync>(
     Some((report.receipts.len(), first.len(), report.history.len()))
 }
 
-// A client and two carriers. The client has 8 events in three rounds, and its jobs 19: 6 submits and gets, 3 works, 6 finishes,
-// and 4 takings, since the jobs of the first round start threads.
+// A client and two carriers. The client has 8 events in three rounds, and its jobs have 19: 6
+// submits and gets, 3 works, 6 ends, and 4 takes, since the jobs of the first round start threads.
 #[test]
 fn three_rounds_have_27_events(rt: HostRuntime) -> Result<(), Fail> {
     let back = handed_back(&rt, rt.alloc(), NESTED, 3);

@@ -1,4 +1,4 @@
-//! What a search does with its gate.
+//! The calls of a search to its gate.
 
 use cert_check::{PoolGate, accepts};
 use cert_search::{SearchFault, search};
@@ -12,7 +12,7 @@ use std::test::*;
 use std::thread;
 use std::time::Duration;
 
-// A pool in front, whose jobs wait for jobs of a pool behind it. It gets its rank in the second round.
+// A pool `front`, whose jobs wait for jobs of a pool `back`. It gets its rank in the second round.
 const FRONT_AND_BACK: &str = "
     pool = [
         { name = 'front', core = 4, max = 4, queue = 1000 },
@@ -29,7 +29,8 @@ fn front_and_back(rt: &impl Abort, alloc: Global) -> Plan {
     read_plan(alloc, FRONT_AND_BACK.as_bytes()).expect(rt, "the plan is read")
 }
 
-// Holds the pool that begins first until a second one has begun, for so many turns of a millisecond.
+// A gate that holds the first pool until a second one has begun, for `turns` turns of a
+// millisecond.
 #[derive(Drop)]
 struct Meeting<'a, C> {
     clock: &'a C,
@@ -50,7 +51,8 @@ impl<C: Clock + Sync> PoolGate for Meeting<'_, C> {
     }
 }
 
-// A search that holds the board while it asks the gate, or that has one thread, does not get through.
+// A search does not pass this gate if it holds the board while it calls the gate, or if it has one
+// thread.
 #[test]
 fn two_workers_look_at_two_pools_together(rt: HostRuntime) {
     let plan = front_and_back(&rt, rt.alloc());
@@ -76,7 +78,7 @@ fn one_worker_looks_at_one_pool_at_a_time(rt: HostRuntime) {
     assert!(rt; matches!(found, Err(SearchFault::Gate)));
 }
 
-// Says no to one pool.
+// A gate that refuses one pool.
 #[derive(Clone, Copy)]
 struct AllBut(usize);
 
@@ -99,7 +101,7 @@ fn a_no_of_the_gate_ends_the_search(rt: HostRuntime) {
     assert!(rt; matches!(other, Ok(Some(_))), "the plan has no such pool");
 }
 
-// Counts how often each of two pools begins.
+// A gate that counts the calls for each of two pools.
 #[derive(Drop)]
 struct Counting {
     front: AtomicU64,

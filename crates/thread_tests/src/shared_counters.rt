@@ -7,7 +7,7 @@ use std::sync::Wait;
 use std::test::Fail;
 use std::thread;
 
-// Makes the change this many times, waiting wherever it is not possible yet.
+// Applies the change this many times, and waits whenever it is not possible yet.
 fn change<R: Wait>(
     rt: &R,
     counter: &Locked<Tally>,
