@@ -17,8 +17,8 @@ pub enum LineRule {
     Numbers,
     /// O4: the lines of a round come between its `begin` line and its `end` line.
     Rounds,
-    /// O5: a job has one `start` line, its lines as an actor come after that, and the last of them
-    /// is `end` or `threw`.
+    /// O5: a job has at most one `start` line. Its lines as an actor come after that, and the last
+    /// of them is `end` or `threw`.
     Jobs,
     /// O6: `refused` comes after the `submit` line of the same job by the same actor, with no other
     /// line of the actor between them, and before the job's `start` line.
