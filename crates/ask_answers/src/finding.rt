@@ -5,7 +5,7 @@ use plan_witnesses::Witness;
 use size_search::SizesFound;
 
 /// A finding about a plan with its declared sizes.
-#[derive(Debug, Drop)]
+#[derive(Drop)]
 pub enum PlanFinding {
     /// This certificate accepts the plan.
     Safe(Cert),

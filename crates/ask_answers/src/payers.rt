@@ -9,7 +9,7 @@ use std::alloc::{AllocError, Global};
 use weights::Vector;
 
 /// The shares in the total of a vector.
-#[derive(Debug, Drop)]
+#[derive(Drop)]
 pub struct Payers {
     /// The share of each kind of clients, in plan order.
     pub clients: Vec<u64>,

@@ -4,7 +4,7 @@ ghost use Rattle.std.specs.Prelude.{◌≡◌};
 ghost use Rattle.body_paths.specs.Deed as spec;
 
 /// A step of an actor, as far as bodies describe it.
-#[derive(Debug, Drop)]
+#[derive(Drop)]
 pub enum Deed {
     /// A submit of a job that may belong to any of these classes, by their numbers in the plan.
     Submits(Vec<usize>),
@@ -13,7 +13,7 @@ pub enum Deed {
 }
 
 /// The state of a path: whole, or only begun.
-#[derive(Clone, Copy, Debug, PartialEq, Eq)]
+#[derive(Clone, Copy, PartialEq, Eq)]
 pub enum Course {
     /// The whole path: the actor has ended.
     Whole,

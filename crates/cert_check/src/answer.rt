@@ -21,7 +21,7 @@ pub struct PoolLine {
 }
 
 /// Whether a certificate accepts a plan, with the totals and limits of each pool in plan order.
-#[derive(Debug, Drop)]
+#[derive(Drop)]
 pub struct Verdict {
     pub yes: bool,
     pub pools: Vec<PoolLine>,

@@ -11,7 +11,7 @@ use job_bodies::Plan;
 use std::marker::Model;
 
 /// A plan with a certificate that accepts it. Only [`Certified::check`] creates one.
-#[derive(Debug, Drop)]
+#[derive(Drop)]
 pub struct Certified {
     plan: Plan,
     cert: Cert,

@@ -11,7 +11,7 @@ use interleaving::{Event, Outcome};
 use std::alloc::{AllocError, Global};
 
 /// The machine of a certified plan, which it borrows.
-#[derive(Clone, Copy, Debug, Drop)]
+#[derive(Clone, Copy, Drop)]
 pub struct CertifiedWorld<'a> {
     certified: &'a Certified,
     ghost well_formed: { IsWellFormed certified.now.plan },
@@ -32,7 +32,7 @@ impl<'a> CertifiedWorld<'a> {
 
 /// A world with the outcome of its last event. The outcome tells the caller which job the event
 /// started, queued or took.
-#[derive(Debug, Drop)]
+#[derive(Drop)]
 pub struct TracedWorld {
     pub world: SeenWorld,
     /// `None` before the first event.

@@ -14,7 +14,7 @@ use std::marker::Model;
 
 /// A world whose contracts mention only its live view. The number of its places is left out, since
 /// no state of the reference machine determines it.
-#[derive(Debug, Drop)]
+#[derive(Drop)]
 pub struct SeenWorld {
     world: World,
 }

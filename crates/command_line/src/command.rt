@@ -77,7 +77,7 @@ pub enum Task {
 }
 
 /// The parsed arguments of a command line.
-#[derive(Clone, Copy, Debug, PartialEq, Eq)]
+#[derive(Clone, Copy, PartialEq, Eq)]
 pub struct Asked<'a> {
     /// The command.
     pub command: Command,

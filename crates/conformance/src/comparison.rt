@@ -23,7 +23,7 @@ use recorded_rules::RecordingFault;
 use std::alloc::{AllocError, Global};
 
 /// The result of comparing a recording with a plan.
-#[derive(Debug, Drop)]
+#[derive(Drop)]
 pub enum Conformance {
     /// The first invalid line of the recording. No comparison was made.
     Bad(RecordingFault),

@@ -11,7 +11,7 @@ use recording_lines::RecordedActor;
 
 /// A difference between a recording and a plan, or an event that invalidates a SAFE answer. Lines
 /// are numbered from 1.
-#[derive(Debug, Drop)]
+#[derive(Drop)]
 pub enum Finding {
     /// A pool that differs from the plan.
     Pool(PoolDeviation),

@@ -8,7 +8,7 @@ use recording_lines::RecordedActor;
 use std::alloc::AllocError;
 
 /// An actor whose label is in the plan and whose path matches none of the bodies of that label.
-#[derive(Debug, Drop)]
+#[derive(Drop)]
 pub struct Stray {
     pub actor: RecordedActor,
     /// The class of a job, or the kind of a round.
@@ -20,7 +20,7 @@ pub struct Stray {
 }
 
 /// The first deviating step of an actor.
-#[derive(Debug, Drop)]
+#[derive(Drop)]
 pub enum StrayDeed {
     /// The actor submitted or got a job.
     Deed(NamedDeed),
@@ -31,7 +31,7 @@ pub enum StrayDeed {
 }
 
 /// A step of an actor, with the class of the job.
-#[derive(Debug, Drop)]
+#[derive(Drop)]
 pub enum NamedDeed {
     /// A submit of a job of this class.
     Submits(String),

@@ -12,7 +12,7 @@ use recording_lines::Line;
 use std::alloc::{AllocError, Global};
 
 /// A label that is not in the plan, with the number of the first line that has it.
-#[derive(Debug, Drop)]
+#[derive(Drop)]
 pub enum NotPlanned {
     /// A job was submitted to this pool, and the plan has no such class in it.
     Class {

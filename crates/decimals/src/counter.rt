@@ -10,7 +10,7 @@ use std::marker::Model;
 /// A counter that counts up by one.
 ///
 /// Stores the text of all digits except the last. That text changes only with every tenth number.
-#[derive(Debug, Drop)]
+#[derive(Drop)]
 pub struct Counter {
     front: String,
     tens: u64,

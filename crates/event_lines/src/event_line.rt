@@ -11,7 +11,7 @@ use line_words::{leading_number, split_line};
 use written_machine::Event;
 
 /// The content of an event line.
-#[derive(Debug, Drop)]
+#[derive(Drop)]
 pub enum EventLine<'a> {
     /// The event to perform.
     Happens(Event),

@@ -10,14 +10,14 @@ use std::marker::Model;
 
 /// A parser of the lines of an input text. [`next`](EventLines::next) parses each line once, on
 /// demand, so that the parser allocates no memory.
-#[derive(Debug, Drop)]
+#[derive(Drop)]
 pub struct EventLines<'a> {
     plan: &'a Plan,
     rest: &'a [u8],
 }
 
 /// The error for a line that is not well-formed.
-#[derive(Clone, Copy, Debug, PartialEq, Eq)]
+#[derive(Clone, Copy, PartialEq, Eq)]
 pub struct BadEventLine;
 
 impl<'a> Model for EventLines<'a> {

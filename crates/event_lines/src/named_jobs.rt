@@ -8,7 +8,7 @@ use std::alloc::{AllocError, Global};
 use std::marker::Model;
 
 /// A list of job numbers.
-#[derive(Debug, Drop)]
+#[derive(Drop)]
 pub struct NamedJobs<'a> {
     // The numbers as text, separated by single spaces.
     words: &'a [u8],

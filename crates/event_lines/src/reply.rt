@@ -10,7 +10,7 @@ use std::alloc::AllocError;
 use written_machine::Outcome;
 
 /// The reply to an event line.
-#[derive(Clone, Copy, Debug, PartialEq, Eq)]
+#[derive(Clone, Copy, PartialEq, Eq)]
 pub enum Reply {
     /// The event was performed, with this outcome.
     Happened(Outcome),

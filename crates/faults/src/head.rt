@@ -8,7 +8,7 @@ use std::fmt;
 
 /// The number and name at the start of a fault's text, such as `fault 6 BadName`. The place of the
 /// fault can follow.
-#[derive(Clone, Copy, Debug, PartialEq, Eq)]
+#[derive(Clone, Copy, PartialEq, Eq)]
 pub struct Head(pub u8);
 
 impl fmt::Display for Head {

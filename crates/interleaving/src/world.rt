@@ -22,7 +22,7 @@ use std::marker::Model;
 /// it. Other jobs occupy no memory: a new job reuses the place of a job that is no longer live. A
 /// client occupies no memory before its first step. The memory therefore depends on the number of
 /// pools, kinds, live jobs and clients that moved, and not on the sizes in the plan.
-#[derive(Debug, Drop)]
+#[derive(Drop)]
 pub struct World {
     pub(crate) jobs: LiveJobs,
     pub(crate) pools: Vec<PoolState>,

@@ -2,7 +2,7 @@
 
 /// The part of a recording from which bodies are learned. Everything else in the plan is always
 /// learned from the whole recording.
-#[derive(Clone, Copy, Debug, PartialEq, Eq)]
+#[derive(Clone, Copy, PartialEq, Eq)]
 pub enum Extent {
     /// The whole lines within the first [`START_BYTES`]. No plan is learned if they do not explain
     /// every actor that they begin.

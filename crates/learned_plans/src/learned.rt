@@ -5,7 +5,7 @@ use job_bodies::Plan;
 use recorded_rules::RecordingFault;
 
 /// The result of learning a plan from a recording.
-#[derive(Debug, Drop)]
+#[derive(Drop)]
 pub enum Learned {
     /// The first invalid line of the recording.
     Bad(RecordingFault),
@@ -17,7 +17,7 @@ pub enum Learned {
 }
 
 /// The plan that a recording shows, with the size of the recording.
-#[derive(Debug, Drop)]
+#[derive(Drop)]
 pub struct SeenPlan {
     pub plan: Plan,
     /// The number of rounds that began.

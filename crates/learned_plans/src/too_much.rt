@@ -6,7 +6,7 @@ ghost use Rattle.learned_plans.specs.TooMuch.{too_much_text};
 use std::fmt;
 
 /// The reason why a valid recording gives no plan: it exceeds a limit of plans, or of learning.
-#[derive(Clone, Copy, Debug, PartialEq, Eq)]
+#[derive(Clone, Copy, PartialEq, Eq)]
 pub enum TooMuch {
     /// More pools than a plan may have.
     Pools,

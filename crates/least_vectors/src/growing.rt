@@ -13,7 +13,7 @@ use std::alloc::{AllocError, Global};
 use weights::Vector;
 
 /// A vector without its rows.
-#[derive(Debug, Drop)]
+#[derive(Drop)]
 pub struct Weighed {
     /// The weight of a worker of each pool.
     pub workers: Vec<u64>,

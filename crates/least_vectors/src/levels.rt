@@ -11,7 +11,7 @@ use std::alloc::{AllocError, Global};
 const NO_LEVEL: u64 = u64::MAX;
 
 /// The levels of a plan's classes, and which of them are submitted.
-#[derive(Debug, Drop)]
+#[derive(Drop)]
 pub struct Levels {
     /// The level of each class: 1 plus the greatest level of the classes that it submits, or 0 if
     /// it submits none.

@@ -19,7 +19,7 @@ const TABLE_LEN: usize = 4096;
 ///
 /// An actor's number modulo the length of `table` is the index of its calls in `table`. If another
 /// call occupies that entry, the call is in the map `others`. A look-up reads `table` first.
-#[derive(Debug, Drop)]
+#[derive(Drop)]
 pub(crate) struct Calls {
     // Empty until `reserve` is first called.
     table: Vec<Option<(Call, usize)>>,

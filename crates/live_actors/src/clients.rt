@@ -19,7 +19,7 @@ use written_machine::{ClientState, Parent};
 ///
 /// Stores only clients that have moved. All others are at the start of their body, so that the
 /// number of clients of each kind describes them.
-#[derive(Debug, Drop)]
+#[derive(Drop)]
 pub struct Clients {
     // For each kind, the number of clients of it and of all kinds before it.
     ends: Vec<usize>,

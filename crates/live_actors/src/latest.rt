@@ -11,7 +11,7 @@ use written_machine::Parent;
 
 /// A map from actors and the positions of submits in their bodies to the number of the latest job
 /// that the actor created there.
-#[derive(Debug, Drop)]
+#[derive(Drop)]
 pub(crate) struct Latest {
     of_clients: Calls,
     of_jobs: Calls,

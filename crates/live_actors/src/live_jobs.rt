@@ -15,7 +15,7 @@ use written_machine::Parent;
 
 /// The live jobs of a world. For each actor that may request a job of its own, and for each
 /// position of a submit, it also stores the latest job that the actor created there.
-#[derive(Debug, Drop)]
+#[derive(Drop)]
 pub struct LiveJobs {
     kept: Places,
     latest: Latest,

@@ -14,7 +14,7 @@ use written_machine::ClientState;
 ///
 /// Most clients move for the first time in the order of their numbers. Those are in a vector; all
 /// others are in a map.
-#[derive(Debug, Drop)]
+#[derive(Drop)]
 pub(crate) struct MovedClients {
     front: Vec<ClientState>,
     others: HashMap<usize, ClientState>,

@@ -21,7 +21,7 @@ const SPARE_NUMBERS: usize = 16;
 /// The end of the sequence is a ring buffer, in which a look-up is an index operation. Gaps at the
 /// start of the ring are removed. If the ring has more than about two numbers for each live job,
 /// its first job moves into a map. A long-lived job therefore occupies only its own entry.
-#[derive(Debug, Drop)]
+#[derive(Drop)]
 pub(crate) struct PlaceRow {
     // The first number of the ring.
     base: usize,

@@ -8,7 +8,7 @@ use std::alloc::{AllocError, Global};
 use std::marker::Model;
 
 /// The stored data of a live job.
-#[derive(Clone, Copy, Debug)]
+#[derive(Clone, Copy)]
 pub(crate) struct KeptJob {
     pub(crate) job: JobView,
     // An exclusive upper bound of the positions of the submits that created the live jobs of this
@@ -20,7 +20,7 @@ pub(crate) struct KeptJob {
 ///
 /// A job that is no longer live leaves its place to a new job. The number of places is therefore
 /// the greatest number of jobs that were live at the same time.
-#[derive(Debug, Drop)]
+#[derive(Drop)]
 pub(crate) struct Places {
     kept: PlaceRow,
     // The number of live jobs.

@@ -7,7 +7,7 @@ ghost use Rattle.live_views.specs.ViewStep.{is_done, is_live_child, unless_stale
 use written_machine::Parent;
 
 /// The phase of a live job.
-#[derive(Clone, Copy, Debug, PartialEq, Eq)]
+#[derive(Clone, Copy, PartialEq, Eq)]
 pub enum Phase {
     /// The job waits in its pool's queue.
     Queued,
@@ -19,7 +19,7 @@ pub enum Phase {
 }
 
 /// A live job.
-#[derive(Clone, Copy, Debug, PartialEq, Eq)]
+#[derive(Clone, Copy, PartialEq, Eq)]
 pub struct JobView {
     /// The number of the job's class.
     pub class: usize,

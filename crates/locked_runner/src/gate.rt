@@ -1,14 +1,14 @@
 //! The interface to the code that does the declared work of a run.
 
 /// A client or a job of a run.
-#[derive(Clone, Copy, Debug, PartialEq, Eq)]
+#[derive(Clone, Copy, PartialEq, Eq)]
 pub enum Actor {
     Client(usize),
     Job(usize),
 }
 
 /// The error of a gate that failed.
-#[derive(Clone, Copy, Debug, PartialEq, Eq)]
+#[derive(Clone, Copy, PartialEq, Eq)]
 pub struct GateFault;
 
 /// A gate does the declared work of a run. Many threads call it concurrently. A thread that calls

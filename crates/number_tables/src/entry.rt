@@ -7,7 +7,7 @@ ghost use Rattle.number_tables.specs.Entry.{has_number, is_free_for, value_in};
 ghost use Rattle.number_tables.specs.LentEntry.{lends_value_in};
 
 /// A number with its value.
-#[derive(Debug, Drop)]
+#[derive(Drop)]
 pub(crate) struct Entry<V> {
     pub(crate) number: usize,
     pub(crate) value: V,

@@ -16,7 +16,7 @@ use std::marker::Model;
 ///
 /// The slot of a number is the number modulo the length of the table. A look-up checks that slot
 /// first. If another number occupies it, the value is in a map.
-#[derive(Debug, Drop)]
+#[derive(Drop)]
 pub struct NumberTable<V> {
     // Empty until the first insertion.
     slots: Vec<Option<Entry<V>>>,

@@ -15,7 +15,7 @@ use std::marker::Model;
 ///
 /// Look-ups in it are rare, so its methods are not inlined. A look-up that may miss first checks
 /// whether the map is empty, since a look-up in an empty map would still hash the key.
-#[derive(Debug, Drop)]
+#[derive(Drop)]
 pub(crate) struct Others<V> {
     map: HashMap<usize, V>,
 }

@@ -8,7 +8,7 @@ use plan_places::TextPlace;
 use std::alloc::AllocError;
 
 /// A diagnostic for one fault.
-#[derive(Debug, Drop)]
+#[derive(Drop)]
 pub struct Advice {
     /// The fault, as the other commands report it.
     pub fault: PlanFault,
@@ -19,7 +19,7 @@ pub struct Advice {
 }
 
 /// The faults of a plan's text.
-#[derive(Debug, Drop)]
+#[derive(Drop)]
 pub struct Faults {
     /// The fault that the plan parser reports.
     pub first: Advice,

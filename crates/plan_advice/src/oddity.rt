@@ -4,7 +4,7 @@ use job_bodies::Part;
 
 /// A lint: something that is valid in a plan but probably not meant. Pools, classes, kinds of
 /// clients and actions are counted from 0.
-#[derive(Clone, Copy, Debug, PartialEq, Eq)]
+#[derive(Clone, Copy, PartialEq, Eq)]
 pub enum Oddity {
     /// The plan has no pools and no clients.
     NothingToAsk,

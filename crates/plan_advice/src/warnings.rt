@@ -12,7 +12,7 @@ use plan_places::{Places, TextPlace};
 use std::alloc::{AllocError, Global};
 
 /// A warning about a plan.
-#[derive(Debug, Drop)]
+#[derive(Drop)]
 pub struct Warning {
     /// The lint.
     pub oddity: Oddity,

@@ -10,7 +10,7 @@ use std::fmt;
 /// A difference between a recorded pool and the plan's pool.
 ///
 /// It formats as a short phrase without the pool's name, such as `max 20, plan 10`.
-#[derive(Clone, Copy, Debug, PartialEq, Eq)]
+#[derive(Clone, Copy, PartialEq, Eq)]
 pub enum Difference {
     /// The core pool size, in threads.
     Core { recorded: u64, planned: u64 },

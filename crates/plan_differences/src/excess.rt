@@ -8,7 +8,7 @@ use std::fmt;
 /// More rounds of a client kind than its `count` in the plan.
 ///
 /// It formats as a short phrase without the kind's name, such as `31 at once, count is 30`.
-#[derive(Clone, Copy, Debug, PartialEq, Eq)]
+#[derive(Clone, Copy, PartialEq, Eq)]
 pub enum Excess {
     /// This many rounds are open at once.
     AtOnce { rounds: u64, count: u64 },

@@ -8,7 +8,7 @@ use std::alloc::{AllocError, Global};
 use std::collections::HashSet;
 
 /// A set of pool names.
-#[derive(Debug, Drop)]
+#[derive(Drop)]
 pub(crate) struct PoolNames {
     names: HashSet<String>,
     alloc: Global,

@@ -16,7 +16,7 @@ use recording_lines::{Line, PoolSizes};
 use std::alloc::{AllocError, Global};
 
 /// A difference between the pools of a recording and those of a plan. Lines are numbered from 1.
-#[derive(Debug, Drop)]
+#[derive(Drop)]
 pub enum PoolDeviation {
     /// A pool that is not in the plan, with its first line.
     NotPlanned {
@@ -39,7 +39,7 @@ pub enum PoolDeviation {
 ///
 /// It stores the name of each recorded pool, and the differences that were reported for each pool
 /// of the plan.
-#[derive(Debug, Drop)]
+#[derive(Drop)]
 pub struct PoolWatch {
     named: PoolNames,
     told: ToldDifferences,

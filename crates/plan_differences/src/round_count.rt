@@ -11,7 +11,7 @@ use std::marker::Model;
 ///
 /// Contracts see it as the plan's `count` and `repeat`, and the numbers of rounds that began and
 /// ended.
-#[derive(Debug, Drop)]
+#[derive(Drop)]
 pub struct RoundCount {
     count: u64,
     repeat: bool,

@@ -15,7 +15,7 @@ use recording_lines::Line;
 use std::alloc::{AllocError, Global};
 
 /// The first line at which a client kind has more rounds than the plan allows.
-#[derive(Clone, Copy, Debug, PartialEq, Eq)]
+#[derive(Clone, Copy, PartialEq, Eq)]
 pub struct RoundExcess {
     /// The number of the line, from 1.
     pub line: usize,
@@ -25,7 +25,7 @@ pub struct RoundExcess {
 }
 
 /// The rounds of one client kind.
-#[derive(Debug, Drop)]
+#[derive(Drop)]
 struct KindRounds {
     rounds: RoundCount,
     has_exceeded: bool,
@@ -88,7 +88,7 @@ impl KindRounds {
 }
 
 /// A comparison of the rounds of a recording with the client kinds of a plan, line by line.
-#[derive(Debug, Drop)]
+#[derive(Drop)]
 pub struct RoundWatch {
     kinds: Vec<KindRounds>,
 }

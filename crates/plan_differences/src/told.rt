@@ -10,14 +10,14 @@ use crate::Difference;
 use std::alloc::{AllocError, Global};
 
 /// A difference of the plan's pool of this number.
-#[derive(Clone, Copy, Debug)]
+#[derive(Clone, Copy)]
 pub(crate) struct PoolDifference {
     pool: usize,
     difference: Difference,
 }
 
 /// A set of the differences that were reported for the pools of the plan.
-#[derive(Debug, Drop)]
+#[derive(Drop)]
 pub(crate) struct ToldDifferences {
     items: Vec<PoolDifference>,
 }

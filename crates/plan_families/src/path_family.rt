@@ -12,7 +12,7 @@ use job_bodies::Action;
 use std::alloc::{AllocError, Global};
 
 /// The result of matching a path against a family of classes or client kinds.
-#[derive(Debug, Drop)]
+#[derive(Drop)]
 pub struct PathFamily {
     /// The numbers of the members whose body the path matches, in ascending order.
     pub members: Vec<usize>,

@@ -4,7 +4,7 @@ use crate::token::{Kind, Token};
 use std::alloc::{AllocError, Global};
 
 /// A key, and its value.
-#[derive(Debug, Drop)]
+#[derive(Drop)]
 pub(crate) struct Key {
     pub(crate) start: usize,
     pub(crate) end: usize,
@@ -15,7 +15,7 @@ pub(crate) struct Key {
 }
 
 /// A table header, such as `[[pool]]`, and the keys after it. The first table has no header.
-#[derive(Debug, Drop)]
+#[derive(Drop)]
 pub(crate) struct Table {
     /// The offset of the header.
     pub(crate) head: usize,

@@ -7,7 +7,7 @@ ghost use Rattle.plan_places.specs.TextPlace.{IsBehind, is_newline, begins_chara
 use std::fmt;
 
 /// A position in a text.
-#[derive(Clone, Copy, Debug, PartialEq, Eq)]
+#[derive(Clone, Copy, PartialEq, Eq)]
 pub struct TextPlace {
     /// The line, counted from 1.
     pub line: usize,

@@ -4,7 +4,7 @@ use crate::Ending;
 use interleaving::Event;
 
 /// A list of events that are possible in sequence from a plan's start, and the ending of the list.
-#[derive(Debug, Drop)]
+#[derive(Drop)]
 pub struct Witness {
     pub events: Vec<Event>,
     pub ending: Ending,

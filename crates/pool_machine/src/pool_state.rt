@@ -18,7 +18,7 @@ use std::marker::Model;
 /// A worker that finished a job is idle until it takes the head of the queue. The queue can
 /// therefore be full while workers are idle. The rules are those of Java's `ThreadPoolExecutor`
 /// with an `ArrayBlockingQueue`.
-#[derive(Debug, Drop)]
+#[derive(Drop)]
 pub struct PoolState {
     core: u64,
     max: u64,

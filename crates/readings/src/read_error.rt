@@ -6,7 +6,7 @@ ghost use Rattle.readings.specs.declared.read_error.ReadError.TheVariants.{Memor
 use std::alloc::{AllocError, AllocFailed};
 
 /// The error of a reader.
-#[derive(Debug, Drop)]
+#[derive(Drop)]
 pub enum ReadError<F> {
     /// Out of memory.
     Memory,

@@ -16,7 +16,7 @@ use recording_lines::RecordedActor;
 use std::alloc::{AllocError, Global};
 
 /// An unsettled actor. It is open, or it has ended and waits for a job of its path.
-#[derive(Debug, Drop)]
+#[derive(Drop)]
 pub(crate) struct KeptActor {
     /// The class of a job, or the kind of a round.
     pub(crate) label: String,
@@ -29,7 +29,7 @@ pub(crate) struct KeptActor {
 }
 
 /// The state of an actor that has ended and waits for jobs of its path.
-#[derive(Debug, Drop)]
+#[derive(Drop)]
 pub(crate) struct Waiting {
     pub(crate) path: Vec<RecordedDeed>,
     /// The length of the prefix of the path whose jobs are all settled.
@@ -47,7 +47,7 @@ impl KeptActor {
 }
 
 /// The unsettled actors, by number.
-#[derive(Debug, Drop)]
+#[derive(Drop)]
 pub(crate) struct ActorTable {
     pub(crate) jobs: NumberTable<KeptActor>,
     pub(crate) rounds: NumberTable<KeptActor>,

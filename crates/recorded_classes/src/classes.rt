@@ -28,7 +28,7 @@ use std::alloc::{AllocError, Global};
 ///
 /// It stores the path of each open actor, the path of each ended actor that waits for a job of its
 /// path, and the classes of each settled job whose submitter is not settled.
-#[derive(Debug, Drop)]
+#[derive(Drop)]
 pub struct Classes {
     pub(crate) paths: Paths,
     pub(crate) actors: ActorTable,

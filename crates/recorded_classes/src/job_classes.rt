@@ -16,14 +16,14 @@ use recording_lines::RecordedActor;
 use std::alloc::{AllocError, Global};
 
 /// The classes that a job can belong to.
-#[derive(Debug, Drop)]
+#[derive(Drop)]
 pub(crate) struct JobClasses {
     pub(crate) classes: Vec<usize>,
     pub(crate) is_decided: bool,
 }
 
 /// The classes of the settled jobs whose submitters are not settled, by job number.
-#[derive(Debug, Drop)]
+#[derive(Drop)]
 pub(crate) struct ClassTable {
     jobs: NumberTable<JobClasses>,
     alloc: Global,

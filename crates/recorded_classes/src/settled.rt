@@ -5,7 +5,7 @@ use recorded_paths::RecordedDeed;
 use recording_lines::RecordedActor;
 
 /// A classified actor: its path, and the classes or kinds that it can belong to.
-#[derive(Debug, Drop)]
+#[derive(Drop)]
 pub struct Settled {
     pub actor: RecordedActor,
     /// The class that the job's submit names, or the kind that the round's begin names.

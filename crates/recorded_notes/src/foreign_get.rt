@@ -3,7 +3,7 @@
 use recording_lines::RecordedActor;
 
 /// A get of a job by an actor that did not submit it, before its submitter got it.
-#[derive(Clone, Copy, Debug, PartialEq, Eq)]
+#[derive(Clone, Copy, PartialEq, Eq)]
 pub struct ForeignGet {
     /// The number of the line, from 1.
     pub line: usize,

@@ -10,7 +10,7 @@ use crate::voiding::{Void, Voiding};
 use recording_lines::{Line, RecordedActor};
 
 /// An event that invalidates a SAFE answer, by the lines so far.
-#[derive(Clone, Copy, Debug)]
+#[derive(Clone, Copy)]
 pub(crate) struct NotedVoid {
     pub(crate) void: Void,
     /// True if it is the last line of its actor so far. The actor's next line can then excuse it.

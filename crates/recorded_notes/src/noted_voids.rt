@@ -12,7 +12,7 @@ use recording_lines::Line;
 use std::alloc::{AllocError, Global};
 
 /// The first line of each invalidating event type, and the pending lines that may precede it.
-#[derive(Debug, Drop)]
+#[derive(Drop)]
 pub(crate) struct NotedVoids {
     kept: Vec<NotedVoid>,
 }

@@ -17,7 +17,7 @@ use std::alloc::{AllocError, Global};
 
 /// The events that invalidate a SAFE answer, and the first get of a job by an actor that did not
 /// submit it, for the lines read so far.
-#[derive(Debug, Drop)]
+#[derive(Drop)]
 pub struct RecordedNotes {
     pub(crate) voids: NotedVoids,
     pub(crate) ungot: Ungot,

@@ -11,7 +11,7 @@ use recording_lines::{Line, RecordedActor};
 use std::alloc::{AllocError, Global};
 
 /// The submitter of each job that its submitter has not got.
-#[derive(Debug, Drop)]
+#[derive(Drop)]
 pub(crate) struct Ungot {
     submitters: NumberTable<RecordedActor>,
 }

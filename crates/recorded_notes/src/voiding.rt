@@ -10,7 +10,7 @@ use std::fmt;
 /// An event that invalidates a SAFE answer, from its line on.
 ///
 /// It formats as a short phrase without the line number, such as `job 4 was refused`.
-#[derive(Clone, Copy, Debug, PartialEq, Eq)]
+#[derive(Clone, Copy, PartialEq, Eq)]
 pub enum Voiding {
     /// A pool refused the job that this actor submitted, for example because it was full.
     Refused { actor: RecordedActor, job: usize },
@@ -31,7 +31,7 @@ pub enum Voiding {
 }
 
 /// A line with an event that invalidates a SAFE answer.
-#[derive(Clone, Copy, Debug, PartialEq, Eq)]
+#[derive(Clone, Copy, PartialEq, Eq)]
 pub struct Void {
     /// The number of the line, from 1.
     pub line: usize,

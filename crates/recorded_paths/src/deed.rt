@@ -4,7 +4,7 @@ ghost use Rattle.std.specs.Prelude.{◌≡◌};
 ghost use Rattle.recorded_paths.specs.Act as spec;
 
 /// An action of an actor, as it appears in a body.
-#[derive(Clone, Copy, Debug, PartialEq, Eq)]
+#[derive(Clone, Copy, PartialEq, Eq)]
 pub enum RecordedDeed {
     /// The actor submitted the job with this number.
     Submits(usize),

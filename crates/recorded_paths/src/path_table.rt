@@ -12,7 +12,7 @@ use number_tables::NumberTable;
 use std::alloc::{AllocError, Global};
 
 /// A map from the numbers of the live rounds, or of the live jobs, to their paths.
-#[derive(Debug, Drop)]
+#[derive(Drop)]
 pub(crate) struct PathTable {
     paths: NumberTable<Vec<RecordedDeed>>,
     alloc: Global,

@@ -15,7 +15,7 @@ use std::alloc::{AllocError, Global};
 
 /// The paths of the live actors after the lines so far: of the rounds that began and have not
 /// ended, and of the jobs that were submitted and are not done.
-#[derive(Debug, Drop)]
+#[derive(Drop)]
 pub struct Paths {
     rounds: PathTable,
     jobs: PathTable,

@@ -7,7 +7,7 @@ use crate::rule::LineRule;
 use std::fmt;
 
 /// The reason why a line is bad.
-#[derive(Clone, Copy, Debug, PartialEq, Eq)]
+#[derive(Clone, Copy, PartialEq, Eq)]
 pub enum Breach {
     /// The line has none of the forms of a line.
     Form,
@@ -28,7 +28,7 @@ impl fmt::Display for Breach {
 }
 
 /// A bad line of a recording.
-#[derive(Clone, Copy, Debug, PartialEq, Eq)]
+#[derive(Clone, Copy, PartialEq, Eq)]
 pub struct RecordingFault {
     /// The line number, from 1.
     pub line: usize,

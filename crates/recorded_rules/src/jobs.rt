@@ -8,7 +8,7 @@ use number_tables::NumberTable;
 use std::alloc::{AllocError, Global};
 
 /// The state of a job that is not done.
-#[derive(Clone, Copy, Debug)]
+#[derive(Clone, Copy)]
 pub(crate) struct JobState {
     started: bool,
     cancelled: bool,
@@ -18,7 +18,7 @@ pub(crate) struct JobState {
 
 /// The jobs of the lines so far: the number of submitted jobs, and the state of each job that is
 /// not done.
-#[derive(Debug, Drop)]
+#[derive(Drop)]
 pub(crate) struct Jobs {
     pub(crate) submitted: usize,
     unfinished: NumberTable<JobState>,

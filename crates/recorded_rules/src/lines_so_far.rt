@@ -17,7 +17,7 @@ use std::alloc::{AllocError, Global};
 ///
 /// Its size grows with the names of the pools, the rounds that have not ended and the jobs that are
 /// not done.
-#[derive(Debug, Drop)]
+#[derive(Drop)]
 pub struct LinesSoFar {
     pub(crate) begun: bool,
     pub(crate) closed: bool,

@@ -15,7 +15,7 @@ use std::collections::HashSet;
 ///
 /// Names are looked up by a number that is cheap to compute. Names whose number is already taken
 /// are in a set.
-#[derive(Debug, Drop)]
+#[derive(Drop)]
 pub(crate) struct Pools {
     firsts: NumberTable<String>,
     others: HashSet<String>,

@@ -9,7 +9,7 @@ use std::alloc::{AllocError, Global};
 
 /// The rounds of the lines so far: the number of rounds begun, and for each open round the job that
 /// it submitted in its last line.
-#[derive(Debug, Drop)]
+#[derive(Drop)]
 pub(crate) struct Rounds {
     pub(crate) begun: usize,
     open: NumberTable<Option<usize>>,

@@ -6,7 +6,7 @@ ghost use Rattle.recorded_rules.specs.RuleText.{rule_text};
 use std::fmt;
 
 /// A rule that a line of a recording can break, given the lines before it.
-#[derive(Clone, Copy, Debug, PartialEq, Eq)]
+#[derive(Clone, Copy, PartialEq, Eq)]
 pub enum LineRule {
     /// O1: the first line is `recording 1`, and no other line is. No line comes after `end`.
     Frame,

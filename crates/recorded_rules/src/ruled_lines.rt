@@ -13,7 +13,7 @@ use std::alloc::{AllocError, Global};
 /// An iterator over the lines of a text that checks each line against the lines before it.
 ///
 /// Reads each line once. Its size is that of [`LinesSoFar`].
-#[derive(Debug, Drop)]
+#[derive(Drop)]
 pub struct RuledLines<'a> {
     lines: RecordingLines<'a>,
     so_far: LinesSoFar,

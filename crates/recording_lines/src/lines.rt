@@ -12,13 +12,13 @@ use std::marker::Model;
 
 /// An iterator over the lines of a recording. [`next`](RecordingLines::next) parses each line once,
 /// so the iterator stores no lines.
-#[derive(Debug, Drop)]
+#[derive(Drop)]
 pub struct RecordingLines<'a> {
     rest: &'a [u8],
 }
 
 /// A line that has none of the forms of a line of a recording.
-#[derive(Clone, Copy, Debug, PartialEq, Eq)]
+#[derive(Clone, Copy, PartialEq, Eq)]
 pub struct BadLine;
 
 impl<'a> Model for RecordingLines<'a> {

@@ -8,7 +8,7 @@ use line_words::split_space;
 
 /// The configuration of a pool. A value above the maximum of a line's number is stored as that
 /// maximum.
-#[derive(Clone, Copy, Debug, PartialEq, Eq)]
+#[derive(Clone, Copy, PartialEq, Eq)]
 pub struct PoolSizes {
     pub core: usize,
     pub max: usize,
@@ -23,7 +23,7 @@ pub struct PoolSizes {
 }
 
 /// The kind of a pool's queue. Subclasses of the first two kinds are [`Other`](QueueKind::Other).
-#[derive(Clone, Copy, Debug, PartialEq, Eq)]
+#[derive(Clone, Copy, PartialEq, Eq)]
 pub enum QueueKind {
     Array,
     Linked,
@@ -33,7 +33,7 @@ pub enum QueueKind {
 }
 
 /// The handler for rejected jobs.
-#[derive(Clone, Copy, Debug, PartialEq, Eq)]
+#[derive(Clone, Copy, PartialEq, Eq)]
 pub enum HandlerKind {
     Abort,
     CallerRuns,

@@ -3,14 +3,14 @@
 use crate::pool_sizes::PoolSizes;
 
 /// A submitter of jobs: a running job, or a round of a thread outside the pools.
-#[derive(Clone, Copy, Debug, PartialEq, Eq)]
+#[derive(Clone, Copy, PartialEq, Eq)]
 pub enum RecordedActor {
     Job(usize),
     Round(usize),
 }
 
 /// A parsed line. It borrows its names from the text.
-#[derive(Clone, Copy, Debug)]
+#[derive(Clone, Copy)]
 pub enum Line<'a> {
     /// The first line.
     Head,

@@ -9,7 +9,7 @@ use std::marker::Model;
 
 /// A receipt in 12 bytes, half the size of a [`Receipt`], since its numbers have 32 bits. The lists
 /// of a run store receipts in this form.
-#[derive(Debug, Drop)]
+#[derive(Drop)]
 pub struct KeptReceipt {
     number: u32,
     kind: Kind,
@@ -18,7 +18,7 @@ pub struct KeptReceipt {
 }
 
 /// The kind of an event.
-#[derive(Clone, Copy, Debug, PartialEq, Eq)]
+#[derive(Clone, Copy, PartialEq, Eq)]
 enum Kind {
     Client,
     Job,

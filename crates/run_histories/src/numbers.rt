@@ -12,7 +12,7 @@ use std::alloc::{AllocError, Global};
 
 /// The numbers of jobs and units of work of a complete run, and an upper bound of the number of its
 /// events. Each number saturates at `u64::MAX`.
-#[derive(Clone, Copy, Debug, PartialEq, Eq)]
+#[derive(Clone, Copy, PartialEq, Eq)]
 pub struct RunNumbers {
     /// The number of jobs that clients and jobs submit.
     pub jobs: u64,

@@ -16,7 +16,7 @@ use std::alloc::{AllocError, Global};
 
 /// The owner of an event: a client, or a pool, whose threads take jobs and perform the actions of
 /// jobs.
-#[derive(Clone, Copy, Debug, PartialEq, Eq)]
+#[derive(Clone, Copy, PartialEq, Eq)]
 pub enum Owner {
     Client(usize),
     Pool(usize),

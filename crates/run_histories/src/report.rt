@@ -10,7 +10,7 @@ use interleaving::Event;
 use std::marker::Model;
 
 /// The report of a run that was performed and checked.
-#[derive(Debug, Drop)]
+#[derive(Drop)]
 pub struct RunReport {
     /// The number of jobs created.
     pub jobs: u64,
@@ -62,7 +62,7 @@ impl RunFault {
 }
 
 /// The reason why the threads of a run end early.
-#[derive(Clone, Copy, Debug, PartialEq, Eq)]
+#[derive(Clone, Copy, PartialEq, Eq)]
 pub enum ThreadFault {
     /// Memory ran out, or a thread could not be started.
     Memory,
@@ -84,7 +84,7 @@ impl ThreadFault {
 
 /// The results of the threads of a run: the history, the receipts of each thread, and the fault
 /// that a thread reported. If several did, it is the fault with the lowest number.
-#[derive(Debug, Drop)]
+#[derive(Drop)]
 pub struct Met {
     pub history: Vec<Event>,
     pub receipts: Vec<Vec<KeptReceipt>>,

@@ -1,7 +1,7 @@
 //! The causes for which no sizes are enough.
 
 /// A cause for which no certificate accepts a plan with any sizes.
-#[derive(Clone, Copy, Debug, PartialEq, Eq)]
+#[derive(Clone, Copy, PartialEq, Eq)]
 pub enum Cause {
     /// The class of this number submits itself, directly or through other classes.
     Circle(usize),

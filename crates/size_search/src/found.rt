@@ -8,7 +8,7 @@ use size_causes::Cause;
 use std::alloc::AllocError;
 
 /// The result of a search for sizes.
-#[derive(Debug, Drop)]
+#[derive(Drop)]
 pub enum SizesFound {
     /// A plan with new sizes, and a certificate that accepts it.
     Found { plan: Plan, cert: Cert },
@@ -17,7 +17,7 @@ pub enum SizesFound {
 }
 
 /// The reason why no sizes were found.
-#[derive(Clone, Copy, Debug, PartialEq, Eq)]
+#[derive(Clone, Copy, PartialEq, Eq)]
 pub enum NoSizes {
     /// A cause that holds of the plan, and for which no certificate accepts any sizes. The plan can
     /// still be safe.

@@ -22,7 +22,7 @@ use std::sync::Wait;
 use std::thread::Threads;
 
 /// The answer of `ask`, and the text of the certificate that proves it, if there is one.
-#[derive(Debug, Drop)]
+#[derive(Drop)]
 pub struct Replied {
     pub output: Output,
     /// The certificate's text, with a newline at its end. `None` if the answer needs no certificate

@@ -8,7 +8,7 @@ use crate::answer::Answer;
 use std::marker::Model;
 
 /// An answer as bytes. Unlike an [`Answer`], it can hold bytes of the input that are not UTF-8.
-#[derive(Debug, Drop)]
+#[derive(Drop)]
 pub struct Output {
     pub bytes: Vec<u8>,
     pub status: Status,

@@ -6,7 +6,7 @@ ghost use Rattle.weights.specs.AtGet.{get_rule};
 use crate::Rule;
 
 /// The part of a job's weight that a get returns to its actor.
-#[derive(Clone, Copy, Debug, PartialEq, Eq)]
+#[derive(Clone, Copy, PartialEq, Eq)]
 pub enum AtGet {
     /// The whole weight of the done job, as in standing and blocked vectors.
     GivesBack,

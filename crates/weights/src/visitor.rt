@@ -19,7 +19,7 @@ pub trait RowVisitor {
 }
 
 /// A visitor that finds the first row that fails. Allocates nothing.
-#[derive(Clone, Copy, Debug)]
+#[derive(Clone, Copy)]
 pub struct FirstFault {
     /// The first failing row so far.
     pub found: Option<RowFault>,

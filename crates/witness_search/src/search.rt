@@ -21,7 +21,7 @@ const GUIDED_WALKS: usize = 256;
 const CHANCE_WALKS: usize = 1500;
 
 /// Events that are probably a witness.
-#[derive(Debug, Drop)]
+#[derive(Drop)]
 pub struct SupposedWitness {
     /// The events, from the plan's start.
     pub events: Vec<Event>,
@@ -31,7 +31,7 @@ pub struct SupposedWitness {
 }
 
 /// The result of a search.
-#[derive(Debug, Drop)]
+#[derive(Drop)]
 pub struct Searched {
     /// A probable witness, if one was found.
     pub found: Option<SupposedWitness>,

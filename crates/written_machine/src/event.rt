@@ -16,7 +16,7 @@ pub enum Event {
 }
 
 /// The outcome of a possible event.
-#[derive(Clone, Copy, Debug, PartialEq, Eq)]
+#[derive(Clone, Copy, PartialEq, Eq)]
 pub enum Outcome {
     /// A submit created the job with this number, and a new thread runs it.
     Started(usize),
