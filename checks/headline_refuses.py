@@ -127,7 +127,7 @@ def attempt(bug, folder):
     why = first_refusal(said)
     if not tells(why, UNPROVED):
         return False, f"{bug.refuses} can't be checked", why
-    if not any(ERROR in line and f"/laws/{bug.law}/" in line for line in said):
+    if not any(ERROR in line and f"laws/{bug.law}/" in line for line in said):
         return False, f"{bug.refuses} is refused, but not its {bug.law}", why
     return True, f"refused by {bug.refuses}, where {bug.law} is not proved", why
 

@@ -1,7 +1,7 @@
 //! The text for a plan that a certificate accepts.
 
 ghost use Rattle.std.specs.Prelude.{◌≡◌, ◌++◌, IfOk, IsTrue, OnOk, map, string_bytes};
-ghost use Rattle.decimals.specs.Pushed.{Pushes};
+ghost use Rattle.support.specs.Pushed.{Pushes};
 ghost use Rattle.weights.specs.Vector.{vector_fits};
 ghost use Rattle.ask_answers.specs.Places as places;
 ghost use Rattle.ask_answers.specs.SafeText as spec;

@@ -1,7 +1,7 @@
 //! The answer as text.
 
 ghost use Rattle.std.specs.Prelude.{IfOk, string_bytes};
-ghost use Rattle.decimals.specs.Pushed.{Pushes};
+ghost use Rattle.support.specs.Pushed.{Pushes};
 ghost use Rattle.ask_answers.specs.Told as spec;
 
 use crate::finding::PlanFinding;

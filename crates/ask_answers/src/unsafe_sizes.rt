@@ -1,6 +1,6 @@
 //! The advice for a plan whose declared sizes are not safe, or not shown to be.
 
-ghost use Rattle.decimals.specs.Pushed.{Pushes};
+ghost use Rattle.support.specs.Pushed.{Pushes};
 ghost use Rattle.ask_answers.specs.AdviceText as spec;
 
 use job_bodies::{Plan, Pool};

@@ -1,7 +1,7 @@
 -- No class of an accepted plan submits itself, because the classes that a class submits have lower levels.
 use Rattle.std.proofs.Common.{◌≡◌, ℕ, suc, ◌<◌, List, [], ◌∷◌, get_or, slice_get, Some, ⊎_elim, refl, sym, subst, arith}
-use Rattle.numbered_lists.specs.In.{In, here, there}
-use Rattle.numbered_lists.proofs.Members.{not_In_nil, In-cons_cases}
+use Rattle.support.specs.In.{In, here, there}
+use Rattle.support.proofs.Members.{not_In_nil, In-cons_cases}
 use Rattle.job_bodies.specs.declared.action.Action.{Action}
 use Rattle.job_bodies.specs.declared.action.Action.TheVariants.{Submit}
 use Rattle.job_bodies.specs.Plan.{Class, Plan, no_class, class_at}

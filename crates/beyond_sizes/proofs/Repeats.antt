@@ -1,8 +1,8 @@
 -- A client that repeats loses no weight, so it causes no submit that is never got.
 use Rattle.std.proofs.Common.{◌≡◌, ℕ, zero, suc, ◌<◌, ◌≤◌, true, false, List, length, filter, slice_get, Some, refl, sym, subst, arith}
 use Rattle.std.proofs.lemmas.Option.{get_or_from_slice_get}
-use Rattle.numbered_lists.specs.In.{In}
-use Rattle.numbered_lists.proofs.Members.{In-map_from, In-filter_from}
+use Rattle.support.specs.In.{In}
+use Rattle.support.proofs.Members.{In-map_from, In-filter_from}
 use Rattle.job_bodies.specs.declared.action.Action.{Action}
 use Rattle.job_bodies.specs.declared.action.Action.TheVariants.{Submit}
 use Rattle.job_bodies.specs.Plan.{Client, Plan, no_client, class_at, client_at, is_got}

@@ -1,10 +1,10 @@
 //! Texts of events, and the lines that answer them.
 
-use decimals::Counter;
 use event_lines::{BadEventLine, EventLine, EventLines, Reply, push_reply, push_summary};
 use job_bodies::{Plan, Pool};
 use std::alloc::Global;
 use std::test::Fail;
+use support::Counter;
 use written_machine::{Event, Outcome};
 
 fn plan_of_p_and_q(alloc: Global) -> Result<Plan, Fail> {

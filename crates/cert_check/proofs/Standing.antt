@@ -3,7 +3,7 @@ use Rattle.std.proofs.Common.{◌≡◌, ◌<◌, ◌≤◌, ℕ, Bool, true, fa
 use Rattle.std.specs.List.{list_all, enumerate_from}
 use Rattle.std.proofs.lemmas.Bool.{and_from, and_parts, ltb-false}
 use Rattle.std.proofs.lemmas.Option.{slice_get-get_or}
-use Rattle.numbered_lists.proofs.Members.{In-enumerate_from, list_all_at_In}
+use Rattle.support.proofs.Members.{In-enumerate_from, list_all_at_In}
 use Rattle.job_bodies.specs.Plan.{Plan, no_pool, pool_at}
 use Rattle.job_bodies.specs.WellFormed.{IsWellFormed}
 use Rattle.weights.specs.declared.row.Row.{Row}

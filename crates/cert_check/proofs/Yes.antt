@@ -1,6 +1,6 @@
 -- The meaning of a yes for the texts of a plan and a certificate.
 use Rattle.std.proofs.Common.{◌≡◌, ℕ, List, Ok, IsTrue}
-use Rattle.readings.proofs.Steps.{bind_ok}
+use Rattle.support.proofs.Steps.{bind_ok}
 use Rattle.job_bodies.specs.Plan.{Plan}
 use Rattle.job_bodies.specs.WellFormed.{IsWellFormed}
 use Rattle.plan_text.specs.Document.{document_of}

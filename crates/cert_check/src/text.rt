@@ -2,7 +2,7 @@
 
 ghost use Rattle.job_bodies.specs.Plan.{pool_at};
 ghost use Rattle.cert_check.specs.Text as spec;
-ghost use Rattle.decimals.specs.Pushed.{Pushes};
+ghost use Rattle.support.specs.Pushed.{Pushes};
 
 use crate::{PoolLine, Verdict};
 use job_bodies::Plan;

@@ -1,7 +1,7 @@
 //! Reading the text of a plan and then that of a certificate for it.
 
 ghost use Rattle.std.specs.Prelude.{◌≡◌, ◌≢◌, IfOk, IfErr, IsTrue, Ok, Err};
-ghost use Rattle.faults.specs.declared.number.TheConstants.{MEMORY};
+ghost use Rattle.support.specs.declared.number.TheConstants.{MEMORY};
 ghost use Rattle.job_bodies.specs.Checks.{at_text};
 ghost use Rattle.plan_text.specs.PlanOf.{plan_of};
 ghost use Rattle.certificates.specs.Cert.{cert_fits};
@@ -12,10 +12,10 @@ ghost use Rattle.cert_check.specs.Check.{checked};
 use crate::CheckFault;
 use cert_text::{CertFault, read_cert};
 use certificates::Cert;
-use faults::number::MEMORY;
 use job_bodies::{Plan, PlanFault};
 use plan_text::read_plan;
 use std::alloc::Global;
+use support::number::MEMORY;
 
 impl From<PlanFault> for CheckFault {
     ghost from_gives = { λ fault told. ((fault ≡ at_text MEMORY) → (told ≡ check_fault.Memory)) × ((fault ≢ at_text MEMORY) → (told ≡ check_fault.Plan fault)) };

@@ -4,9 +4,9 @@ use Rattle.std.specs.List.{list_all, enumerate_from}
 use Rattle.std.proofs.lemmas.Bool.{and_from, and_parts, eqb-true, eq-eqb}
 use Rattle.std.proofs.lemmas.Option.{slice_get-get_or, slice_get_within, get_or_from_slice_get}
 use Rattle.serde_json.specs.Data.{Data}
-use Rattle.readings.specs.Reading.{holds_or, some_or}
-use Rattle.readings.proofs.Steps.{bind_ok, holds_ok, given_same}
-use Rattle.readings.proofs.Laws.{read_length, read_at}
+use Rattle.support.specs.Reading.{holds_or, some_or}
+use Rattle.support.proofs.Steps.{bind_ok, holds_ok, given_same}
+use Rattle.support.proofs.ReadElements.{read_length, read_at}
 use Rattle.job_bodies.specs.Plan.{Plan, Class, Client, no_class, no_client}
 use Rattle.job_bodies.proofs.Passing.{EachPlace, both_passed, list_all_from, list_all_enumerated_from}
 use Rattle.weights.specs.declared.bound.Bound.{Bound}
@@ -19,7 +19,7 @@ use Rattle.cert_text.specs.declared.fault.CertFault.{CertFault}
 use Rattle.cert_text.specs.declared.version.Version.{Version}
 use Rattle.cert_text.specs.declared.version.Version.TheVariants.{One, Two}
 use Rattle.cert_text.specs.Values.{fault, wrong_shape, number_of, as_list, elements_of, check_keys, value_at}
-use Rattle.faults.specs.declared.number.TheConstants.{WEIGHT_TOO_LARGE}
+use Rattle.support.specs.declared.number.TheConstants.{WEIGHT_TOO_LARGE}
 use Rattle.cert_text.specs.Version.{version_of}
 use Rattle.cert_text.specs.Vectors.{numbers_of, class_points, client_points, class_rows, client_rows, vector_of}
 use Rattle.cert_text.specs.Canonical.{AreRows}

@@ -7,7 +7,7 @@ use Rattle.std.proofs.lemmas.List.{length-map}
 use Rattle.std.proofs.lemmas.Option.{slice_get-get_or, slice_get_within, get_or_from_slice_get}
 use Rattle.serde_json.specs.Data.{Data}
 use Rattle.serde_json.specs.Read.{read}
-use Rattle.readings.specs.Reading.{read_each}
+use Rattle.support.specs.Reading.{read_each}
 use Rattle.job_bodies.specs.Plan.{Plan, Class, Client, no_class, no_client}
 use Rattle.job_bodies.proofs.Passing.{EachPlace, list_all_from, list_any_get}
 use Rattle.weights.specs.declared.bound.Bound.{Bound}

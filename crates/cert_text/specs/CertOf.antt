@@ -3,8 +3,8 @@ use Rattle.std.specs.Prelude.{ℕ, nat_le, List, length, Result, Ok}
 use Rattle.std.specs.Str.{is_utf8}
 use Rattle.serde_json.specs.Data.{Data}
 use Rattle.serde_json.specs.Read.{read}
-use Rattle.faults.specs.declared.number.TheConstants.{NOT_JSON, WEIGHT_TOO_LARGE, CERT_TOO_LONG}
-use Rattle.readings.specs.Reading.{◌>>=◌, holds_or, some_or}
+use Rattle.support.specs.declared.number.TheConstants.{NOT_JSON, WEIGHT_TOO_LARGE, CERT_TOO_LONG}
+use Rattle.support.specs.Reading.{◌>>=◌, holds_or, some_or}
 use Rattle.job_bodies.specs.Plan.{Plan}
 use Rattle.certificates.specs.Cert.{Cert}
 use Rattle.cert_text.specs.declared.fault.CertFault.{CertFault}

@@ -2,7 +2,7 @@
 use Rattle.std.specs.Prelude.{List, length, codes, Option, Some, None, Result, Ok}
 use Rattle.serde_json.specs.Data.{Data}
 use Rattle.serde_json.specs.Find.{get}
-use Rattle.readings.specs.Reading.{◌>>=◌, read_each}
+use Rattle.support.specs.Reading.{◌>>=◌, read_each}
 use Rattle.job_bodies.specs.Plan.{Plan}
 use Rattle.weights.specs.declared.bound.Bound.{Bound}
 use Rattle.weights.specs.declared.bound.Bound.TheVariants.{Standing, Lifetime}

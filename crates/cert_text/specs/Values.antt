@@ -3,8 +3,8 @@
 use Rattle.std.specs.Prelude.{ℕ, suc, ◌==◌, List, [], ◌∷◌, length, option_map, option_and_then, Option, Result, Ok}
 use Rattle.serde_json.specs.Data.{Data, Items, no_items, item, Members, no_members, member}
 use Rattle.serde_json.specs.Find.{get, as_number, as_u64, as_array, as_object}
-use Rattle.faults.specs.declared.number.TheConstants.{WRONG_SHAPE}
-use Rattle.readings.specs.Reading.{◌>>=◌, holds_or, some_or}
+use Rattle.support.specs.declared.number.TheConstants.{WRONG_SHAPE}
+use Rattle.support.specs.Reading.{◌>>=◌, holds_or, some_or}
 use Rattle.cert_text.specs.declared.fault.CertFault.{CertFault}
 
 abbrev pub fault : ℕ → CertFault

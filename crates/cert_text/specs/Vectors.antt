@@ -1,7 +1,7 @@
 -- A vector of a certificate's text: numbers for the workers, and rows for the classes and for the kinds of client.
 use Rattle.std.specs.Prelude.{ℕ, ◌+◌, List, length, codes, Result, Ok}
 use Rattle.serde_json.specs.Data.{Data}
-use Rattle.readings.specs.Reading.{◌>>=◌, read_each}
+use Rattle.support.specs.Reading.{◌>>=◌, read_each}
 use Rattle.job_bodies.specs.Plan.{Plan, class_at, client_at}
 use Rattle.weights.specs.Vector.{Vector}
 use Rattle.cert_text.specs.declared.fault.CertFault.{CertFault}

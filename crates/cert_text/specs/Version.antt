@@ -1,8 +1,8 @@
 -- The version of a certificate's text.
 use Rattle.std.specs.Prelude.{ℕ, ◌==◌, if◌then◌else◌, codes, Result, Ok, Err}
 use Rattle.serde_json.specs.Data.{Data}
-use Rattle.faults.specs.declared.number.TheConstants.{VERSION}
-use Rattle.readings.specs.Reading.{◌>>=◌}
+use Rattle.support.specs.declared.number.TheConstants.{VERSION}
+use Rattle.support.specs.Reading.{◌>>=◌}
 use Rattle.cert_text.specs.declared.fault.CertFault.{CertFault}
 use Rattle.cert_text.specs.declared.version.Version.{Version}
 use Rattle.cert_text.specs.declared.version.Version.TheVariants.{One, Two}

@@ -8,8 +8,8 @@ ghost use Rattle.cert_text.specs.CertText.{numbers_data};
 ghost use Rattle.cert_text.specs.Canonical.{BeginsAs};
 
 use job_bodies::MAX_WEIGHT;
-use readings::ReadError;
 use std::alloc::Global;
+use support::ReadError;
 
 /// The fault of a text that is not in the form that `write_cert` writes. It gives no further
 /// reason.

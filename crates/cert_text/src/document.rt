@@ -1,15 +1,15 @@
 //! The JSON value of a certificate's text.
 
-ghost use Rattle.readings.specs.Given.{Gives};
+ghost use Rattle.support.specs.Given.{Gives};
 ghost use Rattle.serde_json.specs.View.{view};
 ghost use Rattle.cert_text.specs.CertOf as spec;
 
 use crate::fault::{CertError, fault};
-use faults::number::{CERT_TOO_LONG, NOT_JSON};
 use job_bodies::MAX_CERT_BYTES;
-use readings::ReadError;
 use serde_json::Value;
 use std::alloc::Global;
+use support::ReadError;
+use support::number::{CERT_TOO_LONG, NOT_JSON};
 
 /// Parses the bytes as JSON.
 #[tactic(auto, unfolding(crate::specs::CertOf::document_of))]

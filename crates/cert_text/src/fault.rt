@@ -1,14 +1,13 @@
 //! The faults of a certificate's text.
 
 ghost use Rattle.std.specs.Prelude.{◌≡◌, Some};
-ghost use Rattle.faults.specs.Name.{head};
-ghost use Rattle.readings.specs.declared.read_error.ReadError.TheVariants.{Fault};
+ghost use Rattle.support.specs.Name.{head};
+ghost use Rattle.support.specs.declared.read_error.ReadError.TheVariants.{Fault};
 ghost use Rattle.cert_text.specs.Values as spec;
 
-use faults::Head;
-use faults::number::WRONG_SHAPE;
-use readings::ReadError;
 use std::fmt;
+use support::number::WRONG_SHAPE;
+use support::{Head, ReadError};
 
 /// The first fault of a certificate's text.
 #[derive(Clone, Copy, Debug, PartialEq, Eq)]

@@ -2,14 +2,14 @@
 
 ghost use Rattle.std.specs.Prelude.{◌≡◌, ◌++◌, map, codes};
 ghost use Rattle.serde_json.specs.Written.{comma_if, compact_text};
-ghost use Rattle.decimals.specs.Pushed.{Pushes};
+ghost use Rattle.support.specs.Pushed.{Pushes};
 ghost use Rattle.cert_text.specs.CertText as spec;
 ghost use Rattle.cert_text.specs.Canonical.{bound_text};
 
 use certificates::PoolCert;
-use decimals::push_number;
 use pool_ranks::Ranks;
 use std::alloc::AllocError;
+use support::push_number;
 use weights::{Bound, Vector};
 
 /// Appends a comma if the next list element is not the first.

@@ -1,7 +1,7 @@
 //! Parsing a certificate.
 
 ghost use Rattle.std.specs.Prelude.{◌≡◌, ◌≢◌, IfOk, IfErr, IsTrue, Ok, Err};
-ghost use Rattle.readings.specs.Given.{Gives};
+ghost use Rattle.support.specs.Given.{Gives};
 ghost use Rattle.certificates.specs.Cert.{cert_fits};
 ghost use Rattle.serde_json.specs.View.{view};
 ghost use Rattle.cert_text.specs.CertOf as spec;
@@ -13,11 +13,11 @@ use crate::shape::shape_of;
 use crate::sizes::has_small_numbers;
 use crate::version::version_of;
 use certificates::Cert;
-use faults::number::{MEMORY, WEIGHT_TOO_LARGE};
 use job_bodies::Plan;
-use readings::ReadError;
 use serde_json::Value;
 use std::alloc::Global;
+use support::ReadError;
+use support::number::{MEMORY, WEIGHT_TOO_LARGE};
 
 /// Parses a certificate for this plan.
 ///

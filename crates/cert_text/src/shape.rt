@@ -2,8 +2,8 @@
 //! list.
 
 ghost use Rattle.std.specs.Prelude.{map, option_map};
-ghost use Rattle.readings.specs.Reading.{read_each};
-ghost use Rattle.readings.specs.Given.{Gives};
+ghost use Rattle.support.specs.Reading.{read_each};
+ghost use Rattle.support.specs.Given.{Gives};
 ghost use Rattle.serde_json.specs.View.{view};
 ghost use Rattle.cert_text.specs.Shape as spec;
 

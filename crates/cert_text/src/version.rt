@@ -2,7 +2,7 @@
 
 ghost use Rattle.std.specs.Prelude.{◌≡◌};
 ghost use Rattle.std.specs.List.{list_any};
-ghost use Rattle.readings.specs.Given.{Gives};
+ghost use Rattle.support.specs.Given.{Gives};
 ghost use Rattle.serde_json.specs.View.{view};
 ghost use Rattle.weights.specs.Bound.{is_lifetime};
 ghost use Rattle.cert_text.specs.CertText.{version_number};
@@ -11,8 +11,8 @@ ghost use Rattle.cert_text.specs.Version as spec;
 use crate::fault::{CertError, fault};
 use crate::values::{number_of, value_at};
 use certificates::{Cert, PoolCert};
-use faults::number::VERSION;
 use serde_json::Value;
+use support::number::VERSION;
 
 /// A supported version.
 #[derive(Clone, Copy, PartialEq, Eq)]

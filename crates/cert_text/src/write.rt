@@ -5,15 +5,15 @@ ghost use Rattle.job_bodies.specs.Plan.{Plan};
 ghost use Rattle.certificates.specs.Cert.{cert_fits};
 ghost use Rattle.job_bodies.specs.declared.limits.TheConstants.{MAX_CERT_BYTES};
 ghost use Rattle.cert_text.specs.CertOf.{cert_of};
-ghost use Rattle.decimals.specs.Pushed.{Pushes};
+ghost use Rattle.support.specs.Pushed.{Pushes};
 ghost use Rattle.cert_text.specs.CertText as spec;
 ghost use Rattle.cert_text.specs.Canonical.{version_text};
 
 use crate::parts::{push_pools, push_ranks};
 use crate::version::version_number;
 use certificates::Cert;
-use decimals::push_number;
 use std::alloc::{AllocError, Global};
+use support::push_number;
 
 /// Writes a certificate as compact JSON, with the keys of each object in ascending order and no
 /// newline. The version is 2 if a pool has a lifetime vector, and 1 otherwise.

@@ -3,7 +3,7 @@ use Rattle.std.proofs.Common.{◌≡◌, ℕ, ◌<◌, true, ◌&&◌, eqb, leng
 use Rattle.std.specs.Prelude.{IsTrue}
 use Rattle.std.specs.List.{list_all}
 use Rattle.std.proofs.lemmas.Bool.{and_parts, eqb-true}
-use Rattle.numbered_lists.proofs.Members.{In-get_or, list_all_at_In}
+use Rattle.support.proofs.Members.{In-get_or, list_all_at_In}
 use Rattle.job_bodies.specs.Plan.{Plan}
 use Rattle.weights.specs.Vector.{vector_fits}
 use Rattle.weights.specs.Bound.{bound_vector}

@@ -1,7 +1,7 @@
 -- The kinds of the open rounds.
 use Rattle.std.specs.Prelude.{◌≡◌, ℕ, ◌==◌, if◌then◌else◌, List, Option, Some, None}
 use Rattle.std.specs.Option.{option_and_then}
-use Rattle.number_tables.specs.Numbered.{value_at}
+use Rattle.support.specs.Numbered.{value_at}
 use Rattle.recording_lines.specs.declared.recording_line.RecordedActor.TheVariants.{Round}
 use Rattle.recording_lines.specs.RecordingLine.{RecordedLine, RoundBegins, RoundEnds}
 use Rattle.recorded_paths.specs.StandsFor.{is_about}

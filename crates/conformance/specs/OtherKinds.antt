@@ -1,6 +1,6 @@
 -- The rounds that belong to another kind than the first of their label.
 use Rattle.std.specs.Prelude.{◌≡◌, ℕ, true, false, if◌then◌else◌, List, slice_get, string_bytes, Contains, is_some, Option, Some, None}
-use Rattle.number_tables.specs.Numbered.{value_at}
+use Rattle.support.specs.Numbered.{value_at}
 use Rattle.recording_lines.specs.RecordingLine.{RecordedLine}
 use Rattle.job_bodies.specs.Plan.{Plan}
 use Rattle.plan_families.specs.Family.{client_family}

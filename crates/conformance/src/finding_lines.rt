@@ -1,7 +1,7 @@
 //! The findings as text.
 
 ghost use Rattle.std.specs.Prelude.{◌≡◌, ◌++◌};
-ghost use Rattle.decimals.specs.Pushed.{Pushes};
+ghost use Rattle.support.specs.Pushed.{Pushes};
 ghost use Rattle.conformance.specs.FindingText as spec;
 
 use crate::finding::Finding;

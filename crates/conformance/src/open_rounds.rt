@@ -1,7 +1,7 @@
 //! The rounds that have begun and not ended.
 
 ghost use Rattle.std.specs.Prelude.{◌≡◌, ◌++◌, ◌∷◌, [], ℕ, List, Option, OnOk, IfOk};
-ghost use Rattle.number_tables.specs.Numbered.{value_at};
+ghost use Rattle.support.specs.Numbered.{value_at};
 ghost use Rattle.recording_lines.specs.RecordingLine.{RecordedLine, line_seen};
 ghost use Rattle.recorded_paths.specs.StandsFor.{KeepsRules};
 ghost use Rattle.plan_differences.specs.RoundExcesses.{kind_at};
@@ -10,9 +10,9 @@ ghost use Rattle.conformance.specs.OpenRounds as spec;
 
 use crate::other_kinds::OtherKinds;
 use job_bodies::Plan;
-use number_tables::NumberTable;
 use recording_lines::Line;
 use std::alloc::{AllocError, Global};
+use support::NumberTable;
 
 /// The kind of each open round, or `None` for an open round of no kind.
 #[derive(Drop)]

@@ -7,11 +7,11 @@ ghost use Rattle.conformance.specs.FirstKinds as first;
 ghost use Rattle.conformance.specs.OtherKinds as spec;
 
 use job_bodies::Plan;
-use number_tables::NumberTable;
 use plan_families::first_client;
 use recorded_classes::Settled;
 use recording_lines::RecordedActor;
 use std::alloc::{AllocError, Global};
+use support::NumberTable;
 
 /// The kinds of the rounds that belong to another kind than the first of their label.
 #[derive(Drop)]

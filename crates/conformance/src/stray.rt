@@ -1,11 +1,11 @@
 //! An actor whose path matches no body of the plan, and its description as text.
 
-ghost use Rattle.decimals.specs.Pushed.{Pushes};
+ghost use Rattle.support.specs.Pushed.{Pushes};
 ghost use Rattle.conformance.specs.Stray as spec;
 
-use decimals::push_number;
 use recording_lines::RecordedActor;
 use std::alloc::AllocError;
+use support::push_number;
 
 /// An actor whose label is in the plan and whose path matches none of the bodies of that label.
 #[derive(Drop)]

@@ -1,7 +1,7 @@
 -- The parser returns the lines of the text in order.
 use Rattle.std.proofs.Common.{◌≡◌, ℕ, zero, suc, ◌+◌, ◌<◌, ◌≤◌, List, [], ◌∷◌, length, map, Option, Some, None, refl, sym, ap, ap₂, ◌∙◌, arith}
 use Rattle.std.proofs.lemmas.List.{length-map, nil_from_length}
-use Rattle.readings.specs.Reading.{read_each}
+use Rattle.support.specs.Reading.{read_each}
 use Rattle.job_bodies.specs.Plan.{Plan}
 use Rattle.line_words.specs.Pieces.{lines_of, first_line, behind_line}
 use Rattle.event_lines.specs.EventLine.{Line, line_of, line_at, event_lines, split_event_line, lines_read, all_from}

@@ -5,7 +5,7 @@ use Rattle.std.proofs.lemmas.Bool.{and_parts, and_from}
 use Rattle.std.proofs.lemmas.Bool.Decides.{nat_tests}
 use Rattle.std.proofs.lemmas.List.{length_push}
 use Rattle.std.proofs.lemmas.List.Splits.{join_with_byte-slice_split, length-slice_split}
-use Rattle.readings.specs.Reading.{◌>>=◌, some_or, read_each}
+use Rattle.support.specs.Reading.{◌>>=◌, some_or, read_each}
 use Rattle.job_bodies.specs.Plan.{Plan, Pool, pool_names}
 use Rattle.job_bodies.specs.WellFormed.{is_name_byte, is_lawful_name, is_lawful_pool, has_lawful_sizes, are_distinct}
 use Rattle.line_words.specs.Pieces.{is_newline, without_last_newline, lines_of}

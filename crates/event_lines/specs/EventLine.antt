@@ -1,7 +1,7 @@
 -- The content of an event line: an event, or the question whether some jobs wait only for each other.
 use Rattle.std.specs.Prelude.{ℕ, ◌+◌, if◌then◌else◌, List, map, position, codes, Option, Some, None, Result, Ok, Err, option_map, option_and_then}
 use Rattle.std.specs.Str.{bytes_eq}
-use Rattle.readings.specs.Reading.{some_or, read_each}
+use Rattle.support.specs.Reading.{some_or, read_each}
 use Rattle.job_bodies.specs.Plan.{Plan}
 use Rattle.written_machine.specs.declared.event.Event.{Event}
 use Rattle.written_machine.specs.declared.event.Event.TheVariants as event

@@ -1,12 +1,12 @@
 //! The replies to event lines.
 
 ghost use Rattle.std.specs.Prelude.{◌++◌, codes, decimal};
-ghost use Rattle.decimals.specs.Pushed.{Pushes};
+ghost use Rattle.support.specs.Pushed.{Pushes};
 ghost use Rattle.event_lines.specs.Reply.{numbered, outcome_text, reply_text, summary};
 
-use decimals::{Counter, push_number};
 use job_bodies::Plan;
 use std::alloc::AllocError;
+use support::{Counter, push_number};
 use written_machine::Outcome;
 
 /// The reply to an event line.

@@ -3,8 +3,8 @@ use Rattle.std.proofs.Common.{◌≡◌, ℕ, ◌<◌, ◌≤◌, ◌-◌, ⊎_e
 use Rattle.std.specs.List.{enumerate_from, list_all}
 use Rattle.std.proofs.lemmas.Bool.{and_parts, and_from, ltb-false, le-ltb, cases_Bool, false≢true}
 use Rattle.std.proofs.lemmas.List.Folds.{list_all-append}
-use Rattle.numbered_lists.specs.In.{In, here}
-use Rattle.numbered_lists.proofs.Members.{In-append_left, In-append_right, In-append_cases, In-push_cases, In-map, In-map_from, In-flat_map_from, In-filter, In-filter_from, list_all_at_In, list_all_from_In}
+use Rattle.support.specs.In.{In, here}
+use Rattle.support.proofs.Members.{In-append_left, In-append_right, In-append_cases, In-push_cases, In-map, In-map_from, In-flat_map_from, In-filter, In-filter_from, list_all_at_In, list_all_from_In}
 use Rattle.job_bodies.specs.declared.action.Action.{Action}
 use Rattle.job_bodies.specs.declared.action.Action.TheVariants.{Work, Submit, Get}
 use Rattle.job_bodies.specs.Plan.{Pool, Class, Client, Plan, pool_at}

@@ -2,8 +2,8 @@
 use Rattle.std.proofs.Common.{◌≡◌, ℕ, ◌+◌, ◌<◌, ◌≤◌, ⊎_elim, Bool, true, false, cond, ltb, List, [], ◌∷◌, length, filter, flat_map, Option, Some, None, refl, sym, ap, subst, ◌∙◌, arith}
 use Rattle.std.specs.List.{enumerate_from}
 use Rattle.std.proofs.lemmas.Bool.{and_from, ltb-false, le-ltb}
-use Rattle.numbered_lists.specs.In.{In, here, there}
-use Rattle.numbered_lists.proofs.Members.{not_In_nil, In-cons_cases, In-append_cases, In-map_from, In-flat_map_from}
+use Rattle.support.specs.In.{In, here, there}
+use Rattle.support.proofs.Members.{not_In_nil, In-cons_cases, In-append_cases, In-map_from, In-flat_map_from}
 use Rattle.job_bodies.specs.Plan.{Pool, Plan}
 use Rattle.weights.specs.declared.row.Row.{Row}
 use Rattle.weights.specs.Row.{fails, first_failing, AllHold}

@@ -12,9 +12,9 @@ use Rattle.live_views.specs.LiveView.{phase_seen, job_with, View, live_view}
 use Rattle.live_views.specs.ViewStep.{is_unfinished_job, may_ask_for, no_pool_view, pool_in}
 use Rattle.live_views.proofs.View.{view_at, length-pools, pool_at_view}
 use Rattle.interleaving.specs.OfPlan.{IsOf, WaitsAtHead}
-use Rattle.numbered_lists.specs.In.{In, here}
-use Rattle.numbered_lists.specs.Places.{places_where}
-use Rattle.numbered_lists.proofs.Places.{place_at_In}
+use Rattle.support.specs.In.{In, here}
+use Rattle.support.specs.Places.{places_where}
+use Rattle.support.proofs.PassingPlaces.{place_at_In}
 use Rattle.pool_machine.specs.PoolState.{PoolView, taken, taken_from}
 use Rattle.written_machine.specs.declared.parent.Parent.TheVariants as parent
 use Rattle.written_machine.proofs.Reached.{kept}

@@ -5,8 +5,8 @@ use Rattle.std.proofs.lemmas.Bool.{cases_Bool, cases_eq, both_ways, false_from_n
 use Rattle.std.proofs.lemmas.List.{get_or-set_same, get_or-set_other}
 use Rattle.std.proofs.lemmas.List.Sums.{sum_by-cons, count_by-le-length}
 use Rattle.std.proofs.lemmas.List.Folds.{list_any-append}
-use Rattle.numbered_lists.specs.Places.{cons_if, places_from, places_where}
-use Rattle.numbered_lists.proofs.Places.{length-places}
+use Rattle.support.specs.Places.{cons_if, places_from, places_where}
+use Rattle.support.proofs.PassingPlaces.{length-places}
 use Rattle.job_bodies.specs.Plan.{Plan}
 use Rattle.pool_machine.specs.PoolState.{PoolView}
 use Rattle.written_machine.specs.State.{State, pool_of, is_busy_in, busy}

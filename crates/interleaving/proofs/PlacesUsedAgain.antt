@@ -2,7 +2,7 @@
 use Rattle.std.proofs.Common.{◌≡◌, ℕ, ◌+◌, ◌≤◌, ◌==◌, true, cond, if◌then◌else◌, List, [], ◌∷◌, ◌++◌, length, map, get_or, count_by, is_some, Option, Some, None, inl, inr, ⊎_elim, refl, ap, ◌∙◌, arith}
 use Rattle.std.proofs.lemmas.Bool.{cases_lt, cases_Bool, eqb-true}
 use Rattle.std.proofs.lemmas.List.{set_past, length-map, length_push}
-use Rattle.numbered_lists.proofs.Sums.{count_by-set, count_by-map, count_by-le}
+use Rattle.support.proofs.Sums.{count_by-set, count_by-map, count_by-le}
 use Rattle.written_machine.specs.declared.parent.Parent.{Parent}
 use Rattle.written_machine.specs.declared.parent.Parent.TheVariants as parent
 use Rattle.live_views.specs.declared.job_view.Phase.{Phase}

@@ -2,8 +2,8 @@
 use Rattle.std.proofs.Common.{◌≡◌, ℕ, ◌==◌, ◌&&◌, not, Bool, true, false, IsTrue, ◌↔◌, List, [], ◌∷◌, length, Option, Some, None, refl, sym, ap, subst, ◌∙◌, eq-eqb}
 use Rattle.std.specs.List.{list_all}
 use Rattle.std.proofs.lemmas.Bool.{both_ways, false_from_ne_true, and_parts, eqb-true}
-use Rattle.numbered_lists.specs.In.{In}
-use Rattle.numbered_lists.proofs.Members.{list_all_at_In, list_all_from_In, list_any_at_In, In-from_list_any}
+use Rattle.support.specs.In.{In}
+use Rattle.support.proofs.Members.{list_all_at_In, list_all_from_In, list_any_at_In, In-from_list_any}
 use Rattle.job_bodies.specs.Plan.{Plan}
 use Rattle.job_bodies.specs.WellFormed.{IsWellFormed}
 use Rattle.written_machine.specs.State.{pool_of}

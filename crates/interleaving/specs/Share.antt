@@ -1,6 +1,6 @@
 -- The activity of the members of a set in a pool.
 use Rattle.std.specs.Prelude.{ℕ, ◌+◌, ◌==◌, ◌&&◌, ◌||◌, not, Bool, true, false, List, count_by, slice_index_or, Option}
-use Rattle.numbered_lists.specs.Places.{places_where}
+use Rattle.support.specs.Places.{places_where}
 use Rattle.job_bodies.specs.Plan.{Plan}
 use Rattle.pool_machine.specs.PoolState.{PoolView}
 use Rattle.written_machine.specs.Waiting.{is_member}

@@ -4,7 +4,7 @@ use Rattle.std.specs.List.{enumerate_from}
 use Rattle.std.proofs.lemmas.Bool.{false≢true, false_from_ne_true, cases_eq, ne_eqb}
 use Rattle.std.proofs.lemmas.List.{length_push, get_or_default}
 use Rattle.std.proofs.lemmas.Option.{slice_get_within}
-use Rattle.numbered_lists.proofs.Sums.{sum_by-add, sum_by-le-within}
+use Rattle.support.proofs.Sums.{sum_by-add, sum_by-le-within}
 use Rattle.job_bodies.specs.declared.action.Action.{Action}
 use Rattle.job_bodies.specs.declared.action.Action.TheVariants as action
 use Rattle.job_bodies.specs.Plan.{Plan, class_at}

@@ -3,8 +3,8 @@ use Rattle.std.proofs.Common.{◌≡◌, ◌≢◌, ℕ, ◌+◌, ◌<◌, ◌�
 use Rattle.std.specs.List.{list_any, enumerate_from}
 use Rattle.std.proofs.lemmas.Bool.{and_from, or_left, or_right, cases_eq, eq-eqb, not_from_false}
 use Rattle.std.proofs.lemmas.List.Sums.{sum_by-cons}
-use Rattle.numbered_lists.proofs.Members.{In-filter, In-from_list_any, list_any_at_In}
-use Rattle.numbered_lists.proofs.Sums.{sum_by-le-at}
+use Rattle.support.proofs.Members.{In-filter, In-from_list_any, list_any_at_In}
+use Rattle.support.proofs.Sums.{sum_by-le-at}
 use Rattle.written_machine.specs.declared.parent.Parent.{Parent}
 use Rattle.written_machine.specs.declared.parent.Parent.TheVariants as parent
 use Rattle.written_machine.specs.State.{same_parent}

@@ -5,13 +5,13 @@ use Rattle.std.specs.List.{list_all, list_any, enumerate_from}
 use Rattle.std.specs.Str.{bytes_eq}
 use Rattle.std.proofs.lemmas.Bool.{and_parts, and_from, leb-true, le-leb, not-true, not_from_false}
 use Rattle.std.proofs.lemmas.Option.{slice_get-map}
-use Rattle.readings.specs.Reading.{◌>>=◌, holds_or, check_each}
+use Rattle.support.specs.Reading.{◌>>=◌, holds_or, check_each}
 use Rattle.job_bodies.specs.declared.action.Action.{Action}
 use Rattle.job_bodies.specs.declared.action.Action.TheVariants.{Work, Submit, Get}
 use Rattle.job_bodies.specs.declared.fault.PlanFault.{PlanFault}
 use Rattle.job_bodies.specs.declared.fault.Part.{Part}
 use Rattle.job_bodies.specs.declared.fault.Part.TheVariants as part
-use Rattle.faults.specs.declared.number.TheConstants.{BAD_NUMBER, NO_SUCH_POOL}
+use Rattle.support.specs.declared.number.TheConstants.{BAD_NUMBER, NO_SUCH_POOL}
 use Rattle.job_bodies.specs.declared.limits.TheConstants.{MAX_POOLS, MAX_CLASSES, MAX_ACTIONS, MAX_SIZE}
 use Rattle.job_bodies.specs.Plan.{Class, Client, Plan}
 use Rattle.job_bodies.specs.WellFormed.{is_within, is_lawful_name, has_lawful_sizes, are_distinct, is_lawful_action, is_lawful_pool, is_lawful_class, is_lawful_client, IsWellFormed}

@@ -2,7 +2,7 @@
 use Rattle.std.proofs.Common.{take, ◌≡◌, ◌<◌, ◌+◌, ℕ, Bool, ◌||◌, List, [], ◌∷◌, map, length, get_or, drop, Result, refl, ap, ◌∙◌}
 use Rattle.std.specs.List.{list_any}
 use Rattle.std.proofs.lemmas.List.{at_drop_more, take-map}
-use Rattle.readings.specs.Reading.{◌>>=◌, check_each}
+use Rattle.support.specs.Reading.{◌>>=◌, check_each}
 
 -- one iteration: the element at this index, and then the rest
 pub check_each_turn : {X F : Type 0} (check : ℕ → X → Result (Unit {0}) F) (i : ℕ) (xs : List X) (d : X) → i < length xs → check_each check i (drop i xs) ≡ (check i (get_or xs i d) >>= λ _. check_each check (i + 1) (drop (i + 1) xs))

@@ -2,7 +2,7 @@
 use Rattle.std.proofs.Common.{◌≡◌, ◌+◌, ℕ, zero, suc, Bool, true, false, List, [], ◌∷◌, map, slice_get, Some, Result, Ok, Err, refl, sym, ap, subst, ◌∙◌, arith, zero-add}
 use Rattle.std.specs.List.{list_all, list_any, enumerate_from}
 use Rattle.std.proofs.lemmas.Bool.{and_from, or_parts}
-use Rattle.readings.specs.Reading.{◌>>=◌, holds_or, check_each}
+use Rattle.support.specs.Reading.{◌>>=◌, holds_or, check_each}
 
 -- both steps passed
 pub both_passed : {B F : Type 0} (r : Result (Unit {0}) F) (next : Unit {0} → Result B F) (y : B) → (r >>= next) ≡ Ok y → (r ≡ Ok tt) × (next tt ≡ Ok y)

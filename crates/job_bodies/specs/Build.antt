@@ -1,9 +1,9 @@
 -- The result of `Plan::build`: the plan of these lists, or the first fault.
 use Rattle.std.specs.Prelude.{nat_le, List, length, take, map, Result, Ok}
-use Rattle.readings.specs.Reading.{◌>>=◌, holds_or, check_each}
+use Rattle.support.specs.Reading.{◌>>=◌, holds_or, check_each}
 use Rattle.job_bodies.specs.declared.fault.PlanFault.{PlanFault}
 use Rattle.job_bodies.specs.declared.fault.Part.TheVariants as part
-use Rattle.faults.specs.declared.number.TheConstants.{TOO_MANY}
+use Rattle.support.specs.declared.number.TheConstants.{TOO_MANY}
 use Rattle.job_bodies.specs.declared.limits.TheConstants.{MAX_POOLS, MAX_CLASSES, MAX_CLIENT_KINDS}
 use Rattle.job_bodies.specs.Plan.{Pool, Class, Client, Plan}
 use Rattle.job_bodies.specs.Checks.{at_text, check_pool, check_class, check_client, check_length, check_body}

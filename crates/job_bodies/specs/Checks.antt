@@ -2,13 +2,13 @@
 use Rattle.std.specs.Prelude.{ℕ, not, nat_lt, nat_le, List, length, None, Some, Result}
 use Rattle.std.specs.List.{list_any}
 use Rattle.std.specs.Str.{bytes_eq}
-use Rattle.readings.specs.Reading.{◌>>=◌, holds_or, check_each}
+use Rattle.support.specs.Reading.{◌>>=◌, holds_or, check_each}
 use Rattle.job_bodies.specs.declared.action.Action.{Action}
 use Rattle.job_bodies.specs.declared.action.Action.TheVariants.{Work, Submit, Get}
 use Rattle.job_bodies.specs.declared.fault.PlanFault.{PlanFault}
 use Rattle.job_bodies.specs.declared.fault.Part.{Part}
 use Rattle.job_bodies.specs.declared.fault.Part.TheVariants as part
-use Rattle.faults.specs.declared.number.TheConstants.{TOO_MANY, BAD_NAME, DOUBLE_NAME, BAD_NUMBER, NO_SUCH_POOL, NO_SUCH_CLASS, SLOT_EMPTY}
+use Rattle.support.specs.declared.number.TheConstants.{TOO_MANY, BAD_NAME, DOUBLE_NAME, BAD_NUMBER, NO_SUCH_POOL, NO_SUCH_CLASS, SLOT_EMPTY}
 use Rattle.job_bodies.specs.declared.limits.TheConstants.{MAX_ACTIONS, MAX_SIZE, MAX_WORK}
 use Rattle.job_bodies.specs.Plan.{Pool, Class, Client}
 use Rattle.job_bodies.specs.WellFormed.{is_lawful_name, has_lawful_sizes, is_within, is_lawful_get}

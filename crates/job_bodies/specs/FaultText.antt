@@ -1,6 +1,6 @@
 -- The text of a plan's fault.
 use Rattle.std.specs.Prelude.{ℕ, ◌++◌, List, [], Option, None, Some, codes, decimal}
-use Rattle.faults.specs.Name.{head}
+use Rattle.support.specs.Name.{head}
 use Rattle.job_bodies.specs.declared.fault.PlanFault.{PlanFault}
 use Rattle.job_bodies.specs.declared.fault.Part.{Part}
 use Rattle.job_bodies.specs.declared.fault.Part.TheVariants as part

@@ -1,7 +1,7 @@
 //! The checks of a plan's lists, in the order of their faults.
 
 ghost use Rattle.std.specs.Prelude.{◌≡◌, List, length, map, take};
-ghost use Rattle.readings.specs.Reading.{check_each};
+ghost use Rattle.support.specs.Reading.{check_each};
 ghost use Rattle.job_bodies.specs.declared.fault.Part.TheVariants as part;
 ghost use Rattle.job_bodies.specs.Plan as spec;
 ghost use Rattle.job_bodies.specs.Checks.{check_pool, check_class, check_client, check_length, check_body};
@@ -11,7 +11,7 @@ use crate::checks::{check_body, check_class, check_client, check_length, check_p
 use crate::fault::holds_or;
 use crate::limits::{MAX_CLASSES, MAX_CLIENT_KINDS, MAX_POOLS};
 use crate::{Class, Client, Part, PlanFault, Pool};
-use faults::number::TOO_MANY;
+use support::number::TOO_MANY;
 
 /// Checks that no list is too long.
 pub(crate) fn check_counts(

@@ -12,7 +12,7 @@ use crate::fault::holds_or;
 use crate::limits::{MAX_ACTIONS, MAX_SIZE, MAX_WORK, is_within};
 use crate::names::check_name;
 use crate::{Action, Class, Client, Part, PlanFault, Pool, is_got};
-use faults::number::{BAD_NUMBER, NO_SUCH_CLASS, NO_SUCH_POOL, SLOT_EMPTY, TOO_MANY};
+use support::number::{BAD_NUMBER, NO_SUCH_CLASS, NO_SUCH_POOL, SLOT_EMPTY, TOO_MANY};
 
 /// Checks that the pool at this index has a unique, valid name and valid sizes.
 pub(crate) fn check_pool(pools: &[Pool], index: usize) -> Result<(), PlanFault>

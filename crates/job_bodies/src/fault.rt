@@ -1,7 +1,7 @@
 //! The faults of a plan, with their places.
 
 ghost use Rattle.std.specs.Prelude.{◌≡◌};
-ghost use Rattle.readings.specs.Reading.{holds_or};
+ghost use Rattle.support.specs.Reading.{holds_or};
 ghost use Rattle.job_bodies.specs.Checks.{at_text, at_entry, at_action};
 
 /// The part of a plan that has a fault.

@@ -4,8 +4,8 @@ ghost use Rattle.std.specs.Prelude.{Some};
 ghost use Rattle.job_bodies.specs.FaultText.{part_text, action_text, fault_line};
 
 use crate::{Part, PlanFault};
-use faults::Head;
 use std::fmt;
+use support::Head;
 
 /// The entry that has a fault.
 #[derive(Clone, Copy)]

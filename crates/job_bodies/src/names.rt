@@ -10,7 +10,7 @@ ghost use Rattle.job_bodies.specs.Checks.{check_name};
 use crate::fault::holds_or;
 use crate::limits::{MAX_NAME_BYTES, is_within};
 use crate::{Class, Client, Part, PlanFault, Pool};
-use faults::number::{BAD_NAME, DOUBLE_NAME};
+use support::number::{BAD_NAME, DOUBLE_NAME};
 
 fn is_letter(byte: u8) -> bool
     ensures { result ≡ is_letter byte }

@@ -3,7 +3,7 @@
 ghost use Rattle.std.specs.Prelude.{◌≡◌, ◌+◌, ◌++◌, ◌∷◌, ◌==◌, [], ℕ, List, None, Some, if◌then◌else◌, slice_get, map, string_bytes, OnOk, IfOk, IfErr, IsTrue};
 ghost use Rattle.std.specs.List.{position};
 ghost use Rattle.std.specs.Str.{bytes_eq};
-ghost use Rattle.number_tables.specs.Numbered.{value_at};
+ghost use Rattle.support.specs.Numbered.{value_at};
 ghost use Rattle.recording_lines.specs.RecordingLine.{RecordedLine, RoundBegins, RoundEnds, line_seen};
 ghost use Rattle.recorded_rules.specs.Rules.{broken_of};
 ghost use Rattle.learned_plans.specs.Kept.{ChangesOne, IsStop, names_of, with_begin, with_end};
@@ -15,10 +15,10 @@ use crate::entries::Entry;
 use crate::stop::Stop;
 use crate::too_much::TooMuch;
 use job_bodies::MAX_CLIENT_KINDS;
-use number_tables::NumberTable;
 use plan_families::is_of_family;
 use recording_lines::Line;
 use std::alloc::{AllocError, Global};
+use support::NumberTable;
 
 /// Counters for the rounds of each label. As long as each label has one kind, these are also the
 /// rounds of each kind.

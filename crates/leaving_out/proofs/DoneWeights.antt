@@ -3,8 +3,8 @@ use Rattle.std.proofs.Common.{◌≡◌, ◌≢◌, ℕ, zero, suc, ◌+◌, ◌
 use Rattle.std.proofs.lemmas.Bool.{cases_lt}
 use Rattle.std.proofs.lemmas.List.Sums.{sum_by-cons}
 use Rattle.std.proofs.lemmas.Option.{slice_get-get_or}
-use Rattle.numbered_lists.specs.In.{In, here, there}
-use Rattle.numbered_lists.proofs.Members.{In-cons_cases}
+use Rattle.support.specs.In.{In, here, there}
+use Rattle.support.proofs.Members.{In-cons_cases}
 use Rattle.job_bodies.specs.declared.action.Action.{Action}
 use Rattle.job_bodies.specs.declared.action.Action.TheVariants as action
 use Rattle.job_bodies.specs.Plan.{Plan, submits, class_of_submit, class_at, class_got}

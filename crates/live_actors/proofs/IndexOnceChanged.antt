@@ -4,7 +4,7 @@ use Rattle.std.proofs.lemmas.Bool.{cases_lt, cases_Bool}
 use Rattle.std.proofs.lemmas.List.{get_or_past, get_or_append_left, length_push, map-append}
 use Rattle.std.proofs.lemmas.List.Sums.{sum_by-append, sum_by-cons}
 use Rattle.std.specs.Option.{option_map}
-use Rattle.numbered_lists.proofs.Sums.{count_by-set, count_by-map, count_by-agree}
+use Rattle.support.proofs.Sums.{count_by-set, count_by-map, count_by-agree}
 use Rattle.written_machine.specs.declared.parent.Parent.{Parent}
 use Rattle.written_machine.specs.declared.parent.Parent.TheVariants as parent
 use Rattle.live_views.specs.declared.job_view.Phase.{Phase}

@@ -2,7 +2,7 @@
 use Rattle.std.proofs.Common.{◌≡◌, ◌≢◌, ℕ, ◌-◌, ◌<◌, ◌&&◌, Bool, not, true, false, cond, if◌then◌else◌, List, length, map, set, count_by, Option, Some, None, IfSome, refl, sym, ap, subst, ◌∙◌, arith}
 use Rattle.std.proofs.Math.ListN.{get_or-map as get_or-map_at}
 use Rattle.std.proofs.lemmas.List.{length-map}
-use Rattle.numbered_lists.proofs.Sums.{count_by-set, count_by-map, count_by-agree}
+use Rattle.support.proofs.Sums.{count_by-set, count_by-map, count_by-agree}
 use Rattle.written_machine.specs.declared.parent.Parent.TheVariants as parent
 use Rattle.written_machine.specs.State.{same_parent}
 use Rattle.live_views.specs.declared.job_view.Phase.TheVariants as phase

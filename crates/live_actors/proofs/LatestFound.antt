@@ -3,7 +3,7 @@ use Rattle.std.proofs.Common.{◌≡◌, ◌≢◌, ℕ, ◌<◌, ◌==◌, Bool
 use Rattle.std.proofs.lemmas.Bool.{false_from_ne_true, cases_lt, cases_eq, cases_Bool, both_ways, and_parts, and_from, eqb-true, eq-eqb, false≢true}
 use Rattle.std.proofs.lemmas.List.{get_or_past, get_or_default, get_or-set_same, get_or-set_other}
 use Rattle.std.proofs.lemmas.Option.{same_Some}
-use Rattle.numbered_lists.proofs.LastPlace.{last_where_is, last_where_from}
+use Rattle.support.proofs.LastPlace.{last_where_is, last_where_from}
 use Rattle.written_machine.specs.declared.parent.Parent.{Parent}
 use Rattle.written_machine.specs.declared.parent.Parent.TheVariants as parent
 use Rattle.written_machine.specs.State.{same_parent}

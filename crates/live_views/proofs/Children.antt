@@ -2,7 +2,7 @@
 use Rattle.std.proofs.Common.{◌≡◌, ◌≢◌, ℕ, ◌<◌, Bool, true, false, ◌&&◌, ◌==◌, if◌then◌else◌, length, Option, Some, None, refl, sym, ap, ap₂, ◌∙◌, arith}
 use Rattle.std.proofs.lemmas.Bool.{and_from, eq-eqb}
 use Rattle.std.proofs.lemmas.List.{get_or_default}
-use Rattle.numbered_lists.proofs.LastPlace.{IsLast, last_where_is, last_where_from}
+use Rattle.support.proofs.LastPlace.{IsLast, last_where_is, last_where_from}
 use Rattle.job_bodies.specs.Plan.{Plan}
 use Rattle.written_machine.specs.declared.parent.Parent.{Parent}
 use Rattle.live_views.specs.declared.job_view.Phase.{Phase}

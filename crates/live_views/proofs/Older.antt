@@ -4,8 +4,8 @@ use Rattle.std.specs.Option.{option_map}
 use Rattle.std.proofs.lemmas.Bool.{cases_lt, cases_eq, false_from_ne_true}
 use Rattle.std.proofs.lemmas.List.{length_push, get_or_push, get_or_append_left, get_or-set_same}
 use Rattle.std.proofs.lemmas.Option.{same_Some, slice_get-get_or}
-use Rattle.numbered_lists.specs.Places.{places_where, last_of}
-use Rattle.numbered_lists.proofs.LastPlace.{last_where_push, last_where_push_fails}
+use Rattle.support.specs.Places.{places_where, last_of}
+use Rattle.support.proofs.LastPlace.{last_where_push, last_where_push_fails}
 use Rattle.job_bodies.specs.declared.action.Action.{Action}
 use Rattle.job_bodies.specs.declared.action.Action.TheVariants.{Submit, Get}
 use Rattle.job_bodies.specs.Plan.{Plan, class_at}

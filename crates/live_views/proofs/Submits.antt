@@ -2,7 +2,7 @@
 use Rattle.std.proofs.Common.{◌≡◌, ◌≢◌, ℕ, ◌+◌, ◌<◌, ◌≤◌, Bool, true, false, ◌&&◌, if◌then◌else◌, List, [], ◌∷◌, ◌++◌, length, map, set, Option, Some, None, ⊎_elim, refl, sym, ap, ap₂, ◌∙◌, arith}
 use Rattle.std.proofs.lemmas.Bool.{cases_lt, cases_Bool, and_right, ne_eqb, both_ways, false_from_ne_true}
 use Rattle.std.proofs.lemmas.List.{length-map, length_push, get_or-map, get_or_push, get_or_append_left}
-use Rattle.numbered_lists.proofs.LastPlace.{last_where_push, last_where_push_fails}
+use Rattle.support.proofs.LastPlace.{last_where_push, last_where_push_fails}
 use Rattle.job_bodies.specs.declared.action.Action.{Action}
 use Rattle.job_bodies.specs.Plan.{Plan, pool_at}
 use Rattle.pool_machine.specs.declared.offer.Offer.{Offer}

@@ -2,9 +2,9 @@
 use Rattle.std.proofs.Common.{◌≡◌, ℕ, ◌+◌, ◌<◌, Bool, true, false, not, ◌&&◌, ◌==◌, if◌then◌else◌, List, [], ◌∷◌, length, map, count_by, slice_get, Option, Some, None, refl, sym, ap, ap₂, ◌∙◌, le_refl, arith}
 use Rattle.std.specs.List.{list_all}
 use Rattle.std.proofs.lemmas.List.{length-map, get_or-map}
-use Rattle.numbered_lists.specs.Places.{places_where}
-use Rattle.numbered_lists.proofs.Places.{places_where-agree_at}
-use Rattle.numbered_lists.proofs.Sums.{count_by-agree_at}
+use Rattle.support.specs.Places.{places_where}
+use Rattle.support.proofs.PassingPlaces.{places_where-agree_at}
+use Rattle.support.proofs.Sums.{count_by-agree_at}
 use Rattle.job_bodies.specs.declared.action.Action.{Action}
 use Rattle.job_bodies.specs.declared.action.Action.TheVariants.{Work, Submit, Get}
 use Rattle.job_bodies.specs.Plan.{Plan, no_pool, pool_at, class_at}

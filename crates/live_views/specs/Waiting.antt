@@ -1,7 +1,7 @@
 -- Sets of live jobs that wait only for their own members, computed from a view.
 use Rattle.std.specs.Prelude.{ℕ, ◌==◌, ◌&&◌, not, Bool, true, false, List, Option, Some, None, slice_get}
 use Rattle.std.specs.List.{list_all}
-use Rattle.numbered_lists.specs.Places.{places_where}
+use Rattle.support.specs.Places.{places_where}
 use Rattle.job_bodies.specs.declared.action.Action.{Action}
 use Rattle.job_bodies.specs.declared.action.Action.TheVariants.{Get}
 use Rattle.job_bodies.specs.Plan.{Plan, class_at}

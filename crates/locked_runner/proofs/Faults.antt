@@ -1,7 +1,7 @@
 -- The fault that the check of the results returns is a fault of the run.
 use Rattle.std.proofs.Common.{◌≡◌, ◌≢◌, ℕ, Bool, List, Option, Some, None, inl, inr, refl, subst, sym, true, false}
 use Rattle.std.proofs.lemmas.Bool.{cases_eq}
-use Rattle.faults.specs.declared.number.TheConstants.{MEMORY, RUN_TOO_LARGE}
+use Rattle.support.specs.declared.number.TheConstants.{MEMORY, RUN_TOO_LARGE}
 use Rattle.job_bodies.specs.Plan.{Plan}
 use Rattle.written_machine.specs.declared.event.Event.{Event}
 use Rattle.held_machines.specs.declared.held.Receipt.{Receipt}

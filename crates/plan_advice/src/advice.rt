@@ -1,7 +1,7 @@
 //! The faults of a plan's text, and their lines.
 
 ghost use Rattle.plan_advice.specs.Advice as spec;
-ghost use Rattle.decimals.specs.Pushed.{Pushes};
+ghost use Rattle.support.specs.Pushed.{Pushes};
 
 use job_bodies::PlanFault;
 use plan_places::TextPlace;

@@ -5,8 +5,8 @@ use crate::entry::PlacedEntry;
 use crate::near::{listed, meant};
 use crate::notes::Notes;
 use crate::orders::{Order, order_of, slip_of};
-use faults::number::{BAD_ACTION, NO_SUCH_CLASS, SLOT_EMPTY, SLOT_OPEN};
 use std::alloc::{AllocError, Global};
+use support::number::{BAD_ACTION, NO_SUCH_CLASS, SLOT_EMPTY, SLOT_OPEN};
 
 /// A name under which a job was submitted.
 #[derive(Clone, Copy)]

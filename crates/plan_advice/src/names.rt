@@ -2,9 +2,9 @@
 
 use crate::entry::{PlacedEntry, list_of};
 use crate::notes::Notes;
-use faults::number::{BAD_NAME, DOUBLE_NAME};
 use job_bodies::is_lawful_name;
 use std::alloc::{AllocError, Global};
+use support::number::{BAD_NAME, DOUBLE_NAME};
 
 /// Reports a name that is malformed, or that an earlier entry of the list has.
 pub(crate) fn name(

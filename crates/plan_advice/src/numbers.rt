@@ -2,9 +2,9 @@
 
 use crate::entry::PlacedEntry;
 use crate::notes::Notes;
-use faults::number::BAD_NUMBER;
 use job_bodies::MAX_SIZE;
 use std::alloc::AllocError;
+use support::number::BAD_NUMBER;
 
 /// The largest size and count.
 const MOST: i64 = MAX_SIZE as i64;

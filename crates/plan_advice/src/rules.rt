@@ -1,6 +1,6 @@
 //! The rules that faults violate, for faults with no other message.
 
-use faults::number::*;
+use support::number::*;
 
 /// Returns the rule that a fault of this number violates.
 pub(crate) fn rule_of(number: u8) -> &'static str {

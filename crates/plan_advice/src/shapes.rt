@@ -3,9 +3,9 @@
 use crate::entry::{PlacedEntry, list_of};
 use crate::near::meant;
 use crate::notes::Notes;
-use faults::number::{MISSING_KEY, TOO_MANY, UNKNOWN_KEY, WRONG_TYPE};
 use job_bodies::{MAX_ACTIONS, Part};
 use std::alloc::AllocError;
+use support::number::{MISSING_KEY, TOO_MANY, UNKNOWN_KEY, WRONG_TYPE};
 use toml::Value;
 
 /// The type of the value at a key.

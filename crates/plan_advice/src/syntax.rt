@@ -2,10 +2,10 @@
 //! mistakes.
 
 use crate::advice::Advice;
-use faults::number::NOT_TOML;
 use job_bodies::PlanFault;
 use plan_places::{TextPlace, place_at};
 use std::alloc::{AllocError, Global};
+use support::number::NOT_TOML;
 
 /// Returns the fault of bytes that are not UTF-8.
 pub(crate) fn not_text(alloc: Global, bytes: &[u8], valid: usize) -> Result<Advice, AllocError> {

@@ -5,10 +5,10 @@ use crate::near::{listed, meant};
 use crate::notes::Notes;
 use crate::shapes::{has_key, keys_of};
 use crate::{bodies, names, numbers, shapes};
-use faults::number::{NO_SUCH_POOL, UNKNOWN_KEY, WRONG_TYPE};
 use job_bodies::{Part, PlanFault};
 use plan_places::Places;
 use std::alloc::{AllocError, Global};
+use support::number::{NO_SUCH_POOL, UNKNOWN_KEY, WRONG_TYPE};
 use toml::{Table, Value};
 
 /// The entries of a document.

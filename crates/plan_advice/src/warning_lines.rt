@@ -1,7 +1,7 @@
 //! The lines of warnings.
 
 ghost use Rattle.plan_advice.specs.Advice as spec;
-ghost use Rattle.decimals.specs.Pushed.{Pushes};
+ghost use Rattle.support.specs.Pushed.{Pushes};
 
 use crate::advice::push_place;
 use crate::warnings::Warning;

@@ -7,16 +7,16 @@ ghost use Rattle.std.specs.Prelude.{◌≡◌, ◌≢◌, IsOk, OnOk, IfErr, Err
 ghost use Rattle.job_bodies.specs.Checks.{at_text};
 ghost use Rattle.plan_text.specs.PlanOf.{plan_of};
 ghost use Rattle.plan_text.specs.Document.{table_of};
-ghost use Rattle.readings.specs.Reading.{some_or};
+ghost use Rattle.support.specs.Reading.{some_or};
 ghost use Rattle.serde_json.specs.Read.{read};
 
 use anyhow::{Result, bail};
-use faults::number::{MEMORY, NO_SEPARATOR, NOT_JSON, NOT_TOML};
 use job_bodies::PlanFault;
 use plan_text::read_plan;
 use serde_json::Value;
 use std::alloc::Global;
 use std::{env, io};
+use support::number::{MEMORY, NO_SEPARATOR, NOT_JSON, NOT_TOML};
 
 /// Reads standard input to its end and parses it as the argument says. Prints `ok` or the first
 /// fault.

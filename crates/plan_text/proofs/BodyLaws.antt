@@ -4,9 +4,9 @@ use Rattle.std.specs.Prelude.{is_none}
 use Rattle.std.specs.List.{list_any}
 use Rattle.std.proofs.lemmas.Bool.{cases_Bool, and_from, lt-ltb, eqb-true, not_from_false}
 use Rattle.std.proofs.lemmas.Option.{slice_get_within}
-use Rattle.readings.specs.Reading.{holds_or, some_or}
-use Rattle.readings.proofs.Steps.{bind_ok, holds_ok, some_ok}
-use Rattle.readings.proofs.Laws.{read_length, read_at}
+use Rattle.support.specs.Reading.{holds_or, some_or}
+use Rattle.support.proofs.Steps.{bind_ok, holds_ok, some_ok}
+use Rattle.support.proofs.ReadElements.{read_length, read_at}
 use Rattle.job_bodies.specs.declared.action.Action.{Action}
 use Rattle.job_bodies.specs.declared.action.Action.TheVariants.{Work, Submit, Get}
 use Rattle.job_bodies.specs.declared.fault.PlanFault.{PlanFault}

@@ -2,14 +2,14 @@
 use Rattle.std.proofs.Common.{◌≡◌, ℕ, true, nat_le, List, [], length, map, take, codes, Ok, refl, sym, ap, subst, ◌∙◌}
 use Rattle.std.proofs.lemmas.List.{length-map}
 use Rattle.toml.specs.Data.{Data, Members, get_member}
-use Rattle.readings.specs.Reading.{holds_or, some_or, check_each, read_each}
-use Rattle.readings.proofs.Steps.{given, given_same, bind_ok, bind_ok_then, holds_ok}
-use Rattle.readings.proofs.Laws.{read_length, read_at, read_images}
+use Rattle.support.specs.Reading.{holds_or, some_or, check_each, read_each}
+use Rattle.support.proofs.Steps.{given, given_same, bind_ok, bind_ok_then, holds_ok}
+use Rattle.support.proofs.ReadElements.{read_length, read_at, read_images}
 use Rattle.job_bodies.specs.declared.fault.PlanFault.{PlanFault}
 use Rattle.job_bodies.specs.declared.fault.Part.TheVariants as part
 use Rattle.job_bodies.specs.declared.limits.TheConstants.{MAX_POOLS, MAX_CLASSES, MAX_CLIENT_KINDS, MAX_ACTIONS}
 use Rattle.job_bodies.specs.Plan.{Pool, Class, Client, Plan}
-use Rattle.faults.specs.declared.number.TheConstants.{TOO_MANY}
+use Rattle.support.specs.declared.number.TheConstants.{TOO_MANY}
 use Rattle.job_bodies.specs.Checks.{at_text, check_pool, check_class, check_client, check_length, check_body}
 use Rattle.job_bodies.specs.Build.{check_counts, check_lengths, check_entries, check_bodies, build}
 use Rattle.job_bodies.specs.WellFormed.{IsWellFormed}

@@ -1,13 +1,13 @@
 -- Parsing of bodies, action by action. Resolves class names to indices, and the slots of gets to the positions of their
 -- submits.
 use Rattle.std.specs.Prelude.{ℕ, nat_lt, is_none, List, length, take, Option, Result, Ok}
-use Rattle.readings.specs.Reading.{◌>>=◌, holds_or, some_or, read_each}
+use Rattle.support.specs.Reading.{◌>>=◌, holds_or, some_or, read_each}
 use Rattle.job_bodies.specs.declared.action.Action.{Action}
 use Rattle.job_bodies.specs.declared.action.Action.TheVariants.{Work, Submit, Get}
 use Rattle.job_bodies.specs.declared.fault.PlanFault.{PlanFault}
 use Rattle.job_bodies.specs.declared.fault.Part.{Part}
 use Rattle.job_bodies.specs.declared.fault.Part.TheVariants as part
-use Rattle.faults.specs.declared.number.TheConstants.{NO_SUCH_CLASS, BAD_ACTION, SLOT_OPEN, SLOT_EMPTY}
+use Rattle.support.specs.declared.number.TheConstants.{NO_SUCH_CLASS, BAD_ACTION, SLOT_OPEN, SLOT_EMPTY}
 use Rattle.job_bodies.specs.Plan.{Class, Client}
 use Rattle.job_bodies.specs.Checks.{at_action}
 use Rattle.plan_text.specs.Entries.{ClassEntry, ClientEntry}

@@ -3,7 +3,7 @@
 use Rattle.std.specs.Prelude.{ℕ, List, [], length, map, take, Result, Ok}
 use Rattle.std.specs.List.{position_or_len}
 use Rattle.std.specs.Str.{bytes_eq}
-use Rattle.readings.specs.Reading.{◌>>=◌, check_each}
+use Rattle.support.specs.Reading.{◌>>=◌, check_each}
 use Rattle.job_bodies.specs.declared.fault.PlanFault.{PlanFault}
 use Rattle.job_bodies.specs.Plan.{Pool, Class, Client}
 use Rattle.job_bodies.specs.Checks.{check_pool, check_class, check_client}

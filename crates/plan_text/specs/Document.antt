@@ -4,9 +4,9 @@ use Rattle.std.specs.List.{list_any}
 use Rattle.std.specs.Str.{bytes_eq, is_utf8}
 use Rattle.toml.specs.Data.{Data, as_array, Items, no_items, item, Members, no_members, member, get_member}
 use Rattle.toml.specs.Parse.{parse_document}
-use Rattle.readings.specs.Reading.{◌>>=◌, holds_or, some_or}
+use Rattle.support.specs.Reading.{◌>>=◌, holds_or, some_or}
 use Rattle.job_bodies.specs.declared.fault.PlanFault.{PlanFault}
-use Rattle.faults.specs.declared.number.TheConstants.{NOT_TOML, TOO_MANY, UNKNOWN_KEY, WRONG_TYPE}
+use Rattle.support.specs.declared.number.TheConstants.{NOT_TOML, TOO_MANY, UNKNOWN_KEY, WRONG_TYPE}
 use Rattle.job_bodies.specs.Checks.{at_text}
 use Rattle.job_bodies.specs.declared.limits.TheConstants.{MAX_PLAN_BYTES}
 

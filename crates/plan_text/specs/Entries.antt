@@ -1,7 +1,7 @@
 -- The shape of the entries of a plan's text: each key must be present and have its type.
 use Rattle.std.specs.Prelude.{◌≡◌, ℕ, Bool, true, nat_le, List, [], ◌∷◌, length, slice_get, codes, Some, Result, Ok}
 use Rattle.toml.specs.Data.{Data, Members}
-use Rattle.readings.specs.Reading.{◌>>=◌, read_each}
+use Rattle.support.specs.Reading.{◌>>=◌, read_each}
 use Rattle.job_bodies.specs.declared.fault.PlanFault.{PlanFault}
 use Rattle.job_bodies.specs.declared.fault.Part.TheVariants as part
 use Rattle.job_bodies.specs.declared.limits.TheConstants.{MAX_POOLS, MAX_CLASSES, MAX_CLIENT_KINDS, MAX_ACTIONS}

@@ -2,10 +2,10 @@
 use Rattle.std.specs.Prelude.{ℕ, ℤ, pos, negsuc, Bool, false, nat_le, List, length, Option, None, Some, Result, Ok}
 use Rattle.toml.specs.Data.{Data, Members, get_member, as_str, as_integer, as_bool, as_table}
 use Rattle.toml.specs.View.{table_view}
-use Rattle.readings.specs.Reading.{◌>>=◌, holds_or, some_or, read_each}
+use Rattle.support.specs.Reading.{◌>>=◌, holds_or, some_or, read_each}
 use Rattle.job_bodies.specs.declared.fault.PlanFault.{PlanFault}
 use Rattle.job_bodies.specs.declared.fault.Part.{Part}
-use Rattle.faults.specs.declared.number.TheConstants.{TOO_MANY, UNKNOWN_KEY, MISSING_KEY, WRONG_TYPE}
+use Rattle.support.specs.declared.number.TheConstants.{TOO_MANY, UNKNOWN_KEY, MISSING_KEY, WRONG_TYPE}
 use Rattle.job_bodies.specs.declared.limits.TheConstants.{MAX_ACTIONS}
 use Rattle.job_bodies.specs.Checks.{at_entry, at_action}
 use Rattle.plan_text.specs.declared.entry.Entry as read

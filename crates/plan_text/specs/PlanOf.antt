@@ -1,6 +1,6 @@
 -- The plan of a text. Reads the document, the shape of the entries, the names and numbers, and then the bodies.
 use Rattle.std.specs.Prelude.{ℕ, List, Result, Ok}
-use Rattle.readings.specs.Reading.{◌>>=◌, read_each}
+use Rattle.support.specs.Reading.{◌>>=◌, read_each}
 use Rattle.job_bodies.specs.declared.fault.PlanFault.{PlanFault}
 use Rattle.job_bodies.specs.Plan.{Plan}
 use Rattle.plan_text.specs.Document.{document_of}

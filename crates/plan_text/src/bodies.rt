@@ -2,8 +2,8 @@
 //! the positions of their submits.
 
 ghost use Rattle.std.specs.Prelude.{◌≡◌, List, ℕ, map, OnOk, Some};
-ghost use Rattle.readings.specs.Reading as each;
-ghost use Rattle.readings.specs.Given.{Gives};
+ghost use Rattle.support.specs.Reading as each;
+ghost use Rattle.support.specs.Given.{Gives};
 ghost use Rattle.job_bodies.specs.Checks.{at_action};
 ghost use Rattle.plan_text.specs.Bodies as spec;
 ghost use Rattle.plan_text.specs.Checks.{place_of};
@@ -15,10 +15,10 @@ use crate::fault::TextError;
 use crate::names::Names;
 use crate::order::{Order, order_of};
 use crate::slots::Slots;
-use faults::number::{BAD_ACTION, NO_SUCH_CLASS, SLOT_EMPTY, SLOT_OPEN};
 use job_bodies::{Action, Class, Client, Part, PlanFault};
-use readings::{ReadError, read_each};
 use std::alloc::Global;
+use support::number::{BAD_ACTION, NO_SUCH_CLASS, SLOT_EMPTY, SLOT_OPEN};
+use support::{ReadError, read_each};
 
 /// The place of an action: its entry, and its position in the body.
 #[derive(Clone, Copy)]

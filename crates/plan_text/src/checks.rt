@@ -2,17 +2,17 @@
 //! range, and the pool of each class must exist.
 
 ghost use Rattle.std.specs.Prelude.{◌≡◌, ◌++◌, ◌∷◌, [], OnOk, length};
-ghost use Rattle.readings.specs.Given.{Gives};
+ghost use Rattle.support.specs.Given.{Gives};
 ghost use Rattle.job_bodies.specs.Checks as checks;
 ghost use Rattle.plan_text.specs.Checks as spec;
 
 use crate::entries::{ClassEntry, ClientEntry};
 use crate::fault::TextError;
 use crate::names::Names;
-use faults::number::{BAD_NAME, BAD_NUMBER, DOUBLE_NAME, NO_SUCH_POOL};
 use job_bodies::{MAX_SIZE, Part, PlanFault, Pool, is_lawful_name, is_within};
-use readings::ReadError;
 use std::alloc::Global;
+use support::ReadError;
+use support::number::{BAD_NAME, BAD_NUMBER, DOUBLE_NAME, NO_SUCH_POOL};
 
 /// Adds an entry's name to the earlier names of its list.
 fn check_name<'a>(

@@ -6,14 +6,14 @@ ghost use Rattle.std.specs.List.{list_any, list_all};
 ghost use Rattle.std.specs.Str.{bytes_eq};
 ghost use Rattle.toml.specs.Data.{get_member};
 ghost use Rattle.toml.specs.View.{view, table_view};
-ghost use Rattle.readings.specs.Given.{Gives};
+ghost use Rattle.support.specs.Given.{Gives};
 ghost use Rattle.plan_text.specs.Document as spec;
 
 use crate::fault::TextError;
-use faults::number::{NOT_TOML, TOO_MANY, UNKNOWN_KEY, WRONG_TYPE};
 use job_bodies::{MAX_PLAN_BYTES, PlanFault};
-use readings::ReadError;
 use std::alloc::Global;
+use support::ReadError;
+use support::number::{NOT_TOML, TOO_MANY, UNKNOWN_KEY, WRONG_TYPE};
 use toml::{Table, Value};
 
 /// Parses the document and returns its table, which has only the keys of a plan.

@@ -2,17 +2,17 @@
 
 ghost use Rattle.std.specs.Prelude.{◌≡◌, map};
 ghost use Rattle.toml.specs.View.{view, table_view};
-ghost use Rattle.readings.specs.Reading as each;
-ghost use Rattle.readings.specs.Given.{Gives};
+ghost use Rattle.support.specs.Reading as each;
+ghost use Rattle.support.specs.Given.{Gives};
 ghost use Rattle.plan_text.specs.Entries as spec;
 
 use crate::document::list_at;
 use crate::entry::Entry;
 use crate::fault::TextError;
 use job_bodies::{MAX_CLASSES, MAX_CLIENT_KINDS, MAX_POOLS, Part, Pool};
-use readings::read_each;
 use std::alloc::Global;
 use std::marker::Model;
+use support::read_each;
 use toml::{Table, Value};
 
 /// A class of jobs as the text gives it, with its pool by name.

@@ -2,17 +2,17 @@
 
 ghost use Rattle.std.specs.Prelude.{◌≡◌, map};
 ghost use Rattle.toml.specs.View.{view};
-ghost use Rattle.readings.specs.Reading as each;
-ghost use Rattle.readings.specs.Given.{Gives};
+ghost use Rattle.support.specs.Reading as each;
+ghost use Rattle.support.specs.Given.{Gives};
 ghost use Rattle.plan_text.specs.Entry as spec;
 ghost use Rattle.plan_text.specs.Entry.{entry_view};
 
 use crate::document::{has_only, list_in, value_at};
 use crate::fault::TextError;
-use faults::number::{MISSING_KEY, TOO_MANY, UNKNOWN_KEY, WRONG_TYPE};
 use job_bodies::{MAX_ACTIONS, Part, PlanFault};
-use readings::{ReadError, read_each};
 use std::alloc::Global;
+use support::number::{MISSING_KEY, TOO_MANY, UNKNOWN_KEY, WRONG_TYPE};
+use support::{ReadError, read_each};
 use toml::{Table, Value};
 
 /// A table of a list, and its place.

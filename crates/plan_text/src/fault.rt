@@ -1,7 +1,7 @@
 //! The error of the readers.
 
 use job_bodies::PlanFault;
-use readings::ReadError;
+use support::ReadError;
 
 /// The error of a reader of a plan's text: out of memory, or the first fault.
 pub type TextError = ReadError<PlanFault>;

@@ -1,7 +1,7 @@
 //! Parsing a plan.
 
 ghost use Rattle.std.specs.Prelude.{◌≡◌, ◌≢◌, List, IfOk, IfErr, Ok, Err};
-ghost use Rattle.readings.specs.Given.{Gives};
+ghost use Rattle.support.specs.Given.{Gives};
 ghost use Rattle.job_bodies.specs.Checks.{at_text};
 ghost use Rattle.job_bodies.specs.Build.{given};
 ghost use Rattle.job_bodies.specs.Plan as plans;
@@ -13,10 +13,10 @@ use crate::document::document_of;
 use crate::entries::{ClassEntry, ClientEntry, Entries, entries_of};
 use crate::fault::TextError;
 use crate::names::Names;
-use faults::number::MEMORY;
 use job_bodies::{Class, Client, Plan, PlanFault, Pool};
-use readings::ReadError;
 use std::alloc::Global;
+use support::ReadError;
+use support::number::MEMORY;
 
 /// Parses a plan.
 ///

@@ -1,6 +1,6 @@
 -- Lists of events that prove that a plan is unsafe.
 use Rattle.std.specs.Prelude.{◌≡◌, ℕ, List, [], ◌∷◌, ◌++◌, Some, IsTrue, IsFalse}
-use Rattle.numbered_lists.specs.In.{In}
+use Rattle.support.specs.In.{In}
 use Rattle.job_bodies.specs.Plan.{Plan}
 use Rattle.job_bodies.specs.WellFormed.{IsWellFormed}
 use Rattle.written_machine.specs.declared.event.Event.{Event}

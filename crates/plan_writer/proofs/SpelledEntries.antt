@@ -4,7 +4,7 @@ use Rattle.std.proofs.lemmas.List.{length-map}
 use Rattle.std.proofs.Math.Nat.{max-le}
 use Rattle.toml.specs.Data.{Data, string, table, Members, no_members, get_member, depth, items_depth, members_depth}
 use Rattle.toml.specs.View.{items_of}
-use Rattle.readings.specs.Reading.{read_each}
+use Rattle.support.specs.Reading.{read_each}
 use Rattle.job_bodies.specs.declared.fault.Part.{Part}
 use Rattle.job_bodies.specs.declared.fault.Part.TheVariants as part
 use Rattle.job_bodies.specs.declared.limits.TheConstants.{MAX_POOLS, MAX_CLASSES, MAX_CLIENT_KINDS, MAX_ACTIONS}

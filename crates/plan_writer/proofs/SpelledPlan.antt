@@ -5,7 +5,7 @@ use Rattle.std.proofs.lemmas.Bool.{and_parts, ltb-true}
 use Rattle.std.proofs.lemmas.List.{length-map}
 use Rattle.std.proofs.lemmas.Simd.{map-map}
 use Rattle.toml.specs.Parse.{parse_document}
-use Rattle.readings.specs.Reading.{check_each}
+use Rattle.support.specs.Reading.{check_each}
 use Rattle.job_bodies.specs.declared.fault.Part.TheVariants as part
 use Rattle.job_bodies.specs.Plan.{Class, Client, Plan, pool_names}
 use Rattle.job_bodies.specs.WellFormed.{is_lawful_name, is_lawful_body, is_lawful_class, is_lawful_client, IsWellFormed}

@@ -1,7 +1,7 @@
 //! The classes that the jobs of a recording can belong to, and the client kinds of its rounds.
 
 ghost use Rattle.std.specs.Prelude.{◌≡◌, ◌<◌, ◌++◌, ◌∷◌, [], ℕ, List, None, Some, OnOk, IfOk, is_some, true, MatchOption};
-ghost use Rattle.number_tables.specs.Numbered.{count_of};
+ghost use Rattle.support.specs.Numbered.{count_of};
 ghost use Rattle.recording_lines.specs.RecordingLine.{RecordedLine, line_seen};
 ghost use Rattle.recorded_paths.specs.StandsFor.{KeepsRules};
 ghost use Rattle.job_bodies.specs.Plan as plans;

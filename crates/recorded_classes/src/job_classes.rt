@@ -9,11 +9,11 @@ ghost use Rattle.recorded_classes.specs.Classes.{AreClassesOf, StandFor};
 ghost use Rattle.recorded_classes.specs.Kept.{Keeps, AreTaken, classes_in, is_settled_deed, AreClassesIn, AreDecidedIn, AreAllIn, AreOnce, AreSettledBefore, IsUnsettledAt};
 
 use body_paths::Deed;
-use number_tables::NumberTable;
 use plan_families::PathFamily;
 use recorded_paths::RecordedDeed;
 use recording_lines::RecordedActor;
 use std::alloc::{AllocError, Global};
+use support::NumberTable;
 
 /// The classes that a job can belong to.
 #[derive(Drop)]

@@ -1,6 +1,6 @@
 -- The jobs that their submitters have not got, as they are stored while lines are read.
 use Rattle.std.specs.Prelude.{ℕ, ◌==◌, if◌then◌else◌, Option, Some, None}
-use Rattle.number_tables.specs.Numbered.{value_at}
+use Rattle.support.specs.Numbered.{value_at}
 use Rattle.recording_lines.specs.declared.recording_line.RecordedActor.{RecordedActor}
 use Rattle.recording_lines.specs.RecordingLine.{RecordedLine, Submits, Got}
 use Rattle.recorded_rules.specs.LineParts.{is_same_actor}

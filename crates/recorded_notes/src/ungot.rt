@@ -6,9 +6,9 @@ ghost use Rattle.recorded_notes.specs.Ungot.{submitter_in, table_behind, ungot_b
 ghost use Rattle.recorded_notes.specs.ForeignGets as spec;
 
 use crate::line_void::is_same_actor;
-use number_tables::NumberTable;
 use recording_lines::{Line, RecordedActor};
 use std::alloc::{AllocError, Global};
+use support::NumberTable;
 
 /// The submitter of each job that its submitter has not got.
 #[derive(Drop)]

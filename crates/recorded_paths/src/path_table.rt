@@ -8,8 +8,8 @@ ghost use Rattle.recorded_paths.specs.Kept.{path_in};
 
 use crate::act::{drop_submit, note_get};
 use crate::deed::RecordedDeed;
-use number_tables::NumberTable;
 use std::alloc::{AllocError, Global};
+use support::NumberTable;
 
 /// A map from the numbers of the live rounds, or of the live jobs, to their paths.
 #[derive(Drop)]

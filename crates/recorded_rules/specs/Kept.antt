@@ -1,6 +1,6 @@
 -- The state of the rule check.
 use Rattle.std.specs.Prelude.{ℕ, ◌&&◌, nat_lt, Bool, true, false, is_none, Option, Some, None}
-use Rattle.number_tables.specs.Numbered.{value_at}
+use Rattle.support.specs.Numbered.{value_at}
 use Rattle.recorded_rules.specs.declared.rounds.Rounds.{Rounds}
 use Rattle.recorded_rules.specs.declared.jobs.Jobs.{Jobs}
 use Rattle.recorded_rules.specs.declared.jobs.JobState.{JobState}

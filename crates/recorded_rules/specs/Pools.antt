@@ -1,7 +1,7 @@
 -- The names of the pools that have a line.
 use Rattle.std.specs.Prelude.{ℕ, ◌||◌, Bool, List}
 use Rattle.std.specs.HashSet.{contains_text}
-use Rattle.number_tables.specs.Numbered.{value_at}
+use Rattle.support.specs.Numbered.{value_at}
 use Rattle.recorded_rules.specs.declared.pools.Pools.{Pools}
 use Rattle.recorded_rules.specs.PoolNames.{number_of, is_name}
 

@@ -4,8 +4,8 @@ ghost use Rattle.std.specs.Prelude.{◌≡◌, ◌+◌, ◌&&◌, not, ℕ, OnOk
 ghost use Rattle.std.specs.Option.{option_map};
 ghost use Rattle.recorded_rules.specs.Kept.{job_at, has_started, is_done, is_settled, offered_by, new_job, with_start, with_cancel, with_offered};
 
-use number_tables::NumberTable;
 use std::alloc::{AllocError, Global};
+use support::NumberTable;
 
 /// The state of a job that is not done.
 #[derive(Clone, Copy)]

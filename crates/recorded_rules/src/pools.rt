@@ -7,9 +7,9 @@ ghost use Rattle.std.specs.Option.{option_copied};
 ghost use Rattle.recorded_rules.specs.PoolNames.{number_of, is_name};
 ghost use Rattle.recorded_rules.specs.Pools.{has_name};
 
-use number_tables::NumberTable;
 use std::alloc::{AllocError, Global};
 use std::collections::HashSet;
+use support::NumberTable;
 
 /// The names of the pools that have a line.
 ///

@@ -4,8 +4,8 @@ ghost use Rattle.std.specs.Prelude.{◌≡◌, ◌+◌, ℕ, OnOk, OnErr, None, 
 ghost use Rattle.std.specs.Option.{option_map};
 ghost use Rattle.recorded_rules.specs.Kept.{round_at, offered_there};
 
-use number_tables::NumberTable;
 use std::alloc::{AllocError, Global};
+use support::NumberTable;
 
 /// The rounds of the lines so far: the number of rounds begun, and for each open round the job that
 /// it submitted in its last line.

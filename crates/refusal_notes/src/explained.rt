@@ -1,7 +1,7 @@
 //! The text that explains a rejection.
 
 ghost use Rattle.std.specs.Prelude.{◌≡◌, ◌+◌, ◌++◌, ◌∷◌, [], IsTrue, IfOk, length};
-ghost use Rattle.decimals.specs.Pushed.{Pushes};
+ghost use Rattle.support.specs.Pushed.{Pushes};
 ghost use Rattle.certificates.specs.Cert.{cert_fits};
 ghost use Rattle.headline.specs.Conditions.{failing};
 ghost use Rattle.refusal_notes.specs.Explanation as spec;

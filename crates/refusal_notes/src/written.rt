@@ -1,14 +1,14 @@
 //! The text of a failing condition.
 
 ghost use Rattle.std.specs.Prelude.{◌≡◌, ◌++◌, ◌∷◌, [], IfOk, string_bytes, codes, decimal};
-ghost use Rattle.decimals.specs.Pushed.{Pushes};
+ghost use Rattle.support.specs.Pushed.{Pushes};
 ghost use Rattle.job_bodies.specs.Plan.{pool_at};
 ghost use Rattle.refusal_notes.specs.Line as spec;
 
 use crate::{Note, Section};
-use decimals::push_number;
 use job_bodies::Plan;
 use std::alloc::{AllocError, Global};
+use support::push_number;
 use weights::{Place, Rule};
 
 /// Returns the name of the rule.

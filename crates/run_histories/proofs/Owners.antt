@@ -4,7 +4,7 @@ use Rattle.std.proofs.lemmas.Bool.{cases_lt, cases_eq}
 use Rattle.std.proofs.lemmas.Option.{none-some, same_Some, slice_get_past}
 use Rattle.std.proofs.lemmas.List.{take-append-le, take_all, at_drop_more, get_or_past}
 use Rattle.std.specs.List.{enumerate_from}
-use Rattle.numbered_lists.proofs.Elements.{slice_get-append_left, slice_get_push}
+use Rattle.support.proofs.Elements.{slice_get-append_left, slice_get_push}
 use Rattle.job_bodies.specs.Plan.{Plan}
 use Rattle.job_bodies.specs.WellFormed.{IsWellFormed}
 use Rattle.written_machine.specs.declared.event.Event.{Event}

@@ -1,6 +1,6 @@
 -- Complete runs of a plan, and the faults for all other results of threads.
 use Rattle.std.specs.Prelude.{◌≡◌, ◌<◌, ◌≤◌, ◌+◌, ◌⊎◌, ℕ, List, length, take, sum_by, Option, Some, None}
-use Rattle.faults.specs.declared.number.TheConstants.{MEMORY, STRANGE, MIXED, GATE}
+use Rattle.support.specs.declared.number.TheConstants.{MEMORY, STRANGE, MIXED, GATE}
 use Rattle.job_bodies.specs.Plan.{Plan}
 use Rattle.written_machine.specs.declared.event.Event.{Event}
 use Rattle.written_machine.specs.State.{State}

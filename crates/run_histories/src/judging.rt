@@ -16,9 +16,9 @@ use crate::replay::{Replay, are_as_many, replay_history};
 use crate::{Met, RunFault, RunReport};
 use cert_check::Certified;
 use certified_worlds::{SeenWorld, reached_worlds_refuse_nothing};
-use faults::number::{MEMORY, MIXED, STRANGE};
 use job_bodies::Plan;
 use std::alloc::{AllocError, Global};
+use support::number::{MEMORY, MIXED, STRANGE};
 
 /// Returns the report of a run, given what its threads returned, if it is a complete run of the
 /// plan with this number of rounds and these numbers of jobs and units of work.

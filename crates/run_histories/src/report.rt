@@ -5,9 +5,9 @@ ghost use Rattle.job_bodies.specs.Plan as spec;
 ghost use Rattle.run_histories.specs.Run.{IsLengthOfLegal, number_of};
 
 use crate::KeptReceipt;
-use faults::number::{GATE, MEMORY};
 use interleaving::Event;
 use std::marker::Model;
+use support::number::{GATE, MEMORY};
 
 /// The report of a run that was performed and checked.
 #[derive(Drop)]
@@ -34,7 +34,7 @@ impl Model for RunReport {
     ghost view = { λ r. record { jobs = r.jobs; units = r.units; refused = r.refused; history = r.history.items; receipts = map (λ list. list.items) r.receipts.items } };
 }
 
-/// The reason why a run is not complete: a number of `faults`, and the length of a legal prefix of
+/// The reason why a run is not complete: a number of `support`, and the length of a legal prefix of
 /// the history.
 ///
 /// - 20: memory ran out.
@@ -71,7 +71,7 @@ pub enum ThreadFault {
 }
 
 impl ThreadFault {
-    /// Returns its number of `faults`.
+    /// Returns its number of `support`.
     pub fn number(self) -> u8
         ensures { result ≡ number_of self }
     {

@@ -1,8 +1,8 @@
 -- The classes that all clients submit directly.
 use Rattle.std.proofs.Common.{ℕ, ◌≡◌, ◌+◌, ◌<◌, List, length, ap, subst, ◌∙◌, below_more}
 use Rattle.std.proofs.lemmas.Option.{slice_get_within, get_or_from_slice_get}
-use Rattle.numbered_lists.specs.In.{In}
-use Rattle.numbered_lists.proofs.Members.{In-map, In-map_from, In-get_or}
+use Rattle.support.specs.In.{In}
+use Rattle.support.proofs.Members.{In-map, In-map_from, In-get_or}
 use Rattle.job_bodies.specs.declared.action.Action.{Action}
 use Rattle.job_bodies.specs.Plan.{Client, Plan, no_client, client_at}
 use Rattle.size_causes.proofs.Following.{place_in, covers_more}

@@ -1,8 +1,8 @@
 -- Once all classes that were found are followed, they are exactly those that are submitted.
 use Rattle.std.proofs.Common.{◌≡◌, ℕ, ◌+◌, ◌<◌, ◌≤◌, suc, Bool, true, false, not, get_or, slice_get, Some, count_by, ◌⊎◌, ◌↔◌, inl, inr, ⊎_elim, List, [], ◌∷◌, ◌++◌, length, take, refl, sym, ap, subst, ◌∙◌, arith}
 use Rattle.std.proofs.lemmas.List.{length_push, nil_from_length}
-use Rattle.numbered_lists.specs.In.{In, here, there}
-use Rattle.numbered_lists.proofs.Members.{not_In_nil, In-append_left, In-append_right, In-push_cases}
+use Rattle.support.specs.In.{In, here, there}
+use Rattle.support.proofs.Members.{not_In_nil, In-append_left, In-append_right, In-push_cases}
 use Rattle.job_bodies.specs.declared.action.Action.{Action}
 use Rattle.job_bodies.specs.declared.action.Action.TheVariants.{Submit}
 use Rattle.job_bodies.specs.Plan.{Plan, class_at, client_at}

@@ -3,8 +3,8 @@ use Rattle.std.proofs.Common.{◌≡◌, ℕ, ◌+◌, ◌<◌, Bool, true, fals
 use Rattle.std.proofs.lemmas.Bool.{cases_eq}
 use Rattle.std.proofs.lemmas.List.{length-set, get_or-set_same, get_or-set_other, length_push}
 use Rattle.std.proofs.lemmas.List.Sums.{sum_by-set}
-use Rattle.numbered_lists.specs.In.{In, here}
-use Rattle.numbered_lists.proofs.Members.{In-append_left, In-append_right, In-push_cases}
+use Rattle.support.specs.In.{In, here}
+use Rattle.support.proofs.Members.{In-append_left, In-append_right, In-push_cases}
 use Rattle.size_causes.specs.declared.reached.Reached.{Reached}
 use Rattle.size_causes.specs.Reaching.{Has, Grows}
 

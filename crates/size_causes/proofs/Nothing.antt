@@ -3,8 +3,8 @@ use Rattle.std.proofs.Common.{◌≡◌, ℕ, ◌+◌, ◌<◌, ◌≤◌, true,
 use Rattle.std.proofs.lemmas.Bool.{false≢true, cases_lt}
 use Rattle.std.proofs.lemmas.List.{get_or_past, get_or_default}
 use Rattle.std.proofs.lemmas.Option.{slice_get_within, get_or_from_slice_get}
-use Rattle.numbered_lists.specs.In.{In}
-use Rattle.numbered_lists.proofs.Members.{not_In_nil, In-cons_cases, In-map, In-map_from, In-filter, In-filter_from, In-get_or}
+use Rattle.support.specs.In.{In}
+use Rattle.support.proofs.Members.{not_In_nil, In-cons_cases, In-map, In-map_from, In-filter, In-filter_from, In-get_or}
 use Rattle.job_bodies.specs.declared.action.Action.{Action}
 use Rattle.job_bodies.specs.declared.action.Action.TheVariants.{Submit}
 use Rattle.job_bodies.specs.Plan.{Class, Client, Plan, no_class, no_client, class_at, client_at}

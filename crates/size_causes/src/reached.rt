@@ -1,7 +1,7 @@
 //! The classes that are submitted, directly or through other jobs.
 
 ghost use Rattle.std.specs.Prelude.{◌≡◌, ◌<◌, ◌+◌, ◌≤◌, ◌⊎◌, ◌↔◌, ℕ, List, [], ◌∷◌, OnOk, IfOk, length, slice_index_or, false};
-ghost use Rattle.numbered_lists.specs.In.{In};
+ghost use Rattle.support.specs.In.{In};
 ghost use Rattle.job_bodies.specs.Plan as spec;
 ghost use Rattle.job_bodies.specs.WellFormed.{IsWellFormed};
 ghost use Rattle.job_bodies.specs.declared.action.Action.{Action};

@@ -1,7 +1,7 @@
 //! The classes that clients submit, directly or through other jobs.
 
 ghost use Rattle.std.specs.Prelude.{◌↔◌, ℕ, List, IfOk};
-ghost use Rattle.numbered_lists.specs.In.{In};
+ghost use Rattle.support.specs.In.{In};
 ghost use Rattle.job_bodies.specs.declared.action.Action.{Action};
 ghost use Rattle.steady_certificates.specs.Submitted.{IsSubmitted, repeated_bodies};
 ghost use Rattle.size_causes.specs.ByClients.{MarksSubmitted, client_bodies};

@@ -1,6 +1,6 @@
 //! The lines that say why no sizes were found.
 
-ghost use Rattle.decimals.specs.Pushed.{Pushes};
+ghost use Rattle.support.specs.Pushed.{Pushes};
 ghost use Rattle.size_lines.specs.Cause as spec;
 
 use job_bodies::{MAX_SIZE, Plan};

@@ -1,7 +1,7 @@
 //! The lines with the sizes of a fitted plan, next to the declared ones.
 
 ghost use Rattle.std.specs.Prelude.{◌≡◌, IfOk};
-ghost use Rattle.decimals.specs.Pushed.{Pushes};
+ghost use Rattle.support.specs.Pushed.{Pushes};
 ghost use Rattle.size_lines.specs.Sizes as spec;
 
 use job_bodies::{Plan, Pool};

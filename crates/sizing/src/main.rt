@@ -2,13 +2,13 @@
 #![tactic(auto)]
 
 use clap::error::ErrorKind;
-use faults::Head;
-use faults::number::{READ_FAILED, WRITE_FAILED};
 use sizing_cli::{ServeFault, StdSink, StdSource};
 use sizing_words::{StdFiles, WordsFault, serve_words};
 use std::alloc::AllocError;
 use std::process::ExitCode;
 use std::{env, io};
+use support::Head;
+use support::number::{READ_FAILED, WRITE_FAILED};
 
 /// The exit status for arguments that are not UTF-8.
 const USAGE: u8 = 2;

@@ -1,8 +1,8 @@
 -- An answer: its bytes and its status.
 use Rattle.std.specs.Prelude.{ℕ, Bool, if◌then◌else◌, List, [], ◌∷◌, ◌++◌, codes}
 use Rattle.std.specs.Fmt.{decimal}
-use Rattle.faults.specs.Name.{head}
-use Rattle.faults.specs.declared.number.TheConstants.{NO_SEPARATOR, BAD_EVENT, INPUT_TOO_LONG}
+use Rattle.support.specs.Name.{head}
+use Rattle.support.specs.declared.number.TheConstants.{NO_SEPARATOR, BAD_EVENT, INPUT_TOO_LONG}
 use Rattle.sizing_cli.specs.declared.status.Status.{Status}
 use Rattle.sizing_cli.specs.declared.status.Status.TheVariants.{Done, Refused, BadText, Undecided}
 

@@ -6,8 +6,8 @@ use Rattle.job_bodies.specs.Plan.{Plan}
 use Rattle.job_bodies.specs.FaultText.{fault_line}
 use Rattle.job_bodies.specs.declared.fault.PlanFault.{PlanFault}
 use Rattle.plan_text.specs.PlanOf.{plan_of}
-use Rattle.faults.specs.Name.{head}
-use Rattle.faults.specs.declared.number.TheConstants.{BAD_RECORDING}
+use Rattle.support.specs.Name.{head}
+use Rattle.support.specs.declared.number.TheConstants.{BAD_RECORDING}
 use Rattle.recording_lines.specs.RecordingLine.{lines_read}
 use Rattle.recorded_rules.specs.Faults.{IsFirstFault}
 use Rattle.recorded_rules.specs.FaultText.{fault_text}

@@ -4,8 +4,8 @@ use Rattle.std.specs.Fmt.{decimal}
 use Rattle.job_bodies.specs.Plan.{Plan}
 use Rattle.job_bodies.specs.FaultText.{fault_line}
 use Rattle.job_bodies.specs.declared.fault.PlanFault.{PlanFault}
-use Rattle.faults.specs.Name.{head}
-use Rattle.faults.specs.declared.number.TheConstants.{RUN_TOO_LARGE}
+use Rattle.support.specs.Name.{head}
+use Rattle.support.specs.declared.number.TheConstants.{RUN_TOO_LARGE}
 use Rattle.plan_text.specs.PlanOf.{plan_of}
 use Rattle.certificates.specs.Cert.{Cert}
 use Rattle.cert_text.specs.declared.fault.CertFault.{CertFault}

@@ -8,7 +8,7 @@ use Rattle.command_line.specs.declared.command.Command.{Command}
 use Rattle.command_line.specs.declared.command.Command.TheVariants.{Alone, OnRecording, OnThreads}
 use Rattle.command_line.specs.declared.command.Task.{Task}
 use Rattle.command_line.specs.declared.command.Task.TheVariants.{Certify, Fit, Run, Refute, Ask}
-use Rattle.faults.specs.declared.number.TheConstants.{MEMORY, STRANGE, MIXED, GATE, READ_FAILED, WRITE_FAILED}
+use Rattle.support.specs.declared.number.TheConstants.{MEMORY, STRANGE, MIXED, GATE, READ_FAILED, WRITE_FAILED}
 use Rattle.sizing_cli.specs.declared.status.Status.{Status}
 use Rattle.sizing_cli.specs.declared.status.ServeFault.{ServeFault}
 

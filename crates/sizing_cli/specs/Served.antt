@@ -3,7 +3,7 @@ use Rattle.std.specs.Prelude.{◌≡◌, ◌≢◌, ◌+◌, ℕ, List, Option, 
 use Rattle.std.specs.Io.KnownBytes.{Appends, Keeps}
 use Rattle.byte_streams.specs.Reading.{ConsumesAtMost}
 use Rattle.byte_streams.specs.Writing.{AppendsFront}
-use Rattle.faults.specs.declared.number.TheConstants.{READ_FAILED, WRITE_FAILED}
+use Rattle.support.specs.declared.number.TheConstants.{READ_FAILED, WRITE_FAILED}
 use Rattle.job_bodies.specs.Plan.{Plan}
 use Rattle.plan_text.specs.PlanOf.{plan_of}
 use Rattle.command_line.specs.declared.command.Command.{Command}

@@ -1,7 +1,7 @@
 //! The answer of a command: its text and its status.
 
 ghost use Rattle.std.specs.Prelude.{◌≡◌, ◌++◌, [], IfOk, string_bytes};
-ghost use Rattle.faults.specs.Name.{head};
+ghost use Rattle.support.specs.Name.{head};
 ghost use Rattle.job_bodies.specs.FaultText.{fault_line};
 ghost use Rattle.sizing_cli.specs.Answer as spec;
 ghost use Rattle.sizing_cli.specs.Conform.{bad_recording as bad_recording_spec};
@@ -10,14 +10,13 @@ ghost use Rattle.sizing_cli.specs.Transcript.{is_no, replied};
 
 use crate::Status;
 use cert_text::CertFault;
-use decimals::Counter;
 use event_lines::{Reply, push_reply};
-use faults::{Head, number};
 use interleaving::Outcome;
 use job_bodies::{Plan, PlanFault};
 use recorded_rules::RecordingFault;
 use std::alloc::{AllocError, Global};
 use std::marker::Model;
+use support::{Counter, Head, number};
 
 /// The text that a command writes, and the status that it ends with.
 #[derive(Drop)]

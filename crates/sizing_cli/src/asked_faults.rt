@@ -1,7 +1,7 @@
 //! The answers of `ask` to texts with faults.
 
 ghost use Rattle.std.specs.Prelude.{◌≡◌, IfOk, string_bytes};
-ghost use Rattle.decimals.specs.Pushed.{Pushes};
+ghost use Rattle.support.specs.Pushed.{Pushes};
 ghost use Rattle.sizing_cli.specs.Ask as spec;
 
 use crate::Status;
@@ -9,11 +9,11 @@ use crate::answer::Answer;
 use crate::output::Output;
 use cert_text::CertFault;
 use command_line::Form;
-use faults::number::{CERT_TOO_LONG, NOT_JSON, VERSION, WEIGHT_TOO_LARGE};
 use job_bodies::PlanFault;
 use json_answers::{fault_json, faults_json};
 use plan_advice::{Faults, faults_of, push_faults};
 use std::alloc::{AllocError, Global};
+use support::number::{CERT_TOO_LONG, NOT_JSON, VERSION, WEIGHT_TOO_LARGE};
 
 /// Returns the answer to a plan's text whose first fault is `fault`. Messages use `file` as the
 /// name of its file.

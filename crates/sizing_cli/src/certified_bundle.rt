@@ -10,10 +10,10 @@ use crate::ServeFault;
 use crate::at_once::AtOnce;
 use crate::bundle::{Bundle, bundle_of};
 use cert_check::{CheckFault, check_on};
-use faults::number::{GATE, MEMORY};
 use std::alloc::{AllocError, Global};
 use std::sync::Wait;
 use std::thread::Threads;
+use support::number::{GATE, MEMORY};
 
 /// Returns the bundle of the two texts if it splits into them again and `check` accepts the
 /// bundle's own bytes.

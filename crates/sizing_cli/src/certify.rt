@@ -14,11 +14,11 @@ use crate::output::Output;
 use crate::texts::plan_in;
 use crate::{ServeFault, Status};
 use cert_text::write_cert;
-use faults::number::MIXED;
 use job_bodies::{MAX_CERT_BYTES, MAX_INPUT_BYTES, Plan, PlanFault};
 use std::alloc::{AllocError, Global};
 use std::sync::Wait;
 use std::thread::Threads;
+use support::number::MIXED;
 
 /// The result of the search for a certificate.
 enum Certified {

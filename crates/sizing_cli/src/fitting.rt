@@ -19,7 +19,6 @@ use cert_search::search;
 use cert_text::write_cert;
 use certificates::Cert;
 use command_line::SizesForm;
-use faults::number::MIXED;
 use job_bodies::{MAX_CERT_BYTES, MAX_INPUT_BYTES, MAX_PLAN_BYTES, Plan};
 use plan_writer::write_plan;
 use size_lines::{push_no_sizes, push_sizes};
@@ -27,6 +26,7 @@ use size_search::{NoSizes, SizesFound, search_sizes};
 use std::alloc::{AllocError, Global};
 use std::sync::Wait;
 use std::thread::Threads;
+use support::number::MIXED;
 
 /// Searches for sizes that a certificate accepts. Returns them as lines, or as the bundle of the
 /// plan with those sizes and the certificate, or returns the reason why none were found. The input

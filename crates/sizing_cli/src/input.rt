@@ -2,7 +2,7 @@
 
 ghost use Rattle.std.specs.Prelude.{◌≡◌, ℕ, IfOk, IfErr, List};
 ghost use Rattle.job_bodies.specs.Plan.{Plan as PlanValue};
-ghost use Rattle.readings.specs.declared.read_error.ReadError.TheVariants.{Fault};
+ghost use Rattle.support.specs.declared.read_error.ReadError.TheVariants.{Fault};
 ghost use Rattle.sizing_cli.specs.Answer as answer_spec;
 ghost use Rattle.sizing_cli.specs.Report as spec;
 
@@ -10,8 +10,8 @@ use crate::answer::{Answer, input_too_long, no_separator, plan_fault};
 use crate::bundle::bundle_of;
 use crate::texts::plan_in;
 use job_bodies::{MAX_INPUT_BYTES, Plan};
-use readings::ReadError;
 use std::alloc::Global;
+use support::ReadError;
 
 /// The plan of a bundle, and its second part, which has not been parsed.
 #[derive(Drop)]

@@ -2,7 +2,7 @@
 
 ghost use Rattle.std.specs.Prelude.{◌≡◌, ◌≤◌, ◌++◌, IfOk, IfSome, IsTrue, None, length, string_bytes};
 ghost use Rattle.std.specs.List.{list_any};
-ghost use Rattle.decimals.specs.Pushed.{Pushes};
+ghost use Rattle.support.specs.Pushed.{Pushes};
 ghost use Rattle.plan_text.specs.PlanOf.{plan_of};
 ghost use Rattle.job_bodies.specs.declared.limits.TheConstants.{MAX_PLAN_BYTES};
 ghost use Rattle.recording_lines.specs.RecordingLine.{lines_read};

@@ -10,8 +10,8 @@ use crate::input::read_input;
 use crate::replaying::replay;
 use command_line::Review;
 use job_bodies::Plan;
-use readings::ReadError;
 use std::alloc::{AllocError, Global};
+use support::ReadError;
 
 /// Returns the review's answer to an input.
 pub fn report(alloc: Global, review: Review, input: &[u8]) -> Result<Answer, AllocError>

@@ -11,13 +11,13 @@ use crate::texts::cert_in;
 use crate::{ServeFault, Status};
 use cert_check::Certified;
 use certificates::Cert;
-use faults::number::RUN_TOO_LARGE;
 use job_bodies::Plan;
 use locked_runner::run;
-use readings::ReadError;
 use std::alloc::{AllocError, Global};
 use std::sync::Wait;
 use std::thread::Threads;
+use support::ReadError;
+use support::number::RUN_TOO_LARGE;
 
 /// Runs the plan of a bundle with its certificate, and returns the counts of the run. Each
 /// repeating client goes through its body `rounds` times. The answer is a no if the certificate

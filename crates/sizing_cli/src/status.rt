@@ -1,18 +1,18 @@
 //! The status and the faults with which a command ends.
 
 ghost use Rattle.std.specs.Prelude.{◌≡◌, Some};
-ghost use Rattle.faults.specs.Name.{head};
-ghost use Rattle.faults.specs.declared.number.TheConstants.{MEMORY, WRITE_FAILED};
+ghost use Rattle.support.specs.Name.{head};
+ghost use Rattle.support.specs.declared.number.TheConstants.{MEMORY, WRITE_FAILED};
 ghost use Rattle.sizing_cli.specs.Answer.{code, yes_or_no};
 ghost use Rattle.sizing_cli.specs.ServeFault.{fault_of_input, fault_of_search};
 
 use byte_streams::{InputError, IoFault};
 use cert_search::SearchFault;
-use faults::Head;
-use faults::number::{GATE, MEMORY, MIXED, READ_FAILED, WRITE_FAILED};
 use std::alloc::AllocError;
 use std::error::Error;
 use std::fmt;
+use support::Head;
+use support::number::{GATE, MEMORY, MIXED, READ_FAILED, WRITE_FAILED};
 
 /// The outcome of a command that gave an answer.
 #[derive(Clone, Copy, Debug, PartialEq, Eq)]

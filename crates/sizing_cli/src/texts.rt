@@ -8,10 +8,10 @@ ghost use Rattle.plan_text.specs.PlanOf.{plan_of};
 
 use cert_text::{CertFault, read_cert};
 use certificates::Cert;
-use faults::number::MEMORY;
 use job_bodies::{Plan, PlanFault};
 use plan_text::read_plan;
 use std::alloc::{AllocError, Global};
+use support::number::MEMORY;
 
 /// Parses a plan. Returns the text's first fault if it has one.
 ///

@@ -11,11 +11,11 @@ ghost use Rattle.sizing_cli.specs.declared.status.Status.TheVariants as statuses
 ghost use Rattle.sizing_cli.specs.Transcript as spec;
 
 use crate::answer::{Answer, bad_event};
-use decimals::Counter;
 use event_lines::{EventLine, EventLines, Reply, push_summary};
 use interleaving::World;
 use job_bodies::Plan;
 use std::alloc::{AllocError, Global};
+use support::Counter;
 
 /// Replays the lines from the plan's start state up to the first impossible event. The lines after
 /// it are only parsed.

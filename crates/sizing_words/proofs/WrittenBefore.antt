@@ -4,7 +4,7 @@ use Rattle.std.proofs.lemmas.Bool.{false≢true}
 use Rattle.std.specs.Prelude.{IfSome, IsTrue}
 use Rattle.clap.specs.Words.{Text}
 use Rattle.command_line.specs.declared.command.Command.{Command}
-use Rattle.faults.specs.declared.number.TheConstants.{WRITE_FAILED}
+use Rattle.support.specs.declared.number.TheConstants.{WRITE_FAILED}
 use Rattle.sizing_words.specs.WordsFault.{IsOfFile, IsWrittenBefore, is_of_reading, is_of_sink}
 use Rattle.sizing_words.specs.declared.fault.WordsFault.{WordsFault}
 use Rattle.sizing_words.specs.declared.fault.WordsFault.TheVariants.{Words, NoCommand, InputTwice, Unread, Occupied, Unwritten, Served}

@@ -4,7 +4,7 @@ use Rattle.clap.specs.Words.{HasKind, Text, kind_of}
 use Rattle.clap.specs.declared.error.kind.ErrorKind.TheVariants.{OutOfMemory}
 use Rattle.command_line.specs.Command.{certificate_of, command_of, faults_of, files_of}
 use Rattle.command_line.specs.declared.command.Command.{Command}
-use Rattle.faults.specs.declared.number.TheConstants.{MEMORY, READ_FAILED, WRITE_FAILED}
+use Rattle.support.specs.declared.number.TheConstants.{MEMORY, READ_FAILED, WRITE_FAILED}
 use Rattle.sizing_cli.specs.ServeFault.{is_known_of}
 use Rattle.sizing_cli.specs.Served.{WritesAnswer, WritesFront}
 use Rattle.sizing_cli.specs.declared.status.Status.{Status}

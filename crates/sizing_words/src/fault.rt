@@ -2,7 +2,7 @@
 
 ghost use Rattle.std.specs.Prelude.{◌≡◌};
 ghost use Rattle.sizing_words.specs.declared.fault.WordsFault.TheVariants.{Served, Words};
-ghost use Rattle.faults.specs.declared.number.TheConstants.{MEMORY};
+ghost use Rattle.support.specs.declared.number.TheConstants.{MEMORY};
 ghost use Rattle.sizing_words.specs.WordsFault as spec;
 
 use clap::Error;

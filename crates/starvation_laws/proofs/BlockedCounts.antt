@@ -1,7 +1,7 @@
 -- Fewer jobs of a pool than core are at counted gets.
 use Rattle.std.proofs.Common.{◌≡◌, ℕ, ◌<◌, ◌≤◌, Bool, true, eqb, length, slice_get, Option, Some, None, refl, arith}
 use Rattle.std.proofs.lemmas.Bool.{and_parts, eqb-true}
-use Rattle.numbered_lists.proofs.Sums.{count_by-le-sum_by}
+use Rattle.support.proofs.Sums.{count_by-le-sum_by}
 use Rattle.job_bodies.specs.declared.action.Action.{Action}
 use Rattle.job_bodies.specs.declared.action.Action.TheVariants as action
 use Rattle.job_bodies.specs.Plan.{Plan, pool_at, class_at}

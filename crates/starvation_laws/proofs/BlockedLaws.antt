@@ -1,7 +1,7 @@
 -- The inequalities that hold if the rows of a blocked vector hold.
 use Rattle.std.proofs.Common.{◌≡◌, ℕ, ◌-◌, ◌≤◌, Bool, true, ◌&&◌, [], ◌∷◌, ◌++◌, flat_map, slice_get, Some, zero-add}
-use Rattle.numbered_lists.specs.In.{here}
-use Rattle.numbered_lists.proofs.Members.{In-append_left, In-append_right, In-map, In-flat_map, In-filter, In-enumerate_from}
+use Rattle.support.specs.In.{here}
+use Rattle.support.proofs.Members.{In-append_left, In-append_right, In-map, In-flat_map, In-filter, In-enumerate_from}
 use Rattle.job_bodies.specs.declared.action.Action.{Action}
 use Rattle.job_bodies.specs.declared.action.Action.TheVariants as action
 use Rattle.job_bodies.specs.Plan.{Class, Plan, pool_at, class_at}

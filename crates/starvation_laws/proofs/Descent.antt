@@ -2,7 +2,7 @@
 use Rattle.std.proofs.Common.{◌≡◌, ◌≢◌, ℕ, zero, suc, ◌+◌, ◌<◌, ◌≤◌, true, false, eqb, ltb, List, length, slice_get, Option, Some, None, refl, sym, ap, subst, ◌∙◌, arith}
 use Rattle.std.proofs.lemmas.Bool.{and_parts, and_from, false_from_ne_true, not-false, ltb-true, eqb-true, eq-eqb}
 use Rattle.std.proofs.lemmas.Option.{same_Some}
-use Rattle.numbered_lists.proofs.Places.{passes_without}
+use Rattle.support.proofs.PassingPlaces.{passes_without}
 use Rattle.job_bodies.specs.declared.action.Action.{Action}
 use Rattle.job_bodies.specs.declared.action.Action.TheVariants as action
 use Rattle.job_bodies.specs.Plan.{Plan, pool_at, class_at, class_got}

@@ -1,7 +1,7 @@
 -- The inequalities that hold if the rows of ranks hold.
 use Rattle.std.proofs.Common.{◌≡◌, ℕ, ◌+◌, ◌<◌, ◌≤◌, length, slice_get, Some, zero-add}
-use Rattle.numbered_lists.specs.In.{here, there}
-use Rattle.numbered_lists.proofs.Members.{In-flat_map, In-enumerate_from}
+use Rattle.support.specs.In.{here, there}
+use Rattle.support.proofs.Members.{In-flat_map, In-enumerate_from}
 use Rattle.job_bodies.specs.declared.action.Action.{Action}
 use Rattle.job_bodies.specs.declared.action.Action.TheVariants as action
 use Rattle.job_bodies.specs.Plan.{Class, Plan, class_at, class_got}

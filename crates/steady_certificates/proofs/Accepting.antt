@@ -5,8 +5,8 @@ use Rattle.std.specs.List.{enumerate_from}
 use Rattle.std.proofs.lemmas.Bool.{le-ltb, false≢true}
 use Rattle.std.proofs.lemmas.List.{get_or-map}
 use Rattle.std.proofs.lemmas.Option.{slice_get_within, get_or_from_slice_get}
-use Rattle.numbered_lists.specs.In.{In}
-use Rattle.numbered_lists.proofs.Members.{In-append_cases, In-push_cases, In-map, In-map_from, In-flat_map_from, In-filter_from}
+use Rattle.support.specs.In.{In}
+use Rattle.support.proofs.Members.{In-append_cases, In-push_cases, In-map, In-map_from, In-flat_map_from, In-filter_from}
 use Rattle.job_bodies.specs.declared.action.Action.{Action}
 use Rattle.job_bodies.specs.declared.action.Action.TheVariants.{Submit}
 use Rattle.job_bodies.specs.Plan.{Pool, Class, Plan, no_pool, no_class, pool_at, class_at, class_got}
@@ -41,7 +41,7 @@ use Rattle.steady_certificates.proofs.Depths.{get_or-changed, levels_sink}
 use Rattle.steady_certificates.proofs.Steadiness.{queued_weighs, job_weighs, steady_laws}
 use Rattle.steady_certificates.proofs.Holding.{at_number, rows_hold, rank_rows_hold}
 use Rattle.steady_certificates.proofs.Fitting.{cert_is_fit}
-use Rattle.numbered_lists.proofs.Members.{In-slice_get}
+use Rattle.support.proofs.Members.{In-slice_get}
 
 -- ---- the parts of the certificate
 

@@ -6,8 +6,8 @@ use Rattle.std.proofs.lemmas.Bool.{and_from, eq-eqb, le-leb}
 use Rattle.std.proofs.lemmas.List.{length-map}
 use Rattle.std.proofs.lemmas.Option.{slice_get_within, get_or_from_slice_get}
 use Rattle.std.proofs.lemmas.List.{length-append}
-use Rattle.numbered_lists.specs.In.{In}
-use Rattle.numbered_lists.proofs.Members.{In-map_from, list_all_from_In}
+use Rattle.support.specs.In.{In}
+use Rattle.support.proofs.Members.{In-map_from, list_all_from_In}
 use Rattle.job_bodies.specs.Plan.{Pool, Class, Client, Plan, no_class, no_client, class_at, client_at}
 use Rattle.job_bodies.specs.WellFormed.{IsWellFormed}
 use Rattle.job_bodies.proofs.Bodies.{IsOrdered, ordered}

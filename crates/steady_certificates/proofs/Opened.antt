@@ -3,8 +3,8 @@ use Rattle.std.proofs.Common.{◌≡◌, ℕ, zero, suc, ◌+◌, ◌-◌, ◌�
 use Rattle.std.proofs.Math.Seq.{drop-cons, drop-length}
 use Rattle.std.proofs.lemmas.Bool.{false≢true, false_from_ne_true, eqb-true, eq-eqb}
 use Rattle.std.proofs.lemmas.Option.{slice_get_within, get_or_from_slice_get}
-use Rattle.numbered_lists.specs.In.{In, here, there}
-use Rattle.numbered_lists.proofs.Members.{In-slice_get, In-from_list_any, list_any_at_In}
+use Rattle.support.specs.In.{In, here, there}
+use Rattle.support.proofs.Members.{In-slice_get, In-from_list_any, list_any_at_In}
 use Rattle.job_bodies.specs.declared.action.Action.{Action}
 use Rattle.job_bodies.specs.declared.action.Action.TheVariants.{Work, Submit, Get}
 use Rattle.job_bodies.specs.Plan.{Plan, submits, class_of_submit, class_got, gets, is_got}

@@ -4,8 +4,8 @@ use Rattle.std.specs.List.{list_all}
 use Rattle.std.proofs.lemmas.Bool.{cases_lt, false≢true, and_parts, false_from_ne_true}
 use Rattle.std.proofs.lemmas.List.{get_or_default, length-replicate, length-set}
 use Rattle.std.proofs.lemmas.Option.{slice_get-get_or, slice_get_past, get_or_from_slice_get}
-use Rattle.numbered_lists.proofs.Elements.{slice_get-set_same, slice_get-set_other, same_by_slice_get}
-use Rattle.numbered_lists.proofs.Members.{In-get_or, list_all_at_In}
+use Rattle.support.proofs.Elements.{slice_get-set_same, slice_get-set_other, same_by_slice_get}
+use Rattle.support.proofs.Members.{In-get_or, list_all_at_In}
 use Rattle.job_bodies.specs.Plan.{Pool, Class, Client, Plan, no_class, no_client, class_at, client_at}
 use Rattle.job_bodies.proofs.Bodies.{IsOrdered}
 use Rattle.job_bodies.specs.declared.limits.TheConstants.{MAX_WEIGHT}

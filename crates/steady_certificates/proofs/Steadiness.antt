@@ -4,7 +4,7 @@ use Rattle.std.proofs.Math.Seq.{drop-length}
 use Rattle.std.proofs.lemmas.Bool.{cases_lt}
 use Rattle.std.proofs.lemmas.List.{get_or_past}
 use Rattle.std.proofs.lemmas.Option.{slice_get_within}
-use Rattle.numbered_lists.proofs.Members.{In-slice_get, In-get_or, In-map, In-filter}
+use Rattle.support.proofs.Members.{In-slice_get, In-get_or, In-map, In-filter}
 use Rattle.job_bodies.specs.declared.action.Action.{Action}
 use Rattle.job_bodies.specs.declared.action.Action.TheVariants.{Work, Submit, Get}
 use Rattle.job_bodies.specs.Plan.{Pool, Class, Client, Plan, no_pool, no_class, no_client, class_at, client_at, submits, is_got}

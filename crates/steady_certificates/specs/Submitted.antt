@@ -1,6 +1,6 @@
 -- Jobs that are submitted, directly or through other jobs, and never got.
 use Rattle.std.specs.Prelude.{◌≡◌, ℕ, List, [], ◌∷◌, map, filter, slice_get, true, false}
-use Rattle.numbered_lists.specs.In.{In}
+use Rattle.support.specs.In.{In}
 use Rattle.job_bodies.specs.declared.action.Action.{Action}
 use Rattle.job_bodies.specs.declared.action.Action.TheVariants.{Submit}
 use Rattle.job_bodies.specs.Plan.{Client, Plan, class_at, client_at, submits, is_got}

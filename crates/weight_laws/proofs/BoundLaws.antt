@@ -1,8 +1,8 @@
 -- The inequalities that hold if the rows of a standing vector or of a lifetime vector hold.
 use Rattle.std.proofs.Common.{◌≡◌, ℕ, ◌+◌, ◌<◌, ◌≤◌, true, [], ◌∷◌, ◌++◌, length, map, flat_map, get_or, arith}
 use Rattle.std.specs.List.{enumerate_from}
-use Rattle.numbered_lists.specs.In.{here}
-use Rattle.numbered_lists.proofs.Members.{In-append_left, In-append_right, In-map, In-flat_map, In-get_or}
+use Rattle.support.specs.In.{here}
+use Rattle.support.proofs.Members.{In-append_left, In-append_right, In-map, In-flat_map, In-get_or}
 use Rattle.job_bodies.specs.Plan.{Pool, Class, Plan, pool_at, class_at}
 use Rattle.weights.specs.declared.at_get.AtGet.TheVariants.{GivesBack, GivesNothing}
 use Rattle.weights.specs.declared.row.Rule.TheVariants.{S1, S2, L1, L2, L3}

@@ -3,8 +3,8 @@ use Rattle.std.proofs.Common.{◌≡◌, ℕ, ◌+◌, ◌<◌, ◌≤◌, inl, 
 use Rattle.std.specs.List.{count_by}
 use Rattle.std.proofs.lemmas.Bool.{and_parts, eqb-true}
 use Rattle.std.proofs.lemmas.Option.{slice_get_within}
-use Rattle.numbered_lists.proofs.Places.{length-places}
-use Rattle.numbered_lists.proofs.Sums.{count_by-le-sum_by}
+use Rattle.support.proofs.PassingPlaces.{length-places}
+use Rattle.support.proofs.Sums.{count_by-le-sum_by}
 use Rattle.job_bodies.specs.declared.action.Action.{Action}
 use Rattle.job_bodies.specs.declared.action.Action.TheVariants as action
 use Rattle.job_bodies.specs.Plan.{Plan, pool_at, class_at, first_workers}

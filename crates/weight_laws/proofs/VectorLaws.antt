@@ -4,8 +4,8 @@ use Rattle.std.specs.List.{enumerate_from}
 use Rattle.std.proofs.lemmas.Bool.{cases_lt, eq-eqb}
 use Rattle.std.proofs.lemmas.List.{get_or_past}
 use Rattle.std.proofs.lemmas.Option.{slice_get-get_or}
-use Rattle.numbered_lists.specs.In.{In, here, there}
-use Rattle.numbered_lists.proofs.Members.{not_In_nil, In-append_left, In-append_right, In-map, In-flat_map, In-filter, In-enumerate_from}
+use Rattle.support.specs.In.{In, here, there}
+use Rattle.support.proofs.Members.{not_In_nil, In-append_left, In-append_right, In-map, In-flat_map, In-filter, In-enumerate_from}
 use Rattle.job_bodies.specs.declared.action.Action.{Action}
 use Rattle.job_bodies.specs.declared.action.Action.TheVariants as action
 use Rattle.job_bodies.specs.Plan.{Class, Client, Plan, no_class, no_client, class_at, client_at, class_got}

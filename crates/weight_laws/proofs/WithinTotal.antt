@@ -5,9 +5,9 @@ use Rattle.std.proofs.Math.Nat.{mul-add}
 use Rattle.std.proofs.lemmas.Bool.{cases_eq, eq-eqb, ne_eqb}
 use Rattle.std.proofs.lemmas.List.{get_or_default}
 use Rattle.std.proofs.lemmas.List.Sums.{sum_by-cons}
-use Rattle.numbered_lists.specs.In.{In, here, there}
-use Rattle.numbered_lists.proofs.Members.{All-at_In}
-use Rattle.numbered_lists.proofs.Sums.{sum_by-agree, sum_by-add, sum_by-le-within}
+use Rattle.support.specs.In.{In, here, there}
+use Rattle.support.proofs.Members.{All-at_In}
+use Rattle.support.proofs.Sums.{sum_by-agree, sum_by-add, sum_by-le-within}
 use Rattle.job_bodies.specs.Plan.{Pool, Plan, no_pool, pool_at}
 use Rattle.job_bodies.proofs.Bodies.{IsOrdered}
 use Rattle.written_machine.specs.declared.event.Event.{Event}

@@ -1,6 +1,6 @@
 -- Rows: rules at their places.
 use Rattle.std.specs.Prelude.{◌≤◌, ℕ, Bool, nat_lt, if◌then◌else◌, List, [], ◌∷◌, Option, Some, None}
-use Rattle.numbered_lists.specs.In.{In}
+use Rattle.support.specs.In.{In}
 use Rattle.weights.specs.declared.row.Rule.{Rule}
 use Rattle.weights.specs.declared.row.Place.{Place}
 use Rattle.weights.specs.declared.row.Row.{Row}

@@ -1,15 +1,15 @@
 //! The event lines of a witness.
 
 ghost use Rattle.std.specs.Prelude.{◌≡◌, ◌++◌, ◌∷◌, [], flat_map, decimal};
-ghost use Rattle.decimals.specs.Pushed.{Pushes};
+ghost use Rattle.support.specs.Pushed.{Pushes};
 ghost use Rattle.event_lines.specs.LineText.{event_text, lines_text};
 ghost use Rattle.witness_lines.specs.EventLines as spec;
 
-use decimals::push_number;
 use interleaving::Event;
 use job_bodies::Plan;
 use plan_witnesses::{Ending, Witness};
 use std::alloc::AllocError;
+use support::push_number;
 
 /// Appends each event of the witness on a line of its own, in the format that `replay` reads. If
 /// jobs wait only for each other after the events, appends the question whether they are stuck.

@@ -1,7 +1,7 @@
 //! The description of a witness.
 
 ghost use Rattle.std.specs.Prelude.{◌++◌, IfOk, codes, string_bytes};
-ghost use Rattle.decimals.specs.Pushed.{Pushes};
+ghost use Rattle.support.specs.Pushed.{Pushes};
 ghost use Rattle.witness_lines.specs.Told as spec;
 
 use crate::event_texts::stuck_members;

@@ -4,7 +4,7 @@ use Rattle.std.specs.Option.{option_map}
 use Rattle.std.proofs.lemmas.Bool.{cases_lt, cases_eq}
 use Rattle.std.proofs.lemmas.List.{length_push, get_or-set_same, get_or_append_left, get_or_push}
 use Rattle.std.proofs.lemmas.Option.{get_or_from_slice_get}
-use Rattle.numbered_lists.proofs.Elements.{slice_get_set_cases}
+use Rattle.support.proofs.Elements.{slice_get_set_cases}
 use Rattle.job_bodies.specs.declared.action.Action.{Action}
 use Rattle.job_bodies.specs.Plan.{Plan, class_at, client_at}
 use Rattle.written_machine.specs.declared.client_state.ClientState.{ClientState}

@@ -2,8 +2,8 @@
 use Rattle.std.proofs.Common.{◌≡◌, ◌≢◌, ℕ, ◌<◌, true, false, eqb, inl, inr, List, [], ◌∷◌, ◌++◌, length, get_or, Some, refl, sym, ap, ◌∙◌, arith}
 use Rattle.std.proofs.lemmas.Bool.{false≢true, cases_eq, and_parts, and_from, and_left, and_right, eqb-true, eq-eqb, ne_eqb, false_from_ne_true}
 use Rattle.std.proofs.lemmas.List.{get_or_append_left, get_or_push}
-use Rattle.numbered_lists.specs.Places.{places_where, last_of}
-use Rattle.numbered_lists.proofs.LastPlace.{last_where_is, last_where_push, last_where_push_fails}
+use Rattle.support.specs.Places.{places_where, last_of}
+use Rattle.support.proofs.LastPlace.{last_where_is, last_where_push, last_where_push_fails}
 use Rattle.written_machine.specs.declared.parent.Parent.{Parent}
 use Rattle.written_machine.specs.declared.parent.Parent.TheVariants as parent
 use Rattle.written_machine.specs.State.{Stage, State, Made, no_job, same_parent, is_made_by}

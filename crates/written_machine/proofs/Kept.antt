@@ -1,7 +1,7 @@
 -- The invariant of reachable states.
 use Rattle.std.proofs.Common.{◌≡◌, ◌≢◌, ℕ, ◌+◌, ◌<◌, ◌≤◌, List, length, get_or, Some, All}
 use Rattle.std.specs.List.{slice_get, count_by}
-use Rattle.numbered_lists.specs.Places.{places_where, last_of}
+use Rattle.support.specs.Places.{places_where, last_of}
 use Rattle.job_bodies.specs.declared.action.Action.{Action}
 use Rattle.job_bodies.specs.declared.action.Action.TheVariants as action
 use Rattle.job_bodies.specs.Plan.{Plan, Pool, pool_at, class_got}

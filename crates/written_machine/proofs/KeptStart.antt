@@ -2,8 +2,8 @@
 use Rattle.std.proofs.Common.{◌≡◌, ℕ, zero, suc, Bool, true, false, cond, ◌<◌, ◌≤◌, ⊎_elim, List, [], length, replicate, slice_get, Some, refl, sym, ap, subst, ◌∙◌, arith}
 use Rattle.std.specs.List.{enumerate_from}
 use Rattle.std.proofs.lemmas.List.{length-map, get_or-map}
-use Rattle.numbered_lists.specs.In.{In}
-use Rattle.numbered_lists.proofs.Members.{not_In_nil, In-cons_cases, In-slice_get, In-flat_map_from}
+use Rattle.support.specs.In.{In}
+use Rattle.support.proofs.Members.{not_In_nil, In-cons_cases, In-slice_get, In-flat_map_from}
 use Rattle.job_bodies.specs.declared.action.Action.{Action}
 use Rattle.job_bodies.specs.Plan.{Plan, Pool, no_pool, pool_at}
 use Rattle.job_bodies.proofs.Bodies.{IsOrdered}

@@ -2,9 +2,9 @@
 use Rattle.std.proofs.Common.{◌≡◌, ◌≢◌, ℕ, zero, suc, ◌≤◌, ⊎_elim, Bool, true, false, not, eqb, List, [], ◌∷◌, length, slice_get, Option, Some, None, is_some, refl, sym, ap, ap₂, ◌∙◌, arith}
 use Rattle.std.specs.List.{list_all}
 use Rattle.std.proofs.lemmas.Bool.{and_parts, and_cases, eqb-false, false_from_ne_true}
-use Rattle.numbered_lists.specs.In.{In, here, there}
-use Rattle.numbered_lists.specs.Places.{places_where}
-use Rattle.numbered_lists.proofs.Places.{passes_at_In, In-places_where, list_all_from_where}
+use Rattle.support.specs.In.{In, here, there}
+use Rattle.support.specs.Places.{places_where}
+use Rattle.support.proofs.PassingPlaces.{passes_at_In, In-places_where, list_all_from_where}
 use Rattle.job_bodies.specs.declared.action.Action.{Action}
 use Rattle.job_bodies.specs.declared.action.Action.TheVariants as action
 use Rattle.job_bodies.specs.Plan.{Plan, class_at}

@@ -2,9 +2,9 @@
 use Rattle.std.proofs.Common.{◌≡◌, ◌≢◌, ℕ, ◌<◌, ◌≤◌, Bool, true, false, ◌&&◌, eqb, inl, inr, List, [], ◌∷◌, ◌++◌, length, get_or, Some, refl, sym, ap, subst, ◌∙◌, arith, append-nil}
 use Rattle.std.proofs.lemmas.Bool.{false≢true, cases_lt, and_parts, and_from, and_left, and_right, eqb-true, eq-eqb, ne_eqb}
 use Rattle.std.proofs.lemmas.List.{get_or_past}
-use Rattle.numbered_lists.specs.In.{In}
-use Rattle.numbered_lists.specs.Places.{cons_if}
-use Rattle.numbered_lists.proofs.Places.{places_where_push, places_where-set_same, first_where, In-places_where}
+use Rattle.support.specs.In.{In}
+use Rattle.support.specs.Places.{cons_if}
+use Rattle.support.proofs.PassingPlaces.{places_where_push, places_where-set_same, first_where, In-places_where}
 use Rattle.job_bodies.specs.declared.action.Action.{Action}
 use Rattle.job_bodies.specs.Plan.{Plan}
 use Rattle.job_bodies.proofs.Bodies.{IsOrdered}

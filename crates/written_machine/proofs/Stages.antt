@@ -4,8 +4,8 @@ use Rattle.std.specs.List.{count_by}
 use Rattle.std.proofs.lemmas.Bool.{cases_lt}
 use Rattle.std.proofs.lemmas.List.{length-set, length_push, get_or-set_same, get_or-set_other, get_or_append_left, get_or_push}
 use Rattle.std.proofs.lemmas.List.Elements.{All-push}
-use Rattle.numbered_lists.specs.Places.{places_where, last_of}
-use Rattle.numbered_lists.proofs.Places.{length-places, places_where-set_same}
+use Rattle.support.specs.Places.{places_where, last_of}
+use Rattle.support.proofs.PassingPlaces.{length-places, places_where-set_same}
 use Rattle.written_machine.specs.declared.parent.Parent.{Parent}
 use Rattle.written_machine.specs.declared.parent.Parent.TheVariants as parent
 use Rattle.written_machine.specs.State.{Stage, State, Made, no_job, is_made_by}

@@ -3,10 +3,10 @@ use Rattle.std.proofs.Common.{◌≡◌, ℕ, ◌<◌, ◌↔◌, true, not, eqb
 use Rattle.std.specs.List.{list_all}
 use Rattle.std.proofs.lemmas.Bool.{false≢true, cases_lt, and_parts, and_from, eqb-true, eq-eqb}
 use Rattle.std.proofs.lemmas.List.{get_or_past}
-use Rattle.numbered_lists.specs.In.{In, here}
-use Rattle.numbered_lists.specs.Places.{places_where}
-use Rattle.numbered_lists.proofs.Places.{list_all_at_where, list_all_from_where}
-use Rattle.numbered_lists.proofs.Members.{list_all_at_In, list_all_from_In, list_any_at_In, In-from_list_any}
+use Rattle.support.specs.In.{In, here}
+use Rattle.support.specs.Places.{places_where}
+use Rattle.support.proofs.PassingPlaces.{list_all_at_where, list_all_from_where}
+use Rattle.support.proofs.Members.{list_all_at_In, list_all_from_In, list_any_at_In, In-from_list_any}
 use Rattle.job_bodies.specs.declared.action.Action.{Action}
 use Rattle.job_bodies.specs.declared.action.Action.TheVariants.{Work, Submit, Get}
 use Rattle.job_bodies.specs.Plan.{Plan, class_at}

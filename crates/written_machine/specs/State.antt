@@ -1,6 +1,6 @@
 -- States of a plan: every job ever created, the queues and idle workers of the pools, and the positions of the clients.
 use Rattle.std.specs.Prelude.{ℕ, ◌+◌, ◌==◌, ◌&&◌, Bool, true, false, List, [], Option, slice_index_or, count_by}
-use Rattle.numbered_lists.specs.Places.{places_where, last_of}
+use Rattle.support.specs.Places.{places_where, last_of}
 use Rattle.job_bodies.specs.Plan.{Pool, Plan, pool_at, class_at}
 use Rattle.pool_machine.specs.PoolState.{PoolView}
 use Rattle.written_machine.specs.declared.client_state.ClientState.{ClientState}

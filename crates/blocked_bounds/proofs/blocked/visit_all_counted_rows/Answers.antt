@@ -1,7 +1,7 @@
 use Rattle.std.proofs.Common.{◌≡◌, [], slice_get, Some}
 use Rattle.std.specs.Prelude.{◌==◌, if◌then◌else◌}
 use Rattle.std.specs.List.{enumerate_from}
-use Rattle.readings.proofs.Loops.{at_index}
+use Rattle.support.proofs.Loops.{at_index}
 use Rattle.weights.proofs.Walks.{walk_goes_on, walk_ends, takes_same, of_passing}
 use Rattle.blocked_bounds.specs.Blocked.{counted_rows}
 use Rattle.blocked_bounds.proofs.blocked.visit_all_counted_rows.Goals as goal

@@ -1,6 +1,6 @@
 use Rattle.std.proofs.Common.{map}
 use Rattle.serde_json.specs.View.{view}
-use Rattle.readings.proofs.Loops.{Reads}
+use Rattle.support.proofs.Loops.{Reads}
 use Rattle.cert_text.specs.Vectors.{numbers_of, class_points}
 use Rattle.cert_text.proofs.vectors.class_rows_in.Given as goal
 

@@ -2,7 +2,7 @@ use Rattle.std.proofs.Common.{◌≡◌, ◌++◌, ◌∷◌, [], List, ℕ, Vec
 use Rattle.std.proofs.lemmas.List.{map_push}
 use Rattle.std.proofs.lemmas.Result.{err_from_is_err_and}
 use Rattle.serde_json.specs.View.{view}
-use Rattle.readings.proofs.Loops.{at_index_seen, reads_more, reads_stop}
+use Rattle.support.proofs.Loops.{at_index_seen, reads_more, reads_stop}
 use Rattle.cert_text.proofs.vectors.client_rows_in.Goals as goal
 
 abbrev items : Vec ℕ Global → List ℕ

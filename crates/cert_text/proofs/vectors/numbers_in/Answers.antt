@@ -1,6 +1,6 @@
 use Rattle.std.proofs.lemmas.Result.{err_from_is_err_and}
 use Rattle.serde_json.specs.View.{view}
-use Rattle.readings.proofs.Loops.{at_index_seen, reads_more, reads_stop}
+use Rattle.support.proofs.Loops.{at_index_seen, reads_more, reads_stop}
 use Rattle.cert_text.proofs.vectors.numbers_in.Goals as goal
 
 pub loop-value-preserved : goal.loop-value-preserved

@@ -1,6 +1,6 @@
 use Rattle.std.proofs.Common.{map}
 use Rattle.serde_json.specs.View.{view}
-use Rattle.readings.proofs.Loops.{Reads}
+use Rattle.support.proofs.Loops.{Reads}
 use Rattle.cert_text.specs.Values.{number_of}
 use Rattle.cert_text.proofs.vectors.numbers_in.Given as goal
 

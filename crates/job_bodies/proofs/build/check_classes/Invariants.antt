@@ -1,5 +1,5 @@
 use Rattle.std.proofs.Common.{◌≡◌, drop, map, take}
-use Rattle.readings.specs.Reading.{check_each}
+use Rattle.support.specs.Reading.{check_each}
 use Rattle.job_bodies.specs.Checks.{check_class}
 use Rattle.job_bodies.proofs.build.check_classes.Given as goal
 

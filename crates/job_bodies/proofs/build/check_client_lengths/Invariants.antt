@@ -1,5 +1,5 @@
 use Rattle.std.proofs.Common.{◌≡◌, drop}
-use Rattle.readings.specs.Reading.{check_each}
+use Rattle.support.specs.Reading.{check_each}
 use Rattle.job_bodies.specs.declared.fault.Part.TheVariants as part
 use Rattle.job_bodies.specs.Checks.{check_length}
 use Rattle.job_bodies.proofs.build.check_client_lengths.Given as goal

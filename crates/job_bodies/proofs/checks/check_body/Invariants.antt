@@ -1,5 +1,5 @@
 use Rattle.std.proofs.Common.{◌≡◌, drop, take}
-use Rattle.readings.specs.Reading.{check_each}
+use Rattle.support.specs.Reading.{check_each}
 use Rattle.job_bodies.specs.Checks.{check_action}
 use Rattle.job_bodies.specs.Got.{IsTableOf}
 use Rattle.job_bodies.proofs.checks.check_body.Given as goal

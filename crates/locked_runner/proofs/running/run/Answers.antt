@@ -1,6 +1,6 @@
 use Rattle.std.proofs.Common.{rules, ◌≡◌, ◌≢◌, ◌∙◌, ℕ, Bool, false, sym, ap, subst}
 use Rattle.std.proofs.lemmas.Result.{IfErr-weaker}
-use Rattle.faults.specs.declared.number.TheConstants.{MEMORY}
+use Rattle.support.specs.declared.number.TheConstants.{MEMORY}
 use Rattle.certificates.specs.Cert.{Cert}
 use Rattle.run_histories.specs.Report.{RunReport}
 use Rattle.run_histories.specs.Run.{IsRun, Makes, Works, IsAnswerTo, IsLegalFront, IsLengthOfLegal}

@@ -1,7 +1,7 @@
 use Rattle.std.proofs.Common.{◌≡◌, ◌∙◌, List, [], ℕ, Bor, Option, Some, map, take, get_or, slice_get, Ok, sym, ap, subst}
 use Rattle.std.proofs.lemmas.Result.{err_from_is_err_and}
-use Rattle.readings.specs.Given.{Fails}
-use Rattle.readings.proofs.Loops.{at_index_copied, reads_begin, reads_more, reads_stop, reads_end_seen}
+use Rattle.support.specs.Given.{Fails}
+use Rattle.support.proofs.Loops.{at_index_copied, reads_begin, reads_more, reads_stop, reads_end_seen}
 use Rattle.job_bodies.specs.Checks.{at_action}
 use Rattle.plan_text.specs.Bodies.{action_at, body_of}
 use Rattle.plan_text.specs.Orders.{order_of}

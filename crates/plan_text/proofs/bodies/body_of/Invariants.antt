@@ -1,5 +1,5 @@
 use Rattle.std.proofs.Common.{◌≡◌, List, ℕ, map, take}
-use Rattle.readings.proofs.Loops.{Reads}
+use Rattle.support.proofs.Loops.{Reads}
 use Rattle.plan_text.specs.Bodies.{action_among}
 use Rattle.plan_text.specs.Slots.{position_in, filled}
 use Rattle.plan_text.proofs.bodies.body_of.Given as goal

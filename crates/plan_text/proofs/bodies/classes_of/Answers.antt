@@ -1,8 +1,8 @@
 use Rattle.std.proofs.Common.{◌≡◌, ◌∙◌, ◌+◌, ◌++◌, ◌∷◌, [], ℕ, List, length, slice_get, Some, Ok, refl, ap, sym, subst, append_assoc, arith}
 use Rattle.std.proofs.lemmas.List.{append-nil, nil_from_length}
 use Rattle.std.proofs.lemmas.Result.{err_from_is_err_and}
-use Rattle.readings.specs.Given.{Fails}
-use Rattle.readings.proofs.Loops.{Reads, reads_begin, reads_more, reads_stop, reads_end}
+use Rattle.support.specs.Given.{Fails}
+use Rattle.support.proofs.Loops.{Reads, reads_begin, reads_more, reads_stop, reads_end}
 use Rattle.job_bodies.specs.Plan.{Class}
 use Rattle.plan_text.specs.Bodies.{class_of}
 use Rattle.plan_text.specs.Entries.{ClassEntry}

@@ -1,5 +1,5 @@
 use Rattle.std.proofs.Common.{◌≡◌, ◌++◌, length}
-use Rattle.readings.proofs.Loops.{Reads}
+use Rattle.support.proofs.Loops.{Reads}
 use Rattle.plan_text.specs.Bodies as spec
 use Rattle.plan_text.proofs.bodies.classes_of.Given as goal
 

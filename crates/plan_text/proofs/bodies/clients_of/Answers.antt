@@ -1,5 +1,5 @@
 use Rattle.std.proofs.Common.{rules}
-use Rattle.readings.proofs.ReadingEach.{gives_each}
+use Rattle.support.proofs.ReadingEach.{gives_each}
 use Rattle.plan_text.specs.Bodies as spec
 use Rattle.plan_text.proofs.bodies.clients_of.Goals as goal
 

@@ -1,5 +1,5 @@
 use Rattle.std.proofs.Common.{◌≡◌, length, take}
-use Rattle.readings.proofs.Loops.{Checks}
+use Rattle.support.proofs.Loops.{Checks}
 use Rattle.job_bodies.specs.Checks as checks
 use Rattle.plan_text.specs.Checks.{class_names, class_head}
 use Rattle.plan_text.proofs.checks.check_classes.Given as goal

@@ -1,5 +1,5 @@
 use Rattle.std.proofs.Common.{◌≡◌, take}
-use Rattle.readings.proofs.Loops.{Checks}
+use Rattle.support.proofs.Loops.{Checks}
 use Rattle.job_bodies.specs.Checks as checks
 use Rattle.plan_text.specs.Checks.{client_names, client_head}
 use Rattle.plan_text.proofs.checks.check_clients.Given as goal

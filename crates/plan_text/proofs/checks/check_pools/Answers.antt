@@ -1,10 +1,10 @@
 use Rattle.std.proofs.Common.{◌≡◌, ◌≤◌, ◌∙◌, ◌++◌, ◌∷◌, [], List, ℕ, length, map, Result, Ok, sym, ap, subst}
 use Rattle.std.proofs.lemmas.Result.{err_from_is_err_and}
 use Rattle.std.proofs.lemmas.List.{take_all, length-map}
-use Rattle.readings.specs.Reading.{◌>>=◌}
-use Rattle.readings.specs.Given.{Fails}
-use Rattle.readings.proofs.Steps.{fails_first}
-use Rattle.readings.proofs.Loops.{at_index, checks_begin, checks_more, checks_stop, checks_end, images_more}
+use Rattle.support.specs.Reading.{◌>>=◌}
+use Rattle.support.specs.Given.{Fails}
+use Rattle.support.proofs.Steps.{fails_first}
+use Rattle.support.proofs.Loops.{at_index, checks_begin, checks_more, checks_stop, checks_end, images_more}
 use Rattle.job_bodies.specs.Checks.{check_pool}
 use Rattle.plan_text.specs.Checks.{check_pools}
 use Rattle.plan_text.proofs.checks.check_pools.Goals as goal

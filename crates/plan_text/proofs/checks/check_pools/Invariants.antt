@@ -1,5 +1,5 @@
 use Rattle.std.proofs.Common.{◌≡◌, map, take}
-use Rattle.readings.proofs.Loops.{Checks}
+use Rattle.support.proofs.Loops.{Checks}
 use Rattle.job_bodies.specs.Checks as checks
 use Rattle.plan_text.proofs.checks.check_pools.Given as goal
 

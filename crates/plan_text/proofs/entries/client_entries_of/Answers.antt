@@ -1,6 +1,6 @@
 use Rattle.std.proofs.Common.{rules}
 use Rattle.toml.specs.View.{view}
-use Rattle.readings.proofs.ReadingEach.{gives_each_seen}
+use Rattle.support.proofs.ReadingEach.{gives_each_seen}
 use Rattle.plan_text.specs.Entries as spec
 use Rattle.plan_text.proofs.entries.client_entries_of.Goals as goal
 

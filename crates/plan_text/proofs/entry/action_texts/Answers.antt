@@ -1,6 +1,6 @@
 use Rattle.std.proofs.Common.{rules, Bor, List, ℕ}
 use Rattle.toml.specs.View.{view}
-use Rattle.readings.proofs.ReadingEach.{gives_each_viewed}
+use Rattle.support.proofs.ReadingEach.{gives_each_viewed}
 use Rattle.plan_text.specs.Entry.{action_text}
 use Rattle.plan_text.proofs.entry.action_texts.Goals as goal
 

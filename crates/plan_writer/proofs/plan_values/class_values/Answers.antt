@@ -3,7 +3,7 @@ use Rattle.std.proofs.lemmas.List.{length-map}
 use Rattle.toml.specs.Data.{Data, array}
 use Rattle.toml.specs.View.{view, items_of}
 use Rattle.toml.proofs.Views.{view-Array}
-use Rattle.readings.proofs.Loops.{at_index_seen}
+use Rattle.support.proofs.Loops.{at_index_seen}
 use Rattle.job_bodies.specs.Plan.{Pool, Class}
 use Rattle.plan_writer.specs.PlanDocument as spec
 use Rattle.plan_writer.proofs.Images.{image_pushed, image_whole}

@@ -1,6 +1,6 @@
 use Rattle.std.proofs.Common.{◌≡◌, ◌⊎◌, ℕ, List, [], ◌∷◌, ap, sym, subst, ◌∙◌, arith, ⊎_elim}
-use Rattle.numbered_lists.specs.In.{In, here}
-use Rattle.numbered_lists.proofs.Members.{not_In_nil, In-cons_cases}
+use Rattle.support.specs.In.{In, here}
+use Rattle.support.proofs.Members.{not_In_nil, In-cons_cases}
 use Rattle.job_bodies.specs.declared.action.Action.{Action}
 use Rattle.job_bodies.specs.declared.action.Action.TheVariants.{Submit}
 use Rattle.job_bodies.specs.Plan.{Class, class_at}

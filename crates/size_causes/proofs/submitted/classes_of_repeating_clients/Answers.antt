@@ -1,6 +1,6 @@
 use Rattle.std.proofs.Common.{◌≡◌, ◌≤◌, ◌<◌, ◌+◌, ◌⊎◌, ℕ, true, List, length, ap, sym, subst, ◌∙◌, arith}
 use Rattle.std.proofs.lemmas.Bool.{false≢true}
-use Rattle.numbered_lists.specs.In.{In}
+use Rattle.support.specs.In.{In}
 use Rattle.job_bodies.specs.declared.action.Action.{Action}
 use Rattle.job_bodies.specs.declared.action.Action.TheVariants.{Submit}
 use Rattle.job_bodies.specs.Plan.{Client, client_at}

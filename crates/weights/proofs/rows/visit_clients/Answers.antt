@@ -1,5 +1,5 @@
 use Rattle.std.proofs.Common.{◌≡◌, ◌<◌, length, get_or, slice_get, Some, subst}
-use Rattle.readings.proofs.Loops.{at_index}
+use Rattle.support.proofs.Loops.{at_index}
 use Rattle.weights.specs.Rows.{client_rows}
 use Rattle.weights.proofs.Walks.{walk_goes_on}
 use Rattle.weights.proofs.rows.visit_clients.Goals as goal

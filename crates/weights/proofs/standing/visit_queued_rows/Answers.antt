@@ -1,7 +1,7 @@
 use Rattle.std.proofs.Common.{◌≡◌, [], ◌∷◌, slice_get, Some, ◌∙◌}
 use Rattle.std.specs.Prelude.{◌==◌, if◌then◌else◌}
 use Rattle.std.specs.List.{enumerate_from}
-use Rattle.readings.proofs.Loops.{at_index}
+use Rattle.support.proofs.Loops.{at_index}
 use Rattle.weights.specs.declared.row.Rule.TheVariants.{S1}
 use Rattle.weights.specs.declared.row.Place.TheVariants.{Class}
 use Rattle.weights.specs.Row.{row}

@@ -1,7 +1,7 @@
 use Rattle.std.proofs.Common.{◌≡◌, ◌≤◌, ◌<◌, ◌+◌, ◌*◌, ℕ, length, get_or, slice_get, Some, ap, arith}
 use Rattle.std.specs.Prelude.{slice_index_or}
 use Rattle.std.proofs.lemmas.Nat.{mul-le}
-use Rattle.readings.proofs.Loops.{at_index}
+use Rattle.support.proofs.Loops.{at_index}
 use Rattle.job_bodies.specs.declared.limits.TheConstants.{MAX_POOLS, MAX_SIZE, MAX_WEIGHT}
 use Rattle.weights.specs.Vector.{workers_weight}
 use Rattle.weights.proofs.Fitting.{fits, max_at}

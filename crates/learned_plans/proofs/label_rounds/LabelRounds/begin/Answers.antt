@@ -1,6 +1,6 @@
 use Rattle.std.proofs.Common.{◌≡◌, ◌∙◌, ℕ, ◌+◌, ◌==◌, if◌then◌else◌, length, ap, sym, subst, inl, Some, slice_get, map, string_bytes, arith}
 use Rattle.std.proofs.lemmas.List.{with_items_is}
-use Rattle.number_tables.specs.Numbered.{value_at}
+use Rattle.support.specs.Numbered.{value_at}
 use Rattle.learned_plans.specs.Kept.{ChangesOne, with_begin}
 use Rattle.learned_plans.specs.LabelRounds.{labels_of}
 use Rattle.learned_plans.proofs.LabelRounds.{begun_after}

@@ -1,5 +1,5 @@
 use Rattle.std.proofs.Common.{◌≡◌, slice_get, Some}
-use Rattle.readings.proofs.Loops.{at_index}
+use Rattle.support.proofs.Loops.{at_index}
 use Rattle.weights.proofs.Walks.{walk_goes_on}
 use Rattle.pool_ranks.specs.Ranks.{rank_rows_of_class}
 use Rattle.pool_ranks.proofs.ranks.Ranks.visit_rank_rows.Goals as goal

@@ -1,5 +1,5 @@
 use Rattle.std.proofs.Common.{◌≡◌, List, Some}
-use Rattle.number_tables.specs.Numbered.{count_of}
+use Rattle.support.specs.Numbered.{count_of}
 use Rattle.recording_lines.specs.RecordingLine.{RecordedLine}
 use Rattle.recorded_paths.specs.StandsFor.{KeepsRules}
 use Rattle.recorded_classes.specs.Budget.{IsEnoughForPlan}

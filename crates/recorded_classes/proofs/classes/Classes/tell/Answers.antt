@@ -1,5 +1,5 @@
 use Rattle.std.proofs.Common.{◌≡◌, ◌+◌, ℕ, if◌then◌else◌, is_some, Option, sym, subst, ap, ◌∙◌, arith}
-use Rattle.number_tables.specs.Numbered.{count_of}
+use Rattle.support.specs.Numbered.{count_of}
 use Rattle.recording_lines.specs.declared.recording_line.RecordedActor.{RecordedActor}
 use Rattle.recorded_classes.specs.declared.actor_table.ActorTable.{ActorTable}
 use Rattle.recorded_classes.specs.declared.actor_table.KeptActor.{KeptActor}

@@ -3,7 +3,7 @@ use Rattle.std.specs.Str.{bytes_eq}
 use Rattle.std.specs.String.{string_bytes}
 use Rattle.std.specs.HashSet.{contains_text}
 use Rattle.std.proofs.lemmas.Map.Text.{hash_set_updates_text}
-use Rattle.number_tables.specs.Numbered.{value_at}
+use Rattle.support.specs.Numbered.{value_at}
 use Rattle.recorded_rules.specs.PoolNames.{number_of, is_name}
 use Rattle.recorded_rules.proofs.PoolsOnceNamed.{named_other}
 use Rattle.recorded_rules.proofs.pools.Pools.insert.Goals as goal

@@ -1,3 +1,0 @@
-pub mod PlacesOnceSet
-pub mod TablesOnceChanged
-pub mod NumbersPushed

@@ -1,2 +1,0 @@
-pub mod In
-pub mod Places

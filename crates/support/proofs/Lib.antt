@@ -1,0 +1,13 @@
+pub mod Members
+pub mod PassingPlaces
+pub mod LastPlace
+pub mod Sums
+pub mod Elements
+pub mod PlacesOnceSet
+pub mod TablesOnceChanged
+pub mod NumbersPushed
+pub mod Steps
+pub mod Loops
+pub mod ReadingEach
+pub mod ReadElements
+pub mod Counting

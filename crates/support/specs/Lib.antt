@@ -1,0 +1,14 @@
+pub mod In
+pub mod Places
+pub mod Entry
+pub mod LentEntry
+pub mod LentOther
+pub mod Numbered
+pub mod Lent
+pub mod Reading
+pub mod Given
+pub mod Each
+pub mod Name
+pub mod Number
+pub mod Pushed
+pub mod Tens

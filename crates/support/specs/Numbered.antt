@@ -1,0 +1,46 @@
+-- The specification's view of a table.
+use Rattle.std.specs.Prelude.{◌≡◌, ℕ, ◌+◌, ◌%◌, ◌==◌, true, List, Option, Some, None, length, nat_eq, if◌then◌else◌, refl}
+use Rattle.std.specs.Coded.{Coded, code_by, coded×, coded_ℕ, coded_list, coded_option}
+use Rattle.std.specs.Map.{lookup}
+use Rattle.support.specs.declared.entry.Entry.{Entry}
+use Rattle.support.specs.declared.places.TheConstants.{TABLE_LEN}
+use Rattle.support.specs.Entry.{has_number, value_or, entry_at, taken}
+
+-- a table, in which each number has one slot, and the numbers whose slot was occupied
+pub record Numbered (V : Type 0) : Type 0 where
+  pub slots : List (Option (Entry V))
+  pub others : List (ℕ × V)
+
+abbrev pub entry_code : {V : Type 0} → Coded V → Coded (Entry V)
+entry_code {V} code = code_by (ℕ × V) (coded× coded_ℕ code) (λ e. (e.number, e.value)) (λ p. record { number = p.0; value = p.1 }) (λ _. refl)
+
+abbrev pub numbered_code : {V : Type 0} → Coded V → Coded (Numbered V)
+numbered_code {V} code =
+    code_by (List (Option (Entry V)) × List (ℕ × V)) (coded× (coded_list (coded_option (entry_code code))) (coded_list (coded× coded_ℕ code)))
+    (λ t. (t.slots, t.others)) (λ p. record { slots = p.0; others = p.1 }) (λ _. refl)
+
+abbrev pub place_of : ℕ → ℕ
+place_of number = number % TABLE_LEN
+
+module _ {V : Type 0} where
+  -- the value of the number
+  unfoldable pub value_at : Numbered V → ℕ → Option V
+  value_at table n = value_or n (entry_at table.slots (place_of n)) (lookup (nat_eq n) table.others)
+
+  -- the number of numbers that have a value
+  unfoldable pub count_of : Numbered V → ℕ
+  count_of table = taken table.slots + length table.others
+
+  -- each number in the table is in its own slot
+  abbrev pub AreInPlace : List (Option (Entry V)) → Type 0
+  AreInPlace slots = (p n : ℕ) → has_number n (entry_at slots p) ≡ true → place_of n ≡ p
+
+  -- and none of them is in the map too
+  pub record IsTable (slots : List (Option (Entry V))) (others : List (ℕ × V)) : Type 0 where
+    pub in_place : AreInPlace slots
+    pub once : (n : ℕ) → has_number n (entry_at slots (place_of n)) ≡ true → lookup (nat_eq n) others ≡ None
+
+  -- the table after w was written through the reference that `get_mut` returned for a number with a value
+  pub record IsWritten (old : Numbered V) (n : ℕ) (w : V) (new : Numbered V) : Type 0 where
+    pub values : (q : ℕ) → value_at new q ≡ (if n == q then Some w else value_at old q)
+    pub count : count_of new ≡ count_of old

@@ -1,0 +1,30 @@
+//! Reading the elements of a list in order.
+
+ghost use Rattle.std.specs.Prelude.{◌≡◌};
+ghost use Rattle.std.specs.Borrow.{Bor};
+ghost use Rattle.support.specs.Each.{IsReadOfEach};
+
+use crate::ReadError;
+use std::alloc::Global;
+
+/// Reads each element and returns the values, or the first error. Calls the reader with each
+/// element and its index.
+pub fn read_each<'a, X, Y: Drop, F, R>(
+    alloc: Global,
+    elements: &'a [X],
+    read: R,
+) -> Result<Vec<Y>, ReadError<F>>
+where
+    R: Fn(usize, &'a X) -> Result<Y, ReadError<F>>,
+    requires { R.IsAlwaysCallable read }
+    ensures { IsReadOfEach
+        (λ place x given. (element : Bor X) × (element.now ≡ x) × R.post read place element given)
+        elements.now result }
+{
+    let mut given = Vec::new(alloc);
+    for (place, element) in elements.iter().enumerate() {
+        let one = read(place, element)?;
+        given.push(one)?;
+    }
+    Ok(given)
+}

@@ -1,0 +1,22 @@
+//! The start of a fault's text.
+
+ghost use Rattle.std.specs.Prelude.{Some};
+ghost use Rattle.support.specs.Name as spec;
+
+use crate::name_of;
+use std::fmt;
+
+/// The number and name at the start of a fault's text, such as `fault 6 BadName`. The place of the
+/// fault can follow.
+#[derive(Clone, Copy, PartialEq, Eq)]
+pub struct Head(pub u8);
+
+impl fmt::Display for Head {
+    ghost output = { λ head. Some (spec.head head.0) };
+
+    fn fmt<W: fmt::Write>(&self, f: &mut fmt::Formatter<W>) -> fmt::Result {
+        let number = self.0;
+        let name = name_of(number);
+        write!(f, "fault {number} {name}")
+    }
+}

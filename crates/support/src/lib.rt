@@ -1,0 +1,27 @@
+//! Definitions and helpers that most other crates share.
+//!
+//! Lemmas on lists whose elements are known by index, [`NumberTable`], which maps ids to values, the numbers of faults and the
+//! first line of an error, and numbers in decimal digits.
+#![tactic(auto)]
+
+mod counter;
+mod decimals;
+mod each;
+mod entry;
+mod head;
+mod laws;
+mod name;
+pub mod number;
+mod number_table;
+mod others;
+mod places;
+mod read_error;
+
+pub use counter::Counter;
+pub use decimals::push_number;
+pub use each::read_each;
+pub use head::Head;
+pub use laws::fault_numbers_are_stated;
+pub use name::name_of;
+pub use number_table::NumberTable;
+pub use read_error::ReadError;

@@ -1,0 +1,113 @@
+//! The slots of a table.
+
+ghost use Rattle.std.specs.Prelude.{◌≡◌, ◌<◌, ◌+◌, ◌&&◌, ◌||◌, ℕ, nat_lt, nat_eq, true, false, IsTrue, OnOk, vec_len, length, slice_set, Some, []};
+ghost use Rattle.std.specs.List.{IsDistinct};
+ghost use Rattle.std.specs.Set.{is_member};
+ghost use Rattle.support.specs.Entry.{has_number, is_free_for, entry_at, taken, AreFree, HasSameEntries};
+ghost use Rattle.support.specs.Numbered.{place_of, AreInPlace};
+
+use crate::entry::{Entry, has_number, is_free_for};
+use std::alloc::AllocError;
+
+// A power of two, so that the slot of a number needs no division.
+const TABLE_LEN: usize = 256;
+
+/// Returns the slot of a number.
+#[inline(always)]
+pub(crate) fn place_of(number: usize) -> usize
+    ensures { result ≡ place_of number }
+{
+    number % TABLE_LEN
+}
+
+/// Returns whether the number is in its slot.
+#[inline(always)]
+pub(crate) fn stands_in<V>(slots: &Vec<Option<Entry<V>>>, number: usize) -> bool
+    ensures stands { result ≡ has_number number (entry_at slots.now.items (place_of number)) }
+    ensures inside { IsTrue result → place_of number < vec_len slots.now }
+{
+    let place = place_of(number);
+    place < slots.len() && has_number(&slots[place], number)
+}
+
+/// Returns whether the slot of the number is free or holds the number.
+#[inline(always)]
+pub(crate) fn may_stand_in<V>(slots: &Vec<Option<Entry<V>>>, number: usize) -> bool
+    ensures { result
+        ≡ (nat_lt (place_of number) (length slots.now.items) && is_free_for number
+        (entry_at slots.now.items (place_of number))) }
+{
+    let place = place_of(number);
+    place < slots.len() && is_free_for(&slots[place], number)
+}
+
+/// Stores the number in its slot, with this value.
+#[inline(always)]
+pub(crate) fn put<V: Drop>(slots: &mut Vec<Option<Entry<V>>>, number: usize, value: V)
+    requires { place_of number < vec_len slots.old }
+    ensures { slots.new.items
+        ≡ slice_set slots.old.items (place_of number)
+        (Some (record { number = number; value = value })) }
+{
+    slots[place_of(number)] = Some(Entry { number, value });
+}
+
+/// Allocates the slots if there are none.
+///
+/// # Errors
+///
+/// Returns `AllocError` if memory runs out.
+#[inline(always)]
+pub(crate) fn make<V: Drop>(slots: &mut Vec<Option<Entry<V>>>) -> Result<(), AllocError>
+    ensures { HasSameEntries slots.old.items slots.new.items }
+{
+    if !slots.is_empty() {
+        return Ok(());
+    }
+    lay_out(slots, TABLE_LEN)
+}
+
+// Allocates `len` free slots. There must be none yet.
+#[cold]
+#[inline(never)]
+fn lay_out<V: Drop>(slots: &mut Vec<Option<Entry<V>>>, len: usize) -> Result<(), AllocError>
+    requires { slots.old.items ≡ [] }
+    ensures { AreFree slots.new.items }
+{
+    slots.reserve(len)?;
+    for _ in 0..len {
+        slots.push(None)?;
+    }
+    Ok(())
+}
+
+/// Appends the numbers that are in their slots to other numbers, which are not.
+///
+/// # Errors
+///
+/// Returns `AllocError` if memory runs out.
+pub(crate) fn push_numbers<V>(
+    slots: &Vec<Option<Entry<V>>>,
+    numbers: &mut Vec<usize>,
+) -> Result<(), AllocError>
+    requires in_place { AreInPlace slots.now.items }
+    requires others { (n : ℕ)
+        → has_number n (entry_at slots.now.items (place_of n)) ≡ true
+        → is_member nat_eq numbers.old.items n ≡ false }
+    requires once { IsDistinct nat_eq numbers.old.items }
+    ensures all { OnOk result
+        ((n : ℕ)
+        → is_member nat_eq numbers.new.items n
+        ≡ (is_member nat_eq numbers.old.items n || has_number n
+        (entry_at slots.now.items (place_of n)))) }
+    ensures once { OnOk result (IsDistinct nat_eq numbers.new.items) }
+    ensures len { OnOk result
+        (length numbers.new.items ≡ length numbers.old.items + taken slots.now.items) }
+{
+    for slot in slots {
+        if let Some(entry) = slot {
+            numbers.push(entry.number)?;
+        }
+    }
+    Ok(())
+}
