@@ -1,7 +1,7 @@
 -- The lines that report the faults of a plan's text.
 use Rattle.std.specs.Prelude.{ℕ, List, [], ◌∷◌, ◌++◌, codes, decimal, string_bytes}
 use Rattle.std.specs.List.{flat_map}
-use Rattle.plan_places.specs.declared.place.TextPlace.{TextPlace}
+use Rattle.plan_text.specs.declared.place.TextPlace.{TextPlace}
 use Rattle.plan_advice.specs.declared.advice.Advice.{Advice}
 use Rattle.plan_advice.specs.declared.advice.Faults.{Faults}
 use Rattle.plan_advice.specs.declared.warnings.Warning.{Warning}

@@ -4,7 +4,7 @@ ghost use Rattle.plan_advice.specs.Advice as spec;
 ghost use Rattle.support.specs.Pushed.{Pushes};
 
 use job_bodies::PlanFault;
-use plan_places::TextPlace;
+use plan_text::TextPlace;
 use std::alloc::AllocError;
 
 /// A diagnostic for one fault.

@@ -2,7 +2,7 @@
 
 use crate::notes::Notes;
 use job_bodies::{Part, PlanFault};
-use plan_places::{Places, TextPlace};
+use plan_text::{Places, TextPlace};
 use std::alloc::{AllocError, Global};
 use toml::{Table, Value};
 

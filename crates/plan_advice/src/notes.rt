@@ -2,7 +2,7 @@
 
 use crate::advice::Advice;
 use job_bodies::PlanFault;
-use plan_places::TextPlace;
+use plan_text::TextPlace;
 use std::alloc::{AllocError, Global};
 
 /// The maximum number of faults that are reported besides the first.

@@ -3,7 +3,7 @@
 
 use crate::advice::Advice;
 use job_bodies::PlanFault;
-use plan_places::{TextPlace, place_at};
+use plan_text::{TextPlace, place_at};
 use std::alloc::{AllocError, Global};
 use support::number::NOT_TOML;
 

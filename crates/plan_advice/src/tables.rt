@@ -6,7 +6,7 @@ use crate::notes::Notes;
 use crate::shapes::{has_key, keys_of};
 use crate::{bodies, names, numbers, shapes};
 use job_bodies::{Part, PlanFault};
-use plan_places::Places;
+use plan_text::Places;
 use std::alloc::{AllocError, Global};
 use support::number::{NO_SUCH_POOL, UNKNOWN_KEY, WRONG_TYPE};
 use toml::{Table, Value};

@@ -9,7 +9,7 @@ use crate::rules::rule_of;
 use crate::syntax::{not_text, not_toml};
 use crate::tables::document;
 use job_bodies::PlanFault;
-use plan_places::Places;
+use plan_text::Places;
 use std::alloc::{AllocError, Global};
 
 /// Returns the faults of a plan's text that the parser rejects with `fault`: first that one, and

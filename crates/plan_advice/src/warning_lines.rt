@@ -5,7 +5,7 @@ ghost use Rattle.support.specs.Pushed.{Pushes};
 
 use crate::advice::push_place;
 use crate::warnings::Warning;
-use plan_places::TextPlace;
+use plan_text::TextPlace;
 use std::alloc::AllocError;
 
 /// Appends a line for each warning, such as `shop.toml:24:1: warning: client browser goes through

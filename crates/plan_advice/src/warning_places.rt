@@ -3,7 +3,7 @@
 use crate::entry::{BEGINNING, list_of};
 use crate::oddity::Oddity;
 use job_bodies::Part;
-use plan_places::{Places, TextPlace};
+use plan_text::{Places, TextPlace};
 
 /// Returns the place of the lint.
 pub(crate) fn place_of(places: &Places<'_>, oddity: Oddity) -> TextPlace {

@@ -8,7 +8,7 @@ use crate::oddity::Oddity;
 use crate::warning_places::place_of;
 use crate::warning_words::words_of;
 use job_bodies::Plan;
-use plan_places::{Places, TextPlace};
+use plan_text::{Places, TextPlace};
 use std::alloc::{AllocError, Global};
 
 /// A warning about a plan.

@@ -1,5 +1,5 @@
 pub mod Tables
-pub mod Places
+pub mod NamePlaces
 pub mod Numbers
 pub mod Filling
 pub mod OnLiterals
@@ -9,3 +9,9 @@ mod BodyLaws
 pub mod Buildable
 pub mod SpelledOrders
 pub mod ReadOrders
+pub mod Members
+pub mod Images
+mod SlotNames
+mod SpelledBodies
+mod SpelledEntries
+mod SpelledPlan

@@ -6,3 +6,6 @@ pub mod Orders
 pub mod Slots
 pub mod Bodies
 pub mod PlanOf
+pub mod Spelling
+pub mod PlanDocument
+pub mod TextPlace

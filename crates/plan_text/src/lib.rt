@@ -1,7 +1,7 @@
-//! The text format of plans: a TOML document with tables of pools, classes and clients.
+//! The text of a plan: TOML.
 //!
-//! Each reader returns the value of the definition with its name in `specs/`: a part of the plan,
-//! or the first fault.
+//! [`read_plan`] reads a plan, or returns the first fault. [`write_plan`] writes the text that reads back to the same plan.
+//! [`Places`] finds the line and column of each part of a plan in its text.
 #![tactic(auto)]
 
 mod bodies;
@@ -13,8 +13,19 @@ mod fault;
 mod laws;
 mod names;
 mod order;
+mod outline;
+mod place;
+mod places;
 mod plan_of;
+mod plan_values;
 mod slots;
+mod spelling;
+mod token;
+mod tokens;
+mod writer;
 
 pub use laws::spelling_is_canonical;
+pub use place::{TextPlace, place_at};
+pub use places::Places;
 pub use plan_of::read_plan;
+pub use writer::write_plan;

@@ -3,7 +3,7 @@ use Rattle.std.specs.Prelude.{◌≡◌, ◌⊎◌, ◌&&◌, ℕ, false, if◌t
 use Rattle.std.specs.List.{All, list_any}
 use Rattle.job_bodies.specs.Plan.{Plan}
 use Rattle.plan_text.specs.PlanOf.{plan_of}
-use Rattle.plan_writer.specs.PlanDocument.{IsPlanText}
+use Rattle.plan_text.specs.PlanDocument.{IsPlanText}
 use Rattle.recording_lines.specs.RecordingLine.{RecordedLine, lines_read}
 use Rattle.recorded_rules.specs.Before.{begins, submits}
 use Rattle.recorded_rules.specs.Faults.{IsFirstFault}

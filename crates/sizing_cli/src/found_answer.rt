@@ -18,7 +18,7 @@ use command_line::{Form, Manner};
 use job_bodies::{MAX_CERT_BYTES, Plan};
 use json_answers::finding_json;
 use plan_advice::{Oddity, Warning, push_warnings, warnings_of};
-use plan_places::TextPlace;
+use plan_text::TextPlace;
 use std::alloc::{AllocError, Global};
 
 /// Writes the answer for this finding. Messages use `file` as the name of the plan's file. A given

@@ -17,7 +17,7 @@ use crate::texts::plan_in;
 use conformance::{Conformance, Finding, conform, push_finding};
 use job_bodies::{MAX_PATH_STEPS, MAX_PLAN_BYTES, MAX_RECORDED_BYTES, Plan};
 use learned_plans::{Extent, Learned, START_BYTES, SeenPlan, TooMuch, learn};
-use plan_writer::write_plan;
+use plan_text::write_plan;
 use std::alloc::{AllocError, Global};
 
 /// Returns the plan that a recording shows. The input is the recording.

@@ -2,8 +2,7 @@
 
 use crate::plan_texts::answers::line_of;
 use job_bodies::{Action, Class, Client, Plan, PlanFault, Pool};
-use plan_text::read_plan;
-use plan_writer::write_plan;
+use plan_text::{read_plan, write_plan};
 use std::alloc::{AllocError, Global};
 
 /// Returns the plan of the lists or their fault, in one line.

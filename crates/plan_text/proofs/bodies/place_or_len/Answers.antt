@@ -1,5 +1,5 @@
 use Rattle.std.specs.Str.{bytes_eq}
-use Rattle.plan_text.proofs.Places.{place_or_len}
+use Rattle.plan_text.proofs.NamePlaces.{place_or_len}
 use Rattle.plan_text.proofs.bodies.place_or_len.Goals as goal
 
 pub returns : goal.returns

@@ -2,7 +2,7 @@ use Rattle.std.proofs.Common.{List, ℕ, Bor, not, map, sym, ap, ◌∙◌}
 use Rattle.std.specs.List.{list_any}
 use Rattle.std.specs.Str.{bytes_eq}
 use Rattle.job_bodies.proofs.Loops.{list_any_of_map}
-use Rattle.plan_text.proofs.Places.{names_after}
+use Rattle.plan_text.proofs.NamePlaces.{names_after}
 use Rattle.plan_text.proofs.names.Names.add.Goals as goal
 
 abbrev now : Bor (List ℕ) → List ℕ

@@ -1,6 +1,6 @@
 use Rattle.std.proofs.Common.{List, ℕ, Bor, ◌∙◌}
 use Rattle.std.specs.Str.{bytes_eq}
-use Rattle.plan_text.proofs.Places.{position_of_map}
+use Rattle.plan_text.proofs.NamePlaces.{position_of_map}
 use Rattle.plan_text.proofs.names.Names.place.Goals as goal
 
 abbrev now : Bor (List ℕ) → List ℕ

@@ -1,7 +1,7 @@
 use Rattle.std.proofs.Common.{cond, sym, ap, ◌∙◌, Option, ℕ, Some}
 use Rattle.std.specs.Str.{bytes_eq}
 use Rattle.std.proofs.lemmas.Map.Text.{hash_map_updates_str}
-use Rattle.plan_text.proofs.Places.{slot_in_entries}
+use Rattle.plan_text.proofs.NamePlaces.{slot_in_entries}
 use Rattle.plan_text.proofs.slots.Slots.fill.Goals as goal
 
 pub returns : goal.returns

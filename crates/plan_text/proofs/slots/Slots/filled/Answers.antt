@@ -1,5 +1,5 @@
 use Rattle.std.proofs.Common.{◌∙◌}
-use Rattle.plan_text.proofs.Places.{slot_in_entries}
+use Rattle.plan_text.proofs.NamePlaces.{slot_in_entries}
 use Rattle.plan_text.proofs.slots.Slots.filled.Goals as goal
 
 pub returns : goal.returns

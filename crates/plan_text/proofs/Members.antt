@@ -1,0 +1,29 @@
+-- The members of a table with one more entry.
+use Rattle.std.proofs.Common.{◌≡◌, Bool, true, false, if◌then◌else◌, codes, List, [], ◌∷◌, String, Global, Ordering, Less, Equal, Greater, string_bytes, refl, ap}
+use Rattle.std.specs.BTreeMap.{insert_entry}
+use Rattle.std.specs.Ordering.{match_ordering}
+use Rattle.std.specs.String.{string_cmp}
+use Rattle.toml.specs.Data.{Data, boolean, member, no_members}
+use Rattle.toml.specs.View.{view, members_view}
+use Rattle.toml.specs.declared.value.Value.{Value}
+use Rattle.plan_text.specs.PlanDocument.{with_member, prestart_and}
+
+-- one index of the table
+chosen : (o : Ordering) (k : String Global) (v : Value) (e : String Global × Value) (es more : List (String Global × Value)) → members_view more ≡ with_member (string_bytes k) (view v) (members_view es)
+    → members_view (match_ordering o ((k, v) ∷ e ∷ es) ((e.0, v) ∷ es) (e ∷ more))
+    ≡ match_ordering o (member (string_bytes k) (view v) (members_view (e ∷ es))) (member (string_bytes e.0) (view v) (members_view es)) (member (string_bytes e.0) (view e.1) (with_member (string_bytes k) (view v) (members_view es)))
+chosen Less k v e es more same = refl
+chosen Equal k v e es more same = refl
+chosen Greater k v e es more same = ap (member (string_bytes e.0) (view e.1)) same
+
+pub members_with : (k : String Global) (v : Value) (es : List (String Global × Value)) → members_view (insert_entry string_cmp es k v) ≡ with_member (string_bytes k) (view v) (members_view es)
+members_with k v [] = refl
+members_with k v (e ∷ es) = chosen (string_cmp k e.0) k v e es (insert_entry string_cmp es k v) (members_with k v es)
+
+-- the keys of a pool, inserted in order
+pub pool_members : (core max name queue : Data) (prestart : Bool)
+    → let named = with_member (codes "name") name (with_member (codes "max") max (with_member (codes "core") core no_members)) in
+    with_member (codes "queue") queue (if prestart then with_member (codes "prestart") (boolean true) named else named)
+    ≡ member (codes "core") core (member (codes "max") max (member (codes "name") name (prestart_and prestart (member (codes "queue") queue no_members))))
+pool_members core max name queue true = refl
+pool_members core max name queue false = refl

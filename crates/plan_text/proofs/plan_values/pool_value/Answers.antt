@@ -1,0 +1,10 @@
+use Rattle.std.proofs.Common.{ap, ◌∙◌}
+use Rattle.toml.specs.Data.{table}
+use Rattle.toml.proofs.Views.{view-Table}
+use Rattle.plan_text.proofs.Members.{pool_members}
+use Rattle.plan_text.specs.PlanDocument.{pool_data}
+use Rattle.plan_text.proofs.plan_values.pool_value.Goals as goal
+
+pub returns : goal.returns
+unfolding pool_data
+returns c = view-Table _ ∙ ap table (rw (c.in_ok-put-4.ensures, c.in_ok-put_flag.ensures, c.in_ok-put-3.ensures, c.in_ok-put-2.ensures, c.in_ok-put.ensures, c.new-table.ensures.empty, c.number_value.ensures, c.number_value-2.ensures, c.number_value-3.ensures, c.in_ok-string.ensures, c.as_str.ensures.value, ← c.pool.view_is) (pool_members _ _ _ _ _))

@@ -1,0 +1,65 @@
+-- The document of a plan: a table with a list of pools, of classes and of clients. The keys of each table are in ascending
+-- order.
+use Rattle.std.specs.Prelude.{ℕ, pos, Bool, true, false, if◌then◌else◌, List, map, codes}
+use Rattle.std.specs.Ordering.{nat_cmp, match_ordering}
+use Rattle.std.specs.Cmp.Lexicographic.{slice_cmp}
+use Rattle.toml.specs.Data.{Data, string, integer, boolean, array, table, Members, no_members, member}
+use Rattle.toml.specs.View.{items_of}
+use Rattle.toml.specs.Text.{IsDocumentText}
+use Rattle.job_bodies.specs.Plan.{Pool, Class, Client, Plan, pool_names}
+use Rattle.plan_text.specs.Spelling.{name_at, body_texts}
+
+-- an integer, a list, and the texts of a body
+abbrev pub number_data : ℕ → Data
+number_data number = integer (pos number)
+
+abbrev pub list_data : List Data → Data
+list_data values = array (items_of values)
+
+abbrev pub texts_data : List (List ℕ) → Data
+texts_data texts = list_data (map string texts)
+
+-- the key `prestart` if the core threads are prestarted, followed by the later keys
+abbrev pub prestart_and : Bool → Members → Members
+prestart_and prestart rest = if prestart then member (codes "prestart") (boolean true) rest else rest
+
+unfoldable pub pool_data : Pool → Data
+pool_data pool =
+    table (member (codes "core") (number_data pool.core)
+    (member (codes "max") (number_data pool.max)
+    (member (codes "name") (string pool.name)
+    (prestart_and pool.prestart
+    (member (codes "queue") (number_data pool.queue) no_members)))))
+
+-- a class, given the names of all pools and classes
+unfoldable pub class_data : List (List ℕ) → List (List ℕ) → Class → Data
+class_data pools classes class =
+    table (member (codes "body") (texts_data (body_texts classes class.body))
+    (member (codes "name") (string class.name)
+    (member (codes "pool") (string (name_at pools class.pool)) no_members)))
+
+-- a kind of client, given the names of all classes
+unfoldable pub client_data : List (List ℕ) → Client → Data
+client_data classes client =
+    table (member (codes "body") (texts_data (body_texts classes client.body))
+    (member (codes "count") (number_data client.count)
+    (member (codes "name") (string client.name)
+    (member (codes "repeat") (boolean client.repeat) no_members))))
+
+unfoldable pub plan_document : Plan → Members
+plan_document plan =
+    let pools = pool_names plan in
+    let classes = map (λ class. class.name) plan.classes in
+    member (codes "class") (list_data (map (class_data pools classes) plan.classes))
+    (member (codes "client") (list_data (map (client_data classes) plan.clients))
+    (member (codes "pool") (list_data (map pool_data plan.pools)) no_members))
+
+-- the text represents this document
+abbrev pub IsPlanText : Plan → List ℕ → Type 0
+IsPlanText plan text = IsDocumentText false (plan_document plan) text
+
+-- the members with one more, inserted before the first greater key, or replacing the member with the same key
+abbrev pub with_member : List ℕ → Data → Members → Members
+with_member key value no_members = member key value no_members
+with_member key value (member first there rest) =
+    match_ordering (slice_cmp nat_cmp key first) (member key value (member first there rest)) (member first value rest) (member first there (with_member key value rest))

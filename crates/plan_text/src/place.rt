@@ -1,0 +1,66 @@
+//! Lines and columns.
+
+ghost use Rattle.std.specs.Prelude.{◌≡◌, ◌≤◌, length, count_by, take};
+ghost use Rattle.std.specs.List.{IsAfterLastMatch};
+ghost use Rattle.plan_text.specs.TextPlace.{IsBehind, is_newline, begins_character};
+
+use std::fmt;
+
+/// A position in a text.
+#[derive(Clone, Copy, PartialEq, Eq)]
+pub struct TextPlace {
+    /// The line, counted from 1.
+    pub line: usize,
+    /// The column in characters, counted from 1.
+    pub column: usize,
+}
+
+/// Formats the line and the column, such as `17:21`.
+impl fmt::Display for TextPlace {
+    ghost use Rattle.std.specs.Prelude.{Some, ◌++◌, ◌∷◌, decimal};
+
+    ghost output = { λ place. Some (decimal place.line ++ 58 ∷ decimal place.column) };
+
+    fn fmt<W: fmt::Write>(&self, f: &mut fmt::Formatter<W>) -> fmt::Result {
+        let line = self.line;
+        let column = self.column;
+        write!(f, "{line}:{column}")
+    }
+}
+
+/// Returns the position of the byte at this offset of a UTF-8 text, or of the text's end if the
+/// offset is past it.
+pub fn place_at(text: &[u8], offset: usize) -> TextPlace
+    ensures { IsBehind (take offset text.now) result }
+{
+    let before = &text[..offset.min(text.len())];
+    TextPlace {
+        line: 1 + newlines(before),
+        column: 1 + characters(&before[last_line_start(before)..]),
+    }
+}
+
+fn newlines(text: &[u8]) -> usize
+    ensures count { result ≡ count_by is_newline text.now }
+    ensures within { result ≤ length text.now }
+{
+    text.iter().filter(|byte| **byte == b'\n').count()
+}
+
+fn characters(text: &[u8]) -> usize
+    ensures count { result ≡ count_by begins_character text.now }
+    ensures within { result ≤ length text.now }
+{
+    text.iter().filter(|byte| **byte / 64 != 2).count()
+}
+
+/// Returns the offset of the last line of a text: after its last newline, or 0.
+fn last_line_start(text: &[u8]) -> usize
+    ensures within { result ≤ length text.now }
+    ensures behind_newline { IsAfterLastMatch is_newline text.now result }
+{
+    match text.iter().rposition(|byte| *byte == b'\n') {
+        Some(newline) => newline + 1,
+        None => 0,
+    }
+}

@@ -1,0 +1,183 @@
+//! The document of a plan, as TOML values.
+
+ghost use Rattle.std.specs.Prelude.{◌≡◌, ◌≤◌, true, if◌then◌else◌, map, IfOk, OnOk};
+ghost use Rattle.toml.specs.Data.{boolean};
+ghost use Rattle.toml.specs.View.{view, table_view};
+ghost use Rattle.job_bodies.specs.declared.limits.TheConstants.{MAX_SIZE};
+ghost use Rattle.job_bodies.specs.Plan.{pool_names};
+ghost use Rattle.job_bodies.specs.WellFormed.{is_lawful_pool, is_within, IsWellFormed};
+ghost use Rattle.plan_text.specs.Spelling.{name_at};
+ghost use Rattle.plan_text.specs.PlanDocument as spec;
+
+use crate::spelling::body_value;
+use job_bodies::{Class, Client, Plan, Pool};
+use std::alloc::{AllocError, Global};
+use toml::{Table, Value};
+
+/// Inserts a value at a key.
+fn put(alloc: Global, table: &mut Table, key: &str, value: Value) -> Result<(), AllocError>
+    ensures { OnOk result
+        (table_view table.new ≡ spec.with_member key.now (view value) (table_view table.old)) }
+{
+    let key = String::from_str(alloc, key)?;
+    let _before = table.insert(key, value)?;
+    Ok(())
+}
+
+/// Inserts `true` at a key if the flag is set.
+fn put_flag(alloc: Global, table: &mut Table, key: &str, flag: bool) -> Result<(), AllocError>
+    ensures { OnOk result
+        (table_view table.new
+        ≡ (if flag then spec.with_member key.now (boolean true) (table_view table.old) else
+        table_view table.old)) }
+{
+    if flag {
+        put(alloc, table, key, Value::Boolean(true))?;
+    }
+    Ok(())
+}
+
+fn number_value(number: u64) -> Value
+    requires { number ≤ MAX_SIZE }
+    ensures { view result ≡ spec.number_data number }
+{
+    Value::Integer(number as i64)
+}
+
+fn pool_value(alloc: Global, pool: &Pool) -> Result<Value, AllocError>
+    requires { is_lawful_pool pool.now ≡ true }
+    ensures { IfOk result (λ value. view value ≡ spec.pool_data pool.now) }
+{
+    let mut table = Table::new(alloc);
+    put(alloc, &mut table, "core", number_value(pool.core))?;
+    put(alloc, &mut table, "max", number_value(pool.max))?;
+    put(
+        alloc,
+        &mut table,
+        "name",
+        Value::string(alloc, pool.name.as_str())?,
+    )?;
+    put_flag(alloc, &mut table, "prestart", pool.prestart)?;
+    put(alloc, &mut table, "queue", number_value(pool.queue))?;
+    Ok(Value::Table(table))
+}
+
+fn pool_name(pools: &[Pool], place: usize) -> &str
+    ensures { result.now ≡ name_at (map (λ pool. pool.name) pools.now) place }
+{
+    match pools.get(place) {
+        Some(pool) => pool.name.as_str(),
+        None => "",
+    }
+}
+
+fn class_value(
+    alloc: Global,
+    pools: &[Pool],
+    classes: &[Class],
+    class: &Class,
+) -> Result<Value, AllocError>
+    ensures { IfOk result (λ value.
+        view value
+        ≡ spec.class_data (map (λ pool. pool.name) pools.now)
+        (map (λ class. class.name) classes.now) class.now) }
+{
+    let mut table = Table::new(alloc);
+    put(
+        alloc,
+        &mut table,
+        "body",
+        body_value(alloc, classes, &class.body)?,
+    )?;
+    put(
+        alloc,
+        &mut table,
+        "name",
+        Value::string(alloc, class.name.as_str())?,
+    )?;
+    put(
+        alloc,
+        &mut table,
+        "pool",
+        Value::string(alloc, pool_name(pools, class.pool))?,
+    )?;
+    Ok(Value::Table(table))
+}
+
+fn client_value(alloc: Global, classes: &[Class], client: &Client) -> Result<Value, AllocError>
+    requires { is_within 1 MAX_SIZE client.now.count ≡ true }
+    ensures { IfOk result (λ value.
+        view value ≡ spec.client_data (map (λ class. class.name) classes.now) client.now) }
+{
+    let mut table = Table::new(alloc);
+    put(
+        alloc,
+        &mut table,
+        "body",
+        body_value(alloc, classes, &client.body)?,
+    )?;
+    put(alloc, &mut table, "count", number_value(client.count))?;
+    put(
+        alloc,
+        &mut table,
+        "name",
+        Value::string(alloc, client.name.as_str())?,
+    )?;
+    put(alloc, &mut table, "repeat", Value::Boolean(client.repeat))?;
+    Ok(Value::Table(table))
+}
+
+fn pool_values(alloc: Global, plan: &Plan) -> Result<Value, AllocError>
+    ensures { IfOk result
+        (λ value. view value ≡ spec.list_data (map spec.pool_data plan.now.pools)) }
+{
+    let mut values = Vec::new(alloc);
+    for pool in plan.pools() {
+        values.push(pool_value(alloc, pool)?)?;
+    }
+    Ok(Value::Array(values))
+}
+
+fn class_values(alloc: Global, plan: &Plan) -> Result<Value, AllocError>
+    ensures well_formed { IsWellFormed plan.now }
+    ensures value { IfOk result (λ value.
+        view value
+        ≡ spec.list_data
+        (map (spec.class_data (pool_names plan.now) (map (λ class. class.name) plan.now.classes))
+        plan.now.classes)) }
+{
+    let pools = plan.pools();
+    let classes = plan.classes();
+    let mut values = Vec::new(alloc);
+    for class in classes {
+        values.push(class_value(alloc, pools, classes, class)?)?;
+    }
+    Ok(Value::Array(values))
+}
+
+fn client_values(alloc: Global, plan: &Plan) -> Result<Value, AllocError>
+    ensures { IfOk result (λ value.
+        view value
+        ≡ spec.list_data
+        (map (spec.client_data (map (λ class. class.name) plan.now.classes)) plan.now.clients)) }
+{
+    let classes = plan.classes();
+    let mut values = Vec::new(alloc);
+    for client in plan.clients() {
+        values.push(client_value(alloc, classes, client)?)?;
+    }
+    Ok(Value::Array(values))
+}
+
+/// Builds the document of a plan.
+#[tactic(auto, unfolding(crate::specs::PlanDocument::plan_document))]
+pub fn plan_document(alloc: Global, plan: &Plan) -> Result<Table, AllocError>
+    ensures well_formed { IsWellFormed plan.now }
+    ensures document { IfOk result (λ document. table_view document ≡ spec.plan_document plan.now) }
+{
+    let mut document = Table::new(alloc);
+    put(alloc, &mut document, "class", class_values(alloc, plan)?)?;
+    put(alloc, &mut document, "client", client_values(alloc, plan)?)?;
+    put(alloc, &mut document, "pool", pool_values(alloc, plan)?)?;
+    Ok(document)
+}

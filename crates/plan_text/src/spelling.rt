@@ -1,0 +1,79 @@
+//! The texts of a body. A class is written as its name, and a slot is named after the position of
+//! the submit that fills it.
+
+ghost use Rattle.std.specs.Prelude.{◌≡◌, map, IfOk, Some, string_bytes};
+ghost use Rattle.toml.specs.View.{view};
+ghost use Rattle.plan_text.specs.PlanDocument.{texts_data};
+ghost use Rattle.plan_text.specs.Spelling as spec;
+
+use job_bodies::{Action, Class, is_got};
+use std::alloc::{AllocError, Global};
+use std::fmt;
+use toml::Value;
+
+/// Returns the name of the class at an index, or an empty name past the end.
+fn class_name(classes: &[Class], place: usize) -> &str
+    ensures { result.now ≡ spec.name_at (map (λ class. class.name) classes.now) place }
+{
+    match classes.get(place) {
+        Some(class) => class.name.as_str(),
+        None => "",
+    }
+}
+
+/// The part of a submit after its class: the slot that it fills, if a get of the body names it.
+#[derive(Clone, Copy)]
+struct SlotPart<'a> {
+    body: &'a [Action],
+    position: usize,
+}
+
+impl<'a> fmt::Display for SlotPart<'a> {
+    ghost output = { λ slot. Some (spec.slot_part slot.body.now slot.position) };
+
+    fn fmt<W: fmt::Write>(&self, f: &mut fmt::Formatter<W>) -> fmt::Result {
+        if is_got(self.body, self.position) {
+            write!(f, " as s{}", self.position)
+        } else {
+            Ok(())
+        }
+    }
+}
+
+/// Formats the action at a position.
+#[tactic(auto, unfolding(crate::specs::Spelling::action_text))]
+fn action_text(
+    alloc: Global,
+    classes: &[Class],
+    body: &[Action],
+    position: usize,
+    action: Action,
+) -> Result<String, AllocError>
+    ensures { IfOk result (λ text.
+        string_bytes text
+        ≡ spec.action_text (map (λ class. class.name) classes.now) body.now position action) }
+{
+    match action {
+        Action::Work(units) => format!(in alloc; "work {units}"),
+        Action::Submit(class) => {
+            let name = class_name(classes, class);
+            let slot = SlotPart { body, position };
+            format!(in alloc; "submit {name}{slot}")
+        }
+        Action::Get(submit) => format!(in alloc; "get s{submit}"),
+    }
+}
+
+/// Builds the list of the texts of a body.
+pub fn body_value(alloc: Global, classes: &[Class], body: &[Action]) -> Result<Value, AllocError>
+    ensures { IfOk result (λ value.
+        view value
+        ≡ texts_data (spec.body_texts (map (λ class. class.name) classes.now) body.now)) }
+{
+    let mut texts = Vec::new(alloc);
+    for (position, action) in body.iter().enumerate() {
+        let text = action_text(alloc, classes, body, position, *action)?;
+        texts.push(Value::String(text))?;
+    }
+    Ok(Value::Array(texts))
+}

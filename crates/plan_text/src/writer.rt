@@ -1,0 +1,31 @@
+//! A writer for the text of a plan.
+
+ghost use Rattle.std.specs.Prelude.{◌≡◌, ◌≤◌, length, IfOk, Ok, string_bytes};
+ghost use Rattle.job_bodies.specs.declared.limits.TheConstants.{MAX_PLAN_BYTES};
+ghost use Rattle.plan_text.specs.PlanDocument.{IsPlanText};
+ghost use Rattle.plan_text.specs.PlanOf.{plan_of};
+
+use crate::plan_values::plan_document;
+use job_bodies::Plan;
+use std::alloc::{AllocError, Global};
+
+/// Writes a plan that was built in code as TOML. [`read_plan`](crate::read_plan) reads the text
+/// back to the same plan, unless the text is longer than the limit for plans.
+///
+/// A submit that a get names fills a slot of its own, with the name `s` followed by the submit's
+/// position in its body. Other submits fill no slot.
+///
+/// # Errors
+///
+/// Returns [`AllocError`] if memory runs out.
+pub fn write_plan(alloc: Global, plan: &Plan) -> Result<String, AllocError>
+    ensures document { IfOk result (λ text. IsPlanText plan.now (string_bytes text)) }
+    ensures reads_back { IfOk result (λ text.
+        length (string_bytes text) ≤ MAX_PLAN_BYTES → plan_of (string_bytes text) ≡ Ok plan.now) }
+{
+    let document = plan_document(alloc, plan)?;
+    match toml::table_to_string(alloc, &document) {
+        Ok(text) => Ok(text),
+        Err(_) => Err(AllocError),
+    }
+}
