@@ -5,7 +5,7 @@ use Rattle.support.proofs.Members.{not_In_nil, In-cons_cases}
 use Rattle.job_bodies.specs.declared.action.Action.{Action}
 use Rattle.job_bodies.specs.declared.action.Action.TheVariants.{Submit}
 use Rattle.job_bodies.specs.Plan.{Class, Plan, no_class, class_at}
-use Rattle.pool_ranks.specs.Ranks.{Ranks, level}
+use Rattle.weights.specs.Ranks.{Ranks, level}
 use Rattle.starvation_laws.proofs.RankLaws.{RankLaws}
 use Rattle.steady_certificates.specs.Submitted.{IsSubmitted, begins, follows}
 

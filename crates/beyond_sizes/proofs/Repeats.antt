@@ -12,7 +12,7 @@ use Rattle.weights.specs.declared.at_get.AtGet.{AtGet}
 use Rattle.weights.specs.declared.at_get.AtGet.TheVariants.{GivesBack, GivesNothing}
 use Rattle.weights.specs.Vector.{Vector, queued_weight, job_weight, done_weight, client_weight}
 use Rattle.weights.specs.AtGet.{given_back}
-use Rattle.pool_ranks.specs.Ranks.{Ranks, level}
+use Rattle.weights.specs.Ranks.{Ranks, level}
 use Rattle.weight_laws.proofs.VectorLaws.{VectorLaws, class_of_action}
 use Rattle.starvation_laws.proofs.RankLaws.{RankLaws}
 use Rattle.steady_certificates.specs.Submitted.{IsSubmitted, begins, follows, repeated_bodies}

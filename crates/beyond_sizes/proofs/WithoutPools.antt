@@ -12,7 +12,7 @@ use Rattle.job_bodies.specs.Plan.{Pool, Class, Client, Plan, no_pool, no_client,
 use Rattle.job_bodies.specs.WellFormed.{IsWellFormed}
 use Rattle.job_bodies.proofs.Bodies.{ordered}
 use Rattle.weights.specs.Vector.{Vector, done_weight, client_weight, client_weights, workers_weight, is_small, has_small_numbers, has_shape, vector_fits}
-use Rattle.pool_ranks.specs.Ranks.{ranks_fit}
+use Rattle.weights.specs.Ranks.{ranks_fit}
 use Rattle.certificates.specs.Cert.{PoolCert, no_vector, no_pool_cert, pool_cert_fits, cert_fits}
 use Rattle.headline.specs.Conditions.{failing}
 use Rattle.headline.specs.Accepted.{accepted, is_nil}

@@ -1,16 +1,14 @@
 //! Certificates of small plans, and each call that judges one.
 
-use blocked_bounds::{Counted, blocked_fault};
 use cert_check::{Certified, CheckFault, PoolLine, accepts, accepts_standing, check, verdict};
 use cert_text::{CertFault, read_cert};
 use certificates::Cert;
 use job_bodies::{Part, Plan, PlanFault};
 use plan_text::read_plan;
-use pool_ranks::{Ranks, RanksOf};
 use std::alloc::{AllocError, Global};
 use std::test::*;
 use support::number::{BAD_NUMBER, NOT_JSON, WEIGHT_TOO_LARGE, WRONG_SHAPE};
-use weights::{Bound, Place, Row, Rule};
+use weights::{Bound, Counted, Place, Ranks, RanksOf, Row, Rule, blocked_fault};
 
 // ---- a pool, and two clients that each repeatedly submit one job and wait for it
 

@@ -6,7 +6,7 @@ use Rattle.job_bodies.specs.Plan.{Plan, Pool, Class, Client}
 use Rattle.weights.specs.declared.bound.Bound.{Bound}
 use Rattle.weights.specs.declared.bound.Bound.TheVariants.{Standing, Lifetime}
 use Rattle.weights.specs.Vector.{Vector}
-use Rattle.pool_ranks.specs.Ranks.{Ranks}
+use Rattle.weights.specs.Ranks.{Ranks}
 use Rattle.certificates.specs.Cert.{Cert, PoolCert}
 
 -- ---- parts of plans, each with a name of one letter

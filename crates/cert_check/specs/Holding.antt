@@ -3,8 +3,8 @@ use Rattle.std.specs.Prelude.{ℕ, ◌&&◌, not, is_some, Bool}
 use Rattle.job_bodies.specs.Plan.{Plan}
 use Rattle.weights.specs.Row.{first_failing}
 use Rattle.weights.specs.Bound.{bound_rows}
-use Rattle.blocked_bounds.specs.Blocked.{blocked_rows}
-use Rattle.pool_ranks.specs.Ranks.{is_counted}
+use Rattle.weights.specs.Blocked.{blocked_rows}
+use Rattle.weights.specs.Ranks.{is_counted}
 use Rattle.certificates.specs.Cert.{Cert, pool_cert_at}
 
 -- of pool p no row of its bound fails, and no row of its blocked vector

@@ -11,11 +11,9 @@ ghost use Rattle.headline.specs.Headline.{Promises, RefusesNothing, JavaRefusesN
 ghost use Rattle.cert_check.specs.Holding.{pool_holds};
 ghost use Rattle.cert_check.specs.Standing as spec;
 
-use blocked_bounds::blocked_fault;
 use certificates::Cert;
 use job_bodies::Plan;
-use pool_ranks::RanksOf;
-use weights::Bound;
+use weights::{Bound, RanksOf, blocked_fault};
 
 /// Returns whether the certificate fits the plan and all its conditions hold. Allocates nothing.
 pub fn accepts(plan: &Plan, cert: &Cert) -> bool

@@ -28,5 +28,4 @@ pub use text::push_verdict;
 pub use cert_text::{CertFault, read_cert, write_cert};
 pub use certificates::{Cert, PoolCert};
 pub use headline::{Note, Section};
-pub use pool_ranks::Ranks;
-pub use weights::{Bound, Vector};
+pub use weights::{Bound, Ranks, Vector};

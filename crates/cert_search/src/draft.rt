@@ -4,9 +4,8 @@ use crate::round::PoolVectors;
 use certificates::{Cert, PoolCert};
 use job_bodies::Plan;
 use least_vectors::{Levels, reach};
-use pool_ranks::Ranks;
 use std::alloc::{AllocError, Global};
-use weights::{Bound, Vector};
+use weights::{Bound, Ranks, Vector};
 
 /// The known parts of one pool's certificate.
 #[derive(Drop)]

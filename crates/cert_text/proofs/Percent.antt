@@ -11,7 +11,7 @@ use Rattle.serde_json.proofs.OnLiterals.{serde_json_on_literals}
 use Rattle.weights.specs.declared.bound.Bound.{Bound}
 use Rattle.weights.specs.declared.bound.Bound.TheVariants.{Standing, Lifetime}
 use Rattle.weights.specs.Vector.{Vector}
-use Rattle.pool_ranks.specs.Ranks.{Ranks}
+use Rattle.weights.specs.Ranks.{Ranks}
 use Rattle.certificates.specs.Cert.{PoolCert, Cert}
 use Rattle.cert_text.specs.CertText.{number_data, list_data, numbers_data, rows_data, vector_data, bounded_data, pool_data, ranks_data, version_number, cert_data, cert_text, has_percent}
 

@@ -4,7 +4,7 @@ use Rattle.job_bodies.specs.declared.action.Action.TheVariants.{Work, Submit, Ge
 use Rattle.job_bodies.specs.Plan.{Plan}
 use Rattle.weights.specs.declared.bound.Bound.TheVariants.{Standing, Lifetime}
 use Rattle.weights.specs.Vector.{Vector}
-use Rattle.pool_ranks.specs.Ranks.{Ranks}
+use Rattle.weights.specs.Ranks.{Ranks}
 use Rattle.certificates.specs.Cert.{Cert}
 use Rattle.cert_text.specs.Values.{fault}
 use Rattle.cert_text.specs.CertOf.{cert_of}

@@ -8,7 +8,7 @@ use Rattle.weights.specs.declared.bound.Bound.{Bound}
 use Rattle.weights.specs.declared.bound.Bound.TheVariants.{Standing, Lifetime}
 use Rattle.weights.specs.Vector.{Vector}
 use Rattle.weights.specs.Bound.{is_lifetime}
-use Rattle.pool_ranks.specs.Ranks.{Ranks}
+use Rattle.weights.specs.Ranks.{Ranks}
 use Rattle.certificates.specs.Cert.{PoolCert, Cert}
 
 abbrev pub number_data : ℕ → Data

@@ -6,7 +6,7 @@ use Rattle.support.specs.Reading.{◌>>=◌, read_each}
 use Rattle.job_bodies.specs.Plan.{Plan}
 use Rattle.weights.specs.declared.bound.Bound.{Bound}
 use Rattle.weights.specs.declared.bound.Bound.TheVariants.{Standing, Lifetime}
-use Rattle.pool_ranks.specs.Ranks.{Ranks}
+use Rattle.weights.specs.Ranks.{Ranks}
 use Rattle.certificates.specs.Cert.{PoolCert, Cert}
 use Rattle.cert_text.specs.declared.fault.CertFault.{CertFault}
 use Rattle.cert_text.specs.declared.version.Version.{Version}

@@ -3,7 +3,7 @@ use Rattle.std.specs.Prelude.{Bool, ◌&&◌}
 use Rattle.std.specs.List.{list_all}
 use Rattle.weights.specs.Vector.{is_small, has_small_numbers}
 use Rattle.weights.specs.Bound.{bound_vector}
-use Rattle.pool_ranks.specs.Ranks.{Ranks}
+use Rattle.weights.specs.Ranks.{Ranks}
 use Rattle.certificates.specs.Cert.{PoolCert, Cert}
 
 abbrev pub pool_has_small_numbers : PoolCert → Bool

@@ -8,7 +8,7 @@ ghost use Rattle.std.specs.List.{list_all};
 ghost use Rattle.json.specs.Word.{is_space};
 ghost use Rattle.weights.specs.Vector.{vector_fits};
 ghost use Rattle.weights.specs.Bound.{bound_vector};
-ghost use Rattle.pool_ranks.specs.Ranks.{ranks_fit};
+ghost use Rattle.weights.specs.Ranks.{ranks_fit};
 ghost use Rattle.certificates.specs.Cert.{pool_cert_fits, cert_fits};
 ghost use Rattle.cert_text.specs.CertText as spec;
 ghost use Rattle.cert_text.specs.Canonical.{BeginsAs, bound_text, version_text, IsCanonical};
@@ -20,9 +20,8 @@ use crate::canonical_vectors::leading_vector;
 use crate::version::version_number;
 use certificates::{Cert, PoolCert};
 use job_bodies::{MAX_CERT_BYTES, Plan};
-use pool_ranks::Ranks;
 use std::alloc::Global;
-use weights::Bound;
+use weights::{Bound, Ranks};
 
 /// Parses the bound that follows a pool's blocked vector, and returns it with the rest of the text.
 fn leading_bound<'a>(

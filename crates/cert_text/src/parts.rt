@@ -7,10 +7,9 @@ ghost use Rattle.cert_text.specs.CertText as spec;
 ghost use Rattle.cert_text.specs.Canonical.{bound_text};
 
 use certificates::PoolCert;
-use pool_ranks::Ranks;
 use std::alloc::AllocError;
 use support::push_number;
-use weights::{Bound, Vector};
+use weights::{Bound, Ranks, Vector};
 
 /// Appends a comma if the next list element is not the first.
 #[inline(always)]

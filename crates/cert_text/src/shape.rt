@@ -13,10 +13,9 @@ use crate::vectors::{numbers_of, vector_of};
 use crate::version::Version;
 use certificates::{Cert, PoolCert};
 use job_bodies::Plan;
-use pool_ranks::Ranks;
 use serde_json::Value;
 use std::alloc::Global;
-use weights::Bound;
+use weights::{Bound, Ranks};
 
 #[tactic(auto, unfolding(crate::specs::Shape::standing_of))]
 fn standing_of(alloc: Global, plan: &Plan, pool: &Value) -> Result<Bound, CertError>

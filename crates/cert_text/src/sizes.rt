@@ -5,8 +5,7 @@ ghost use Rattle.std.specs.List.{list_all};
 ghost use Rattle.cert_text.specs.Sizes as spec;
 
 use certificates::{Cert, PoolCert};
-use pool_ranks::Ranks;
-use weights::are_small;
+use weights::{Ranks, are_small};
 
 fn pool_is_small(pool: &PoolCert) -> bool
     ensures { result ≡ spec.pool_has_small_numbers pool.now }

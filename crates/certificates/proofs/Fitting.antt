@@ -7,7 +7,7 @@ use Rattle.support.proofs.Members.{In-get_or, list_all_at_In}
 use Rattle.job_bodies.specs.Plan.{Plan}
 use Rattle.weights.specs.Vector.{vector_fits}
 use Rattle.weights.specs.Bound.{bound_vector}
-use Rattle.pool_ranks.specs.Ranks.{ranks_fit}
+use Rattle.weights.specs.Ranks.{ranks_fit}
 use Rattle.certificates.specs.Cert.{PoolCert, Cert, no_pool_cert, pool_cert_at, pool_cert_fits, cert_fits}
 
 -- the number of parts is the number of pools

@@ -6,7 +6,7 @@ use Rattle.weights.specs.declared.bound.Bound.{Bound}
 use Rattle.weights.specs.declared.bound.Bound.TheVariants.{Standing}
 use Rattle.weights.specs.Vector.{Vector, vector_fits}
 use Rattle.weights.specs.Bound.{bound_vector}
-use Rattle.pool_ranks.specs.Ranks.{Ranks, ranks_fit}
+use Rattle.weights.specs.Ranks.{Ranks, ranks_fit}
 
 pub record PoolCert : Type 0 where
   pub bound : Bound

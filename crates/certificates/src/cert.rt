@@ -5,9 +5,8 @@ ghost use Rattle.std.specs.List.{list_all};
 ghost use Rattle.certificates.specs.Cert as spec;
 
 use job_bodies::Plan;
-use pool_ranks::Ranks;
 use std::marker::Model;
-use weights::{Bound, Vector};
+use weights::{Bound, Ranks, Vector};
 
 /// The part of a certificate for one pool.
 #[derive(Debug, Drop)]

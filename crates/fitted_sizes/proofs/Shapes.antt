@@ -15,8 +15,8 @@ use Rattle.weights.specs.Row.{row}
 use Rattle.weights.specs.Vector.{Vector, workers_weight, class_weights, queued_weight, client_weight, vector_fits, total}
 use Rattle.weights.specs.Rows.{rows, classes_of}
 use Rattle.weights.specs.Bound.{bound_vector}
-use Rattle.blocked_bounds.specs.Blocked.{counted_rows}
-use Rattle.pool_ranks.specs.Ranks.{Ranks, ranks_fit, is_counted}
+use Rattle.weights.specs.Blocked.{counted_rows}
+use Rattle.weights.specs.Ranks.{Ranks, ranks_fit, is_counted}
 use Rattle.certificates.specs.Cert.{PoolCert, Cert, pool_cert_fits, cert_fits}
 use Rattle.fitted_sizes.specs.Fitted.{shape}
 

@@ -9,8 +9,8 @@ use Rattle.job_bodies.specs.Plan.{Pool, Plan, no_pool, pool_at}
 use Rattle.weights.specs.declared.row.Row.{Row}
 use Rattle.weights.specs.Row.{AllHold}
 use Rattle.weights.specs.Bound.{bound_rows}
-use Rattle.blocked_bounds.specs.Blocked.{blocked_rows}
-use Rattle.pool_ranks.specs.Ranks.{is_counted, rank_rows}
+use Rattle.weights.specs.Blocked.{blocked_rows}
+use Rattle.weights.specs.Ranks.{is_counted, rank_rows}
 use Rattle.certificates.specs.Cert.{Cert, pool_cert_at, cert_fits}
 use Rattle.certificates.proofs.Fitting.{parts_fit}
 use Rattle.weight_laws.proofs.BoundLaws.{BoundLaws, bound_laws}

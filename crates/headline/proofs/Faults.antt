@@ -8,8 +8,8 @@ use Rattle.job_bodies.specs.Plan.{Pool, Plan}
 use Rattle.weights.specs.declared.row.Row.{Row}
 use Rattle.weights.specs.Row.{fails, first_failing, AllHold}
 use Rattle.weights.specs.Bound.{bound_rows}
-use Rattle.blocked_bounds.specs.Blocked.{blocked_rows}
-use Rattle.pool_ranks.specs.Ranks.{is_counted, rank_rows}
+use Rattle.weights.specs.Blocked.{blocked_rows}
+use Rattle.weights.specs.Ranks.{is_counted, rank_rows}
 use Rattle.certificates.specs.Cert.{Cert, pool_cert_at, cert_fits}
 use Rattle.headline.specs.declared.note.Section.{Section}
 use Rattle.headline.specs.declared.note.Section.TheVariants as section

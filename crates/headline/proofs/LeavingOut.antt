@@ -5,7 +5,7 @@ use Rattle.job_bodies.specs.declared.action.Action.{Action}
 use Rattle.job_bodies.specs.declared.action.Action.TheVariants as action
 use Rattle.job_bodies.specs.Plan.{Plan}
 use Rattle.job_bodies.proofs.Bodies.{IsOrdered, ordered}
-use Rattle.pool_ranks.specs.Ranks.{Ranks}
+use Rattle.weights.specs.Ranks.{Ranks}
 use Rattle.written_machine.specs.declared.parent.Parent.{Parent}
 use Rattle.written_machine.specs.declared.event.Event.{Event}
 use Rattle.written_machine.specs.State.{State}

@@ -19,7 +19,7 @@ use Rattle.written_machine.proofs.Reached.{replay_none, replay_keeps, reached_ke
 use Rattle.written_machine.proofs.Progress.{goes_on}
 use Rattle.weights.specs.declared.bound.Bound.{Bound}
 use Rattle.weights.specs.declared.at_get.AtGet.TheVariants.{GivesBack}
-use Rattle.pool_ranks.specs.Ranks.{is_counted}
+use Rattle.weights.specs.Ranks.{is_counted}
 use Rattle.certificates.specs.Cert.{Cert, pool_cert_at}
 use Rattle.weight_laws.proofs.NeverRises.{IsBalanced, balanced_start, never_rises, balanced_step}
 use Rattle.starvation_laws.specs.Drain.{todo, is_of_no_client, Drains}

@@ -6,8 +6,8 @@ use Rattle.weights.specs.declared.bound.Bound.{Bound}
 use Rattle.weights.specs.declared.bound.Bound.TheVariants.{Standing, Lifetime}
 use Rattle.weights.specs.declared.row.Row.{Row}
 use Rattle.weights.specs.Bound.{bound_rows}
-use Rattle.blocked_bounds.specs.Blocked.{blocked_rows}
-use Rattle.pool_ranks.specs.Ranks.{is_counted, rank_rows}
+use Rattle.weights.specs.Blocked.{blocked_rows}
+use Rattle.weights.specs.Ranks.{is_counted, rank_rows}
 use Rattle.certificates.specs.Cert.{Cert, pool_cert_at}
 use Rattle.headline.specs.declared.note.Section.{Section}
 use Rattle.headline.specs.declared.note.Section.TheVariants as section

@@ -15,7 +15,7 @@ use Rattle.weights.specs.declared.at_get.AtGet.{AtGet}
 use Rattle.weights.specs.declared.at_get.AtGet.TheVariants.{GivesBack, GivesNothing}
 use Rattle.weights.specs.Vector.{Vector, queued_weight, job_weight, done_weight}
 use Rattle.weights.specs.AtGet.{given_back}
-use Rattle.pool_ranks.specs.Ranks.{Ranks, level}
+use Rattle.weights.specs.Ranks.{Ranks, level}
 use Rattle.weight_laws.proofs.VectorLaws.{BodyLaws, VectorLaws, vector_laws}
 use Rattle.starvation_laws.proofs.RankLaws.{RankLaws, rank_laws}
 use Rattle.leaving_out.specs.LeavingOut.{DoneWithinQueued}

@@ -8,7 +8,7 @@ use Rattle.weights.specs.declared.at_get.AtGet.{AtGet}
 use Rattle.weights.specs.Row.{AllHold}
 use Rattle.weights.specs.Vector.{Vector, queued_weight, done_weight}
 use Rattle.weights.specs.Rows.{rows}
-use Rattle.pool_ranks.specs.Ranks.{Ranks, rank_rows}
+use Rattle.weights.specs.Ranks.{Ranks, rank_rows}
 use Rattle.written_machine.specs.declared.event.Event.{Event}
 use Rattle.written_machine.specs.State.{Stage, State, job_at, pool_of, is_unfinished}
 use Rattle.written_machine.specs.Step.{with_position, with_job, new_job}

@@ -2,7 +2,7 @@
 use Rattle.std.proofs.Common.{◌≡◌, ◌≤◌, ◌∙◌, ℕ, Bool, false, ◌||◌, nat_lt, inl, inr, sym, ap, arith}
 use Rattle.std.proofs.lemmas.Bool.{or_parts, ltb-false, lt-ltb, le-ltb, cases_lt}
 use Rattle.job_bodies.specs.Plan.{Plan}
-use Rattle.pool_ranks.specs.Ranks.{Ranks}
+use Rattle.weights.specs.Ranks.{Ranks}
 use Rattle.run_histories.specs.RunNumbers.{most_events, capped}
 use Rattle.locked_runner.specs.Limits.{clients, carriers, is_beyond, is_too_large}
 

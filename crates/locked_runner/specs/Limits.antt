@@ -1,7 +1,7 @@
 -- The limits of a run.
 use Rattle.std.specs.Prelude.{ℕ, Bool, ◌||◌, nat_lt, sum_by}
 use Rattle.job_bodies.specs.Plan.{Plan}
-use Rattle.pool_ranks.specs.Ranks.{Ranks}
+use Rattle.weights.specs.Ranks.{Ranks}
 use Rattle.run_histories.specs.RunNumbers.{most_events}
 use Rattle.job_bodies.specs.declared.limits.TheConstants.{MAX_RUN_CLIENTS, MAX_RUN_CARRIERS, MAX_RUN_EVENTS}
 

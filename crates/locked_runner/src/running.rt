@@ -11,12 +11,12 @@ use crate::limits::is_beyond;
 use crate::starting::on_threads;
 use cert_check::Certified;
 use job_bodies::Plan;
-use pool_ranks::Ranks;
 use run_histories::{RunFault, RunNumbers, RunReport, judge, run_numbers};
 use std::alloc::Global;
 use std::sync::Wait;
 use std::thread::Threads;
 use support::number::{MEMORY, RUN_TOO_LARGE};
+use weights::Ranks;
 
 /// Runs a certified plan. A thread for each client, and `max` threads for each pool, perform the
 /// events of its machine. The gate does the declared work.

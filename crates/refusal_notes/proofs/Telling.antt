@@ -7,8 +7,8 @@ use Rattle.job_bodies.specs.Plan.{Plan}
 use Rattle.weights.specs.declared.row.Row.{Row}
 use Rattle.weights.specs.Row.{fails}
 use Rattle.weights.specs.Bound.{bound_rows}
-use Rattle.blocked_bounds.specs.Blocked.{blocked_rows}
-use Rattle.pool_ranks.specs.Ranks.{is_counted, rank_rows}
+use Rattle.weights.specs.Blocked.{blocked_rows}
+use Rattle.weights.specs.Ranks.{is_counted, rank_rows}
 use Rattle.certificates.specs.Cert.{PoolCert, Cert, no_pool_cert, pool_cert_at, pool_cert_fits, cert_fits}
 use Rattle.certificates.proofs.Fitting.{as_many_parts, pool_fits}
 use Rattle.headline.specs.declared.note.Section.{Section}

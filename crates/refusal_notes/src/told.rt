@@ -4,20 +4,18 @@ ghost use Rattle.std.specs.Prelude.{◌≡◌, ◌<◌, ◌++◌, IsTrue, IfOk, 
 ghost use Rattle.weights.specs.Bound.{bound_vector, bound_rows};
 ghost use Rattle.weights.specs.Row.{fails};
 ghost use Rattle.weights.specs.Vector.{vector_fits};
-ghost use Rattle.blocked_bounds.specs.Blocked.{blocked_rows};
-ghost use Rattle.pool_ranks.specs.Ranks.{is_counted, rank_rows, ranks_fit};
+ghost use Rattle.weights.specs.Blocked.{blocked_rows};
+ghost use Rattle.weights.specs.Ranks.{is_counted, rank_rows, ranks_fit};
 ghost use Rattle.certificates.specs.Cert.{pool_cert_fits, cert_fits};
 ghost use Rattle.headline.specs.declared.note.Section.TheVariants as section;
 ghost use Rattle.headline.specs.Conditions.{bound_section, failing, in_section};
 
 use crate::failing_rows::FailingRows;
 use crate::{Note, Section};
-use blocked_bounds::visit_blocked_rows;
 use certificates::{Cert, PoolCert};
 use job_bodies::Plan;
-use pool_ranks::{Ranks, RanksOf};
 use std::alloc::{AllocError, Global};
-use weights::{Bound, Vector};
+use weights::{Bound, Ranks, RanksOf, Vector, visit_blocked_rows};
 
 /// Appends the failing conditions of the ranks.
 pub(crate) fn push_rank_notes(

@@ -4,7 +4,7 @@ use Rattle.std.proofs.lemmas.List.Sums.{sum_by-cons}
 use Rattle.job_bodies.specs.declared.action.Action.{Action}
 use Rattle.job_bodies.specs.declared.action.Action.TheVariants.{Work, Submit, Get}
 use Rattle.job_bodies.specs.Plan.{Plan, Class, Client, class_at}
-use Rattle.pool_ranks.specs.Ranks.{Ranks, level}
+use Rattle.weights.specs.Ranks.{Ranks, level}
 use Rattle.starvation_laws.proofs.RankLaws.{RankLaws, rank_laws}
 use Rattle.run_histories.specs.declared.numbers.Measure.TheVariants.{Jobs, Units, Events}
 use Rattle.run_histories.specs.Complete.{rounds_of}

@@ -4,7 +4,7 @@ use Rattle.job_bodies.specs.declared.action.Action.{Action}
 use Rattle.job_bodies.specs.declared.action.Action.TheVariants.{Work}
 use Rattle.job_bodies.specs.Plan.{Plan, Class, Client, class_at}
 use Rattle.weights.specs.Row.{AllHold}
-use Rattle.pool_ranks.specs.Ranks.{Ranks, rank_rows}
+use Rattle.weights.specs.Ranks.{Ranks, rank_rows}
 use Rattle.starvation_laws.specs.Drain.{of_submit}
 use Rattle.run_histories.specs.declared.numbers.Measure.{Measure}
 use Rattle.run_histories.specs.declared.numbers.Measure.TheVariants.{Jobs, Units, Events}

@@ -7,8 +7,8 @@ ghost use Rattle.run_histories.specs.RunNumbers.{capped};
 
 use crate::rounds::{events_of_client, rounds_of_client};
 use job_bodies::{Action, Class, Client, Plan};
-use pool_ranks::Ranks;
 use std::alloc::{AllocError, Global};
+use weights::Ranks;
 
 /// The numbers of jobs and units of work of a complete run, and an upper bound of the number of its
 /// events. Each number saturates at `u64::MAX`.

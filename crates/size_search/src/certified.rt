@@ -7,9 +7,8 @@ use crate::remembered::{Look, Remembered};
 use crate::rounds::Placing;
 use certificates::{Cert, PoolCert};
 use least_vectors::{Kind, reach};
-use pool_ranks::Ranks;
 use std::alloc::{AllocError, Global};
-use weights::Vector;
+use weights::{Ranks, Vector};
 
 /// Builds the certificate. The sizes that it needs are computed afterwards from those of the plan,
 /// and can be smaller than those of the placing.

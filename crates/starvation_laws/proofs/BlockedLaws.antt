@@ -11,7 +11,7 @@ use Rattle.weights.specs.declared.row.Place.TheVariants as place
 use Rattle.weights.specs.Row.{row, AllHold}
 use Rattle.weights.specs.Vector.{Vector, job_weight, total}
 use Rattle.weights.specs.Rows.{rows, classes_of}
-use Rattle.blocked_bounds.specs.Blocked.{is_get, counted_rows, blocked_rows}
+use Rattle.weights.specs.Blocked.{is_get, counted_rows, blocked_rows}
 use Rattle.weight_laws.proofs.VectorLaws.{VectorLaws, vector_laws, numbered_class_of, class_of_action}
 
 -- B1 and B2

@@ -16,7 +16,7 @@ use Rattle.written_machine.proofs.Kept.{HasChild, Kept}
 use Rattle.written_machine.proofs.Queues.{Queued≢Claimed, queued_in_queue, pool_of_made}
 use Rattle.written_machine.proofs.Reached.{kept}
 use Rattle.written_machine.proofs.ReachedLaws.{child_at_get}
-use Rattle.pool_ranks.specs.Ranks.{Ranks, rank, reach, is_counted_action, is_counted}
+use Rattle.weights.specs.Ranks.{Ranks, rank, reach, is_counted_action, is_counted}
 use Rattle.starvation_laws.specs.BlockedJobs.{is_counted_get, is_blocked_stage, is_blocked_in, blocked}
 use Rattle.starvation_laws.specs.Descent.{ComesTo, at_once, by_child, EndsAt, ComesToEnd, RanksDescend}
 use Rattle.starvation_laws.proofs.RankLaws.{RankLaws, rank_laws}

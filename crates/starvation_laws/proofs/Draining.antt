@@ -19,7 +19,7 @@ use Rattle.written_machine.proofs.Kept.{Kept}
 use Rattle.written_machine.proofs.Stages.{staged}
 use Rattle.written_machine.proofs.Queues.{head_of_queue}
 use Rattle.written_machine.proofs.KeptStep.{done_still}
-use Rattle.pool_ranks.specs.Ranks.{Ranks, level}
+use Rattle.weights.specs.Ranks.{Ranks, level}
 use Rattle.starvation_laws.specs.Drain.{of_submit, full_within, full, FullIsWhole, FullIsOfThePlan, stage_todo, todo, is_of_no_client}
 use Rattle.starvation_laws.proofs.RankLaws.{RankLaws, rank_laws}
 

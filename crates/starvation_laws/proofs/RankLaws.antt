@@ -6,7 +6,7 @@ use Rattle.job_bodies.specs.declared.action.Action.{Action}
 use Rattle.job_bodies.specs.declared.action.Action.TheVariants as action
 use Rattle.job_bodies.specs.Plan.{Class, Plan, class_at, class_got}
 use Rattle.weights.specs.Row.{AllHold}
-use Rattle.pool_ranks.specs.Ranks.{Ranks, rank, reach, level, rank_rows_of_action, rank_rows_of_class, rank_rows}
+use Rattle.weights.specs.Ranks.{Ranks, rank, reach, level, rank_rows_of_action, rank_rows_of_class, rank_rows}
 use Rattle.weight_laws.proofs.VectorLaws.{numbered_class, class_of_action}
 
 -- K1 to K3

@@ -6,7 +6,7 @@ use Rattle.job_bodies.specs.Plan.{Plan, pool_at, class_at}
 use Rattle.job_bodies.specs.WellFormed.{IsWellFormed}
 use Rattle.weights.specs.Row.{AllHold}
 use Rattle.weights.specs.Vector.{Vector}
-use Rattle.blocked_bounds.specs.Blocked.{blocked_rows}
+use Rattle.weights.specs.Blocked.{blocked_rows}
 use Rattle.written_machine.specs.State.{Stage, Made, State, pool_of}
 use Rattle.written_machine.specs.State.Stage.{At}
 use Rattle.written_machine.specs.Reach.{IsReached}

@@ -4,7 +4,7 @@ use Rattle.job_bodies.specs.declared.action.Action.TheVariants.{Get}
 use Rattle.job_bodies.specs.Plan.{Plan, class_at}
 use Rattle.job_bodies.specs.WellFormed.{IsWellFormed}
 use Rattle.weights.specs.Row.{AllHold}
-use Rattle.pool_ranks.specs.Ranks.{Ranks, rank, is_counted, rank_rows}
+use Rattle.weights.specs.Ranks.{Ranks, rank, is_counted, rank_rows}
 use Rattle.written_machine.specs.declared.parent.Parent.TheVariants as parent
 use Rattle.written_machine.specs.State.{Stage, State, job_at, pool_of, child}
 use Rattle.written_machine.specs.State.Stage.{Queued, At, Done, Claimed}

@@ -5,7 +5,7 @@ use Rattle.job_bodies.specs.declared.action.Action.{Action}
 use Rattle.job_bodies.specs.declared.action.Action.TheVariants.{Submit}
 use Rattle.job_bodies.specs.Plan.{Plan, class_at}
 use Rattle.weights.specs.Row.{AllHold}
-use Rattle.pool_ranks.specs.Ranks.{Ranks, level, rank_rows}
+use Rattle.weights.specs.Ranks.{Ranks, level, rank_rows}
 use Rattle.written_machine.specs.declared.event.Event.{Event}
 use Rattle.written_machine.specs.declared.event.Event.TheVariants.{Client}
 use Rattle.written_machine.specs.State.{Stage, State, job_at, is_unfinished}

@@ -22,8 +22,8 @@ use Rattle.weights.specs.Rows.{rows, classes_of}
 use Rattle.weights.specs.Standing.{standing_rows}
 use Rattle.weights.specs.Bound.{bound_rows}
 use Rattle.weight_laws.proofs.BoundLaws.{BoundLaws}
-use Rattle.blocked_bounds.specs.Blocked.{is_get, counted_rows, blocked_rows}
-use Rattle.pool_ranks.specs.Ranks.{is_counted, rank_rows}
+use Rattle.weights.specs.Blocked.{is_get, counted_rows, blocked_rows}
+use Rattle.weights.specs.Ranks.{is_counted, rank_rows}
 use Rattle.starvation_laws.proofs.BlockedLaws.{BlockedLaws}
 use Rattle.starvation_laws.proofs.RankLaws.{RankLaws}
 use Rattle.certificates.specs.Cert.{PoolCert, no_pool_cert, pool_cert_at}

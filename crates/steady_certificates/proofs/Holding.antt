@@ -16,7 +16,7 @@ use Rattle.weights.specs.Row.{row, AllHold}
 use Rattle.weights.specs.Vector.{Vector, job_weight, client_weight}
 use Rattle.weights.specs.Rows.{action_row, body_rows, class_rows, client_rows, rows}
 use Rattle.weight_laws.proofs.VectorLaws.{BodyLaws, VectorLaws}
-use Rattle.pool_ranks.specs.Ranks.{Ranks, rank_rows_of_action, rank_rows_of_class, rank_rows}
+use Rattle.weights.specs.Ranks.{Ranks, rank_rows_of_action, rank_rows_of_class, rank_rows}
 use Rattle.starvation_laws.proofs.RankLaws.{RankLaws}
 
 -- an element of an enumerated list is the one at its index

@@ -10,9 +10,8 @@ use crate::levels::steady_levels;
 use crate::rows::{clients_of, jobs_of};
 use certificates::{Cert, PoolCert};
 use job_bodies::Plan;
-use pool_ranks::Ranks;
 use std::alloc::{AllocError, Global};
-use weights::{Bound, Vector};
+use weights::{Bound, Ranks, Vector};
 
 fn copied_rows(alloc: Global, rows: &[Vec<u64>]) -> Result<Vec<Vec<u64>>, AllocError>
     ensures { IfOk result

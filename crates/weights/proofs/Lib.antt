@@ -2,3 +2,4 @@ pub mod Seen
 pub mod Walks
 pub mod Fitting
 pub mod Loops
+pub mod RanksFitting

@@ -7,3 +7,5 @@ pub mod Rows
 pub mod Standing
 pub mod Lifetime
 pub mod Bound
+pub mod Blocked
+pub mod Ranks

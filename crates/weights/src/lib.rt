@@ -1,15 +1,19 @@
-//! Vectors of weights: a weight for each point of a plan, and the conditions under which no event
-//! increases the total weight of a state.
+//! The parts of a certificate, and the conditions on them: vectors of weights, bounds on blocked jobs, and ranks of pools.
 //!
-//! The same walk over the conditions finds the first one that fails, as [`Vector::standing_fault`]
-//! does, and lists all of them: it passes each condition, a [`Row`], to a [`RowVisitor`].
+//! A walk over the conditions shows each of them, a [`Row`], to a [`RowVisitor`]. Functions such as
+//! [`Vector::standing_fault`] return the first condition that fails.
 #![tactic(auto)]
 
 mod at_get;
+mod blocked;
 mod body;
 mod bound;
+mod counted;
+mod counted_by_ranks;
 mod fits;
 mod lifetime;
+mod rank_rows;
+mod ranks;
 mod row;
 mod rows;
 mod standing;
@@ -18,9 +22,14 @@ mod vector;
 mod visitor;
 
 pub use at_get::AtGet;
+pub use blocked::{BlockedFault, blocked_fault, visit_blocked_rows};
 pub use body::class_got;
 pub use bound::Bound;
+pub use counted::Counted;
+pub use counted_by_ranks::RanksOf;
 pub use fits::are_small;
+pub use rank_rows::RankFault;
+pub use ranks::Ranks;
 pub use row::{Place, Row, RowFault, Rule, StandingFault};
 pub use vector::Vector;
 pub use visitor::{FirstFault, RowVisitor};

@@ -1,12 +1,12 @@
 //! The arrows of a picture.
 
 ghost use Rattle.std.specs.Prelude.{IsTrue};
-ghost use Rattle.pool_ranks.specs.Ranks.{ranks_fit};
+ghost use Rattle.weights.specs.Ranks.{ranks_fit};
 
 use certificates::Cert;
 use job_bodies::{Action, Plan};
-use pool_ranks::Ranks;
 use std::alloc::{AllocError, Global};
+use weights::Ranks;
 
 /// The number of times that an actor submits jobs of a class, gets them, and gets them by a counted
 /// get.

@@ -3,7 +3,7 @@ use Rattle.std.specs.List.{list_all, enumerate_from}
 use Rattle.std.proofs.lemmas.Bool.{and_from}
 use Rattle.weights.specs.declared.row.Row.{Row}
 use Rattle.weights.specs.Row.{first_failing}
-use Rattle.pool_ranks.specs.Ranks.{Ranks, rank_rows}
+use Rattle.weights.specs.Ranks.{Ranks, rank_rows}
 use Rattle.certificates.specs.Cert.{Cert, cert_fits}
 use Rattle.headline.specs.Conditions.{failing}
 use Rattle.headline.specs.Accepted.{is_nil}

@@ -1,6 +1,6 @@
 use Rattle.std.proofs.Common.{[]}
-use Rattle.blocked_bounds.specs.Blocked.{blocked_rows}
-use Rattle.pool_ranks.specs.Ranks.{is_counted}
+use Rattle.weights.specs.Blocked.{blocked_rows}
+use Rattle.weights.specs.Ranks.{is_counted}
 use Rattle.refusal_notes.proofs.told.push_blocked_notes.Goals as goal
 
 pub returns : goal.returns

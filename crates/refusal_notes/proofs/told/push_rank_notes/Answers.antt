@@ -1,5 +1,5 @@
 use Rattle.std.proofs.Common.{[]}
-use Rattle.pool_ranks.specs.Ranks.{rank_rows}
+use Rattle.weights.specs.Ranks.{rank_rows}
 use Rattle.refusal_notes.proofs.told.push_rank_notes.Goals as goal
 
 pub returns : goal.returns

@@ -1,5 +1,0 @@
-use Rattle.std.proofs.Common.{[]}
-use Rattle.blocked_bounds.proofs.blocked.blocked_fault.Goals as goal
-
-pub returns : goal.returns
-returns g c = c.visit_blocked_rows.ensures.behind [] c.new-first.ensures

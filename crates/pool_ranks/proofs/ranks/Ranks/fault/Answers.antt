@@ -1,5 +1,0 @@
-use Rattle.std.proofs.Common.{[]}
-use Rattle.pool_ranks.proofs.ranks.Ranks.fault.Goals as goal
-
-pub returns : goal.returns
-returns c = c.visit_rank_rows.ensures.behind [] c.new-first.ensures

@@ -1,7 +1,0 @@
--- The rows of the actions before this position were visited.
-use Rattle.weights.proofs.Walks.{Walked}
-use Rattle.pool_ranks.specs.Ranks.{rank_rows_of_action}
-use Rattle.pool_ranks.proofs.rows.visit_action_rows.Given as goal
-
-abbrev pub invariant-loop-position : goal.invariant-loop-position
-invariant-loop-position g l = Walked g.V.RowVisitor.HasSeen l.initial.visitor l.visitor (rank_rows_of_action l.ranks l.number l.class.body) l.class.body l.position

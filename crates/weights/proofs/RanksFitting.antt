@@ -1,0 +1,88 @@
+-- The numbers that ranks that fit a plan have for its classes.
+use Rattle.std.proofs.Common.{◌≡◌, ◌≤◌, ◌<◌, ℕ, List, length, get_or, slice_get, Some, inl, inr, ap, ◌∙◌, subst, sym, arith}
+use Rattle.std.specs.Prelude.{not, leb, ltb, IsTrue}
+use Rattle.std.proofs.lemmas.Bool.{and_parts, eqb-true, cases_lt, lt-leb, le-leb, lt-ltb, le-ltb}
+use Rattle.std.proofs.lemmas.Option.{slice_get-get_or, slice_get_within, get_or_from_slice_get}
+use Rattle.job_bodies.specs.declared.action.Action.{Action}
+use Rattle.job_bodies.specs.declared.action.Action.TheVariants.{Work, Get}
+use Rattle.job_bodies.specs.Plan.{Class, Plan, no_class, class_at, class_got}
+use Rattle.job_bodies.specs.WellFormed.{IsWellFormed}
+use Rattle.job_bodies.specs.Lawful.{IsLawful}
+use Rattle.job_bodies.proofs.Bodies.{ordered}
+use Rattle.job_bodies.specs.declared.limits.TheConstants.{MAX_WEIGHT}
+use Rattle.weights.proofs.Fitting.{small_in, got_known}
+use Rattle.weights.specs.Ranks.{Ranks, rank, reach, level, ranks_fit, is_counted, is_counted_action}
+
+pub record RanksFit (plan : Plan) (ranks : Ranks) : Type 0 where
+  pub pools : length ranks.pools ≡ length plan.pools
+  pub reach : length ranks.reach ≡ length plan.classes
+  pub levels : length ranks.levels ≡ length plan.classes
+  pub small_level : (k : ℕ) → level ranks k ≤ MAX_WEIGHT
+
+pub fitting : (plan : Plan) (ranks : Ranks) → IsTrue (ranks_fit plan ranks) → RanksFit plan ranks
+fitting plan ranks all =
+    let but_levels = and_parts _ _ all in
+    let but_reach = and_parts _ _ but_levels.0 in
+    let counts = and_parts _ _ (and_parts _ _ but_reach.0).0 in
+    let two_counts = and_parts _ _ counts.0 in
+    record {
+      pools = eqb-true _ _ two_counts.0;
+      reach = eqb-true _ _ two_counts.1;
+      levels = eqb-true _ _ counts.1;
+      small_level = λ k. small_in ranks.levels k but_levels.1;
+    }
+
+-- the class with index k has a reach and a level, and its pool a rank
+pub record ClassFits (plan : Plan) (ranks : Ranks) (k : ℕ) (class : Class) : Type 0 where
+  pub known : k < length plan.classes
+  pub reach : k < length ranks.reach
+  pub levels : k < length ranks.levels
+  pub pool : class.pool < length ranks.pools
+  pub lawful : IsLawful plan class.body
+  pub is_class : class_at plan k ≡ class
+
+pub class_fits : (plan : Plan) (ranks : Ranks) (k : ℕ) (class : Class) → IsWellFormed plan → IsTrue (ranks_fit plan ranks) → slice_get plan.classes k ≡ Some class → ClassFits plan ranks k class
+class_fits plan ranks k class well all here =
+    let f = fitting plan ranks all in
+    let inside = slice_get_within plan.classes k class here in
+    let same : class_at plan k ≡ class = get_or_from_slice_get plan.classes k class no_class here in
+    let pool : class.pool < length plan.pools = subst (λ (c : Class). c.pool < length plan.pools) same ((ordered plan well).pools k inside) in
+    record {
+      known = inside;
+      reach = omega (arith, f.reach);
+      levels = omega (arith, f.levels);
+      pool = omega (arith, f.pools);
+      lawful = subst (λ (c : Class). IsLawful plan c.body) same ((ordered plan well).classes k);
+      is_class = same;
+    }
+
+-- the class of the job that a get waits for has a reach
+pub got_reaches : (plan : Plan) (ranks : Ranks) (k : ℕ) (class : Class) (i t : ℕ) → IsWellFormed plan → IsTrue (ranks_fit plan ranks) → slice_get plan.classes k ≡ Some class → slice_get class.body i ≡ Some (Get t)
+    → class_got class.body t < length ranks.reach
+got_reaches plan ranks k class i t well all here action =
+    let known = got_known plan class.body i t (class_fits plan ranks k class well all here).lawful action in
+    omega (arith, (fitting plan ranks all).reach)
+
+-- the action at a position, as the code reads it
+pub action_read : (actions body : List Action) (i : ℕ) (action : Action) → actions ≡ body → i < length body → get_or actions i (Work 0) ≡ action → slice_get body i ≡ Some action
+action_read actions body i action same inside is =
+    slice_get-get_or body i (Work 0) inside ∙ ap (λ (x : Action). Some x) (subst (λ (b : List Action). get_or b i (Work 0) ≡ action) same is)
+
+-- whether the action at a position is counted, by the action
+pub counted_at : (plan : Plan) (ranks : Ranks) (k : ℕ) (class : Class) (i : ℕ) (action : Action) → class_at plan k ≡ class → slice_get class.body i ≡ Some action → is_counted plan ranks k i ≡ is_counted_action plan ranks k (Some action)
+counted_at plan ranks k class i action same here =
+    ap (λ (c : Class). is_counted_action plan ranks k (slice_get c.body i)) same ∙ ap (is_counted_action plan ranks k) here
+
+-- b ≤ a if and only if not a < b
+not_below : (a b : ℕ) → leb b a ≡ not (ltb a b)
+not_below a b = elim (cases_lt a b) [
+  | inl below ↦ lt-leb b a below ∙ sym (ap not (lt-ltb a b below))
+  | inr above ↦ le-leb b a above ∙ sym (ap not (le-ltb a b above))
+]
+
+-- a get is counted if the reach of its job's class is at least the rank of its own class's pool
+pub get_counted : (plan : Plan) (ranks : Ranks) (k : ℕ) (class : Class) (i t : ℕ) → class_at plan k ≡ class → slice_get class.body i ≡ Some (Get t)
+    → leb (rank ranks class.pool) (reach ranks (class_got class.body t)) ≡ is_counted plan ranks k i
+get_counted plan ranks k class i t same here =
+    let at_class = λ (c : Class). not (ltb (reach ranks (class_got c.body t)) (rank ranks c.pool)) in
+    not_below (reach ranks (class_got class.body t)) (rank ranks class.pool) ∙ ap at_class (sym same) ∙ sym (counted_at plan ranks k class i (Get t) same here)

@@ -1,0 +1,69 @@
+//! The gets that the ranks count.
+
+ghost use Rattle.std.specs.Prelude.{◌≡◌, ◌<◌, IsTrue, Some, length, slice_get};
+ghost use Rattle.job_bodies.specs.Plan.{class_at};
+ghost use Rattle.job_bodies.specs.WellFormed.{IsWellFormed};
+ghost use Rattle.weights.specs.Ranks as spec;
+
+use crate::{Counted, Ranks, class_got};
+use job_bodies::{Action, Class, Plan};
+
+/// Returns whether the action at this position of a class is a counted get.
+fn is_counted_in(plan: &Plan, ranks: &Ranks, number: usize, class: &Class, position: usize) -> bool
+    requires fits { IsTrue (spec.ranks_fit plan.now ranks.now) }
+    requires well_formed { IsWellFormed plan.now }
+    requires class { slice_get plan.now.classes number ≡ Some class.now }
+    requires position { position < length class.now.body }
+    ensures { result ≡ spec.is_counted plan.now ranks.now number position }
+{
+    let actions = class.body.as_slice();
+    match actions[position] {
+        Action::Get(submit) => {
+            let reached = ranks.reach_of(class_got(actions, submit));
+            reached >= ranks.rank_of(class.pool)
+        }
+        Action::Work(_) | Action::Submit(_) => false,
+    }
+}
+
+impl Ranks {
+    /// Returns whether the action at this position of the class is a counted get. A get is counted
+    /// unless the reach of its job's class is below the rank of this class's pool.
+    pub fn is_counted(&self, plan: &Plan, class: usize, position: usize) -> bool
+        requires fits { IsTrue (spec.ranks_fit plan.now self.now) }
+        requires class { class < length plan.now.classes }
+        requires position { position < length (class_at plan.now class).body }
+        ensures { result ≡ spec.is_counted plan.now self.now class position }
+    {
+        is_counted_in(plan, self, class, &plan.classes()[class], position)
+    }
+}
+
+/// A plan with ranks that fit it, which choose the counted gets.
+#[derive(Clone, Copy)]
+pub struct RanksOf<'a> {
+    pub plan: &'a Plan,
+    pub ranks: &'a Ranks,
+    ghost fit: { IsTrue (spec.ranks_fit plan.now ranks.now) },
+}
+
+impl<'a> RanksOf<'a> {
+    /// Pairs a plan with ranks that fit it.
+    pub fn new(plan: &'a Plan, ranks: &'a Ranks) -> RanksOf<'a>
+        requires { IsTrue (spec.ranks_fit plan.now ranks.now) }
+        ensures plan { result.plan.now ≡ plan.now }
+        ensures ranks { result.ranks.now ≡ ranks.now }
+    {
+        RanksOf { plan, ranks }
+    }
+}
+
+impl Counted for RanksOf<'_> {
+    ghost Answers = { λ of k i. (k < length of.plan.now.classes) × (i < length (class_at of.plan.now k).body) };
+
+    ghost is_counted = { λ of. spec.is_counted of.plan.now of.ranks.now };
+
+    fn counted(&self, class: usize, position: usize) -> bool {
+        self.ranks.is_counted(self.plan, class, position)
+    }
+}

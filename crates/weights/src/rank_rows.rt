@@ -1,0 +1,166 @@
+//! The conditions of ranks: K1 to K3.
+
+ghost use Rattle.std.specs.Prelude.{◌≡◌, ◌<◌, ◌+◌, IsTrue, Some, length, slice_get};
+ghost use Rattle.std.specs.List.{flat_map, enumerate_from};
+ghost use Rattle.job_bodies.specs.declared.action.Action.TheVariants.{Get};
+ghost use Rattle.job_bodies.specs.WellFormed.{IsWellFormed};
+ghost use Rattle.job_bodies.specs.Plan.{class_got};
+ghost use Rattle.weights.specs.declared.row.Rule.TheVariants.{K1, K2, K3};
+ghost use Rattle.weights.specs.declared.row.Place.TheVariants as place;
+ghost use Rattle.weights.specs.Row.{row, first_failing};
+ghost use Rattle.weights.specs.Takes.{Takes};
+ghost use Rattle.weights.specs.Ranks as spec;
+
+use crate::{FirstFault, Place, Ranks, Row, RowVisitor, Rule, class_got};
+use job_bodies::{Action, Class, Plan};
+
+/// A row whose `left` is greater than its `right`.
+pub type RankFault = Row;
+
+/// Returns K2 of a get at this position: the reach of the class is at least that of the job's
+/// class.
+fn get_row(
+    plan: &Plan,
+    ranks: &Ranks,
+    number: usize,
+    class: &Class,
+    position: usize,
+    submit: usize,
+) -> Row
+    requires fits { IsTrue (spec.ranks_fit plan.now ranks.now) }
+    requires well_formed { IsWellFormed plan.now }
+    requires class { slice_get plan.now.classes number ≡ Some class.now }
+    requires action { slice_get class.now.body position ≡ Some (Get submit) }
+    ensures { let reached = spec.reach ranks.now (class_got class.now.body submit) in
+        result ≡ row K2 (place.ClassAction number position) reached (spec.reach ranks.now number) }
+{
+    Row::new(
+        Rule::K2,
+        Place::ClassAction(number, position),
+        ranks.reach_of(class_got(&class.body, submit)),
+        ranks.reach_of(number),
+    )
+}
+
+/// Returns K3 of a submit at this position: the level of the class is above that of the submitted
+/// class.
+fn submit_row(plan: &Plan, ranks: &Ranks, number: usize, position: usize, submitted: usize) -> Row
+    requires fits { IsTrue (spec.ranks_fit plan.now ranks.now) }
+    requires class { number < length plan.now.classes }
+    requires submitted { submitted < length plan.now.classes }
+    ensures { result
+        ≡ row K3 (place.ClassAction number position) (spec.level ranks.now submitted + 1)
+        (spec.level ranks.now number) }
+{
+    Row::new(
+        Rule::K3,
+        Place::ClassAction(number, position),
+        ranks.levels[submitted] + 1,
+        ranks.levels[number],
+    )
+}
+
+/// Visits the row of the action at this position of a class: K2 of a get, K3 of a submit.
+fn visit_action_row<V: RowVisitor>(
+    plan: &Plan,
+    ranks: &Ranks,
+    number: usize,
+    class: &Class,
+    position: usize,
+    action: Action,
+    visitor: &mut V,
+)
+    requires fits { IsTrue (spec.ranks_fit plan.now ranks.now) }
+    requires well_formed { IsWellFormed plan.now }
+    requires class { slice_get plan.now.classes number ≡ Some class.now }
+    requires action { slice_get class.now.body position ≡ Some action }
+    ensures { Takes V.HasSeen visitor.old visitor.new
+        (spec.rank_rows_of_action ranks.now number class.now.body position action) }
+{
+    match action {
+        Action::Work(_) => {}
+        Action::Submit(submitted) => {
+            visitor.visit(submit_row(plan, ranks, number, position, submitted));
+        }
+        Action::Get(submit) => {
+            visitor.visit(get_row(plan, ranks, number, class, position, submit));
+        }
+    }
+}
+
+/// Returns K1 of a class: its reach is at least the rank of its pool.
+fn own_row(plan: &Plan, ranks: &Ranks, number: usize, class: &Class) -> Row
+    requires fits { IsTrue (spec.ranks_fit plan.now ranks.now) }
+    requires well_formed { IsWellFormed plan.now }
+    requires class { slice_get plan.now.classes number ≡ Some class.now }
+    ensures { result
+        ≡ row K1 (place.Class number) (spec.rank ranks.now class.now.pool)
+        (spec.reach ranks.now number) }
+{
+    Row::new(
+        Rule::K1,
+        Place::Class(number),
+        ranks.rank_of(class.pool),
+        ranks.reach_of(number),
+    )
+}
+
+/// Visits the rows of a class's actions.
+fn visit_action_rows<V: RowVisitor>(
+    plan: &Plan,
+    ranks: &Ranks,
+    number: usize,
+    class: &Class,
+    visitor: &mut V,
+)
+    requires fits { IsTrue (spec.ranks_fit plan.now ranks.now) }
+    requires well_formed { IsWellFormed plan.now }
+    requires class { slice_get plan.now.classes number ≡ Some class.now }
+    ensures { let all = flat_map (λ entry. spec.rank_rows_of_action ranks.now number class.now.body entry.0 entry.1) (enumerate_from 0 class.now.body) in
+        Takes V.HasSeen visitor.old visitor.new all }
+{
+    for (position, action) in class.body.iter().enumerate() {
+        visit_action_row(plan, ranks, number, class, position, *action, visitor);
+    }
+}
+
+/// Visits the rows of a class: K1, then its actions.
+fn visit_class_rows<V: RowVisitor>(
+    plan: &Plan,
+    ranks: &Ranks,
+    number: usize,
+    class: &Class,
+    visitor: &mut V,
+)
+    requires fits { IsTrue (spec.ranks_fit plan.now ranks.now) }
+    requires well_formed { IsWellFormed plan.now }
+    requires class { slice_get plan.now.classes number ≡ Some class.now }
+    ensures { Takes V.HasSeen visitor.old visitor.new
+        (spec.rank_rows_of_class ranks.now number class.now) }
+{
+    visitor.visit(own_row(plan, ranks, number, class));
+    visit_action_rows(plan, ranks, number, class, visitor);
+}
+
+impl Ranks {
+    /// Visits the conditions of the ranks, class by class: K1, then K2 of each get and K3 of each
+    /// submit.
+    pub fn visit_rank_rows<V: RowVisitor>(&self, plan: &Plan, visitor: &mut V)
+        requires { IsTrue (spec.ranks_fit plan.now self.now) }
+        ensures { Takes V.HasSeen visitor.old visitor.new (spec.rank_rows plan.now self.now) }
+    {
+        for (number, class) in plan.classes().iter().enumerate() {
+            visit_class_rows(plan, self, number, class, visitor);
+        }
+    }
+
+    /// Returns the first condition of the ranks that fails. Allocates nothing.
+    pub fn fault(&self, plan: &Plan) -> Option<RankFault>
+        requires { IsTrue (spec.ranks_fit plan.now self.now) }
+        ensures { result ≡ first_failing (spec.rank_rows plan.now self.now) }
+    {
+        let mut first = FirstFault::new();
+        self.visit_rank_rows(plan, &mut first);
+        first.found
+    }
+}
