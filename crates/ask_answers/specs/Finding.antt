@@ -1,7 +1,7 @@
 -- The finding about a plan on which an answer rests.
 use Rattle.std.specs.Prelude.{◌≡◌, ◌≢◌, false, IsTrue}
 use Rattle.job_bodies.specs.Plan.{Plan}
-use Rattle.certificates.specs.Cert.{Cert}
+use Rattle.cert_text.specs.Cert.{Cert}
 use Rattle.headline.specs.Accepted.{accepted}
 use Rattle.steady_certificates.specs.Steady.{steady_cert}
 use Rattle.plan_witnesses.specs.Witness.{IsWitness}

@@ -4,7 +4,7 @@ use Rattle.job_bodies.specs.Plan.{Plan}
 use Rattle.weights.specs.Vector.{Vector, vector_fits, total}
 use Rattle.weights.specs.declared.bound.Bound.{Bound}
 use Rattle.weights.specs.declared.bound.Bound.TheVariants.{Standing, Lifetime}
-use Rattle.certificates.specs.Cert.{Cert}
+use Rattle.cert_text.specs.Cert.{Cert}
 
 -- the total of a vector, if it fits the plan
 abbrev pub total_of : Plan → Vector → Option ℕ

@@ -7,7 +7,7 @@ use Rattle.weights.specs.Vector.{Vector, vector_fits, total}
 use Rattle.weights.specs.Bound.{bound_vector}
 use Rattle.weights.specs.declared.bound.Bound.{Bound}
 use Rattle.weights.specs.declared.bound.Bound.TheVariants.{Standing, Lifetime}
-use Rattle.certificates.specs.Cert.{PoolCert, Cert}
+use Rattle.cert_text.specs.Cert.{PoolCert, Cert}
 use Rattle.ask_answers.specs.Payers.{client_shares, worker_shares}
 use Rattle.ask_answers.specs.Waits.{waits_for}
 

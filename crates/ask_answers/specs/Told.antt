@@ -1,7 +1,7 @@
 -- The text of an answer.
 use Rattle.std.specs.Prelude.{◌≡◌, List, ℕ, [], ◌∷◌, ◌++◌, codes}
 use Rattle.job_bodies.specs.Plan.{Plan}
-use Rattle.certificates.specs.Cert.{Cert}
+use Rattle.cert_text.specs.Cert.{Cert}
 use Rattle.plan_witnesses.specs.declared.witness.Witness.{Witness}
 use Rattle.witness_lines.specs.Told.{IsTold}
 use Rattle.size_search.specs.declared.found.SizesFound.{SizesFound}

@@ -1,6 +1,6 @@
 //! The finding about a plan on which an answer rests.
 
-use certificates::Cert;
+use cert_text::Cert;
 use plan_witnesses::Witness;
 use size_search::SizesFound;
 

@@ -10,7 +10,7 @@ mod arrows;
 use crate::finding::PlanFinding;
 use crate::picture::arrows::push_arrows;
 use crate::safe::{push_most, push_threads, total_of};
-use certificates::Cert;
+use cert_text::Cert;
 use job_bodies::{Client, Plan, Pool};
 use std::alloc::{AllocError, Global};
 use weights::Bound;

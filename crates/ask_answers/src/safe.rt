@@ -8,7 +8,7 @@ ghost use Rattle.ask_answers.specs.SafeText as spec;
 
 use crate::payers::{Payers, payers_of};
 use crate::waits::waits_for;
-use certificates::{Cert, PoolCert};
+use cert_text::{Cert, PoolCert};
 use job_bodies::{Plan, Pool};
 use std::alloc::{AllocError, Global};
 use weights::{Bound, Vector};

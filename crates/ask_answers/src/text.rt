@@ -7,7 +7,7 @@ ghost use Rattle.ask_answers.specs.Told as spec;
 use crate::finding::PlanFinding;
 use crate::safe::push_safe;
 use crate::unsafe_sizes::{push_advice, push_open};
-use certificates::Cert;
+use cert_text::Cert;
 use job_bodies::Plan;
 use plan_witnesses::Witness;
 use size_lines::{push_no_sizes, push_sizes};

@@ -8,7 +8,7 @@ use Rattle.weights.specs.declared.bound.Bound.{Bound}
 use Rattle.weights.specs.declared.bound.Bound.TheVariants.{Standing, Lifetime}
 use Rattle.weights.specs.Vector.{queued_weight}
 use Rattle.weights.specs.Bound.{bound_vector, bound_at_get}
-use Rattle.certificates.specs.Cert.{Cert, pool_cert_at}
+use Rattle.cert_text.specs.Cert.{Cert, pool_cert_at}
 use Rattle.weight_laws.proofs.BoundLaws.{BoundLaws, bound_vector_laws}
 use Rattle.headline.specs.Accepted.{accepted}
 use Rattle.headline.proofs.CertLaws.{cert_laws}

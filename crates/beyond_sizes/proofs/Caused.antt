@@ -3,7 +3,7 @@ use Rattle.std.proofs.Common.{◌≡◌, false, refl}
 use Rattle.std.proofs.lemmas.Bool.{false_from_ne_true}
 use Rattle.job_bodies.specs.Plan.{Plan}
 use Rattle.job_bodies.specs.WellFormed.{IsWellFormed}
-use Rattle.certificates.specs.Cert.{Cert}
+use Rattle.cert_text.specs.Cert.{Cert}
 use Rattle.headline.specs.Accepted.{accepted}
 use Rattle.size_causes.specs.declared.cause.Cause.{Cause}
 use Rattle.size_causes.specs.declared.cause.Cause.TheVariants.{Circle, ClientNeverGets, ClassNeverGets}

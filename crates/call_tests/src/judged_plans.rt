@@ -1,8 +1,7 @@
 //! Certificates of small plans, and each call that judges one.
 
 use cert_check::{Certified, CheckFault, PoolLine, accepts, accepts_standing, check, verdict};
-use cert_text::{CertFault, read_cert};
-use certificates::Cert;
+use cert_text::{Cert, CertFault, read_cert};
 use job_bodies::{Part, Plan, PlanFault};
 use plan_text::read_plan;
 use std::alloc::{AllocError, Global};

@@ -12,8 +12,8 @@ use Rattle.weights.specs.declared.bound.Bound.TheVariants.{Standing, Lifetime}
 use Rattle.weights.specs.Row.{fails, first_failing, AllHold}
 use Rattle.weights.specs.Vector.{vector_fits}
 use Rattle.weights.specs.Bound.{bound_vector, bound_rows}
-use Rattle.certificates.specs.Cert.{Cert, cert_fits, pool_cert_at}
-use Rattle.certificates.proofs.Fitting.{parts_fit}
+use Rattle.cert_text.specs.Cert.{Cert, cert_fits, pool_cert_at}
+use Rattle.cert_text.proofs.Fitting.{parts_fit}
 use Rattle.headline.specs.Headline.{RefusesNothing, JavaRefusesNothing}
 use Rattle.headline.proofs.Bounded.{bounded_plans_refuse_nothing}
 use Rattle.headline.proofs.JavaBounded.{bounded_plans_java_refuse_nothing}

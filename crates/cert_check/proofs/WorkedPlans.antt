@@ -7,7 +7,7 @@ use Rattle.weights.specs.declared.bound.Bound.{Bound}
 use Rattle.weights.specs.declared.bound.Bound.TheVariants.{Standing, Lifetime}
 use Rattle.weights.specs.Vector.{Vector}
 use Rattle.weights.specs.Ranks.{Ranks}
-use Rattle.certificates.specs.Cert.{Cert, PoolCert}
+use Rattle.cert_text.specs.Cert.{Cert, PoolCert}
 
 -- ---- parts of plans, each with a name of one letter
 

@@ -7,7 +7,7 @@ use Rattle.written_machine.specs.Reach.{start, replay}
 use Rattle.weights.specs.declared.row.Rule.TheVariants.{V6, V7, S2, L3, B1, B2, K1}
 use Rattle.weights.specs.declared.row.Place.TheVariants as place
 use Rattle.weights.specs.Row.{row}
-use Rattle.certificates.specs.Cert.{cert_fits}
+use Rattle.cert_text.specs.Cert.{cert_fits}
 use Rattle.starvation_laws.specs.Drain.{full, todo}
 use Rattle.headline.specs.declared.note.Section.TheVariants as section
 use Rattle.headline.specs.Conditions.{note, failing}

@@ -7,7 +7,7 @@ use Rattle.plan_text.specs.Document.{document_of}
 use Rattle.plan_text.specs.Entries.{entries_of}
 use Rattle.plan_text.specs.PlanOf.{plan_of}
 use Rattle.plan_text.proofs.Buildable.{are_within_limits, well_formed_read}
-use Rattle.certificates.specs.Cert.{Cert}
+use Rattle.cert_text.specs.Cert.{Cert}
 use Rattle.cert_text.specs.CertOf.{cert_of}
 use Rattle.headline.specs.Accepted.{accepted}
 use Rattle.headline.proofs.Promised.{promises}

@@ -1,7 +1,7 @@
 -- A plan and a certificate that accepts it.
 use Rattle.std.specs.Prelude.{IsTrue}
 use Rattle.job_bodies.specs.Plan.{Plan}
-use Rattle.certificates.specs.Cert.{Cert}
+use Rattle.cert_text.specs.Cert.{Cert}
 use Rattle.headline.specs.Accepted.{accepted}
 use Rattle.headline.specs.Headline.{Promises}
 

@@ -5,7 +5,7 @@ use Rattle.weights.specs.Row.{first_failing}
 use Rattle.weights.specs.Bound.{bound_rows}
 use Rattle.weights.specs.Blocked.{blocked_rows}
 use Rattle.weights.specs.Ranks.{is_counted}
-use Rattle.certificates.specs.Cert.{Cert, pool_cert_at}
+use Rattle.cert_text.specs.Cert.{Cert, pool_cert_at}
 
 -- of pool p no row of its bound fails, and no row of its blocked vector
 abbrev pub pool_holds : Plan → Cert → ℕ → Bool

@@ -2,7 +2,7 @@
 use Rattle.std.specs.Prelude.{◌≡◌, ◌<◌, ℕ, List, length, slice_index_or, Option, None, IfSome, Ok}
 use Rattle.job_bodies.specs.Plan.{Plan}
 use Rattle.plan_text.specs.PlanOf.{plan_of}
-use Rattle.certificates.specs.Cert.{Cert}
+use Rattle.cert_text.specs.Cert.{Cert}
 use Rattle.cert_text.specs.CertOf.{cert_of}
 use Rattle.cert_check.specs.declared.on_threads.PoolCheck.{PoolCheck}
 use Rattle.cert_check.specs.Holding.{pool_holds}

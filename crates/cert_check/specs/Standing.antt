@@ -6,7 +6,7 @@ use Rattle.weights.specs.declared.bound.Bound.{Bound}
 use Rattle.weights.specs.declared.bound.Bound.TheVariants.{Standing, Lifetime}
 use Rattle.weights.specs.Row.{fails}
 use Rattle.weights.specs.Standing.{standing_rows}
-use Rattle.certificates.specs.Cert.{Cert, cert_fits, pool_cert_at}
+use Rattle.cert_text.specs.Cert.{Cert, cert_fits, pool_cert_at}
 
 -- pool p has a standing vector whose rows all hold
 abbrev pub stands : Plan → ℕ → Bound → Bool

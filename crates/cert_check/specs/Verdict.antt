@@ -4,7 +4,7 @@ use Rattle.std.specs.List.{enumerate_from}
 use Rattle.job_bodies.specs.Plan.{Plan, pool_at}
 use Rattle.weights.specs.Vector.{total}
 use Rattle.weights.specs.Bound.{bound_vector, bound_limit, is_lifetime}
-use Rattle.certificates.specs.Cert.{Cert, pool_cert_at}
+use Rattle.cert_text.specs.Cert.{Cert, pool_cert_at}
 use Rattle.headline.specs.Accepted.{accepted}
 use Rattle.cert_check.specs.declared.answer.PoolLine.{PoolLine}
 

@@ -6,7 +6,7 @@ ghost use Rattle.headline.specs.Headline.{Promises};
 ghost use Rattle.cert_check.specs.Certified as spec;
 
 use crate::accepts;
-use certificates::Cert;
+use cert_text::Cert;
 use job_bodies::Plan;
 use std::marker::Model;
 

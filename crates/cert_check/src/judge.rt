@@ -2,13 +2,13 @@
 
 ghost use Rattle.std.specs.Prelude.{◌≡◌, ◌<◌, IfOk, IsTrue, length, map};
 ghost use Rattle.std.specs.List.{enumerate_from};
-ghost use Rattle.certificates.specs.Cert.{cert_fits};
+ghost use Rattle.cert_text.specs.Cert.{cert_fits};
 ghost use Rattle.headline.specs.Headline.{Promises};
 ghost use Rattle.cert_check.specs.Verdict as spec;
 
 use crate::acceptance::conditions_hold;
 use crate::{PoolLine, Verdict};
-use certificates::Cert;
+use cert_text::Cert;
 use job_bodies::Plan;
 use std::alloc::{AllocError, Global};
 use weights::Bound;

@@ -25,7 +25,6 @@ pub use pool_gate::PoolGate;
 pub use text::push_verdict;
 
 // The parts of a certificate, and its text format.
-pub use cert_text::{CertFault, read_cert, write_cert};
-pub use certificates::{Cert, PoolCert};
+pub use cert_text::{Cert, CertFault, PoolCert, read_cert, write_cert};
 pub use headline::{Note, Section};
 pub use weights::{Bound, Ranks, Vector};

@@ -2,7 +2,7 @@
 
 ghost use Rattle.std.specs.Prelude.{◌≡◌, ◌≢◌, ◌≤◌, ◌<◌, ℕ, slice_index_or, IfOk, IfErr, IfSome, IsTrue, Ok, Err, length, vec_len};
 ghost use Rattle.job_bodies.specs.declared.limits.TheConstants.{MAX_WORKERS};
-ghost use Rattle.certificates.specs.Cert.{cert_fits};
+ghost use Rattle.cert_text.specs.Cert.{cert_fits};
 ghost use Rattle.headline.specs.Headline.{Promises};
 ghost use Rattle.cert_check.specs.declared.from_bytes.CheckFault.TheVariants.{Memory, Gate};
 ghost use Rattle.cert_check.specs.Check as check_spec;
@@ -13,7 +13,7 @@ use crate::acceptance::pool_holds;
 use crate::judge::pool_line;
 use crate::texts::read_texts;
 use crate::{CheckFault, PoolGate, PoolLine, Verdict};
-use certificates::Cert;
+use cert_text::Cert;
 use job_bodies::Plan;
 use std::alloc::{AllocError, Global};
 use std::thread;

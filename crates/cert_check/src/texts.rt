@@ -4,14 +4,13 @@ ghost use Rattle.std.specs.Prelude.{◌≡◌, ◌≢◌, IfOk, IfErr, IsTrue, O
 ghost use Rattle.support.specs.declared.number.TheConstants.{MEMORY};
 ghost use Rattle.job_bodies.specs.Checks.{at_text};
 ghost use Rattle.plan_text.specs.PlanOf.{plan_of};
-ghost use Rattle.certificates.specs.Cert.{cert_fits};
+ghost use Rattle.cert_text.specs.Cert.{cert_fits};
 ghost use Rattle.cert_text.specs.CertOf.{cert_of};
 ghost use Rattle.cert_check.specs.declared.from_bytes.CheckFault.TheVariants as check_fault;
 ghost use Rattle.cert_check.specs.Check.{checked};
 
 use crate::CheckFault;
-use cert_text::{CertFault, read_cert};
-use certificates::Cert;
+use cert_text::{Cert, CertFault, read_cert};
 use job_bodies::{Plan, PlanFault};
 use plan_text::read_plan;
 use std::alloc::Global;

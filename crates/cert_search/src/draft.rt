@@ -1,7 +1,7 @@
 //! A certificate that is completed round by round.
 
 use crate::round::PoolVectors;
-use certificates::{Cert, PoolCert};
+use cert_text::{Cert, PoolCert};
 use job_bodies::Plan;
 use least_vectors::{Levels, reach};
 use std::alloc::{AllocError, Global};

@@ -11,7 +11,7 @@ use crate::round::Round;
 use crate::steadily::steady_where_accepted;
 use crate::workers::look_at_all;
 use cert_check::{PoolGate, accepts};
-use certificates::Cert;
+use cert_text::Cert;
 use job_bodies::Plan;
 use least_vectors::{Levels, reach};
 use std::alloc::{AllocError, Global};

@@ -7,7 +7,7 @@ ghost use Rattle.steady_certificates.specs.Submitted.{NoCircle};
 ghost use Rattle.steady_certificates.specs.Steady.{steady_cert};
 
 use cert_check::accepts;
-use certificates::Cert;
+use cert_text::Cert;
 use job_bodies::Plan;
 use size_causes::cause_of;
 use std::alloc::{AllocError, Global};

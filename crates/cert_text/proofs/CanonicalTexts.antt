@@ -14,7 +14,7 @@ use Rattle.weights.specs.declared.bound.Bound.TheVariants.{Standing, Lifetime}
 use Rattle.weights.specs.Vector.{Vector, is_small, has_small_numbers}
 use Rattle.weights.specs.Bound.{bound_vector}
 use Rattle.weights.specs.Ranks.{Ranks}
-use Rattle.certificates.specs.Cert.{PoolCert, Cert, cert_fits}
+use Rattle.cert_text.specs.Cert.{PoolCert, Cert, cert_fits}
 use Rattle.cert_text.specs.Sizes.{pool_has_small_numbers, ranks_have_small_numbers, cert_has_small_numbers}
 use Rattle.cert_text.specs.CertOf.{cert_of}
 use Rattle.cert_text.specs.CertText.{number_data, numbers_data, rows_data, vector_data, bounded_data, pool_data, ranks_data, version_number, cert_data, cert_text}

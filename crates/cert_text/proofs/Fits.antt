@@ -14,7 +14,7 @@ use Rattle.weights.specs.declared.bound.Bound.TheVariants.{Standing, Lifetime}
 use Rattle.weights.specs.Vector.{Vector, has_shape, has_small_numbers, is_small}
 use Rattle.weights.specs.Bound.{bound_vector}
 use Rattle.weights.specs.Ranks.{Ranks, ranks_fit}
-use Rattle.certificates.specs.Cert.{PoolCert, Cert, pool_cert_fits, cert_fits}
+use Rattle.cert_text.specs.Cert.{PoolCert, Cert, pool_cert_fits, cert_fits}
 use Rattle.cert_text.specs.declared.fault.CertFault.{CertFault}
 use Rattle.cert_text.specs.declared.version.Version.{Version}
 use Rattle.cert_text.specs.declared.version.Version.TheVariants.{One, Two}

@@ -9,7 +9,7 @@ use Rattle.weights.specs.declared.bound.Bound.{Bound}
 use Rattle.weights.specs.declared.bound.Bound.TheVariants.{Standing, Lifetime}
 use Rattle.weights.specs.Vector.{Vector}
 use Rattle.weights.specs.Ranks.{Ranks}
-use Rattle.certificates.specs.Cert.{PoolCert, Cert}
+use Rattle.cert_text.specs.Cert.{PoolCert, Cert}
 use Rattle.cert_text.specs.CertText.{number_data, list_data, numbers_data, rows_data, vector_data, bounded_data, pool_data, ranks_data, version_number, cert_data, cert_text}
 use Rattle.cert_text.specs.Canonical.{bound_text, version_text}
 use Rattle.cert_text.proofs.Fronts.{first_key, next_key}

@@ -15,7 +15,7 @@ use Rattle.weights.specs.declared.bound.Bound.TheVariants.{Standing, Lifetime}
 use Rattle.weights.specs.Vector.{Vector, has_shape, vector_fits, is_small}
 use Rattle.weights.specs.Bound.{bound_vector, is_lifetime}
 use Rattle.weights.specs.Ranks.{Ranks, ranks_fit}
-use Rattle.certificates.specs.Cert.{PoolCert, Cert, pool_cert_fits, cert_fits}
+use Rattle.cert_text.specs.Cert.{PoolCert, Cert, pool_cert_fits, cert_fits}
 use Rattle.job_bodies.specs.declared.limits.TheConstants.{MAX_CERT_BYTES}
 use Rattle.cert_text.specs.declared.version.Version.{Version}
 use Rattle.cert_text.specs.declared.version.Version.TheVariants.{One, Two}

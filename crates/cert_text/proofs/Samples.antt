@@ -5,7 +5,7 @@ use Rattle.job_bodies.specs.Plan.{Plan}
 use Rattle.weights.specs.declared.bound.Bound.TheVariants.{Standing, Lifetime}
 use Rattle.weights.specs.Vector.{Vector}
 use Rattle.weights.specs.Ranks.{Ranks}
-use Rattle.certificates.specs.Cert.{Cert}
+use Rattle.cert_text.specs.Cert.{Cert}
 use Rattle.cert_text.specs.Values.{fault}
 use Rattle.cert_text.specs.CertOf.{cert_of}
 use Rattle.cert_text.specs.CertText.{cert_text}

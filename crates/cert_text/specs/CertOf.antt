@@ -6,7 +6,7 @@ use Rattle.serde_json.specs.Read.{read}
 use Rattle.support.specs.declared.number.TheConstants.{NOT_JSON, WEIGHT_TOO_LARGE, CERT_TOO_LONG}
 use Rattle.support.specs.Reading.{◌>>=◌, holds_or, some_or}
 use Rattle.job_bodies.specs.Plan.{Plan}
-use Rattle.certificates.specs.Cert.{Cert}
+use Rattle.cert_text.specs.Cert.{Cert}
 use Rattle.cert_text.specs.declared.fault.CertFault.{CertFault}
 use Rattle.job_bodies.specs.declared.limits.TheConstants.{MAX_CERT_BYTES}
 use Rattle.cert_text.specs.Values.{fault}

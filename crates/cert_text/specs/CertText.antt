@@ -9,7 +9,7 @@ use Rattle.weights.specs.declared.bound.Bound.TheVariants.{Standing, Lifetime}
 use Rattle.weights.specs.Vector.{Vector}
 use Rattle.weights.specs.Bound.{is_lifetime}
 use Rattle.weights.specs.Ranks.{Ranks}
-use Rattle.certificates.specs.Cert.{PoolCert, Cert}
+use Rattle.cert_text.specs.Cert.{PoolCert, Cert}
 
 abbrev pub number_data : ℕ → Data
 number_data n = number (unsigned n)

@@ -1,3 +1,4 @@
+pub mod Cert
 pub mod Values
 pub mod Version
 pub mod Vectors

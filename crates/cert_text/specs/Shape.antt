@@ -7,7 +7,7 @@ use Rattle.job_bodies.specs.Plan.{Plan}
 use Rattle.weights.specs.declared.bound.Bound.{Bound}
 use Rattle.weights.specs.declared.bound.Bound.TheVariants.{Standing, Lifetime}
 use Rattle.weights.specs.Ranks.{Ranks}
-use Rattle.certificates.specs.Cert.{PoolCert, Cert}
+use Rattle.cert_text.specs.Cert.{PoolCert, Cert}
 use Rattle.cert_text.specs.declared.fault.CertFault.{CertFault}
 use Rattle.cert_text.specs.declared.version.Version.{Version}
 use Rattle.cert_text.specs.declared.version.Version.TheVariants.{One, Two}

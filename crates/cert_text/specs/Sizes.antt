@@ -4,7 +4,7 @@ use Rattle.std.specs.List.{list_all}
 use Rattle.weights.specs.Vector.{is_small, has_small_numbers}
 use Rattle.weights.specs.Bound.{bound_vector}
 use Rattle.weights.specs.Ranks.{Ranks}
-use Rattle.certificates.specs.Cert.{PoolCert, Cert}
+use Rattle.cert_text.specs.Cert.{PoolCert, Cert}
 
 abbrev pub pool_has_small_numbers : PoolCert → Bool
 pool_has_small_numbers pool = has_small_numbers (bound_vector pool.bound) && has_small_numbers pool.blocked

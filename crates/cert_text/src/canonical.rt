@@ -9,7 +9,7 @@ ghost use Rattle.json.specs.Word.{is_space};
 ghost use Rattle.weights.specs.Vector.{vector_fits};
 ghost use Rattle.weights.specs.Bound.{bound_vector};
 ghost use Rattle.weights.specs.Ranks.{ranks_fit};
-ghost use Rattle.certificates.specs.Cert.{pool_cert_fits, cert_fits};
+ghost use Rattle.cert_text.specs.Cert.{pool_cert_fits, cert_fits};
 ghost use Rattle.cert_text.specs.CertText as spec;
 ghost use Rattle.cert_text.specs.Canonical.{BeginsAs, bound_text, version_text, IsCanonical};
 
@@ -18,7 +18,7 @@ use crate::canonical_numbers::{
 };
 use crate::canonical_vectors::leading_vector;
 use crate::version::version_number;
-use certificates::{Cert, PoolCert};
+use crate::{Cert, PoolCert};
 use job_bodies::{MAX_CERT_BYTES, Plan};
 use std::alloc::Global;
 use weights::{Bound, Ranks};

@@ -1,13 +1,13 @@
-//! The text format of certificates: a JSON object in one of two versions.
+//! Certificates and their text, a JSON object of one of two versions.
 //!
-//! [`read_cert`] returns the value of the definition `cert_of` in `specs/`: a certificate that fits
-//! the plan, or the first fault. [`write_cert`] writes a text that reads back to the same
-//! certificate.
+//! A [`Cert`] has a queue bound and a blocked vector for each pool, and ranks. [`read_cert`] returns the certificate of a text
+//! if it fits the plan, and otherwise the first fault. [`write_cert`] writes the text that reads back to the certificate.
 #![tactic(auto)]
 
 mod canonical;
 mod canonical_numbers;
 mod canonical_vectors;
+mod cert;
 mod document;
 mod fault;
 mod parts;
@@ -19,6 +19,7 @@ mod vectors;
 mod version;
 mod write;
 
+pub use cert::{Cert, PoolCert};
 pub use fault::CertFault;
 pub use read::read_cert;
 pub use write::write_cert;

@@ -6,7 +6,7 @@ ghost use Rattle.support.specs.Pushed.{Pushes};
 ghost use Rattle.cert_text.specs.CertText as spec;
 ghost use Rattle.cert_text.specs.Canonical.{bound_text};
 
-use certificates::PoolCert;
+use crate::PoolCert;
 use std::alloc::AllocError;
 use support::push_number;
 use weights::{Bound, Ranks, Vector};

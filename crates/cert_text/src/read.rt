@@ -2,17 +2,17 @@
 
 ghost use Rattle.std.specs.Prelude.{◌≡◌, ◌≢◌, IfOk, IfErr, IsTrue, Ok, Err};
 ghost use Rattle.support.specs.Given.{Gives};
-ghost use Rattle.certificates.specs.Cert.{cert_fits};
+ghost use Rattle.cert_text.specs.Cert.{cert_fits};
 ghost use Rattle.serde_json.specs.View.{view};
 ghost use Rattle.cert_text.specs.CertOf as spec;
 
+use crate::Cert;
 use crate::canonical::canonical_cert;
 use crate::document::document_of;
 use crate::fault::{CertError, CertFault, fault};
 use crate::shape::shape_of;
 use crate::sizes::has_small_numbers;
 use crate::version::version_of;
-use certificates::Cert;
 use job_bodies::Plan;
 use serde_json::Value;
 use std::alloc::Global;

@@ -11,7 +11,7 @@ use crate::fault::CertError;
 use crate::values::{check_keys, elements_of, value_at};
 use crate::vectors::{numbers_of, vector_of};
 use crate::version::Version;
-use certificates::{Cert, PoolCert};
+use crate::{Cert, PoolCert};
 use job_bodies::Plan;
 use serde_json::Value;
 use std::alloc::Global;

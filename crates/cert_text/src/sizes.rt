@@ -4,7 +4,7 @@ ghost use Rattle.std.specs.Prelude.{◌≡◌};
 ghost use Rattle.std.specs.List.{list_all};
 ghost use Rattle.cert_text.specs.Sizes as spec;
 
-use certificates::{Cert, PoolCert};
+use crate::{Cert, PoolCert};
 use weights::{Ranks, are_small};
 
 fn pool_is_small(pool: &PoolCert) -> bool

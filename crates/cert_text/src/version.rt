@@ -10,7 +10,7 @@ ghost use Rattle.cert_text.specs.Version as spec;
 
 use crate::fault::{CertError, fault};
 use crate::values::{number_of, value_at};
-use certificates::{Cert, PoolCert};
+use crate::{Cert, PoolCert};
 use serde_json::Value;
 use support::number::VERSION;
 

@@ -2,16 +2,16 @@
 
 ghost use Rattle.std.specs.Prelude.{◌≡◌, ◌<◌, ◌≤◌, ◌∷◌, ◌++◌, [], false, length, IfOk, IsTrue, Ok};
 ghost use Rattle.job_bodies.specs.Plan.{Plan};
-ghost use Rattle.certificates.specs.Cert.{cert_fits};
+ghost use Rattle.cert_text.specs.Cert.{cert_fits};
 ghost use Rattle.job_bodies.specs.declared.limits.TheConstants.{MAX_CERT_BYTES};
 ghost use Rattle.cert_text.specs.CertOf.{cert_of};
 ghost use Rattle.support.specs.Pushed.{Pushes};
 ghost use Rattle.cert_text.specs.CertText as spec;
 ghost use Rattle.cert_text.specs.Canonical.{version_text};
 
+use crate::Cert;
 use crate::parts::{push_pools, push_ranks};
 use crate::version::version_number;
-use certificates::Cert;
 use std::alloc::{AllocError, Global};
 use support::push_number;
 

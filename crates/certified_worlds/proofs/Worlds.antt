@@ -9,7 +9,7 @@ use Rattle.written_machine.specs.Reach.{state_after, Reaches}
 use Rattle.written_machine.proofs.Events.{Happens, happens}
 use Rattle.written_machine.proofs.Events.Happens.{is_refused}
 use Rattle.live_views.specs.LiveView.{View}
-use Rattle.certificates.specs.Cert.{Cert}
+use Rattle.cert_text.specs.Cert.{Cert}
 use Rattle.headline.specs.Accepted.{accepted}
 use Rattle.headline.proofs.Theorem.{accepted_plans_are_safe}
 use Rattle.certified_worlds.specs.HeldWorld.{IsReachedBy, RefusesNothing}

@@ -8,7 +8,7 @@ use Rattle.std.proofs.Math.Nat.{mul-le-mul_left}
 use Rattle.job_bodies.specs.declared.limits.TheConstants.{MAX_SIZE}
 use Rattle.job_bodies.specs.Plan.{Pool, Client, Plan, no_pool, pool_at}
 use Rattle.weights.specs.Vector.{Vector, workers_weight, client_weight, total}
-use Rattle.certificates.specs.Cert.{Cert, pool_cert_at, cert_fits}
+use Rattle.cert_text.specs.Cert.{Cert, pool_cert_at, cert_fits}
 use Rattle.headline.specs.Conditions.{failing}
 use Rattle.headline.specs.Accepted.{is_nil}
 use Rattle.fitted_sizes.specs.Fitted.{core_needed, raised}

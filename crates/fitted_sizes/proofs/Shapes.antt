@@ -17,7 +17,7 @@ use Rattle.weights.specs.Rows.{rows, classes_of}
 use Rattle.weights.specs.Bound.{bound_vector}
 use Rattle.weights.specs.Blocked.{counted_rows}
 use Rattle.weights.specs.Ranks.{Ranks, ranks_fit, is_counted}
-use Rattle.certificates.specs.Cert.{PoolCert, Cert, pool_cert_fits, cert_fits}
+use Rattle.cert_text.specs.Cert.{PoolCert, Cert, pool_cert_fits, cert_fits}
 use Rattle.fitted_sizes.specs.Fitted.{shape}
 
 -- ---- lists

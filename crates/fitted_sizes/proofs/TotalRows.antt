@@ -23,7 +23,7 @@ use Rattle.weights.specs.Lifetime.{lifetime_limit}
 use Rattle.weights.specs.Bound.{bound_vector, bound_limit, bound_rows}
 use Rattle.weights.specs.Blocked.{is_get, counted_rows, blocked_rows}
 use Rattle.weights.specs.Ranks.{Ranks, is_counted, rank_rows, rank_rows_of_class, rank_rows_of_action}
-use Rattle.certificates.specs.Cert.{Cert, pool_cert_at, cert_fits}
+use Rattle.cert_text.specs.Cert.{Cert, pool_cert_at, cert_fits}
 use Rattle.headline.specs.declared.note.Section.{Section}
 use Rattle.headline.specs.declared.note.Section.TheVariants as section
 use Rattle.headline.specs.declared.note.Note.{Note}

@@ -7,7 +7,7 @@ use Rattle.support.proofs.Members.{list_all_at_In, In-get_or}
 use Rattle.job_bodies.specs.declared.limits.TheConstants.{MAX_SIZE}
 use Rattle.job_bodies.specs.Plan.{Pool, Plan, no_pool, pool_at}
 use Rattle.job_bodies.specs.WellFormed.{has_lawful_sizes, IsWellFormed}
-use Rattle.certificates.specs.Cert.{Cert, cert_fits}
+use Rattle.cert_text.specs.Cert.{Cert, cert_fits}
 use Rattle.headline.specs.declared.note.Note.{Note}
 use Rattle.headline.specs.Conditions.{failing}
 use Rattle.fitted_sizes.specs.declared.unfit.Unfit.{Unfit}

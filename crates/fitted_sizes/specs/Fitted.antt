@@ -9,7 +9,7 @@ use Rattle.weights.specs.declared.bound.Bound.{Bound}
 use Rattle.weights.specs.declared.bound.Bound.TheVariants.{Standing, Lifetime}
 use Rattle.weights.specs.Vector.{Vector, total}
 use Rattle.weights.specs.Bound.{bound_limit}
-use Rattle.certificates.specs.Cert.{PoolCert, Cert, pool_cert_at, cert_fits}
+use Rattle.cert_text.specs.Cert.{PoolCert, Cert, pool_cert_at, cert_fits}
 use Rattle.headline.specs.Conditions.{failing}
 use Rattle.headline.specs.Accepted.{accepted}
 

@@ -5,7 +5,7 @@ use Rattle.std.specs.Option.{option_or, option_map}
 use Rattle.job_bodies.specs.declared.limits.TheConstants.{MAX_SIZE}
 use Rattle.job_bodies.specs.Plan.{Pool, Plan, pool_at}
 use Rattle.job_bodies.specs.WellFormed.{IsWellFormed}
-use Rattle.certificates.specs.Cert.{Cert, cert_fits}
+use Rattle.cert_text.specs.Cert.{Cert, cert_fits}
 use Rattle.headline.specs.declared.note.Note.{Note}
 use Rattle.headline.specs.Conditions.{failing}
 use Rattle.fitted_sizes.specs.declared.unfit.Unfit.{Unfit}

@@ -4,7 +4,7 @@ use Rattle.std.specs.List.{enumerate_from}
 use Rattle.job_bodies.specs.Plan.{Pool, Plan, pool_at}
 use Rattle.job_bodies.specs.WellFormed.{IsWellFormed}
 use Rattle.weights.specs.Vector.{Vector}
-use Rattle.certificates.specs.Cert.{Cert, pool_cert_at}
+use Rattle.cert_text.specs.Cert.{Cert, pool_cert_at}
 use Rattle.headline.specs.Accepted.{accepted}
 use Rattle.fitted_sizes.specs.Fitted.{core_needed, IsNoSmaller}
 

@@ -6,14 +6,14 @@ ghost use Rattle.job_bodies.specs.Plan.{pool_at};
 ghost use Rattle.job_bodies.specs.WellFormed.{IsWellFormed};
 ghost use Rattle.weights.specs.Vector.{vector_fits};
 ghost use Rattle.weights.specs.Bound.{bound_vector};
-ghost use Rattle.certificates.specs.Cert.{cert_fits, pool_cert_at};
+ghost use Rattle.cert_text.specs.Cert.{cert_fits, pool_cert_at};
 ghost use Rattle.fitted_sizes.specs.Fitted as spec;
 ghost use Rattle.fitted_sizes.specs.Widened.{HasLeastCores};
 ghost use Rattle.fitted_sizes.specs.Unfit.{failing_elsewhere, why_unfit};
 
 use crate::Unfit;
 use crate::unfit::unfit_pools;
-use certificates::Cert;
+use cert_text::Cert;
 use headline::Note;
 use job_bodies::{Plan, Pool};
 use refusal_notes::notes;

@@ -3,14 +3,14 @@
 ghost use Rattle.std.specs.Prelude.{◌≡◌, ◌<◌, IfOk, IfErr, IsTrue, Some, length};
 ghost use Rattle.job_bodies.specs.Plan.{pool_at};
 ghost use Rattle.job_bodies.specs.WellFormed.{IsWellFormed};
-ghost use Rattle.certificates.specs.Cert.{cert_fits, pool_cert_at};
+ghost use Rattle.cert_text.specs.Cert.{cert_fits, pool_cert_at};
 ghost use Rattle.fitted_sizes.specs.Widened as spec;
 ghost use Rattle.fitted_sizes.specs.Unfit.{why_not_widened};
 
 use crate::Unfit;
 use crate::fit::core_needed;
 use crate::unfit::unfit_pools;
-use certificates::Cert;
+use cert_text::Cert;
 use job_bodies::{Plan, Pool};
 use std::alloc::{AllocError, Global};
 

@@ -11,8 +11,8 @@ use Rattle.weights.specs.Row.{AllHold}
 use Rattle.weights.specs.Bound.{bound_rows}
 use Rattle.weights.specs.Blocked.{blocked_rows}
 use Rattle.weights.specs.Ranks.{is_counted, rank_rows}
-use Rattle.certificates.specs.Cert.{Cert, pool_cert_at, cert_fits}
-use Rattle.certificates.proofs.Fitting.{parts_fit}
+use Rattle.cert_text.specs.Cert.{Cert, pool_cert_at, cert_fits}
+use Rattle.cert_text.proofs.Fitting.{parts_fit}
 use Rattle.weight_laws.proofs.BoundLaws.{BoundLaws, bound_laws}
 use Rattle.starvation_laws.proofs.BlockedLaws.{BlockedLaws, blocked_laws}
 use Rattle.starvation_laws.proofs.RankLaws.{RankLaws, rank_laws}

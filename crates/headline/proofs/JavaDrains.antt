@@ -11,7 +11,7 @@ use Rattle.written_machine.specs.State.{job_at, is_unfinished}
 use Rattle.written_machine.specs.Reach.{start}
 use Rattle.written_machine.specs.Safe.{is_of_job_or_pool}
 use Rattle.written_machine.proofs.Busy.{one_if}
-use Rattle.certificates.specs.Cert.{Cert}
+use Rattle.cert_text.specs.Cert.{Cert}
 use Rattle.starvation_laws.specs.Drain.{todo, is_of_no_client}
 use Rattle.starvation_laws.proofs.Draining.{ends_thread, no_client_cases, not_counted}
 use Rattle.java_steps.specs.Execute.{JavaState, java_step, java_replay, between_calls}

@@ -10,7 +10,7 @@ use Rattle.java_steps.specs.Execute.{JavaState, submission, java_step, between_c
 use Rattle.java_steps.specs.JavaSafe.{JavaReaches, JavaCanGoOn}
 use Rattle.java_steps.proofs.JavaEvents.{java_happens}
 use Rattle.java_steps.proofs.JavaReplays.{java_replay_keeps, java_possible}
-use Rattle.certificates.specs.Cert.{Cert}
+use Rattle.cert_text.specs.Cert.{Cert}
 use Rattle.headline.specs.Headline.{AcceptedPlansAreJavaSafe, AcceptedPlansJavaGoOn}
 use Rattle.headline.proofs.CertLaws.{CertLaws, cert_laws}
 use Rattle.headline.proofs.Theorem.{bound_of, Sound, sound_start, sound_step, sound_waits, sound_safe}

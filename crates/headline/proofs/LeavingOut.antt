@@ -18,7 +18,7 @@ use Rattle.weights.specs.declared.bound.Bound.{Bound}
 use Rattle.weights.specs.declared.bound.Bound.TheVariants.{Standing, Lifetime}
 use Rattle.weights.specs.Vector.{Vector}
 use Rattle.weights.specs.Bound.{bound_vector, bound_at_get}
-use Rattle.certificates.specs.Cert.{Cert, pool_cert_at}
+use Rattle.cert_text.specs.Cert.{Cert, pool_cert_at}
 use Rattle.weight_laws.proofs.VectorLaws.{VectorLaws}
 use Rattle.weight_laws.proofs.BoundLaws.{bound_vector_laws}
 use Rattle.weight_laws.proofs.NeverRises.{IsBalanced, balanced_step}

@@ -20,7 +20,7 @@ use Rattle.written_machine.proofs.Progress.{goes_on}
 use Rattle.weights.specs.declared.bound.Bound.{Bound}
 use Rattle.weights.specs.declared.at_get.AtGet.TheVariants.{GivesBack}
 use Rattle.weights.specs.Ranks.{is_counted}
-use Rattle.certificates.specs.Cert.{Cert, pool_cert_at}
+use Rattle.cert_text.specs.Cert.{Cert, pool_cert_at}
 use Rattle.weight_laws.proofs.NeverRises.{IsBalanced, balanced_start, never_rises, balanced_step}
 use Rattle.starvation_laws.specs.Drain.{todo, is_of_no_client, Drains}
 use Rattle.starvation_laws.proofs.BlockedCounts.{blocked-below_core}

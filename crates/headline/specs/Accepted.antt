@@ -1,7 +1,7 @@
 -- Accepted certificates.
 use Rattle.std.specs.Prelude.{◌&&◌, Bool, true, false, List, [], ◌∷◌}
 use Rattle.job_bodies.specs.Plan.{Plan}
-use Rattle.certificates.specs.Cert.{Cert, cert_fits}
+use Rattle.cert_text.specs.Cert.{Cert, cert_fits}
 use Rattle.headline.specs.declared.note.Note.{Note}
 use Rattle.headline.specs.Conditions.{failing}
 

@@ -8,7 +8,7 @@ use Rattle.weights.specs.declared.row.Row.{Row}
 use Rattle.weights.specs.Bound.{bound_rows}
 use Rattle.weights.specs.Blocked.{blocked_rows}
 use Rattle.weights.specs.Ranks.{is_counted, rank_rows}
-use Rattle.certificates.specs.Cert.{Cert, pool_cert_at}
+use Rattle.cert_text.specs.Cert.{Cert, pool_cert_at}
 use Rattle.headline.specs.declared.note.Section.{Section}
 use Rattle.headline.specs.declared.note.Section.TheVariants as section
 use Rattle.headline.specs.declared.note.Note.{Note}

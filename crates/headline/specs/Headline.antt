@@ -16,7 +16,7 @@ use Rattle.weights.specs.declared.bound.Bound.TheVariants.{Standing}
 use Rattle.weights.specs.Row.{AllHold}
 use Rattle.weights.specs.Vector.{Vector, vector_fits}
 use Rattle.weights.specs.Bound.{bound_vector, bound_rows}
-use Rattle.certificates.specs.Cert.{Cert}
+use Rattle.cert_text.specs.Cert.{Cert}
 use Rattle.headline.specs.Accepted.{accepted}
 
 -- The guarantees of an accepted certificate for its plan: every state that any list of events reaches is safe, and makes

@@ -2,7 +2,7 @@
 //! the shares in it.
 
 use ask_answers::{Payers, payers_of, total_of, waits_for};
-use certificates::Cert;
+use cert_text::Cert;
 use job_bodies::{Plan, Pool};
 use serde_json::{Value, json};
 use std::alloc::{AllocError, Global};

@@ -7,7 +7,7 @@ use Rattle.weights.specs.Row.{fails}
 use Rattle.weights.specs.Bound.{bound_rows}
 use Rattle.weights.specs.Blocked.{blocked_rows}
 use Rattle.weights.specs.Ranks.{is_counted, rank_rows}
-use Rattle.certificates.specs.Cert.{PoolCert, Cert, cert_fits}
+use Rattle.cert_text.specs.Cert.{PoolCert, Cert, cert_fits}
 use Rattle.headline.specs.declared.note.Section.TheVariants as section
 use Rattle.headline.specs.declared.note.Note.{Note}
 use Rattle.headline.specs.Conditions.{in_section, bound_section, pool_conditions, failing}

@@ -9,8 +9,8 @@ use Rattle.weights.specs.Row.{fails}
 use Rattle.weights.specs.Bound.{bound_rows}
 use Rattle.weights.specs.Blocked.{blocked_rows}
 use Rattle.weights.specs.Ranks.{is_counted, rank_rows}
-use Rattle.certificates.specs.Cert.{PoolCert, Cert, no_pool_cert, pool_cert_at, pool_cert_fits, cert_fits}
-use Rattle.certificates.proofs.Fitting.{as_many_parts, pool_fits}
+use Rattle.cert_text.specs.Cert.{PoolCert, Cert, no_pool_cert, pool_cert_at, pool_cert_fits, cert_fits}
+use Rattle.cert_text.proofs.Fitting.{as_many_parts, pool_fits}
 use Rattle.headline.specs.declared.note.Section.{Section}
 use Rattle.headline.specs.declared.note.Section.TheVariants as section
 use Rattle.headline.specs.declared.note.Note.{Note}

@@ -2,7 +2,7 @@
 
 ghost use Rattle.std.specs.Prelude.{◌≡◌, ◌+◌, ◌++◌, ◌∷◌, [], IsTrue, IfOk, length};
 ghost use Rattle.support.specs.Pushed.{Pushes};
-ghost use Rattle.certificates.specs.Cert.{cert_fits};
+ghost use Rattle.cert_text.specs.Cert.{cert_fits};
 ghost use Rattle.headline.specs.Conditions.{failing};
 ghost use Rattle.refusal_notes.specs.Explanation as spec;
 ghost use Rattle.refusal_notes.specs.Line as line;
@@ -10,7 +10,7 @@ ghost use Rattle.refusal_notes.specs.Line as line;
 use crate::told::{push_pool_notes, push_rank_notes};
 use crate::written::{head_of, push_condition};
 use crate::{Note, Section};
-use certificates::Cert;
+use cert_text::Cert;
 use job_bodies::Plan;
 use std::alloc::{AllocError, Global};
 

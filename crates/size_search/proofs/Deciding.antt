@@ -6,7 +6,7 @@ use Rattle.job_bodies.specs.declared.limits.TheConstants.{MAX_SIZE}
 use Rattle.job_bodies.specs.Plan.{Plan}
 use Rattle.job_bodies.specs.WellFormed.{IsWellFormed}
 use Rattle.weights.specs.Vector.{has_small_numbers}
-use Rattle.certificates.specs.Cert.{Cert}
+use Rattle.cert_text.specs.Cert.{Cert}
 use Rattle.fitted_sizes.specs.Fitted.{NoneFits}
 use Rattle.fitted_sizes.specs.Widened.{widened, NoneFitsWide}
 use Rattle.steady_certificates.specs.Submitted.{IsWithoutCause}

@@ -6,7 +6,7 @@ use crate::pool_threads::{PoolThreads, declared_threads};
 use crate::remembered::Remembered;
 use crate::rounds::ranked_at_last;
 use crate::settled::settled;
-use certificates::Cert;
+use cert_text::Cert;
 use job_bodies::Plan;
 use std::alloc::Global;
 

@@ -5,7 +5,7 @@ use crate::found::{Halt, Obstacle};
 use crate::pool_threads::maxes_of;
 use crate::remembered::{Look, Remembered};
 use crate::rounds::Placing;
-use certificates::{Cert, PoolCert};
+use cert_text::{Cert, PoolCert};
 use least_vectors::{Kind, reach};
 use std::alloc::{AllocError, Global};
 use weights::{Ranks, Vector};

@@ -2,7 +2,7 @@
 
 ghost use Rattle.std.specs.Prelude.{◌≡◌, ◌<◌, length};
 
-use certificates::Cert;
+use cert_text::Cert;
 use job_bodies::Plan;
 use size_causes::Cause;
 use std::alloc::AllocError;

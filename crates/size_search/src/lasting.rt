@@ -11,7 +11,7 @@ use crate::search::looked_for;
 use crate::settled::settled;
 use crate::steadily::steadily;
 use cert_check::accepts;
-use certificates::Cert;
+use cert_text::Cert;
 use job_bodies::Plan;
 use std::alloc::{AllocError, Global};
 

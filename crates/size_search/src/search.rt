@@ -16,7 +16,7 @@ use crate::remembered::Remembered;
 use crate::settled::settled;
 use crate::steadily::steadily;
 use cert_check::accepts;
-use certificates::Cert;
+use cert_text::Cert;
 use job_bodies::{MAX_POOLS, Plan};
 use least_vectors::Levels;
 use size_causes::cause_of;

@@ -5,7 +5,7 @@ ghost use Rattle.fitted_sizes.specs.Widened.{IsLeastWide};
 ghost use Rattle.size_search.specs.Sized.{IsSized};
 
 use crate::found::Obstacle;
-use certificates::Cert;
+use cert_text::Cert;
 use fitted_sizes::{Unfit, fitted, widened};
 use job_bodies::Plan;
 use std::alloc::{AllocError, Global};

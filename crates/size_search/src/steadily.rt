@@ -11,7 +11,7 @@ ghost use Rattle.steady_certificates.specs.Steady.{steady_vector, steady_total, 
 ghost use Rattle.size_search.specs.Sized.{IsSized, IsFound, IsTooLarge};
 
 use crate::found::{NoSizes, Obstacle, SizesFound};
-use certificates::Cert;
+use cert_text::Cert;
 use fitted_sizes::{fitted, widened};
 use job_bodies::Plan;
 use std::alloc::{AllocError, Global};

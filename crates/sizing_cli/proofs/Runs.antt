@@ -6,7 +6,7 @@ use Rattle.run_histories.specs.declared.report.RunFault.{RunFault}
 use Rattle.locked_runner.specs.Faults.{IsFaultOf}
 use Rattle.sizing_cli.specs.ServeFault.{is_of_run}
 use Rattle.job_bodies.specs.Plan.{Plan}
-use Rattle.certificates.specs.Cert.{Cert}
+use Rattle.cert_text.specs.Cert.{Cert}
 use Rattle.headline.specs.Accepted.{accepted}
 use Rattle.cert_check.specs.Certified.{Certified}
 use Rattle.sizing_cli.specs.declared.status.ServeFault.{ServeFault}

@@ -6,7 +6,7 @@ use Rattle.job_bodies.specs.declared.fault.PlanFault.{PlanFault}
 use Rattle.job_bodies.specs.declared.limits.TheConstants.{MAX_PLAN_BYTES, MAX_INPUT_BYTES}
 use Rattle.plan_text.specs.PlanOf.{plan_of}
 use Rattle.plan_text.specs.PlanDocument.{IsPlanText}
-use Rattle.certificates.specs.Cert.{Cert}
+use Rattle.cert_text.specs.Cert.{Cert}
 use Rattle.cert_text.specs.CertText.{cert_text}
 use Rattle.headline.specs.Accepted.{accepted}
 use Rattle.steady_certificates.specs.Steady.{steady_cert}

@@ -7,7 +7,7 @@ use Rattle.job_bodies.specs.declared.fault.PlanFault.{PlanFault}
 use Rattle.support.specs.Name.{head}
 use Rattle.support.specs.declared.number.TheConstants.{RUN_TOO_LARGE}
 use Rattle.plan_text.specs.PlanOf.{plan_of}
-use Rattle.certificates.specs.Cert.{Cert}
+use Rattle.cert_text.specs.Cert.{Cert}
 use Rattle.cert_text.specs.declared.fault.CertFault.{CertFault}
 use Rattle.cert_text.specs.CertOf.{cert_of}
 use Rattle.headline.specs.Conditions.{failing}

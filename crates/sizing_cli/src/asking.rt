@@ -14,7 +14,7 @@ use crate::finding::finding_of;
 use crate::found_answer::answer_of;
 use crate::output::Output;
 use crate::texts::{cert_in, plan_in};
-use certificates::Cert;
+use cert_text::Cert;
 use command_line::{Given, Manner};
 use job_bodies::{MAX_INPUT_BYTES, Plan};
 use std::alloc::Global;

@@ -13,7 +13,7 @@ use crate::ServeFault;
 use crate::at_once::AtOnce;
 use cert_check::accepts;
 use cert_search::search;
-use certificates::Cert;
+use cert_text::Cert;
 use job_bodies::{DEFAULT_WORKERS, Plan};
 use size_search::{SizesFound, search_sizes};
 use std::alloc::{AllocError, Global};

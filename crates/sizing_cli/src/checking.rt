@@ -1,14 +1,14 @@
 //! The `check` command.
 
 ghost use Rattle.std.specs.Prelude.{◌≡◌, IfOk, IsTrue};
-ghost use Rattle.certificates.specs.Cert.{cert_fits};
+ghost use Rattle.cert_text.specs.Cert.{cert_fits};
 ghost use Rattle.sizing_cli.specs.Report as spec;
 
 use crate::Status;
 use crate::answer::{Answer, cert_fault};
 use crate::texts::cert_in;
 use cert_check::{push_verdict, verdict};
-use certificates::Cert;
+use cert_text::Cert;
 use job_bodies::Plan;
 use std::alloc::{AllocError, Global};
 

@@ -1,13 +1,13 @@
 //! The `explain` command.
 
 ghost use Rattle.std.specs.Prelude.{◌≡◌, IfOk, IsTrue};
-ghost use Rattle.certificates.specs.Cert.{cert_fits};
+ghost use Rattle.cert_text.specs.Cert.{cert_fits};
 ghost use Rattle.sizing_cli.specs.Report as spec;
 
 use crate::Status;
 use crate::answer::{Answer, cert_fault};
 use crate::texts::cert_in;
-use certificates::Cert;
+use cert_text::Cert;
 use job_bodies::Plan;
 use refusal_notes::push_explanation;
 use std::alloc::{AllocError, Global};

@@ -15,7 +15,7 @@ use crate::witness::witness_of;
 use ask_answers::PlanFinding;
 use cert_check::accepts;
 use cert_search::search;
-use certificates::Cert;
+use cert_text::Cert;
 use job_bodies::{DEFAULT_STATES, Plan};
 use size_search::{SizesFound, search_sizes};
 use std::alloc::{AllocError, Global};

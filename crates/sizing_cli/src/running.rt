@@ -10,7 +10,7 @@ use crate::input::read_input;
 use crate::texts::cert_in;
 use crate::{ServeFault, Status};
 use cert_check::Certified;
-use certificates::Cert;
+use cert_text::Cert;
 use job_bodies::Plan;
 use locked_runner::run;
 use std::alloc::{AllocError, Global};

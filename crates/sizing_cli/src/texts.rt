@@ -2,12 +2,11 @@
 //! text.
 
 ghost use Rattle.std.specs.Prelude.{◌≡◌, IfOk, IsTrue};
-ghost use Rattle.certificates.specs.Cert.{cert_fits};
+ghost use Rattle.cert_text.specs.Cert.{cert_fits};
 ghost use Rattle.cert_text.specs.CertOf.{cert_of};
 ghost use Rattle.plan_text.specs.PlanOf.{plan_of};
 
-use cert_text::{CertFault, read_cert};
-use certificates::Cert;
+use cert_text::{Cert, CertFault, read_cert};
 use job_bodies::{Plan, PlanFault};
 use plan_text::read_plan;
 use std::alloc::{AllocError, Global};

@@ -26,7 +26,7 @@ use Rattle.weights.specs.Blocked.{is_get, counted_rows, blocked_rows}
 use Rattle.weights.specs.Ranks.{is_counted, rank_rows}
 use Rattle.starvation_laws.proofs.BlockedLaws.{BlockedLaws}
 use Rattle.starvation_laws.proofs.RankLaws.{RankLaws}
-use Rattle.certificates.specs.Cert.{PoolCert, no_pool_cert, pool_cert_at}
+use Rattle.cert_text.specs.Cert.{PoolCert, no_pool_cert, pool_cert_at}
 use Rattle.headline.specs.declared.note.Section.{Section}
 use Rattle.headline.specs.declared.note.Section.TheVariants as section
 use Rattle.headline.specs.declared.note.Note.{Note}

@@ -14,7 +14,7 @@ use Rattle.job_bodies.proofs.Bodies.{IsOrdered, ordered}
 use Rattle.job_bodies.specs.declared.limits.TheConstants.{MAX_WEIGHT}
 use Rattle.weights.specs.Vector.{Vector, class_weights, client_weights, has_shape, has_small_numbers, is_small, vector_fits}
 use Rattle.weights.specs.Ranks.{ranks_fit}
-use Rattle.certificates.specs.Cert.{PoolCert, pool_cert_fits, cert_fits}
+use Rattle.cert_text.specs.Cert.{PoolCert, pool_cert_fits, cert_fits}
 use Rattle.steady_certificates.specs.Submitted.{NoCircle}
 use Rattle.steady_certificates.specs.Steady.{job_end, class_row, client_end, client_row, weights_from, level_above, jobs, jobs_within, levels_within, steady_vector, steady_levels, steady_pool, steady_ranks, steady_cert}
 use Rattle.steady_certificates.proofs.Opened.{place_in}

@@ -11,7 +11,7 @@ use Rattle.job_bodies.proofs.Bodies.{IsOrdered}
 use Rattle.job_bodies.specs.declared.limits.TheConstants.{MAX_WEIGHT}
 use Rattle.weights.specs.Vector.{Vector, class_weights, is_small, has_small_numbers, vector_fits}
 use Rattle.weights.proofs.Fitting.{small_in}
-use Rattle.certificates.specs.Cert.{PoolCert, Cert}
+use Rattle.cert_text.specs.Cert.{PoolCert, Cert}
 use Rattle.steady_certificates.specs.Submitted.{NoCircle}
 use Rattle.steady_certificates.specs.Settled.{IsSettled}
 use Rattle.steady_certificates.specs.Steady.{class_row, client_row, jobs, jobs_within, steady_vector, steady_levels, pool_of, steady_ranks, steady_cert}

@@ -7,7 +7,7 @@ use Rattle.job_bodies.specs.Plan.{Pool, Class, Client, Plan, is_got, class_got}
 use Rattle.weights.specs.declared.bound.Bound.TheVariants.{Standing}
 use Rattle.weights.specs.Vector.{Vector, queued_weight, done_weight, total}
 use Rattle.weights.specs.Ranks.{Ranks}
-use Rattle.certificates.specs.Cert.{PoolCert, Cert}
+use Rattle.cert_text.specs.Cert.{PoolCert, Cert}
 
 -- ---- open jobs of a body
 

@@ -5,7 +5,7 @@ use Rattle.job_bodies.specs.Plan.{Plan, pool_at}
 use Rattle.job_bodies.specs.WellFormed.{IsWellFormed}
 use Rattle.weights.specs.declared.row.Place.TheVariants.{Total}
 use Rattle.weights.specs.Vector.{has_small_numbers}
-use Rattle.certificates.specs.Cert.{cert_fits}
+use Rattle.cert_text.specs.Cert.{cert_fits}
 use Rattle.headline.specs.declared.note.Note.{Note}
 use Rattle.headline.specs.Conditions.{failing}
 use Rattle.headline.specs.Accepted.{accepted}

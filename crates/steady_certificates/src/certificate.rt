@@ -8,7 +8,7 @@ ghost use Rattle.steady_certificates.specs.Steady as spec;
 
 use crate::levels::steady_levels;
 use crate::rows::{clients_of, jobs_of};
-use certificates::{Cert, PoolCert};
+use cert_text::{Cert, PoolCert};
 use job_bodies::Plan;
 use std::alloc::{AllocError, Global};
 use weights::{Bound, Ranks, Vector};

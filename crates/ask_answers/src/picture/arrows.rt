@@ -3,7 +3,7 @@
 ghost use Rattle.std.specs.Prelude.{IsTrue};
 ghost use Rattle.weights.specs.Ranks.{ranks_fit};
 
-use certificates::Cert;
+use cert_text::Cert;
 use job_bodies::{Action, Plan};
 use std::alloc::{AllocError, Global};
 use weights::Ranks;

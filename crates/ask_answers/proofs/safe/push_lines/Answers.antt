@@ -1,5 +1,5 @@
 use Rattle.std.proofs.Common.{◌≡◌, ap}
-use Rattle.certificates.specs.Cert.{PoolCert}
+use Rattle.cert_text.specs.Cert.{PoolCert}
 use Rattle.ask_answers.proofs.Rows.{both_pushed}
 use Rattle.ask_answers.proofs.safe.push_lines.Goals as goal
 

@@ -1,6 +1,6 @@
 use Rattle.std.proofs.Common.{◌≡◌, ◌<◌, length, ap, ◌∙◌, arith}
-use Rattle.certificates.specs.Cert.{PoolCert, pool_cert_at}
-use Rattle.certificates.proofs.Fitting.{parts_fit}
+use Rattle.cert_text.specs.Cert.{PoolCert, pool_cert_at}
+use Rattle.cert_text.proofs.Fitting.{parts_fit}
 use Rattle.cert_check.proofs.Standing.{passed_all, standing_refuses_nothing, standing_java_refuses_nothing}
 use Rattle.cert_check.proofs.acceptance.all_pools_stand.Goals as goal
 

@@ -1,6 +1,6 @@
 -- The remaining pools decide the result.
 use Rattle.std.proofs.Common.{◌≡◌, ℕ, Bool}
-use Rattle.certificates.specs.Cert.{pool_cert_at}
+use Rattle.cert_text.specs.Cert.{pool_cert_at}
 use Rattle.cert_check.specs.Standing.{stands}
 use Rattle.cert_check.proofs.Pools.{rest_passes}
 use Rattle.cert_check.proofs.acceptance.all_pools_stand.Given as goal

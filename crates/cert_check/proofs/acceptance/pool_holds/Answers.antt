@@ -1,6 +1,6 @@
 use Rattle.std.proofs.Common.{◌≡◌, ap, ◌∙◌}
-use Rattle.certificates.specs.Cert.{PoolCert, pool_cert_at}
-use Rattle.certificates.proofs.Fitting.{parts_fit}
+use Rattle.cert_text.specs.Cert.{PoolCert, pool_cert_at}
+use Rattle.cert_text.proofs.Fitting.{parts_fit}
 use Rattle.cert_check.proofs.acceptance.pool_holds.Goals as goal
 
 pub blocked_fault-requires-clause-fits : goal.blocked_fault-requires-clause-fits

@@ -1,8 +1,8 @@
 use Rattle.std.proofs.Common.{◌≡◌, ap, ◌∙◌}
 use Rattle.weights.specs.declared.bound.Bound.{Bound}
 use Rattle.weights.specs.Bound.{bound_vector}
-use Rattle.certificates.specs.Cert.{PoolCert, pool_cert_at}
-use Rattle.certificates.proofs.Fitting.{parts_fit}
+use Rattle.cert_text.specs.Cert.{PoolCert, pool_cert_at}
+use Rattle.cert_text.proofs.Fitting.{parts_fit}
 use Rattle.cert_check.proofs.judge.pool_line.Goals as goal
 
 pub total-requires : goal.total-requires

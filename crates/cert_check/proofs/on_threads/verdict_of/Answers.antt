@@ -4,7 +4,7 @@ use Rattle.std.proofs.lemmas.Bool.{and_from}
 use Rattle.weights.specs.declared.row.Row.{Row}
 use Rattle.weights.specs.Row.{first_failing}
 use Rattle.weights.specs.Ranks.{Ranks, rank_rows}
-use Rattle.certificates.specs.Cert.{Cert, cert_fits}
+use Rattle.cert_text.specs.Cert.{Cert, cert_fits}
 use Rattle.headline.specs.Conditions.{failing}
 use Rattle.headline.specs.Accepted.{is_nil}
 use Rattle.headline.proofs.Promised.{promises}

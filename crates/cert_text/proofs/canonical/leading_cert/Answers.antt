@@ -1,7 +1,7 @@
 use Rattle.std.proofs.Common.{◌≡◌, ℕ, List, [], ◌∷◌, ◌++◌, codes, decimal, refl, ap, ◌∙◌, append_assoc}
 use Rattle.std.proofs.lemmas.Bool.{and_from, eq-eqb}
 use Rattle.serde_json.proofs.OnLiterals.{serde_json_on_literals}
-use Rattle.certificates.specs.Cert.{Cert}
+use Rattle.cert_text.specs.Cert.{Cert}
 use Rattle.cert_text.specs.CertText.{list_data, number_data, pool_data, ranks_data, version_number, cert_data}
 use Rattle.cert_text.specs.Canonical.{BeginsAs, version_text}
 use Rattle.cert_text.proofs.Fronts.{first_key, next_key, triple_read}

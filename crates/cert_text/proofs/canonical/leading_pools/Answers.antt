@@ -1,5 +1,5 @@
 use Rattle.std.proofs.Common.{length, ap, ◌∙◌, arith}
-use Rattle.certificates.specs.Cert.{pool_cert_fits}
+use Rattle.cert_text.specs.Cert.{pool_cert_fits}
 use Rattle.cert_text.specs.CertText.{pool_data}
 use Rattle.cert_text.proofs.Lists.{list_all_push}
 use Rattle.cert_text.proofs.Fronts.{list_more, list_whole}

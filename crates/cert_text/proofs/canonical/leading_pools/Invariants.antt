@@ -1,6 +1,6 @@
 use Rattle.std.proofs.Common.{◌≡◌, true}
 use Rattle.std.specs.List.{list_all}
-use Rattle.certificates.specs.Cert.{pool_cert_fits}
+use Rattle.cert_text.specs.Cert.{pool_cert_fits}
 use Rattle.cert_text.specs.CertText.{pool_data}
 use Rattle.cert_text.proofs.Fronts.{BeginsList}
 use Rattle.cert_text.proofs.canonical.leading_pools.Given as goal

@@ -1,8 +1,8 @@
 use Rattle.std.proofs.Common.{◌≡◌, ap, ◌∙◌, arith}
 use Rattle.std.proofs.lemmas.List.{get_or_read}
 use Rattle.job_bodies.specs.Plan.{Pool, no_pool, pool_at}
-use Rattle.certificates.specs.Cert.{PoolCert, pool_cert_at}
-use Rattle.certificates.proofs.Fitting.{parts_fit}
+use Rattle.cert_text.specs.Cert.{PoolCert, pool_cert_at}
+use Rattle.cert_text.proofs.Fitting.{parts_fit}
 use Rattle.fitted_sizes.proofs.Changes.{sizes_at}
 use Rattle.fitted_sizes.proofs.TotalBounds.{total_bounded}
 use Rattle.fitted_sizes.proofs.fit.raised_pool.Goals as goal

@@ -1,6 +1,6 @@
 -- The pools so far and the raised remaining ones are all pools.
 use Rattle.std.proofs.Common.{◌≡◌, ◌++◌}
-use Rattle.certificates.specs.Cert.{pool_cert_at}
+use Rattle.cert_text.specs.Cert.{pool_cert_at}
 use Rattle.fitted_sizes.specs.Fitted.{raised_pool, raised}
 use Rattle.fitted_sizes.proofs.Loops.{rest_made}
 use Rattle.fitted_sizes.proofs.fit.raised_pools.Given as goal

@@ -1,6 +1,6 @@
 use Rattle.std.proofs.Common.{◌≡◌, ap, ◌∙◌}
-use Rattle.certificates.specs.Cert.{PoolCert, pool_cert_at}
-use Rattle.certificates.proofs.Fitting.{parts_fit}
+use Rattle.cert_text.specs.Cert.{PoolCert, pool_cert_at}
+use Rattle.cert_text.proofs.Fitting.{parts_fit}
 use Rattle.fitted_sizes.proofs.wide.widened_pool.Goals as goal
 
 pub core_needed-requires-clause-fits : goal.core_needed-requires-clause-fits

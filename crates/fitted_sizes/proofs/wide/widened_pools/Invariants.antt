@@ -1,6 +1,6 @@
 -- The pools so far and the widened remaining ones are all pools.
 use Rattle.std.proofs.Common.{◌≡◌, ◌++◌}
-use Rattle.certificates.specs.Cert.{pool_cert_at}
+use Rattle.cert_text.specs.Cert.{pool_cert_at}
 use Rattle.fitted_sizes.specs.Widened.{with_max, widened}
 use Rattle.fitted_sizes.proofs.Loops.{rest_made}
 use Rattle.fitted_sizes.proofs.wide.widened_pools.Given as goal

@@ -1,7 +1,7 @@
 use Rattle.std.proofs.Common.{rules, ◌≡◌, ◌≢◌, ◌∙◌, ℕ, Bool, false, sym, ap, subst}
 use Rattle.std.proofs.lemmas.Result.{IfErr-weaker}
 use Rattle.support.specs.declared.number.TheConstants.{MEMORY}
-use Rattle.certificates.specs.Cert.{Cert}
+use Rattle.cert_text.specs.Cert.{Cert}
 use Rattle.run_histories.specs.Report.{RunReport}
 use Rattle.run_histories.specs.Run.{IsRun, Makes, Works, IsAnswerTo, IsLegalFront, IsLengthOfLegal}
 use Rattle.run_histories.specs.RunNumbers.{jobs, units}

@@ -1,7 +1,7 @@
 use Rattle.std.proofs.Common.{rules, ◌≡◌, ◌<◌, List, [], ◌∷◌, ◌++◌, length, ap, ap₂, sym, ◌∙◌, arith}
 use Rattle.std.proofs.lemmas.List.{map_more}
 use Rattle.job_bodies.specs.Plan.{Pool, no_pool}
-use Rattle.certificates.specs.Cert.{PoolCert}
+use Rattle.cert_text.specs.Cert.{PoolCert}
 use Rattle.steady_certificates.specs.Steady.{pool_of}
 use Rattle.steady_certificates.proofs.certificate.pools_of.Goals as goal
 

@@ -2,7 +2,7 @@
 
 ghost use Rattle.std.specs.Prelude.{◌≡◌, ◌<◌, length};
 ghost use Rattle.std.specs.List.{list_all};
-ghost use Rattle.certificates.specs.Cert as spec;
+ghost use Rattle.cert_text.specs.Cert as spec;
 
 use job_bodies::Plan;
 use std::marker::Model;

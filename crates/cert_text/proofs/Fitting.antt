@@ -8,7 +8,7 @@ use Rattle.job_bodies.specs.Plan.{Plan}
 use Rattle.weights.specs.Vector.{vector_fits}
 use Rattle.weights.specs.Bound.{bound_vector}
 use Rattle.weights.specs.Ranks.{ranks_fit}
-use Rattle.certificates.specs.Cert.{PoolCert, Cert, no_pool_cert, pool_cert_at, pool_cert_fits, cert_fits}
+use Rattle.cert_text.specs.Cert.{PoolCert, Cert, no_pool_cert, pool_cert_at, pool_cert_fits, cert_fits}
 
 -- the number of parts is the number of pools
 pub as_many_parts : (plan : Plan) (cert : Cert) → IsTrue (cert_fits plan cert) → length cert.pools ≡ length plan.pools
