@@ -9,8 +9,8 @@ use Rattle.written_machine.specs.Step.{step}
 use Rattle.written_machine.specs.Reach as reach
 use Rattle.written_machine.specs.Reach.{state_after}
 use Rattle.std.proofs.lemmas.Option.{none-some, same_Some}
-use Rattle.live_views.specs.LiveView.{View, live_view}
-use Rattle.live_views.specs.Answers.{AnswersAs}
+use Rattle.interleaving.specs.LiveView.{View, live_view}
+use Rattle.interleaving.specs.ViewAnswers.{AnswersAs}
 use Rattle.held_machines.specs.Replay.{replay, Leads, Reaches}
 use Rattle.held_machines.specs.Content.{IsReached, IsReplayOf, Steps}
 use Rattle.certified_worlds.specs.declared.certified_world.TracedWorld.{TracedWorld}

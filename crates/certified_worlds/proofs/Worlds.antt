@@ -8,7 +8,7 @@ use Rattle.written_machine.specs.State.{State}
 use Rattle.written_machine.specs.Reach.{state_after, Reaches}
 use Rattle.written_machine.proofs.Events.{Happens, happens}
 use Rattle.written_machine.proofs.Events.Happens.{is_refused}
-use Rattle.live_views.specs.LiveView.{View}
+use Rattle.interleaving.specs.LiveView.{View}
 use Rattle.cert_text.specs.Cert.{Cert}
 use Rattle.headline.specs.Accepted.{accepted}
 use Rattle.headline.proofs.Theorem.{accepted_plans_are_safe}

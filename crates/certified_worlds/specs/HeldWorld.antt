@@ -6,7 +6,7 @@ use Rattle.written_machine.specs.declared.event.Outcome.TheVariants.{Refused}
 use Rattle.written_machine.specs.State.{State}
 use Rattle.written_machine.specs.Step.{step}
 use Rattle.written_machine.specs.Reach.{Reaches}
-use Rattle.live_views.specs.LiveView.{View, live_view}
+use Rattle.interleaving.specs.LiveView.{View, live_view}
 
 -- the history reaches a state with this live view
 abbrev pub IsReachedBy : Plan → List Event → View → Type 0

@@ -40,7 +40,7 @@ pub struct TracedWorld {
 }
 
 impl Machine for CertifiedWorld<'_> {
-    ghost use Rattle.live_views.specs.LiveView.{live_view};
+    ghost use Rattle.interleaving.specs.LiveView.{live_view};
     ghost use Rattle.certified_worlds.specs.Trace.{Traced, start, next};
 
     type State = TracedWorld;

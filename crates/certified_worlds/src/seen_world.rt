@@ -4,8 +4,8 @@ ghost use Rattle.std.specs.Prelude.{◌≡◌, IfOk, OnErr};
 ghost use Rattle.job_bodies.specs.WellFormed.{IsWellFormed};
 ghost use Rattle.written_machine.specs.State.{State};
 ghost use Rattle.written_machine.specs.Reach.{start, IsReached};
-ghost use Rattle.live_views.specs.LiveView.{live_view};
-ghost use Rattle.live_views.specs.Answers.{AnswersAs};
+ghost use Rattle.interleaving.specs.LiveView.{live_view};
+ghost use Rattle.interleaving.specs.ViewAnswers.{AnswersAs};
 
 use interleaving::{Event, Outcome, World};
 use job_bodies::Plan;
@@ -20,7 +20,7 @@ pub struct SeenWorld {
 }
 
 impl Model for SeenWorld {
-    ghost use Rattle.live_views.specs.LiveView.{View};
+    ghost use Rattle.interleaving.specs.LiveView.{View};
 
     ghost Value = { View };
 

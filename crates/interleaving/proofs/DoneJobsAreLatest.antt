@@ -7,14 +7,14 @@ use Rattle.written_machine.specs.declared.parent.Parent.{Parent}
 use Rattle.written_machine.specs.State.{Stage, Made, State, job_at, is_made_by, child}
 use Rattle.written_machine.specs.State.Stage.{Queued, At, Done, Claimed}
 use Rattle.written_machine.proofs.Children.{maker_of}
-use Rattle.live_views.specs.declared.job_view.Phase.{Phase}
-use Rattle.live_views.specs.declared.job_view.Phase.TheVariants as phase
-use Rattle.live_views.specs.declared.job_view.JobView.{JobView}
-use Rattle.live_views.specs.LiveView.{may_ask, is_number, phase_seen, job_with, View, live_view}
-use Rattle.live_views.specs.ViewStep.{is_live_child, is_done}
-use Rattle.live_views.proofs.View.{view_at}
-use Rattle.live_views.proofs.Children.{live_child_is}
-use Rattle.live_actors.specs.LiveJobs.{DoneAreLatest}
+use Rattle.interleaving.specs.declared.job_view.Phase.{Phase}
+use Rattle.interleaving.specs.declared.job_view.Phase.TheVariants as phase
+use Rattle.interleaving.specs.declared.job_view.JobView.{JobView}
+use Rattle.interleaving.specs.LiveView.{may_ask, is_number, phase_seen, job_with, View, live_view}
+use Rattle.interleaving.specs.ViewStep.{is_live_child, is_done}
+use Rattle.interleaving.proofs.View.{view_at}
+use Rattle.interleaving.proofs.Children.{live_child_is}
+use Rattle.interleaving.specs.LiveJobs.{DoneAreLatest}
 use Rattle.interleaving.specs.OfPlan.{IsOf}
 
 number_is : (o : Option ℕ) (k : ℕ) → is_number o k ≡ true → o ≡ Some k

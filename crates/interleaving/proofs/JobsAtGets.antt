@@ -15,14 +15,14 @@ use Rattle.written_machine.specs.State.Stage.{Queued, At, Done, Claimed}
 use Rattle.written_machine.specs.Step.{Point, point}
 use Rattle.written_machine.specs.Reach.{IsReached}
 use Rattle.written_machine.proofs.Standing.{job_made}
-use Rattle.live_views.specs.declared.job_view.Phase.TheVariants as phase
-use Rattle.live_views.specs.LiveView.{may_ask, is_number, phase_seen, job_with, View, live_view}
-use Rattle.live_views.specs.ViewStep.{live_job, is_live_child, live_child, point_in}
-use Rattle.live_views.proofs.View.{view_at, point_seen}
-use Rattle.live_views.proofs.Reached.{settled}
+use Rattle.interleaving.specs.declared.job_view.Phase.TheVariants as phase
+use Rattle.interleaving.specs.LiveView.{may_ask, is_number, phase_seen, job_with, View, live_view}
+use Rattle.interleaving.specs.ViewStep.{live_job, is_live_child, live_child, point_in}
+use Rattle.interleaving.proofs.View.{view_at, point_seen}
+use Rattle.interleaving.proofs.Reached.{settled}
 use Rattle.interleaving.specs.declared.next_action.NextAction.{NextAction}
 use Rattle.interleaving.specs.NextAction.{next_action_at}
-use Rattle.live_actors.specs.LiveJobs.{IsAlone}
+use Rattle.interleaving.specs.LiveJobs.{IsAlone}
 use Rattle.interleaving.specs.OfPlan.{IsOf}
 use Rattle.interleaving.proofs.OfPlan.{point_of_next}
 

@@ -8,9 +8,9 @@ use Rattle.job_bodies.specs.WellFormed.{IsWellFormed}
 use Rattle.written_machine.specs.State.{Stage, Made, State, job_at, no_job, pool_of, is_queued, is_queued_in}
 use Rattle.written_machine.specs.State.Stage.{Queued, At, Done, Claimed}
 use Rattle.written_machine.specs.Reach.{IsReached}
-use Rattle.live_views.specs.LiveView.{phase_seen, job_with, View, live_view}
-use Rattle.live_views.specs.ViewStep.{is_unfinished_job, may_ask_for, no_pool_view, pool_in}
-use Rattle.live_views.proofs.View.{view_at, length-pools, pool_at_view}
+use Rattle.interleaving.specs.LiveView.{phase_seen, job_with, View, live_view}
+use Rattle.interleaving.specs.ViewStep.{is_unfinished_job, may_ask_for, no_pool_view, pool_in}
+use Rattle.interleaving.proofs.View.{view_at, length-pools, pool_at_view}
 use Rattle.interleaving.specs.OfPlan.{IsOf, WaitsAtHead}
 use Rattle.support.specs.In.{In, here}
 use Rattle.support.specs.Places.{places_where}

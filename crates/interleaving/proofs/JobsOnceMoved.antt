@@ -5,13 +5,13 @@ use Rattle.std.proofs.lemmas.List.{get_or-set_other, get_or_past, get_or-set_sam
 use Rattle.std.proofs.lemmas.Option.{same_Some}
 use Rattle.written_machine.specs.declared.parent.Parent.{Parent}
 use Rattle.written_machine.specs.declared.parent.Parent.TheVariants as parent
-use Rattle.live_views.specs.declared.job_view.Phase.TheVariants as phase
-use Rattle.live_views.specs.declared.job_view.JobView.{JobView}
-use Rattle.live_views.specs.LiveView.{View}
-use Rattle.live_views.specs.ViewStep.{live_job, is_live_child, live_child, is_done, is_unfinished_job, may_ask_for, in_phase, moved_live_jobs, with_phase, unless_stale}
-use Rattle.live_actors.specs.LiveJobs.{IsAlone, WasMade, NoOtherIsStale}
+use Rattle.interleaving.specs.declared.job_view.Phase.TheVariants as phase
+use Rattle.interleaving.specs.declared.job_view.JobView.{JobView}
+use Rattle.interleaving.specs.LiveView.{View}
+use Rattle.interleaving.specs.ViewStep.{live_job, is_live_child, live_child, is_done, is_unfinished_job, may_ask_for, in_phase, moved_live_jobs, with_phase, unless_stale}
+use Rattle.interleaving.specs.LiveJobs.{IsAlone, WasMade, NoOtherIsStale}
 use Rattle.interleaving.specs.NextAction.{IsAmong}
-use Rattle.live_actors.proofs.LatestFound.{phased_child, latest_is, child_of}
+use Rattle.interleaving.proofs.LatestFound.{phased_child, latest_is, child_of}
 
 moved_child : (a : Parent) (i : ℕ) (view : View) (b : Parent) (t k : ℕ) → is_live_child b t (live_job (moved_live_jobs a i view) k) ≡ is_live_child b t (live_job view.jobs k)
 moved_child (parent.Client c) i view b t k = refl

@@ -6,10 +6,10 @@ use Rattle.job_bodies.specs.WellFormed.{IsWellFormed}
 use Rattle.written_machine.specs.declared.parent.Parent.{Parent}
 use Rattle.written_machine.specs.State.{Made, State, job_at}
 use Rattle.written_machine.specs.Reach.{IsReached}
-use Rattle.live_views.specs.declared.job_view.Phase.{Phase}
-use Rattle.live_views.specs.declared.job_view.JobView.{JobView}
-use Rattle.live_views.specs.LiveView.{phase_seen, job_with, View, live_view, job_seen}
-use Rattle.live_views.proofs.View.{view_at}
+use Rattle.interleaving.specs.declared.job_view.Phase.{Phase}
+use Rattle.interleaving.specs.declared.job_view.JobView.{JobView}
+use Rattle.interleaving.specs.LiveView.{phase_seen, job_with, View, live_view, job_seen}
+use Rattle.interleaving.proofs.View.{view_at}
 use Rattle.interleaving.specs.OfPlan.{IsOf, MadeByOther}
 use Rattle.interleaving.proofs.OfPlan.{made_if_seen}
 use Rattle.written_machine.specs.declared.parent.Parent.TheVariants as parent

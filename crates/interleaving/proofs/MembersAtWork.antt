@@ -11,14 +11,14 @@ use Rattle.job_bodies.specs.Plan.{Plan}
 use Rattle.pool_machine.specs.PoolState.{PoolView}
 use Rattle.written_machine.specs.State.{State, pool_of, is_busy_in, busy}
 use Rattle.written_machine.specs.Waiting.{is_member}
-use Rattle.live_views.specs.declared.job_view.Phase.{Phase}
-use Rattle.live_views.specs.declared.job_view.Phase.TheVariants as phase
-use Rattle.live_views.specs.declared.job_view.JobView.{JobView}
-use Rattle.live_views.specs.LiveView.{View, live_view}
-use Rattle.live_views.specs.ViewStep.{live_job, pool_in}
-use Rattle.live_views.specs.Waiting.{is_at_work, is_busy_job, waits_in_queue_of}
-use Rattle.live_views.proofs.View.{pool_at_view}
-use Rattle.live_views.proofs.Waiting.{busy_places}
+use Rattle.interleaving.specs.declared.job_view.Phase.{Phase}
+use Rattle.interleaving.specs.declared.job_view.Phase.TheVariants as phase
+use Rattle.interleaving.specs.declared.job_view.JobView.{JobView}
+use Rattle.interleaving.specs.LiveView.{View, live_view}
+use Rattle.interleaving.specs.ViewStep.{live_job, pool_in}
+use Rattle.interleaving.specs.Waiting.{is_at_work, is_busy_job, waits_in_queue_of}
+use Rattle.interleaving.proofs.View.{pool_at_view}
+use Rattle.interleaving.proofs.Waiting.{busy_places}
 use Rattle.interleaving.specs.declared.shares.Share.{Share}
 use Rattle.interleaving.specs.OfPlan.{IsOf}
 use Rattle.interleaving.specs.Stuck.{is_in_queue, is_queued_job, has_queued}

@@ -17,13 +17,13 @@ use Rattle.written_machine.specs.State.{Stage, Made, State, no_job, job_at, is_a
 use Rattle.written_machine.specs.Reach.{IsReached}
 use Rattle.written_machine.proofs.Standing.{stage_of_standing, At≢Claimed, job_made}
 use Rattle.written_machine.specs.Step.{Point, point_of_client}
-use Rattle.live_views.specs.declared.job_view.Phase.{Phase}
-use Rattle.live_views.specs.declared.job_view.Phase.TheVariants as phase
-use Rattle.live_views.specs.declared.job_view.JobView.{JobView}
-use Rattle.live_views.specs.LiveView.{View, live_view, phase_seen, job_with, job_seen}
-use Rattle.live_views.specs.ViewStep.{live_job, point_of_phase, point_of_live_job, point_in, pool_in}
+use Rattle.interleaving.specs.declared.job_view.Phase.{Phase}
+use Rattle.interleaving.specs.declared.job_view.Phase.TheVariants as phase
+use Rattle.interleaving.specs.declared.job_view.JobView.{JobView}
+use Rattle.interleaving.specs.LiveView.{View, live_view, phase_seen, job_with, job_seen}
+use Rattle.interleaving.specs.ViewStep.{live_job, point_of_phase, point_of_live_job, point_in, pool_in}
 use Rattle.written_machine.proofs.Reached.{kept}
-use Rattle.live_views.proofs.View.{length-pools, pool_at_view, view_at, point_seen}
+use Rattle.interleaving.proofs.View.{length-pools, pool_at_view, view_at, point_seen}
 use Rattle.interleaving.specs.declared.next_action.NextAction.{NextAction}
 use Rattle.interleaving.specs.NextAction.{next_action_at}
 use Rattle.interleaving.specs.OfPlan.{IsOf, HasWorker, IsAtWork}

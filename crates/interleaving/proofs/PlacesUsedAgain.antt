@@ -5,12 +5,12 @@ use Rattle.std.proofs.lemmas.List.{set_past, length-map, length_push}
 use Rattle.support.proofs.Sums.{count_by-set, count_by-map, count_by-le}
 use Rattle.written_machine.specs.declared.parent.Parent.{Parent}
 use Rattle.written_machine.specs.declared.parent.Parent.TheVariants as parent
-use Rattle.live_views.specs.declared.job_view.Phase.{Phase}
-use Rattle.live_views.specs.declared.job_view.Phase.TheVariants as phase
-use Rattle.live_views.specs.declared.job_view.JobView.{JobView}
-use Rattle.live_views.specs.LiveView.{View}
-use Rattle.live_views.specs.ViewStep.{live_job, in_phase, with_phase, unless_stale, moved_live_jobs}
-use Rattle.live_actors.specs.LiveJobs.{JobList, places_made}
+use Rattle.interleaving.specs.declared.job_view.Phase.{Phase}
+use Rattle.interleaving.specs.declared.job_view.Phase.TheVariants as phase
+use Rattle.interleaving.specs.declared.job_view.JobView.{JobView}
+use Rattle.interleaving.specs.LiveView.{View}
+use Rattle.interleaving.specs.ViewStep.{live_job, in_phase, with_phase, unless_stale, moved_live_jobs}
+use Rattle.interleaving.specs.LiveJobs.{JobList, places_made}
 use Rattle.interleaving.specs.World.{WorldValue, live_jobs, UsesPlacesAgain}
 use Rattle.interleaving.proofs.JobsOnceMoved.{length-moved}
 

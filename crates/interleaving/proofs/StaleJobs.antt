@@ -2,9 +2,9 @@
 use Rattle.std.proofs.Common.{◌≡◌, ◌≢◌, ℕ, ◌&&◌, if◌then◌else◌, List, Option, Some, None, ⊎_elim, refl, ap, ◌∙◌}
 use Rattle.std.proofs.lemmas.Bool.{cases_Bool, and_parts}
 use Rattle.written_machine.specs.declared.parent.Parent.{Parent}
-use Rattle.live_views.specs.declared.job_view.JobView.{JobView}
-use Rattle.live_views.specs.ViewStep.{live_job, is_live_child, live_child, is_done, unless_stale}
-use Rattle.live_actors.specs.LiveJobs.{DoneAreLatest, NoOtherIsStale}
+use Rattle.interleaving.specs.declared.job_view.JobView.{JobView}
+use Rattle.interleaving.specs.ViewStep.{live_job, is_live_child, live_child, is_done, unless_stale}
+use Rattle.interleaving.specs.LiveJobs.{DoneAreLatest, NoOtherIsStale}
 
 stays_unless_latest : (jobs : List (Option JobView)) (latest : Option ℕ) (a : Parent) (t k : ℕ) (job : Option JobView) → DoneAreLatest jobs → latest ≡ live_child jobs a t → latest ≢ Some k → live_job jobs k ≡ job → unless_stale a t job ≡ job
 stays_unless_latest jobs latest a t k None done is_latest other e = refl

@@ -8,11 +8,11 @@ use Rattle.written_machine.specs.State.{State, is_unfinished}
 use Rattle.written_machine.specs.Reach.{start, IsReached}
 use Rattle.written_machine.specs.Waiting.{IsWaitingSet, is_waiting_set}
 use Rattle.written_machine.proofs.WaitingSets.{waiting_set_test}
-use Rattle.live_views.specs.LiveView.{View, live_view}
-use Rattle.live_views.specs.ViewStep.{is_unfinished_job}
-use Rattle.live_views.specs.Waiting.{is_waiting_set_in}
-use Rattle.live_views.specs.Answers.{AnswersAs}
-use Rattle.live_views.proofs.Reached.{unfinished, sets_seen, answers_possible, answers_impossible, reached_after}
+use Rattle.interleaving.specs.LiveView.{View, live_view}
+use Rattle.interleaving.specs.ViewStep.{is_unfinished_job}
+use Rattle.interleaving.specs.Waiting.{is_waiting_set_in}
+use Rattle.interleaving.specs.ViewAnswers.{AnswersAs}
+use Rattle.interleaving.proofs.Reached.{unfinished, sets_seen, answers_possible, answers_impossible, reached_after}
 use Rattle.interleaving.specs.World.{WorldValue}
 use Rattle.interleaving.specs.OfPlan.{IsOf}
 use Rattle.interleaving.specs.Answers.{AnswersIn}

@@ -8,13 +8,13 @@ use Rattle.job_bodies.specs.Plan.{Plan}
 use Rattle.job_bodies.specs.WellFormed.{IsWellFormed}
 use Rattle.written_machine.specs.State.{pool_of}
 use Rattle.written_machine.specs.Waiting.{is_none}
-use Rattle.live_views.specs.declared.job_view.Phase.{Phase}
-use Rattle.live_views.specs.declared.job_view.Phase.TheVariants as phase
-use Rattle.live_views.specs.declared.job_view.JobView.{JobView}
-use Rattle.live_views.specs.LiveView.{View}
-use Rattle.live_views.specs.ViewStep.{live_job}
+use Rattle.interleaving.specs.declared.job_view.Phase.{Phase}
+use Rattle.interleaving.specs.declared.job_view.Phase.TheVariants as phase
+use Rattle.interleaving.specs.declared.job_view.JobView.{JobView}
+use Rattle.interleaving.specs.LiveView.{View}
+use Rattle.interleaving.specs.ViewStep.{live_job}
 use Rattle.interleaving.specs.OfPlan.{IsOf}
-use Rattle.live_views.specs.Waiting.{waits_in_queue_of, waits_in_phase, waits_job, waits_in, is_waiting_set_in}
+use Rattle.interleaving.specs.Waiting.{waits_in_queue_of, waits_in_phase, waits_job, waits_in, is_waiting_set_in}
 use Rattle.interleaving.specs.Stuck.{is_in_queue, is_queued_job, waits_unless_queued, job_waits_unless_queued, unqueued_wait, QueuesWait}
 use Rattle.interleaving.proofs.OfPlan.{pool_of_live_job}
 

@@ -1,3 +1,16 @@
+pub mod LiveView
+pub mod ViewStep
+pub mod Waiting
+pub mod ViewAnswers
+pub mod Laws
+pub mod KeptJob
+pub mod PlaceRow
+pub mod Places
+pub mod Calls
+pub mod Latest
+pub mod LiveJobs
+pub mod MovedClients
+pub mod Clients
 pub mod World
 pub mod OfPlan
 pub mod Answers

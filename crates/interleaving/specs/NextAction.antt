@@ -8,10 +8,10 @@ use Rattle.written_machine.specs.declared.event.Event.TheVariants.{Client, Job, 
 use Rattle.written_machine.specs.declared.parent.Parent.{Parent}
 use Rattle.written_machine.specs.declared.parent.Parent.TheVariants as parent
 use Rattle.written_machine.specs.Step.{Point}
-use Rattle.live_views.specs.LiveView.{View}
-use Rattle.live_views.specs.ViewStep.{point_in}
+use Rattle.interleaving.specs.LiveView.{View}
+use Rattle.interleaving.specs.ViewStep.{point_in}
 use Rattle.interleaving.specs.declared.next_action.NextAction.{NextAction}
-use Rattle.live_actors.specs.Clients.{IsFirst}
+use Rattle.interleaving.specs.Clients.{IsFirst}
 
 -- the actor's number is below the number of clients, or of jobs
 abbrev pub IsAmong : ℕ → ℕ → Parent → Type 0

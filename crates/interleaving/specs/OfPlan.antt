@@ -6,9 +6,9 @@ use Rattle.written_machine.specs.declared.parent.Parent.{Parent}
 use Rattle.written_machine.specs.declared.parent.Parent.TheVariants as parent
 use Rattle.written_machine.specs.State.{State, pool_of}
 use Rattle.written_machine.specs.Reach.{IsReached}
-use Rattle.live_views.specs.declared.job_view.JobView.{JobView}
-use Rattle.live_views.specs.LiveView.{View, live_view}
-use Rattle.live_views.specs.ViewStep.{live_job, may_ask_for, pool_in}
+use Rattle.interleaving.specs.declared.job_view.JobView.{JobView}
+use Rattle.interleaving.specs.LiveView.{View, live_view}
+use Rattle.interleaving.specs.ViewStep.{live_job, may_ask_for, pool_in}
 
 -- the view is the live view of a reachable state
 abbrev pub IsOf : Plan → View → Type 0

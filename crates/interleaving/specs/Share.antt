@@ -4,11 +4,11 @@ use Rattle.support.specs.Places.{places_where}
 use Rattle.job_bodies.specs.Plan.{Plan}
 use Rattle.pool_machine.specs.PoolState.{PoolView}
 use Rattle.written_machine.specs.Waiting.{is_member}
-use Rattle.live_views.specs.declared.job_view.Phase.{Phase}
-use Rattle.live_views.specs.declared.job_view.Phase.TheVariants as phase
-use Rattle.live_views.specs.declared.job_view.JobView.{JobView}
-use Rattle.live_views.specs.LiveView.{View}
-use Rattle.live_views.specs.Waiting.{is_busy_job}
+use Rattle.interleaving.specs.declared.job_view.Phase.{Phase}
+use Rattle.interleaving.specs.declared.job_view.Phase.TheVariants as phase
+use Rattle.interleaving.specs.declared.job_view.JobView.{JobView}
+use Rattle.interleaving.specs.LiveView.{View}
+use Rattle.interleaving.specs.Waiting.{is_busy_job}
 use Rattle.interleaving.specs.declared.shares.Share.{Share}
 use Rattle.interleaving.specs.Stuck.{has_queued}
 

@@ -4,12 +4,12 @@ use Rattle.std.specs.List.{list_all, list_any}
 use Rattle.job_bodies.specs.Plan.{Plan, class_at}
 use Rattle.written_machine.specs.declared.parent.Parent.TheVariants as parent
 use Rattle.written_machine.specs.State.{pool_of}
-use Rattle.live_views.specs.declared.job_view.Phase.{Phase}
-use Rattle.live_views.specs.declared.job_view.Phase.TheVariants as phase
-use Rattle.live_views.specs.declared.job_view.JobView.{JobView}
-use Rattle.live_views.specs.LiveView.{View}
-use Rattle.live_views.specs.ViewStep.{live_job}
-use Rattle.live_views.specs.Waiting.{waits_at_in, waits_in_queue_of}
+use Rattle.interleaving.specs.declared.job_view.Phase.{Phase}
+use Rattle.interleaving.specs.declared.job_view.Phase.TheVariants as phase
+use Rattle.interleaving.specs.declared.job_view.JobView.{JobView}
+use Rattle.interleaving.specs.LiveView.{View}
+use Rattle.interleaving.specs.ViewStep.{live_job}
+use Rattle.interleaving.specs.Waiting.{waits_at_in, waits_in_queue_of}
 
 abbrev pub is_in_queue : Phase → Bool
 is_in_queue phase.Queued = true

@@ -1,6 +1,6 @@
 -- The abstract view of a world.
 use Rattle.std.specs.Prelude.{◌≡◌, ℕ, ◌+◌, ◌⊎◌, length, count_by, is_some}
-use Rattle.live_views.specs.LiveView.{View}
+use Rattle.interleaving.specs.LiveView.{View}
 
 -- the live view, and the number of places for live jobs, free ones included
 pub record WorldValue : Type 0 where

@@ -3,13 +3,12 @@
 ghost use Rattle.std.specs.Prelude.{◌≡◌, ◌≢◌, ◌<◌, true, false, length, slice_get, Some};
 ghost use Rattle.written_machine.specs.State.{pool_of};
 ghost use Rattle.written_machine.specs.declared.parent.Parent.TheVariants.{Job};
-ghost use Rattle.live_actors.specs.LiveJobs.{DoneAreLatest};
-ghost use Rattle.live_views.specs.ViewStep.{live_job, is_done, may_ask_for, pool_in, looped_in, finished_job_in, ended_in};
+ghost use Rattle.interleaving.specs.LiveJobs.{DoneAreLatest};
+ghost use Rattle.interleaving.specs.ViewStep.{live_job, is_done, may_ask_for, pool_in, looped_in, finished_job_in, ended_in};
 
-use crate::World;
 use crate::plans::pool_of;
+use crate::{JobView, World};
 use job_bodies::Plan;
-use live_views::JobView;
 use written_machine::{Outcome, Parent};
 
 impl World {

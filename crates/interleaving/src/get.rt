@@ -1,9 +1,9 @@
 //! The get action.
 
 ghost use Rattle.std.specs.Prelude.{◌≡◌, ◌+◌, ◌<◌, ◌^◌, true};
-ghost use Rattle.live_actors.specs.Clients.{StandsAt};
-ghost use Rattle.live_actors.specs.LiveJobs.{IsAlone};
-ghost use Rattle.live_views.specs.ViewStep.{got_child_in, live_child, may_ask_for};
+ghost use Rattle.interleaving.specs.Clients.{StandsAt};
+ghost use Rattle.interleaving.specs.LiveJobs.{IsAlone};
+ghost use Rattle.interleaving.specs.ViewStep.{got_child_in, live_child, may_ask_for};
 
 use crate::World;
 use crate::moves::move_actor;

@@ -1,12 +1,23 @@
-//! The state machine of a plan: bounded thread pools, and the steps of the clients and jobs that
-//! use them.
+//! The running machine of a plan: bounded thread pools, and the steps of the clients and jobs that use them.
+//!
+//! A [`World`] keeps the live jobs and the positions of the clients. Its contracts relate it to the states of the machine's
+//! definition in `written_machine`.
 #![tactic(auto)]
 
+mod calls;
+mod clients;
 mod finish;
 mod get;
+mod job_view;
+mod latest;
+mod laws;
+mod live_jobs;
 mod members;
+mod moved_clients;
 mod moves;
 mod next_action;
+mod place_row;
+mod places;
 mod plans;
 mod pools;
 mod shares;
@@ -15,6 +26,12 @@ mod stuck;
 mod submit;
 mod world;
 
-pub use live_views::{JobView, Phase};
+pub use clients::Clients;
+pub use job_view::{JobView, Phase};
+pub use laws::{
+    dead_jobs_stay_dead, start_is_seen, steps_commute, unfinished_jobs_are_live,
+    waiting_sets_are_seen,
+};
+pub use live_jobs::LiveJobs;
 pub use world::World;
 pub use written_machine::{ClientState, Event, Outcome, Parent};

@@ -1,11 +1,11 @@
 //! Moves of actors.
 
 ghost use Rattle.std.specs.Prelude.{◌≡◌, true};
-ghost use Rattle.live_views.specs.LiveView.{View};
-ghost use Rattle.live_actors.specs.Clients.{CanMove};
-ghost use Rattle.live_views.specs.ViewStep.{may_ask_for, moved_live_jobs, moved_live_clients};
+ghost use Rattle.interleaving.specs.LiveView.{View};
+ghost use Rattle.interleaving.specs.Clients.{CanMove};
+ghost use Rattle.interleaving.specs.ViewStep.{may_ask_for, moved_live_jobs, moved_live_clients};
 
-use live_actors::{Clients, LiveJobs};
+use crate::{Clients, LiveJobs};
 use written_machine::Parent;
 
 /// Moves the actor, which is a client or an unfinished job, to this position of its body. Room must

@@ -4,14 +4,13 @@ ghost use Rattle.std.specs.Prelude.{◌≡◌, ◌+◌, ◌<◌, ◌^◌, length
 ghost use Rattle.job_bodies.specs.WellFormed.{IsWellFormed};
 ghost use Rattle.std.specs.Option.{option_map};
 ghost use Rattle.written_machine.specs.declared.parent.Parent.TheVariants as parent;
-ghost use Rattle.live_views.specs.ViewStep.{point_in, may_ask_for};
-ghost use Rattle.live_actors.specs.Clients.{StandsAt};
+ghost use Rattle.interleaving.specs.ViewStep.{point_in, may_ask_for};
+ghost use Rattle.interleaving.specs.Clients.{StandsAt};
 ghost use Rattle.interleaving.specs.NextAction.{IsAmong, next_action_in};
 
-use crate::World;
 use crate::plans::{body_of_class, body_of_kind};
+use crate::{Phase, World};
 use job_bodies::{Action, Plan, is_got};
-use live_views::Phase;
 use written_machine::Parent;
 
 /// The position of an actor, and its action there, which is `None` at the end of the body.

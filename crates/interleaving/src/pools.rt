@@ -3,7 +3,7 @@
 ghost use Rattle.std.specs.Prelude.{◌≡◌, length, map, All, IsTrue, IfOk};
 ghost use Rattle.job_bodies.specs.WellFormed.{IsWellFormed, has_lawful_sizes};
 ghost use Rattle.pool_machine.specs.PoolState.{new_pool, taken, retired};
-ghost use Rattle.live_views.specs.ViewStep.{pool_in, took_in, let_go_in};
+ghost use Rattle.interleaving.specs.ViewStep.{pool_in, took_in, let_go_in};
 
 use crate::World;
 use job_bodies::{Plan, Pool};

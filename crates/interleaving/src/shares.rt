@@ -4,11 +4,10 @@ ghost use Rattle.std.specs.Prelude.{◌≡◌, ◌+◌, ◌<◌, ◌^◌, ℕ};
 ghost use Rattle.job_bodies.specs.WellFormed.{IsWellFormed};
 ghost use Rattle.interleaving.specs.Share.{share_of, share_at, share_with};
 
-use crate::World;
 use crate::members::Members;
 use crate::plans::pool_of;
+use crate::{Phase, World};
 use job_bodies::{MAX_POOLS, Plan};
-use live_views::Phase;
 
 /// The activity of the members of a set in one pool.
 #[derive(Clone, Copy)]

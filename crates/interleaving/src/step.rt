@@ -4,9 +4,9 @@ ghost use Rattle.std.specs.Prelude.{◌≡◌, ◌+◌, ◌<◌, ◌^◌, true, 
 ghost use Rattle.job_bodies.specs.WellFormed.{IsWellFormed};
 ghost use Rattle.written_machine.specs.State.{State};
 ghost use Rattle.written_machine.specs.Reach.{IsReached};
-ghost use Rattle.live_views.specs.LiveView.{live_view};
-ghost use Rattle.live_views.specs.ViewStep.{step_actor, point_in, may_ask_for, move_actor};
-ghost use Rattle.live_views.specs.Answers.{AnswersAs};
+ghost use Rattle.interleaving.specs.LiveView.{live_view};
+ghost use Rattle.interleaving.specs.ViewStep.{step_actor, point_in, may_ask_for, move_actor};
+ghost use Rattle.interleaving.specs.ViewAnswers.{AnswersAs};
 
 use crate::World;
 use crate::moves::move_actor;
@@ -17,7 +17,7 @@ use written_machine::{Event, Outcome, Parent};
 impl World {
     ghost use Rattle.interleaving.specs.Answers.{AreOf, AnswersIn};
     ghost use Rattle.interleaving.specs.NextAction.{MayGrow, ActorMayGrow};
-    ghost use Rattle.live_actors.specs.Clients.{StandsAt, IsFirst};
+    ghost use Rattle.interleaving.specs.Clients.{StandsAt, IsFirst};
     ghost use Rattle.interleaving.specs.OfPlan.{IsOf};
     ghost use Rattle.interleaving.specs.World.{UsesPlacesAgain};
 

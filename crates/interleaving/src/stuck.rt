@@ -6,18 +6,17 @@ ghost use Rattle.written_machine.specs.declared.parent.Parent.TheVariants as par
 ghost use Rattle.written_machine.specs.State.{State};
 ghost use Rattle.written_machine.specs.Reach.{IsReached};
 ghost use Rattle.written_machine.specs.Waiting.{is_none, is_some_member, IsWaitingSet, is_waiting_set};
-ghost use Rattle.live_views.specs.LiveView.{live_view};
-ghost use Rattle.live_views.specs.ViewStep.{pool_in, live_job, live_child, may_ask_for};
-ghost use Rattle.live_views.specs.Waiting.{is_waiting_set_in};
+ghost use Rattle.interleaving.specs.LiveView.{live_view};
+ghost use Rattle.interleaving.specs.ViewStep.{pool_in, live_job, live_child, may_ask_for};
+ghost use Rattle.interleaving.specs.Waiting.{is_waiting_set_in};
 ghost use Rattle.interleaving.specs.Stuck.{job_waits_unless_queued, unqueued_wait, QueuesWait};
 ghost use Rattle.interleaving.specs.Share.{leaves_none};
 
-use crate::World;
 use crate::members::Members;
 use crate::plans::body_of_class;
 use crate::shares::Share;
+use crate::{Phase, World};
 use job_bodies::{Action, Plan};
-use live_views::Phase;
 use written_machine::Parent;
 
 impl World {

@@ -2,17 +2,16 @@
 
 ghost use Rattle.std.specs.Prelude.{◌≡◌, ◌+◌, ◌<◌, ◌^◌, length, true, None, IfOk, OnErr};
 ghost use Rattle.written_machine.specs.State.{pool_of};
-ghost use Rattle.live_views.specs.ViewStep.{live_child, may_ask_for, submitted_in};
-ghost use Rattle.live_actors.specs.Clients.{StandsAt};
-ghost use Rattle.live_actors.specs.LiveJobs.{DoneAreLatest};
+ghost use Rattle.interleaving.specs.ViewStep.{live_child, may_ask_for, submitted_in};
+ghost use Rattle.interleaving.specs.Clients.{StandsAt};
+ghost use Rattle.interleaving.specs.LiveJobs.{DoneAreLatest};
 ghost use Rattle.interleaving.specs.NextAction.{IsAmong};
 
-use crate::World;
 use crate::moves::move_actor;
 use crate::next_action::NextAction;
 use crate::plans::pool_of;
+use crate::{JobView, Phase, World};
 use job_bodies::Plan;
-use live_views::{JobView, Phase};
 use pool_machine::Offer;
 use std::alloc::AllocError;
 use written_machine::{Outcome, Parent};

@@ -2,16 +2,15 @@
 
 ghost use Rattle.std.specs.Prelude.{◌≡◌, ◌<◌, ◌≤◌, length, count_by, slice_get, Some, IfOk};
 ghost use Rattle.std.specs.Option.{option_map};
-ghost use Rattle.live_views.specs.LiveView.{live_view};
-ghost use Rattle.live_views.specs.ViewStep.{live_job, is_unfinished_job};
+ghost use Rattle.interleaving.specs.LiveView.{live_view};
+ghost use Rattle.interleaving.specs.ViewStep.{live_job, is_unfinished_job};
 ghost use Rattle.job_bodies.specs.Plan as spec;
 ghost use Rattle.written_machine.specs.State.{State, is_unfinished};
 ghost use Rattle.written_machine.specs.Reach.{start};
 
 use crate::pools::new_pools;
+use crate::{Clients, JobView, LiveJobs};
 use job_bodies::Plan;
-use live_actors::{Clients, LiveJobs};
-use live_views::JobView;
 use pool_machine::PoolState;
 use std::alloc::{AllocError, Global};
 use std::marker::Model;

@@ -7,7 +7,7 @@ use Rattle.written_machine.specs.declared.event.Outcome.TheVariants as outcome
 use Rattle.written_machine.specs.State.{State}
 use Rattle.written_machine.specs.Safe.{Safe}
 use Rattle.written_machine.proofs.Events.{Happens, is_refused, happens}
-use Rattle.live_views.proofs.Reached.{reached_after}
+use Rattle.interleaving.proofs.Reached.{reached_after}
 use Rattle.headline.specs.Accepted.{accepted}
 use Rattle.headline.proofs.Theorem.{accepted_plans_are_safe}
 use Rattle.plan_witnesses.specs.declared.ending.Ending.{Ending}

@@ -7,7 +7,7 @@ use Rattle.written_machine.specs.State.{State}
 use Rattle.written_machine.specs.Reach.{IsReached}
 use Rattle.written_machine.specs.Waiting.{IsWaitingSet}
 use Rattle.written_machine.specs.FullWaitingSets.{IsFull, IsFullWaitingSet}
-use Rattle.live_views.specs.LiveView.{View, live_view}
+use Rattle.interleaving.specs.LiveView.{View, live_view}
 use Rattle.weights.specs.Vector.{Vector}
 use Rattle.plan_witnesses.specs.declared.ending.Ending.{Ending}
 use Rattle.plan_witnesses.specs.declared.ending.Ending.TheVariants.{Refused, StuckForEver, StuckNow}

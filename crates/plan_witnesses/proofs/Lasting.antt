@@ -19,7 +19,7 @@ use Rattle.written_machine.proofs.Queues.{queued_stage, pool_of_made, queued_in_
 use Rattle.written_machine.proofs.Reached.{kept}
 use Rattle.written_machine.proofs.WaitingSets.{In-member, member_of_In, waiting_set_test}
 use Rattle.written_machine.proofs.FullWaitingSets.{Stayed, stays_through}
-use Rattle.live_views.proofs.Reached.{reached_after}
+use Rattle.interleaving.proofs.Reached.{reached_after}
 use Rattle.plan_witnesses.specs.Lasting.{HasStanding, IsLastingWaitingSet, LastsUnmoved, LastingWaitingSetsStay}
 use Rattle.plan_witnesses.proofs.Lowered.{lowered, IsBetween, max-lowered, ordered-lowered, kept-lowered, StartsBelow, happens-lowered}
 use Rattle.plan_witnesses.proofs.Standing.{StaysThroughSteps, steps_keep, starts_below_core}

@@ -14,8 +14,8 @@ use Rattle.written_machine.specs.State.{State}
 use Rattle.written_machine.specs.Step.{step}
 use Rattle.written_machine.specs.Reach.{start, state_after, replay, outcome_of, outcomes, Reaches, IsReached}
 use Rattle.written_machine.proofs.Reached.{replay_none}
-use Rattle.live_views.specs.LiveView.{View, live_view}
-use Rattle.live_views.specs.Answers.{AnswersAs}
+use Rattle.interleaving.specs.LiveView.{View, live_view}
+use Rattle.interleaving.specs.ViewAnswers.{AnswersAs}
 use Rattle.plan_witnesses.specs.Witness.{NoneRefused, EndsRefused}
 use Rattle.plan_witnesses.specs.Replayed.{ComesTo, StopsShort}
 

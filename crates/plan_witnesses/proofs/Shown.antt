@@ -16,10 +16,10 @@ use Rattle.written_machine.proofs.Standing.{job_made}
 use Rattle.written_machine.proofs.Queues.{queued_stage, pool_of_made}
 use Rattle.written_machine.proofs.Reached.{kept}
 use Rattle.written_machine.proofs.WaitingSets.{In-member, member_of_In}
-use Rattle.live_views.specs.declared.job_view.Phase.TheVariants as phase
-use Rattle.live_views.specs.LiveView.{may_ask, is_number, phase_seen, job_with, View, live_view}
-use Rattle.live_views.specs.ViewStep.{live_job}
-use Rattle.live_views.proofs.View.{view_at, length-pools, pool_at_view}
+use Rattle.interleaving.specs.declared.job_view.Phase.TheVariants as phase
+use Rattle.interleaving.specs.LiveView.{may_ask, is_number, phase_seen, job_with, View, live_view}
+use Rattle.interleaving.specs.ViewStep.{live_job}
+use Rattle.interleaving.proofs.View.{view_at, length-pools, pool_at_view}
 use Rattle.interleaving.specs.OfPlan.{IsOf}
 use Rattle.weights.specs.declared.row.Row.{Row}
 use Rattle.weights.specs.Row.{first_failing}

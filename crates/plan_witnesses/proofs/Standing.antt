@@ -25,7 +25,7 @@ use Rattle.weights.specs.declared.at_get.AtGet.TheVariants.{GivesBack}
 use Rattle.weight_laws.proofs.BoundLaws.{standing_laws}
 use Rattle.weight_laws.proofs.NoRefusal.{standing_refuses_nothing}
 use Rattle.weight_laws.proofs.ReachedLaws.{balanced}
-use Rattle.live_views.proofs.Reached.{reached_after}
+use Rattle.interleaving.proofs.Reached.{reached_after}
 use Rattle.plan_witnesses.specs.Lasting.{HasStanding, StandingPoolsStayAtCore}
 use Rattle.plan_witnesses.proofs.Lowered.{lowered, IsBetween, length-lowered, max-lowered, start-lowered, ordered-lowered, started_when, StartsBelow, happens-lowered}
 

@@ -4,7 +4,7 @@ use Rattle.job_bodies.specs.Plan.{Plan}
 use Rattle.written_machine.specs.declared.event.Event.{Event}
 use Rattle.written_machine.specs.State.{State}
 use Rattle.written_machine.specs.Reach.{Reaches}
-use Rattle.live_views.specs.LiveView.{View, live_view}
+use Rattle.interleaving.specs.LiveView.{View, live_view}
 use Rattle.plan_witnesses.specs.declared.replaying.Replayed.{Replayed}
 use Rattle.plan_witnesses.specs.declared.replaying.Replayed.TheVariants.{Refused, NotPossible, Whole}
 use Rattle.plan_witnesses.specs.Witness.{NoneRefused, EndsRefused}

@@ -3,7 +3,7 @@
 ghost use Rattle.std.specs.Prelude.{◌≡◌, IfOk, IfSome, take};
 ghost use Rattle.written_machine.specs.State.{State};
 ghost use Rattle.written_machine.specs.Reach.{IsReached};
-ghost use Rattle.live_views.specs.LiveView.{live_view};
+ghost use Rattle.interleaving.specs.LiveView.{live_view};
 ghost use Rattle.interleaving.specs.OfPlan.{IsOf};
 ghost use Rattle.plan_witnesses.specs.declared.ending.Ending.TheVariants.{Refused};
 ghost use Rattle.plan_witnesses.specs.Witness.{IsWitness};

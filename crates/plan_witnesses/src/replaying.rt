@@ -2,7 +2,7 @@
 
 ghost use Rattle.std.specs.Prelude.{◌≡◌, IfOk};
 ghost use Rattle.written_machine.specs.Reach.{start};
-ghost use Rattle.live_views.specs.LiveView.{live_view};
+ghost use Rattle.interleaving.specs.LiveView.{live_view};
 ghost use Rattle.plan_witnesses.specs.Replayed.{Finds};
 
 use interleaving::{Event, Outcome, World};

@@ -1,7 +1,7 @@
 //! The check that the pools with queued jobs start no further thread.
 
 ghost use Rattle.std.specs.Prelude.{◌≡◌, ◌<◌, length, slice_get};
-ghost use Rattle.live_views.specs.ViewStep.{live_job};
+ghost use Rattle.interleaving.specs.ViewStep.{live_job};
 ghost use Rattle.interleaving.specs.OfPlan.{IsOf};
 ghost use Rattle.plan_witnesses.specs.StartingNone as spec;
 

@@ -7,8 +7,8 @@ use Rattle.written_machine.specs.declared.event.Event.{Event}
 use Rattle.written_machine.specs.State.{State}
 use Rattle.written_machine.specs.Reach.{start, Reaches}
 use Rattle.held_machines.specs.declared.held.Receipt.{Receipt}
-use Rattle.live_views.specs.LiveView.{View, live_view}
-use Rattle.live_views.proofs.View.{length-view}
+use Rattle.interleaving.specs.LiveView.{View, live_view}
+use Rattle.interleaving.proofs.View.{length-view}
 use Rattle.certified_worlds.specs.HeldWorld.{IsReachedBy}
 use Rattle.run_histories.specs.Complete.{IsComplete}
 use Rattle.run_histories.specs.Owner.{lists_of}

@@ -14,11 +14,11 @@ use Rattle.written_machine.specs.State.{Made, State, job_at, no_job, pool_of}
 use Rattle.written_machine.specs.Step.{step, stepped}
 use Rattle.written_machine.specs.Reach.{Reaches, IsReached}
 use Rattle.written_machine.proofs.Reached.{kept}
-use Rattle.live_views.specs.declared.job_view.Phase.{Phase}
-use Rattle.live_views.specs.declared.job_view.JobView.{JobView}
-use Rattle.live_views.specs.LiveView.{View, live_view, job_with, phase_seen}
-use Rattle.live_views.specs.ViewStep.{live_job, point_in, point_of_live_job}
-use Rattle.live_views.proofs.View.{view_at, point_seen, length-view}
+use Rattle.interleaving.specs.declared.job_view.Phase.{Phase}
+use Rattle.interleaving.specs.declared.job_view.JobView.{JobView}
+use Rattle.interleaving.specs.LiveView.{View, live_view, job_with, phase_seen}
+use Rattle.interleaving.specs.ViewStep.{live_job, point_in, point_of_live_job}
+use Rattle.interleaving.proofs.View.{view_at, point_seen, length-view}
 use Rattle.run_histories.specs.declared.owner.Owner.{Owner}
 use Rattle.run_histories.specs.declared.owner.Owner.TheVariants as owner
 use Rattle.run_histories.specs.Owner.{owner_in, owner_by, client_list, ArePoolsOf}

@@ -9,8 +9,8 @@ use Rattle.written_machine.specs.declared.event.Outcome.{Outcome}
 use Rattle.written_machine.specs.State.{State}
 use Rattle.written_machine.specs.Step.{step}
 use Rattle.written_machine.specs.Reach.{start, state_after, replay, outcome_of, outcomes, Reaches, IsReached}
-use Rattle.live_views.specs.LiveView.{View, live_view}
-use Rattle.live_views.specs.Answers.{AnswersAs}
+use Rattle.interleaving.specs.LiveView.{View, live_view}
+use Rattle.interleaving.specs.ViewAnswers.{AnswersAs}
 use Rattle.certified_worlds.specs.HeldWorld.{IsReachedBy}
 use Rattle.certified_worlds.proofs.Traces.{reaches_more}
 use Rattle.run_histories.specs.Owner.{owner_in, owner_by, ArePoolsOf}

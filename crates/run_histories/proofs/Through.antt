@@ -5,7 +5,7 @@ use Rattle.std.proofs.lemmas.Option.{slice_get_within, get_or_from_slice_get}
 use Rattle.job_bodies.specs.Plan.{Plan, client_at}
 use Rattle.written_machine.specs.declared.event.Event.{Event}
 use Rattle.written_machine.specs.State.{State}
-use Rattle.live_views.specs.LiveView.{View, live_view}
+use Rattle.interleaving.specs.LiveView.{View, live_view}
 use Rattle.run_histories.specs.Complete.{IsThrough, AreMadeIn}
 
 -- all clients with numbers below n are through

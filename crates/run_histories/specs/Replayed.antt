@@ -2,7 +2,7 @@
 use Rattle.std.specs.Prelude.{◌≡◌, ◌≤◌, ◌^◌, ◌++◌, ◌∷◌, [], ℕ, Bool, true, false, List, Option, Some, None}
 use Rattle.job_bodies.specs.Plan.{Plan}
 use Rattle.written_machine.specs.declared.event.Event.{Event}
-use Rattle.live_views.specs.LiveView.{View}
+use Rattle.interleaving.specs.LiveView.{View}
 use Rattle.certified_worlds.specs.HeldWorld.{IsReachedBy}
 use Rattle.run_histories.specs.Owner.{ArePoolsOf}
 use Rattle.run_histories.specs.Run.{IsLegal, units_done}

@@ -4,7 +4,7 @@ ghost use Rattle.std.specs.Prelude.{◌≡◌, ◌<◌, ◌+◌, ◌-◌, ◌^�
 ghost use Rattle.job_bodies.specs.Plan.{Plan, client_at};
 ghost use Rattle.written_machine.specs.declared.event.Event.{Event};
 ghost use Rattle.written_machine.specs.State.{State};
-ghost use Rattle.live_views.specs.LiveView.{live_view};
+ghost use Rattle.interleaving.specs.LiveView.{live_view};
 ghost use Rattle.run_histories.specs.Complete as spec;
 ghost use Rattle.run_histories.specs.Owner.{kinds_of};
 

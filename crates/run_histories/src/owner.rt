@@ -6,7 +6,7 @@ ghost use Rattle.written_machine.specs.State.{State};
 ghost use Rattle.written_machine.specs.State as state;
 ghost use Rattle.written_machine.specs.Step.{step};
 ghost use Rattle.written_machine.specs.Reach.{IsReached};
-ghost use Rattle.live_views.specs.LiveView.{live_view};
+ghost use Rattle.interleaving.specs.LiveView.{live_view};
 ghost use Rattle.std.specs.List.{enumerate_from};
 ghost use Rattle.run_histories.specs.Owner as spec;
 

@@ -7,8 +7,8 @@ use Rattle.written_machine.specs.declared.event.Outcome.{Outcome}
 use Rattle.written_machine.specs.State.{State}
 use Rattle.written_machine.specs.Step.{step}
 use Rattle.written_machine.specs.Reach.{start, replay, state_after, IsReached}
-use Rattle.live_views.specs.LiveView.{View, live_view}
-use Rattle.live_views.specs.Answers.{AnswersAs}
+use Rattle.interleaving.specs.LiveView.{View, live_view}
+use Rattle.interleaving.specs.ViewAnswers.{AnswersAs}
 use Rattle.event_lines.specs.declared.reply.Reply.{Reply}
 use Rattle.event_lines.specs.declared.reply.Reply.TheVariants as reply
 use Rattle.event_lines.specs.EventLine.{Line, all_from}

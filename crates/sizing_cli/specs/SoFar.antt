@@ -3,7 +3,7 @@ use Rattle.std.specs.Prelude.{◌≡◌, ℕ, List, Option, Some, None}
 use Rattle.job_bodies.specs.Plan.{Plan}
 use Rattle.written_machine.specs.State.{State}
 use Rattle.written_machine.specs.Reach.{IsReached}
-use Rattle.live_views.specs.LiveView.{View, live_view}
+use Rattle.interleaving.specs.LiveView.{View, live_view}
 use Rattle.event_lines.specs.declared.reply.Reply.{Reply}
 use Rattle.event_lines.specs.EventLine.{Line, all_from}
 use Rattle.sizing_cli.specs.Answer.{Answer, followed_by, bad_event}

@@ -2,7 +2,7 @@
 
 ghost use Rattle.std.specs.Prelude.{◌≡◌, ◌<◌, ◌^◌, [], length, IfOk};
 ghost use Rattle.written_machine.specs.Reach.{start};
-ghost use Rattle.live_views.specs.LiveView.{live_view};
+ghost use Rattle.interleaving.specs.LiveView.{live_view};
 ghost use Rattle.event_lines.specs.EventLine.{all_from, line_seen};
 ghost use Rattle.interleaving.specs.OfPlan.{IsOf};
 ghost use Rattle.sizing_cli.specs.Report.{replay_of_lines};

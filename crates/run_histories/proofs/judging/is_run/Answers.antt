@@ -2,7 +2,7 @@ use Rattle.std.proofs.Common.{◌≡◌, ◌<◌, ◌↔◌, ◌∙◌, ℕ, IsT
 use Rattle.std.proofs.lemmas.Bool.{false≢true}
 use Rattle.std.proofs.lemmas.List.{take_all}
 use Rattle.std.proofs.lemmas.Result.{IfOk-weaker}
-use Rattle.live_views.specs.LiveView.{View}
+use Rattle.interleaving.specs.LiveView.{View}
 use Rattle.written_machine.specs.declared.event.Event.{Event}
 use Rattle.certified_worlds.specs.HeldWorld.{IsReachedBy}
 use Rattle.run_histories.specs.Owner.{lists_of}

@@ -1,5 +1,5 @@
 use Rattle.std.proofs.Common.{◌∙◌, ap}
-use Rattle.live_views.specs.LiveView.{View}
+use Rattle.interleaving.specs.LiveView.{View}
 use Rattle.run_histories.specs.Report.{Met, RunReport}
 use Rattle.run_histories.proofs.judging.report.Goals as goal
 

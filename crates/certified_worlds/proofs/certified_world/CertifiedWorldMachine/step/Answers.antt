@@ -2,8 +2,8 @@ use Rattle.std.proofs.Common.{◌≡◌, Option, subst}
 use Rattle.written_machine.specs.declared.event.Outcome.{Outcome}
 use Rattle.written_machine.specs.State.{State}
 use Rattle.written_machine.specs.Reach as reach
-use Rattle.live_views.specs.LiveView.{live_view}
-use Rattle.live_views.specs.Answers.{AnswersAs}
+use Rattle.interleaving.specs.LiveView.{live_view}
+use Rattle.interleaving.specs.ViewAnswers.{AnswersAs}
 use Rattle.certified_worlds.proofs.Traces.{seen_of, made, not_made}
 use Rattle.certified_worlds.proofs.certified_world.CertifiedWorldMachine.step.Goals as goal
 

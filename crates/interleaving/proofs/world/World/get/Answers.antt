@@ -1,7 +1,7 @@
 use Rattle.std.proofs.Common.{◌≡◌, ◌+◌, true, rules, Some, sym, ap, subst, ◌∙◌}
 use Rattle.interleaving.specs.World.{WorldValue}
-use Rattle.live_views.specs.ViewStep.{live_job, live_child, is_done, moved_live_jobs}
-use Rattle.live_actors.specs.LiveJobs.{IsAlone}
+use Rattle.interleaving.specs.ViewStep.{live_job, live_child, is_done, moved_live_jobs}
+use Rattle.interleaving.specs.LiveJobs.{IsAlone}
 use Rattle.interleaving.proofs.JobsOnceMoved.{alone_moved, done_moved, alone_as_child}
 use Rattle.interleaving.proofs.world.World.get.Goals as goal
 

@@ -1,6 +1,6 @@
 use Rattle.std.proofs.Common.{◌≡◌, ◌<◌, false, length, refl, ap, ◌∙◌, arith, below_more}
 use Rattle.std.proofs.lemmas.Bool.{both_ways}
-use Rattle.live_views.specs.ViewStep.{pool_in}
+use Rattle.interleaving.specs.ViewStep.{pool_in}
 use Rattle.interleaving.specs.Share.{share_of, leaves_none}
 use Rattle.interleaving.proofs.OfPlan.{as_many_pools}
 use Rattle.interleaving.proofs.MembersAtWork.{waits_if_queued, not_all_wait}

@@ -1,5 +1,5 @@
 use Rattle.std.proofs.Common.{◌≡◌, ℕ, ◌<◌, true}
-use Rattle.live_views.specs.Waiting.{waits_in_queue_of}
+use Rattle.interleaving.specs.Waiting.{waits_in_queue_of}
 use Rattle.interleaving.specs.Stuck.{has_queued}
 use Rattle.interleaving.proofs.world.World.queues_wait.Given as goal
 

@@ -2,9 +2,9 @@ use Rattle.std.proofs.Common.{◌≡◌, ℕ, ◌+◌, ◌≤◌, Bool, not, Lis
 use Rattle.std.proofs.lemmas.List.{get_or-replicate, length-replicate, take_more}
 use Rattle.written_machine.specs.State.{pool_of}
 use Rattle.written_machine.specs.Waiting.{is_member}
-use Rattle.live_views.specs.LiveView.{View}
+use Rattle.interleaving.specs.LiveView.{View}
 use Rattle.interleaving.specs.World.{WorldValue}
-use Rattle.live_views.specs.ViewStep.{live_job}
+use Rattle.interleaving.specs.ViewStep.{live_job}
 use Rattle.interleaving.specs.declared.shares.Share.{Share}
 use Rattle.interleaving.specs.Share.{no_share, share_at, share_of, share_with}
 use Rattle.interleaving.proofs.MembersAtWork.{nobody, share_without, shares_count}

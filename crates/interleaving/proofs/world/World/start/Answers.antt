@@ -1,6 +1,6 @@
 use Rattle.std.proofs.Common.{arith}
 use Rattle.std.proofs.lemmas.Grind.{common_steps}
-use Rattle.live_views.proofs.Reached.{starts_seen}
+use Rattle.interleaving.proofs.Reached.{starts_seen}
 use Rattle.interleaving.proofs.ViewsToStates.{start_of_plan}
 use Rattle.interleaving.proofs.world.World.start.Goals as goal
 

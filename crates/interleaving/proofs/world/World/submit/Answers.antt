@@ -1,7 +1,7 @@
 use Rattle.std.proofs.Common.{◌≡◌, ◌+◌, ◌≤◌, length, count_by, is_some, sym, ap, subst, ◌∙◌, arith}
 use Rattle.interleaving.specs.World.{WorldValue, live_jobs}
-use Rattle.live_views.specs.ViewStep.{moved_live_jobs}
-use Rattle.live_actors.specs.LiveJobs.{NoOtherIsStale}
+use Rattle.interleaving.specs.ViewStep.{moved_live_jobs}
+use Rattle.interleaving.specs.LiveJobs.{NoOtherIsStale}
 use Rattle.interleaving.proofs.JobsOnceMoved.{was_made, stale_moved, length-moved}
 use Rattle.interleaving.proofs.PlacesUsedAgain.{used_again}
 use Rattle.interleaving.proofs.StaleJobs.{none_but_latest}

@@ -4,7 +4,7 @@ use Rattle.job_bodies.specs.WellFormed.{IsWellFormed}
 use Rattle.pool_machine.specs.PoolState.{taken}
 use Rattle.written_machine.specs.declared.parent.Parent.TheVariants.{Job}
 use Rattle.interleaving.specs.World.{WorldValue}
-use Rattle.live_views.specs.ViewStep.{pool_in, may_ask_for}
+use Rattle.interleaving.specs.ViewStep.{pool_in, may_ask_for}
 use Rattle.interleaving.proofs.JobsAtHeads.{waits_at_head}
 use Rattle.interleaving.proofs.world.World.take.Goals as goal
 

@@ -2,8 +2,8 @@ use Rattle.std.proofs.Common.{◌≡◌, ◌∙◌, Option, sym, subst}
 use Rattle.written_machine.specs.declared.event.Outcome.{Outcome}
 use Rattle.written_machine.specs.State.{State}
 use Rattle.written_machine.specs.Reach.{IsReached}
-use Rattle.live_views.specs.LiveView.{live_view}
-use Rattle.live_views.specs.Answers.{AnswersAs}
+use Rattle.interleaving.specs.LiveView.{live_view}
+use Rattle.interleaving.specs.ViewAnswers.{AnswersAs}
 use Rattle.run_histories.proofs.Replays.{goes_on, stays}
 use Rattle.run_histories.proofs.replay.Replay.follow.Goals as goal
 

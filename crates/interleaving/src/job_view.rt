@@ -1,0 +1,71 @@
+//! Live jobs: jobs that are queued or running, and finished jobs whose result can still be
+//! requested.
+
+ghost use Rattle.std.specs.Prelude.{◌≡◌, Some};
+ghost use Rattle.interleaving.specs.ViewStep.{is_done, is_live_child, unless_stale, unless_orphan};
+
+use written_machine::Parent;
+
+/// The phase of a live job.
+#[derive(Clone, Copy, PartialEq, Eq)]
+pub enum Phase {
+    /// The job waits in its pool's queue.
+    Queued,
+    /// A worker runs the job, which is at this position of its body. The length of the body is its
+    /// end position.
+    At(usize),
+    /// The job finished, and its result can still be requested.
+    Done,
+}
+
+/// A live job.
+#[derive(Clone, Copy, PartialEq, Eq)]
+pub struct JobView {
+    /// The number of the job's class.
+    pub class: usize,
+    pub parent: Parent,
+    /// The position, in its parent's body, of the submit that created the job.
+    pub slot: usize,
+    pub phase: Phase,
+}
+
+impl JobView {
+    /// Returns `true` if the job finished.
+    pub fn is_done(self) -> bool
+        ensures { result ≡ is_done self.phase }
+    {
+        matches!(self.phase, Phase::Done)
+    }
+
+    /// Returns `true` if the actor created the job by the submit at this position of its body.
+    pub fn is_child_of(self, actor: Parent, submit: usize) -> bool
+        ensures { result ≡ is_live_child actor submit (Some self) }
+    {
+        actor == self.parent && submit == self.slot
+    }
+
+    /// Returns the job as it is after the actor creates another job by the submit at this position,
+    /// or `None` if this job is then no longer live. That is so if the same submit created this job
+    /// and it is done.
+    pub fn unless_stale(self, actor: Parent, submit: usize) -> Option<JobView>
+        ensures { result ≡ unless_stale actor submit (Some self) }
+    {
+        if self.is_child_of(actor, submit) && self.is_done() {
+            None
+        } else {
+            Some(self)
+        }
+    }
+
+    /// Returns the job as it is after the job with this number finishes, or `None` if this job is
+    /// then no longer live. That is so if the finished job created this job and this job is done.
+    pub fn unless_orphan(self, parent: usize) -> Option<JobView>
+        ensures { result ≡ unless_orphan parent (Some self) }
+    {
+        if self.parent == Parent::Job(parent) && self.is_done() {
+            None
+        } else {
+            Some(self)
+        }
+    }
+}

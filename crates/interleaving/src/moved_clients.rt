@@ -1,0 +1,120 @@
+//! The clients that have moved, by number.
+
+ghost use Rattle.std.specs.Prelude.{◌≡◌, ◌<◌, ℕ, None, Some, false, OnOk, is_some, nat_eq, if◌then◌else◌, ◌==◌};
+ghost use Rattle.std.specs.Option.{option_map};
+ghost use Rattle.std.specs.HashMap.{get, spare};
+ghost use Rattle.interleaving.specs.MovedClients.{at_position, moved_at};
+
+use std::alloc::{AllocError, Global};
+use std::collections::HashMap;
+use std::marker::Model;
+use written_machine::ClientState;
+
+/// A map from client numbers to the states of the clients that have moved.
+///
+/// Most clients move for the first time in the order of their numbers. Those are in a vector; all
+/// others are in a map.
+#[derive(Drop)]
+pub(crate) struct MovedClients {
+    front: Vec<ClientState>,
+    others: HashMap<usize, ClientState>,
+}
+
+impl Model for MovedClients {
+    ghost use Rattle.std.specs.Prelude.{◌-◌, min};
+    ghost use Rattle.std.specs.Vec.{vec_len, vec_capacity};
+    ghost use Rattle.std.specs.HashMap.{spare};
+    ghost use Rattle.interleaving.specs.MovedClients.{Moved};
+
+    ghost Value = { Moved };
+
+    ghost view = { λ m. record { front = m.front.items; others = m.others.entries; room = min (vec_capacity m.front - vec_len m.front) (spare m.others) } };
+}
+
+impl MovedClients {
+    /// Creates an empty map.
+    pub(crate) fn new(alloc: Global) -> MovedClients
+        ensures { (q : ℕ) → moved_at result q ≡ None }
+    {
+        MovedClients {
+            front: Vec::new(alloc),
+            others: HashMap::new(alloc),
+        }
+    }
+
+    pub(crate) fn get(&self, number: usize) -> Option<ClientState>
+        ensures { result ≡ moved_at self.now number }
+    {
+        match self.front.get(number) {
+            Some(client) => Some(*client),
+            None => self.others.get(&number).copied(),
+        }
+    }
+
+    /// Reserves room for one more client.
+    pub(crate) fn reserve(&mut self) -> Result<(), AllocError>
+        ensures stay { (q : ℕ) → moved_at self.new q ≡ moved_at self.old q }
+        ensures room { OnOk result (0 < self.new.room) }
+    {
+        self.front.reserve(1)?;
+        self.others.reserve(1)
+    }
+
+    /// Moves the client with this number to this position of its body if it has moved before.
+    /// Returns `true` if it has.
+    pub(crate) fn go_on(&mut self, number: usize, position: usize) -> bool
+        ensures is_among { result ≡ is_some (moved_at self.old number) }
+        ensures moves { (q : ℕ)
+            → moved_at self.new q
+            ≡ (if number == q then option_map (at_position position) (moved_at self.old number) else
+            moved_at self.old q) }
+        ensures room { self.new.room ≡ self.old.room }
+    {
+        if number < self.front.len() {
+            self.front[number].position = position;
+            return true;
+        }
+        go_on(&mut self.others, number, position)
+    }
+
+    /// Records the first move of the client with this number. Room must have been reserved.
+    pub(crate) fn set_out(&mut self, number: usize, client: ClientState)
+        requires room { 0 < self.old.room }
+        requires stood { is_some (moved_at self.old number) ≡ false }
+        ensures { (q : ℕ)
+            → moved_at self.new q ≡ (if number == q then Some client else moved_at self.old q) }
+    {
+        if number == self.front.len() {
+            self.front.push_reserved(client);
+        } else {
+            set_out(&mut self.others, number, client);
+        }
+    }
+}
+
+fn go_on(moved: &mut HashMap<usize, ClientState>, number: usize, position: usize) -> bool
+    ensures is_among { result ≡ is_some (get nat_eq moved.old number) }
+    ensures moves { (q : ℕ)
+        → get nat_eq moved.new q
+        ≡ (if number == q then option_map (at_position position) (get nat_eq moved.old number) else
+        get nat_eq moved.old q) }
+    ensures spare { spare moved.new ≡ spare moved.old }
+{
+    match moved.get_mut(&number) {
+        Some(client) => {
+            client.position = position;
+            true
+        }
+        None => false,
+    }
+}
+
+fn set_out(moved: &mut HashMap<usize, ClientState>, number: usize, client: ClientState)
+    requires { 0 < spare moved.old }
+    ensures { (q : ℕ)
+        → get nat_eq moved.new q ≡ (if number == q then Some client else get nat_eq moved.old q) }
+{
+    if moved.insert(number, client).is_err() {
+        return;
+    }
+}

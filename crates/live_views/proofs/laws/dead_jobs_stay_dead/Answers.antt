@@ -1,5 +1,0 @@
-use Rattle.live_views.proofs.Reached.{stays_dead}
-use Rattle.live_views.proofs.laws.dead_jobs_stay_dead.Goals as goal
-
-pub returns : goal.returns
-returns c = stays_dead

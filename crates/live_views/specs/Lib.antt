@@ -1,5 +1,0 @@
-pub mod LiveView
-pub mod ViewStep
-pub mod Waiting
-pub mod Answers
-pub mod Laws
