@@ -2,7 +2,7 @@
 use Rattle.std.specs.Prelude.{◌≡◌, ◌≢◌, false, IsTrue}
 use Rattle.job_bodies.specs.Plan.{Plan}
 use Rattle.cert_text.specs.Cert.{Cert}
-use Rattle.headline.specs.Accepted.{accepted}
+use Rattle.soundness.specs.Accepted.{accepted}
 use Rattle.steady_certificates.specs.Steady.{steady_cert}
 use Rattle.plan_witnesses.specs.Witness.{IsWitness}
 use Rattle.size_search.specs.Sized.{IsFound}

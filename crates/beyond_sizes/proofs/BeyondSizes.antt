@@ -9,9 +9,9 @@ use Rattle.weights.specs.declared.bound.Bound.TheVariants.{Standing, Lifetime}
 use Rattle.weights.specs.Vector.{queued_weight}
 use Rattle.weights.specs.Bound.{bound_vector, bound_at_get}
 use Rattle.cert_text.specs.Cert.{Cert, pool_cert_at}
-use Rattle.weight_laws.proofs.BoundLaws.{BoundLaws, bound_vector_laws}
-use Rattle.headline.specs.Accepted.{accepted}
-use Rattle.headline.proofs.CertLaws.{cert_laws}
+use Rattle.soundness.proofs.BoundLaws.{BoundLaws, bound_vector_laws}
+use Rattle.soundness.specs.Accepted.{accepted}
+use Rattle.soundness.proofs.CertLaws.{cert_laws}
 use Rattle.steady_certificates.specs.Submitted.{IsSubmitted, IsNeverGot, NeverGotByClients, NeverGotByJobs, repeated_bodies}
 use Rattle.beyond_sizes.specs.NoSizesHelp.{IsBeyondSizes, NoSizesHelp}
 use Rattle.beyond_sizes.proofs.Circles.{submitted_in, sinks_below}

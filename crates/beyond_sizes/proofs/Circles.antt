@@ -6,7 +6,7 @@ use Rattle.job_bodies.specs.declared.action.Action.{Action}
 use Rattle.job_bodies.specs.declared.action.Action.TheVariants.{Submit}
 use Rattle.job_bodies.specs.Plan.{Class, Plan, no_class, class_at}
 use Rattle.weights.specs.Ranks.{Ranks, level}
-use Rattle.starvation_laws.proofs.RankLaws.{RankLaws}
+use Rattle.soundness.proofs.RankLaws.{RankLaws}
 use Rattle.steady_certificates.specs.Submitted.{IsSubmitted, begins, follows}
 
 -- the index of an element

@@ -10,7 +10,7 @@ use Rattle.job_bodies.specs.Lawful.{IsLawful}
 use Rattle.weights.specs.declared.at_get.AtGet.{AtGet}
 use Rattle.weights.specs.Vector.{Vector, queued_weight}
 use Rattle.weights.specs.AtGet.{given_back}
-use Rattle.weight_laws.proofs.VectorLaws.{BodyLaws}
+use Rattle.soundness.proofs.VectorLaws.{BodyLaws}
 
 -- ---- sums over the positions below n
 

@@ -13,8 +13,8 @@ use Rattle.weights.specs.declared.at_get.AtGet.TheVariants.{GivesBack, GivesNoth
 use Rattle.weights.specs.Vector.{Vector, queued_weight, job_weight, done_weight, client_weight}
 use Rattle.weights.specs.AtGet.{given_back}
 use Rattle.weights.specs.Ranks.{Ranks, level}
-use Rattle.weight_laws.proofs.VectorLaws.{VectorLaws, class_of_action}
-use Rattle.starvation_laws.proofs.RankLaws.{RankLaws}
+use Rattle.soundness.proofs.VectorLaws.{VectorLaws, class_of_action}
+use Rattle.soundness.proofs.RankLaws.{RankLaws}
 use Rattle.steady_certificates.specs.Submitted.{IsSubmitted, begins, follows, repeated_bodies}
 use Rattle.beyond_sizes.proofs.Circles.{position_of}
 use Rattle.beyond_sizes.proofs.Losses.{NoneGains, never_heavier, lost_without_get, lost_by_child}

@@ -9,7 +9,7 @@ use Rattle.job_bodies.specs.WellFormed.{has_lawful_sizes, IsWellFormed}
 use Rattle.weights.specs.Vector.{Vector, has_small_numbers, total}
 use Rattle.weights.specs.Ranks.{Ranks}
 use Rattle.cert_text.specs.Cert.{PoolCert, Cert, no_pool_cert, pool_cert_at}
-use Rattle.headline.specs.Accepted.{accepted}
+use Rattle.soundness.specs.Accepted.{accepted}
 use Rattle.fitted_sizes.specs.Fitted.{shape, NoneFits}
 use Rattle.fitted_sizes.specs.Widened.{outline, with_max, widened, NoneFitsWide}
 use Rattle.fitted_sizes.proofs.Numbered.{map-twice}

@@ -14,8 +14,8 @@ use Rattle.job_bodies.proofs.Bodies.{ordered}
 use Rattle.weights.specs.Vector.{Vector, done_weight, client_weight, client_weights, workers_weight, is_small, has_small_numbers, has_shape, vector_fits}
 use Rattle.weights.specs.Ranks.{ranks_fit}
 use Rattle.cert_text.specs.Cert.{PoolCert, no_vector, no_pool_cert, pool_cert_fits, cert_fits}
-use Rattle.headline.specs.Conditions.{failing}
-use Rattle.headline.specs.Accepted.{accepted, is_nil}
+use Rattle.soundness.specs.Conditions.{failing}
+use Rattle.soundness.specs.Accepted.{accepted, is_nil}
 use Rattle.steady_certificates.specs.Steady.{sum_below, greatest_upto, submitted_weight, awaited_weight, open_weight, most, weight_at, weights_from, client_end, client_row, jobs, jobs_within, steady_vector, steady_total, steady_pool, steady_cert}
 
 -- ---- vectors in which jobs have no weight

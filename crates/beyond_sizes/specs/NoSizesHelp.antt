@@ -5,7 +5,7 @@ use Rattle.job_bodies.specs.Plan.{Plan}
 use Rattle.job_bodies.specs.WellFormed.{IsWellFormed}
 use Rattle.weights.specs.Vector.{has_small_numbers}
 use Rattle.cert_text.specs.Cert.{Cert}
-use Rattle.headline.specs.Accepted.{accepted}
+use Rattle.soundness.specs.Accepted.{accepted}
 use Rattle.fitted_sizes.specs.Widened.{outline}
 use Rattle.steady_certificates.specs.Submitted.{IsWithoutCause}
 use Rattle.steady_certificates.specs.Steady.{steady_vector, steady_total}

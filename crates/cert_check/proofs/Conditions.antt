@@ -8,11 +8,11 @@ use Rattle.weights.specs.Bound.{bound_rows}
 use Rattle.weights.specs.Blocked.{blocked_rows}
 use Rattle.weights.specs.Ranks.{is_counted, rank_rows}
 use Rattle.cert_text.specs.Cert.{Cert, pool_cert_at}
-use Rattle.headline.specs.declared.note.Section.{Section}
-use Rattle.headline.specs.declared.note.Section.TheVariants as section
-use Rattle.headline.specs.declared.note.Note.{Note}
-use Rattle.headline.specs.Conditions.{note, in_section, bound_section, pool_conditions, failing}
-use Rattle.headline.specs.Accepted.{is_nil}
+use Rattle.soundness.specs.declared.note.Section.{Section}
+use Rattle.soundness.specs.declared.note.Section.TheVariants as section
+use Rattle.soundness.specs.declared.note.Note.{Note}
+use Rattle.soundness.specs.Conditions.{note, in_section, bound_section, pool_conditions, failing}
+use Rattle.soundness.specs.Accepted.{is_nil}
 use Rattle.cert_check.specs.Holding.{pool_holds}
 
 -- a note whose left is greater than its right

@@ -14,9 +14,9 @@ use Rattle.weights.specs.Vector.{vector_fits}
 use Rattle.weights.specs.Bound.{bound_vector, bound_rows}
 use Rattle.cert_text.specs.Cert.{Cert, cert_fits, pool_cert_at}
 use Rattle.cert_text.proofs.Fitting.{parts_fit}
-use Rattle.headline.specs.Headline.{RefusesNothing, JavaRefusesNothing}
-use Rattle.headline.proofs.Bounded.{bounded_plans_refuse_nothing}
-use Rattle.headline.proofs.JavaBounded.{bounded_plans_java_refuse_nothing}
+use Rattle.soundness.specs.Headline.{RefusesNothing, JavaRefusesNothing}
+use Rattle.soundness.proofs.Bounded.{bounded_plans_refuse_nothing}
+use Rattle.soundness.proofs.JavaBounded.{bounded_plans_java_refuse_nothing}
 use Rattle.cert_check.specs.Standing.{stands, accepted_standing}
 use Rattle.cert_check.proofs.Pools.{rest_passes, passes_all}
 

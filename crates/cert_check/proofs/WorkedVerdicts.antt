@@ -8,9 +8,9 @@ use Rattle.weights.specs.declared.row.Rule.TheVariants.{V6, V7, S2, L3, B1, B2, 
 use Rattle.weights.specs.declared.row.Place.TheVariants as place
 use Rattle.weights.specs.Row.{row}
 use Rattle.cert_text.specs.Cert.{cert_fits}
-use Rattle.starvation_laws.specs.Drain.{full, todo}
-use Rattle.headline.specs.declared.note.Section.TheVariants as section
-use Rattle.headline.specs.Conditions.{note, failing}
+use Rattle.soundness.specs.Drain.{full, todo}
+use Rattle.soundness.specs.declared.note.Section.TheVariants as section
+use Rattle.soundness.specs.Conditions.{note, failing}
 use Rattle.cert_check.specs.declared.answer.PoolLine.{PoolLine}
 use Rattle.cert_check.specs.Verdict.{Verdict, verdict}
 use Rattle.cert_check.proofs.WorkedPlans.{no_parts, one_pool, one_pool_once, forgetting, nested, fan_out, front_and_back, two_pools, there_and_back, no_parts_cert, standing_cert, faulty_cert, lifetime_cert, forgetting_cert, nested_ranks, nested_cert, fan_out_cert, front_and_back_cert, two_pools_cert, there_and_back_cert}

@@ -9,8 +9,8 @@ use Rattle.plan_text.specs.PlanOf.{plan_of}
 use Rattle.plan_text.proofs.Buildable.{are_within_limits, well_formed_read}
 use Rattle.cert_text.specs.Cert.{Cert}
 use Rattle.cert_text.specs.CertOf.{cert_of}
-use Rattle.headline.specs.Accepted.{accepted}
-use Rattle.headline.proofs.Promised.{promises}
+use Rattle.soundness.specs.Accepted.{accepted}
+use Rattle.soundness.proofs.Promised.{promises}
 use Rattle.cert_check.specs.Check.{IsSafeWith}
 
 -- a plan that was read is well-formed

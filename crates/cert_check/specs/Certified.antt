@@ -2,8 +2,8 @@
 use Rattle.std.specs.Prelude.{IsTrue}
 use Rattle.job_bodies.specs.Plan.{Plan}
 use Rattle.cert_text.specs.Cert.{Cert}
-use Rattle.headline.specs.Accepted.{accepted}
-use Rattle.headline.specs.Headline.{Promises}
+use Rattle.soundness.specs.Accepted.{accepted}
+use Rattle.soundness.specs.Headline.{Promises}
 
 pub record Certified : Type 0 where
   pub plan : Plan

@@ -4,7 +4,7 @@ use Rattle.job_bodies.specs.Plan.{Plan}
 use Rattle.job_bodies.specs.declared.fault.PlanFault.{PlanFault}
 use Rattle.plan_text.specs.PlanOf.{plan_of}
 use Rattle.cert_text.specs.Cert.{Cert}
-use Rattle.headline.specs.Headline.{Promises}
+use Rattle.soundness.specs.Headline.{Promises}
 use Rattle.cert_text.specs.declared.fault.CertFault.{CertFault}
 use Rattle.cert_text.specs.CertOf.{cert_of}
 use Rattle.cert_check.specs.declared.from_bytes.CheckFault.{CheckFault}

@@ -5,7 +5,7 @@ use Rattle.job_bodies.specs.Plan.{Plan, pool_at}
 use Rattle.weights.specs.Vector.{total}
 use Rattle.weights.specs.Bound.{bound_vector, bound_limit, is_lifetime}
 use Rattle.cert_text.specs.Cert.{Cert, pool_cert_at}
-use Rattle.headline.specs.Accepted.{accepted}
+use Rattle.soundness.specs.Accepted.{accepted}
 use Rattle.cert_check.specs.declared.answer.PoolLine.{PoolLine}
 
 -- of pool p: the totals of its bound and of its blocked vector, each with its limit

@@ -5,9 +5,9 @@ ghost use Rattle.std.specs.List.{list_all, enumerate_from};
 ghost use Rattle.weights.specs.Vector.{vector_fits};
 ghost use Rattle.weights.specs.Bound.{bound_vector};
 ghost use Rattle.cert_text.specs.Cert.{cert_fits, pool_cert_at};
-ghost use Rattle.headline.specs.Conditions.{failing};
-ghost use Rattle.headline.specs.Accepted.{is_nil, accepted};
-ghost use Rattle.headline.specs.Headline.{Promises, RefusesNothing, JavaRefusesNothing};
+ghost use Rattle.soundness.specs.Conditions.{failing};
+ghost use Rattle.soundness.specs.Accepted.{is_nil, accepted};
+ghost use Rattle.soundness.specs.Headline.{Promises, RefusesNothing, JavaRefusesNothing};
 ghost use Rattle.cert_check.specs.Holding.{pool_holds};
 ghost use Rattle.cert_check.specs.Standing as spec;
 

@@ -1,8 +1,8 @@
 //! A plan with a certificate that accepts it.
 
 ghost use Rattle.std.specs.Prelude.{◌≡◌, ◌↔◌, IsOk, IfOk, IfErr, IsTrue};
-ghost use Rattle.headline.specs.Accepted.{accepted};
-ghost use Rattle.headline.specs.Headline.{Promises};
+ghost use Rattle.soundness.specs.Accepted.{accepted};
+ghost use Rattle.soundness.specs.Headline.{Promises};
 ghost use Rattle.cert_check.specs.Certified as spec;
 
 use crate::accepts;

@@ -3,7 +3,7 @@
 ghost use Rattle.std.specs.Prelude.{◌≡◌, ◌<◌, IfOk, IsTrue, length, map};
 ghost use Rattle.std.specs.List.{enumerate_from};
 ghost use Rattle.cert_text.specs.Cert.{cert_fits};
-ghost use Rattle.headline.specs.Headline.{Promises};
+ghost use Rattle.soundness.specs.Headline.{Promises};
 ghost use Rattle.cert_check.specs.Verdict as spec;
 
 use crate::acceptance::conditions_hold;

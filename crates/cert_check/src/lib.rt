@@ -26,5 +26,5 @@ pub use text::push_verdict;
 
 // The parts of a certificate, and its text format.
 pub use cert_text::{Cert, CertFault, PoolCert, read_cert, write_cert};
-pub use headline::{Note, Section};
+pub use soundness::{Note, Section};
 pub use weights::{Bound, Ranks, Vector};

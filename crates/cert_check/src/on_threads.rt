@@ -3,7 +3,7 @@
 ghost use Rattle.std.specs.Prelude.{◌≡◌, ◌≢◌, ◌≤◌, ◌<◌, ℕ, slice_index_or, IfOk, IfErr, IfSome, IsTrue, Ok, Err, length, vec_len};
 ghost use Rattle.job_bodies.specs.declared.limits.TheConstants.{MAX_WORKERS};
 ghost use Rattle.cert_text.specs.Cert.{cert_fits};
-ghost use Rattle.headline.specs.Headline.{Promises};
+ghost use Rattle.soundness.specs.Headline.{Promises};
 ghost use Rattle.cert_check.specs.declared.from_bytes.CheckFault.TheVariants.{Memory, Gate};
 ghost use Rattle.cert_check.specs.Check as check_spec;
 ghost use Rattle.cert_check.specs.Verdict.{verdict};

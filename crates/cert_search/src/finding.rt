@@ -2,7 +2,7 @@
 
 ghost use Rattle.std.specs.Prelude.{◌≡◌, ◌≢◌, ◌<◌, ◌≤◌, false, IfErr, IfOk, IfSome, IfNone, IsTrue, length};
 ghost use Rattle.job_bodies.specs.declared.limits.TheConstants.{MAX_WORKERS};
-ghost use Rattle.headline.specs.Accepted.{accepted};
+ghost use Rattle.soundness.specs.Accepted.{accepted};
 ghost use Rattle.steady_certificates.specs.Steady.{steady_cert};
 ghost use Rattle.cert_search.specs.declared.finding.SearchFault.TheVariants.{Memory};
 

@@ -2,7 +2,7 @@
 
 ghost use Rattle.std.specs.Prelude.{◌≡◌, false, IfOk, IfSome, IfNone, IsTrue};
 ghost use Rattle.job_bodies.specs.WellFormed.{IsWellFormed};
-ghost use Rattle.headline.specs.Accepted.{accepted};
+ghost use Rattle.soundness.specs.Accepted.{accepted};
 ghost use Rattle.steady_certificates.specs.Submitted.{NoCircle};
 ghost use Rattle.steady_certificates.specs.Steady.{steady_cert};
 

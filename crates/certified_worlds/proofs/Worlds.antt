@@ -10,8 +10,8 @@ use Rattle.written_machine.proofs.Events.{Happens, happens}
 use Rattle.written_machine.proofs.Events.Happens.{is_refused}
 use Rattle.interleaving.specs.LiveView.{View}
 use Rattle.cert_text.specs.Cert.{Cert}
-use Rattle.headline.specs.Accepted.{accepted}
-use Rattle.headline.proofs.Theorem.{accepted_plans_are_safe}
+use Rattle.soundness.specs.Accepted.{accepted}
+use Rattle.soundness.proofs.Theorem.{accepted_plans_are_safe}
 use Rattle.certified_worlds.specs.HeldWorld.{IsReachedBy, RefusesNothing}
 use Rattle.certified_worlds.proofs.Traces.{reaches_more}
 

@@ -2,7 +2,7 @@
 
 ghost use Rattle.std.specs.Prelude.{IsTrue};
 ghost use Rattle.job_bodies.specs.WellFormed.{IsWellFormed};
-ghost use Rattle.headline.specs.Accepted.{accepted};
+ghost use Rattle.soundness.specs.Accepted.{accepted};
 
 use crate::SeenWorld;
 use cert_check::Certified;

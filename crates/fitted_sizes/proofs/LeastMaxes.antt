@@ -9,8 +9,8 @@ use Rattle.job_bodies.specs.declared.limits.TheConstants.{MAX_SIZE}
 use Rattle.job_bodies.specs.Plan.{Pool, Client, Plan, no_pool, pool_at}
 use Rattle.weights.specs.Vector.{Vector, workers_weight, client_weight, total}
 use Rattle.cert_text.specs.Cert.{Cert, pool_cert_at, cert_fits}
-use Rattle.headline.specs.Conditions.{failing}
-use Rattle.headline.specs.Accepted.{is_nil}
+use Rattle.soundness.specs.Conditions.{failing}
+use Rattle.soundness.specs.Accepted.{is_nil}
 use Rattle.fitted_sizes.specs.Fitted.{core_needed, raised}
 use Rattle.fitted_sizes.specs.Widened.{with_max, widened, outline, IsWideFit, HasLeastCores, without_maxes, IsLeastWide, LeavesRoom, WidenedMaxesAreLeast}
 use Rattle.fitted_sizes.proofs.Numbered.{length-numbered, numbered_at, numbered_past, map-numbered}

@@ -12,7 +12,7 @@ use Rattle.weights.specs.Vector.{Vector, total}
 use Rattle.weights.specs.Lifetime.{lifetime_limit}
 use Rattle.weights.specs.Bound.{bound_vector, bound_limit}
 use Rattle.cert_text.specs.Cert.{PoolCert, Cert, pool_cert_at}
-use Rattle.headline.specs.Accepted.{accepted}
+use Rattle.soundness.specs.Accepted.{accepted}
 use Rattle.fitted_sizes.specs.Fitted.{with_core, with_queue, raised_pool, raised, fails_only_at_totals, fitted, shape, IsNoSmaller, IsResized, IsFit, IsLeastFit, NoneFits, FittedSizesAreLeast, AcceptedPlansFit, LargerSizesAreAccepted, smallest, SmallestFitIsLeast}
 use Rattle.fitted_sizes.proofs.Shapes.{bare, length-changed, pool_at-shape, length-shape, total-shape}
 use Rattle.fitted_sizes.proofs.Numbered.{numbered_at, numbered_past, map-numbered, numbered_same, map-twice, changed_at}

@@ -24,13 +24,13 @@ use Rattle.weights.specs.Bound.{bound_vector, bound_limit, bound_rows}
 use Rattle.weights.specs.Blocked.{is_get, counted_rows, blocked_rows}
 use Rattle.weights.specs.Ranks.{Ranks, is_counted, rank_rows, rank_rows_of_class, rank_rows_of_action}
 use Rattle.cert_text.specs.Cert.{Cert, pool_cert_at, cert_fits}
-use Rattle.headline.specs.declared.note.Section.{Section}
-use Rattle.headline.specs.declared.note.Section.TheVariants as section
-use Rattle.headline.specs.declared.note.Note.{Note}
-use Rattle.headline.specs.Conditions.{note, in_section, bound_section, pool_conditions, conditions, failing}
-use Rattle.headline.specs.Accepted.{is_nil, accepted}
-use Rattle.headline.proofs.CertLaws.{is_nil_means, section_holds, pool_inside}
-use Rattle.headline.proofs.Faults.{pool_numbers, accepted_from_parts}
+use Rattle.soundness.specs.declared.note.Section.{Section}
+use Rattle.soundness.specs.declared.note.Section.TheVariants as section
+use Rattle.soundness.specs.declared.note.Note.{Note}
+use Rattle.soundness.specs.Conditions.{note, in_section, bound_section, pool_conditions, conditions, failing}
+use Rattle.soundness.specs.Accepted.{is_nil, accepted}
+use Rattle.soundness.proofs.CertLaws.{is_nil_means, section_holds, pool_inside}
+use Rattle.soundness.proofs.Faults.{pool_numbers, accepted_from_parts}
 use Rattle.fitted_sizes.specs.Fitted.{is_total, fails_only_at_totals, shape}
 use Rattle.fitted_sizes.proofs.Shapes.{length-shape, bound_body, bound_body-shape, blocked_body, blocked_body-shape, cert_fits-shape}
 

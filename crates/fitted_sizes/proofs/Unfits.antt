@@ -8,8 +8,8 @@ use Rattle.job_bodies.specs.declared.limits.TheConstants.{MAX_SIZE}
 use Rattle.job_bodies.specs.Plan.{Pool, Plan, no_pool, pool_at}
 use Rattle.job_bodies.specs.WellFormed.{has_lawful_sizes, IsWellFormed}
 use Rattle.cert_text.specs.Cert.{Cert, cert_fits}
-use Rattle.headline.specs.declared.note.Note.{Note}
-use Rattle.headline.specs.Conditions.{failing}
+use Rattle.soundness.specs.declared.note.Note.{Note}
+use Rattle.soundness.specs.Conditions.{failing}
 use Rattle.fitted_sizes.specs.declared.unfit.Unfit.{Unfit}
 use Rattle.fitted_sizes.specs.declared.unfit.Unfit.TheVariants.{Shape, Condition, Core, Queue}
 use Rattle.fitted_sizes.specs.Fitted.{is_total, raised, fails_only_at_totals, fitted, IsLeastFit, NoneFits}

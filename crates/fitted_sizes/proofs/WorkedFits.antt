@@ -6,8 +6,8 @@ use Rattle.weights.specs.declared.row.Rule.TheVariants.{V7, B2}
 use Rattle.weights.specs.declared.row.Place.TheVariants as place
 use Rattle.weights.specs.Row.{row}
 use Rattle.cert_text.specs.Cert.{Cert}
-use Rattle.headline.specs.declared.note.Section.TheVariants as section
-use Rattle.headline.specs.Conditions.{note, failing}
+use Rattle.soundness.specs.declared.note.Section.TheVariants as section
+use Rattle.soundness.specs.Conditions.{note, failing}
 use Rattle.cert_check.proofs.WorkedPlans.{a_pool, a_class, clients, asks, works, one_pool, one_pool_once, forgetting, nested, fan_out, two_pools, weighing, pool_cert, pair_of_ones, one_of_ones, one_of_zeros, standing_cert, lifetime_cert, forgetting_cert, lends, nested_ranks, nested_cert, fan_out_cert, two_pools_cert}
 use Rattle.fitted_sizes.specs.declared.unfit.Unfit.TheVariants.{Shape, Condition, Core, Queue}
 use Rattle.fitted_sizes.specs.Fitted.{fitted, smallest}

@@ -10,8 +10,8 @@ use Rattle.weights.specs.declared.bound.Bound.TheVariants.{Standing, Lifetime}
 use Rattle.weights.specs.Vector.{Vector, total}
 use Rattle.weights.specs.Bound.{bound_limit}
 use Rattle.cert_text.specs.Cert.{PoolCert, Cert, pool_cert_at, cert_fits}
-use Rattle.headline.specs.Conditions.{failing}
-use Rattle.headline.specs.Accepted.{accepted}
+use Rattle.soundness.specs.Conditions.{failing}
+use Rattle.soundness.specs.Accepted.{accepted}
 
 -- ---- the sizes that a certificate needs of a pool
 

@@ -5,7 +5,7 @@ use Rattle.job_bodies.specs.Plan.{Pool, Plan, pool_at}
 use Rattle.job_bodies.specs.WellFormed.{IsWellFormed}
 use Rattle.weights.specs.Vector.{Vector}
 use Rattle.cert_text.specs.Cert.{Cert, pool_cert_at}
-use Rattle.headline.specs.Accepted.{accepted}
+use Rattle.soundness.specs.Accepted.{accepted}
 use Rattle.fitted_sizes.specs.Fitted.{core_needed, IsNoSmaller}
 
 abbrev pub with_max : Plan → Vector → Pool → Pool

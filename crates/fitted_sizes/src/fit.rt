@@ -14,9 +14,9 @@ ghost use Rattle.fitted_sizes.specs.Unfit.{failing_elsewhere, why_unfit};
 use crate::Unfit;
 use crate::unfit::unfit_pools;
 use cert_text::Cert;
-use headline::Note;
 use job_bodies::{Plan, Pool};
 use refusal_notes::notes;
+use soundness::Note;
 use std::alloc::{AllocError, Global};
 use weights::{Bound, Place, Vector};
 

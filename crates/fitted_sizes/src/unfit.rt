@@ -4,8 +4,8 @@ ghost use Rattle.std.specs.Prelude.{◌≡◌};
 ghost use Rattle.std.specs.List.{enumerate_from};
 ghost use Rattle.fitted_sizes.specs.Unfit as spec;
 
-use headline::Note;
 use job_bodies::{MAX_SIZE, Pool};
+use soundness::Note;
 
 /// The reason why a certificate accepts a plan with no cores and queues.
 #[derive(Clone, Copy, Debug, PartialEq, Eq)]

@@ -11,7 +11,7 @@ use Rattle.job_bodies.specs.Lawful.{IsLawful}
 use Rattle.job_bodies.proofs.Bodies.{ordered}
 use Rattle.weights.specs.Ranks.{Ranks}
 use Rattle.run_histories.specs.Complete.{rounds_of, events_of_client}
-use Rattle.starvation_laws.specs.Drain.{of_submit}
+use Rattle.soundness.specs.Drain.{of_submit}
 use Rattle.run_histories.specs.RunNumbers.{units_of, units_in, submitted, caused_within, caused, greatest, submitted_by, by_jobs, units_of_clients, events_of_clients, jobs, units, most_events, capped}
 
 -- a factor n keeps a bound by c times the other number

@@ -8,8 +8,8 @@ use Rattle.written_machine.specs.State.{State}
 use Rattle.written_machine.specs.Safe.{Safe}
 use Rattle.written_machine.proofs.Events.{Happens, is_refused, happens}
 use Rattle.interleaving.proofs.Reached.{reached_after}
-use Rattle.headline.specs.Accepted.{accepted}
-use Rattle.headline.proofs.Theorem.{accepted_plans_are_safe}
+use Rattle.soundness.specs.Accepted.{accepted}
+use Rattle.soundness.proofs.Theorem.{accepted_plans_are_safe}
 use Rattle.plan_witnesses.specs.declared.ending.Ending.{Ending}
 use Rattle.plan_witnesses.specs.declared.ending.Ending.TheVariants.{Refused, StuckForEver, StuckNow}
 use Rattle.plan_witnesses.specs.declared.ending.Reason.TheVariants.{PoolsAreFull, PoolsStayAtCore}

@@ -25,7 +25,7 @@ use Rattle.weights.specs.declared.row.Row.{Row}
 use Rattle.weights.specs.Row.{first_failing}
 use Rattle.weights.specs.Vector.{Vector, vector_fits}
 use Rattle.weights.specs.Standing.{standing_rows}
-use Rattle.headline.proofs.Faults.{all_hold, none_fails}
+use Rattle.soundness.proofs.Faults.{all_hold, none_fails}
 use Rattle.plan_witnesses.specs.StartingNone.{is_full, has_standing, pool_starts_none, class_starts_none, job_starts_none, all_start_none}
 use Rattle.plan_witnesses.specs.Confirmed.{GivenStanding, AreFull, AreShown}
 

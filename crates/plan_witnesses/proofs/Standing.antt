@@ -22,9 +22,9 @@ use Rattle.written_machine.proofs.KeptStart.{kept_start}
 use Rattle.written_machine.proofs.KeptStep.{kept_step}
 use Rattle.written_machine.proofs.Reached.{replay_none, kept}
 use Rattle.weights.specs.declared.at_get.AtGet.TheVariants.{GivesBack}
-use Rattle.weight_laws.proofs.BoundLaws.{standing_laws}
-use Rattle.weight_laws.proofs.NoRefusal.{standing_refuses_nothing}
-use Rattle.weight_laws.proofs.ReachedLaws.{balanced}
+use Rattle.soundness.proofs.BoundLaws.{standing_laws}
+use Rattle.soundness.proofs.NoRefusal.{standing_refuses_nothing}
+use Rattle.soundness.proofs.ReachedLaws.{balanced}
 use Rattle.interleaving.proofs.Reached.{reached_after}
 use Rattle.plan_witnesses.specs.Lasting.{HasStanding, StandingPoolsStayAtCore}
 use Rattle.plan_witnesses.proofs.Lowered.{lowered, IsBetween, length-lowered, max-lowered, start-lowered, ordered-lowered, started_when, StartsBelow, happens-lowered}

@@ -12,7 +12,7 @@ use Rattle.written_machine.specs.Safe.{Safe}
 use Rattle.written_machine.specs.Waiting.{IsWaitingSet}
 use Rattle.written_machine.specs.FullWaitingSets.{IsFullWaitingSet}
 use Rattle.cert_text.specs.Cert.{Cert}
-use Rattle.headline.specs.Accepted.{accepted}
+use Rattle.soundness.specs.Accepted.{accepted}
 use Rattle.plan_witnesses.specs.declared.ending.Ending.{Ending}
 use Rattle.plan_witnesses.specs.declared.ending.Ending.TheVariants.{Refused, StuckForEver, StuckNow}
 use Rattle.plan_witnesses.specs.declared.ending.Reason.{Reason}

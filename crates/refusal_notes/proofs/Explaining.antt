@@ -8,9 +8,9 @@ use Rattle.weights.specs.Bound.{bound_rows}
 use Rattle.weights.specs.Blocked.{blocked_rows}
 use Rattle.weights.specs.Ranks.{is_counted, rank_rows}
 use Rattle.cert_text.specs.Cert.{PoolCert, Cert, cert_fits}
-use Rattle.headline.specs.declared.note.Section.TheVariants as section
-use Rattle.headline.specs.declared.note.Note.{Note}
-use Rattle.headline.specs.Conditions.{in_section, bound_section, pool_conditions, failing}
+use Rattle.soundness.specs.declared.note.Section.TheVariants as section
+use Rattle.soundness.specs.declared.note.Note.{Note}
+use Rattle.soundness.specs.Conditions.{in_section, bound_section, pool_conditions, failing}
 use Rattle.refusal_notes.specs.Line.{line}
 use Rattle.refusal_notes.specs.Explanation.{lines}
 use Rattle.refusal_notes.proofs.Telling.{note_fails, ToldTo, told_begins, told_goes_on}

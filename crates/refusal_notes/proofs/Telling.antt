@@ -11,10 +11,10 @@ use Rattle.weights.specs.Blocked.{blocked_rows}
 use Rattle.weights.specs.Ranks.{is_counted, rank_rows}
 use Rattle.cert_text.specs.Cert.{PoolCert, Cert, no_pool_cert, pool_cert_at, pool_cert_fits, cert_fits}
 use Rattle.cert_text.proofs.Fitting.{as_many_parts, pool_fits}
-use Rattle.headline.specs.declared.note.Section.{Section}
-use Rattle.headline.specs.declared.note.Section.TheVariants as section
-use Rattle.headline.specs.declared.note.Note.{Note}
-use Rattle.headline.specs.Conditions.{note, in_section, bound_section, pool_conditions}
+use Rattle.soundness.specs.declared.note.Section.{Section}
+use Rattle.soundness.specs.declared.note.Section.TheVariants as section
+use Rattle.soundness.specs.declared.note.Note.{Note}
+use Rattle.soundness.specs.Conditions.{note, in_section, bound_section, pool_conditions}
 
 -- left is greater than right
 abbrev pub note_fails : Note → Bool

@@ -7,8 +7,8 @@ use Rattle.job_bodies.specs.Plan.{Plan, Pool}
 use Rattle.weights.specs.declared.row.Rule.TheVariants.{K3, V4, V5, L1, B2}
 use Rattle.weights.specs.declared.row.Place.TheVariants as place
 use Rattle.weights.specs.Row.{row}
-use Rattle.headline.specs.declared.note.Section.TheVariants as section
-use Rattle.headline.specs.Conditions.{note}
+use Rattle.soundness.specs.declared.note.Section.TheVariants as section
+use Rattle.soundness.specs.Conditions.{note}
 use Rattle.refusal_notes.specs.Line.{line}
 
 abbrev named_pool : List ℕ → Pool

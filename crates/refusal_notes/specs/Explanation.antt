@@ -2,7 +2,7 @@
 use Rattle.std.specs.Prelude.{ℕ, List, [], ◌∷◌, ◌++◌, codes, decimal, length}
 use Rattle.std.specs.List.{flat_map}
 use Rattle.job_bodies.specs.Plan.{Plan}
-use Rattle.headline.specs.declared.note.Note.{Note}
+use Rattle.soundness.specs.declared.note.Note.{Note}
 use Rattle.refusal_notes.specs.Line.{line}
 
 abbrev pub lines : Plan → List Note → List ℕ

@@ -5,9 +5,9 @@ use Rattle.weights.specs.declared.row.Rule.{Rule}
 use Rattle.weights.specs.declared.row.Rule.TheVariants.{K1, K2, K3, V2, V3, V4, V5, V6, V7, S1, S2, L1, L2, L3, L5, B1, B2}
 use Rattle.weights.specs.declared.row.Place.{Place}
 use Rattle.weights.specs.declared.row.Place.TheVariants.{Class, ClassAction, Client, ClientAction, Worker, Total}
-use Rattle.headline.specs.declared.note.Section.{Section}
-use Rattle.headline.specs.declared.note.Section.TheVariants.{Ranks, Standing, Lifetime, Blocked}
-use Rattle.headline.specs.declared.note.Note.{Note}
+use Rattle.soundness.specs.declared.note.Section.{Section}
+use Rattle.soundness.specs.declared.note.Section.TheVariants.{Ranks, Standing, Lifetime, Blocked}
+use Rattle.soundness.specs.declared.note.Note.{Note}
 
 -- the part of the certificate
 abbrev pub section_text : Plan → Section → List ℕ

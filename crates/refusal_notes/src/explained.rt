@@ -3,7 +3,7 @@
 ghost use Rattle.std.specs.Prelude.{◌≡◌, ◌+◌, ◌++◌, ◌∷◌, [], IsTrue, IfOk, length};
 ghost use Rattle.support.specs.Pushed.{Pushes};
 ghost use Rattle.cert_text.specs.Cert.{cert_fits};
-ghost use Rattle.headline.specs.Conditions.{failing};
+ghost use Rattle.soundness.specs.Conditions.{failing};
 ghost use Rattle.refusal_notes.specs.Explanation as spec;
 ghost use Rattle.refusal_notes.specs.Line as line;
 

@@ -3,7 +3,7 @@
 ghost use Rattle.std.specs.Prelude.{◌≡◌, ◌++◌, List, [], OnOk, IsOk, filter};
 ghost use Rattle.weights.specs.declared.row.Row.{Row as Seen};
 ghost use Rattle.weights.specs.Row.{fails};
-ghost use Rattle.headline.specs.Conditions as spec;
+ghost use Rattle.soundness.specs.Conditions as spec;
 ghost use Rattle.refusal_notes.specs.FailingRows.{Keeps};
 
 use crate::{Note, Section};

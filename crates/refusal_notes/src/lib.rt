@@ -8,6 +8,6 @@ mod told;
 mod written;
 
 pub use explained::push_explanation;
-pub use headline::{Note, Section};
+pub use soundness::{Note, Section};
 pub use told::notes;
 pub use written::{line, push_line};

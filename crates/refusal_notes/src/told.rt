@@ -7,8 +7,8 @@ ghost use Rattle.weights.specs.Vector.{vector_fits};
 ghost use Rattle.weights.specs.Blocked.{blocked_rows};
 ghost use Rattle.weights.specs.Ranks.{is_counted, rank_rows, ranks_fit};
 ghost use Rattle.cert_text.specs.Cert.{pool_cert_fits, cert_fits};
-ghost use Rattle.headline.specs.declared.note.Section.TheVariants as section;
-ghost use Rattle.headline.specs.Conditions.{bound_section, failing, in_section};
+ghost use Rattle.soundness.specs.declared.note.Section.TheVariants as section;
+ghost use Rattle.soundness.specs.Conditions.{bound_section, failing, in_section};
 
 use crate::failing_rows::FailingRows;
 use crate::{Note, Section};

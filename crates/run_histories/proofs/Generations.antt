@@ -9,7 +9,7 @@ use Rattle.job_bodies.specs.WellFormed.{IsWellFormed}
 use Rattle.job_bodies.specs.Lawful.{IsLawful}
 use Rattle.job_bodies.proofs.Bodies.{ordered}
 use Rattle.run_histories.specs.Complete.{rounds_of}
-use Rattle.starvation_laws.specs.Drain.{of_submit}
+use Rattle.soundness.specs.Drain.{of_submit}
 use Rattle.run_histories.specs.RunNumbers.{capped, AreCapped, AreCaused, submitted, submitted_by, caused_within}
 use Rattle.run_histories.proofs.Capped.{capped_sums, capped_products}
 

@@ -5,10 +5,10 @@ use Rattle.job_bodies.specs.declared.action.Action.{Action}
 use Rattle.job_bodies.specs.declared.action.Action.TheVariants.{Work, Submit, Get}
 use Rattle.job_bodies.specs.Plan.{Plan, Class, Client, class_at}
 use Rattle.weights.specs.Ranks.{Ranks, level}
-use Rattle.starvation_laws.proofs.RankLaws.{RankLaws, rank_laws}
+use Rattle.soundness.proofs.RankLaws.{RankLaws, rank_laws}
 use Rattle.run_histories.specs.declared.numbers.Measure.TheVariants.{Jobs, Units, Events}
 use Rattle.run_histories.specs.Complete.{rounds_of}
-use Rattle.starvation_laws.specs.Drain.{of_submit}
+use Rattle.soundness.specs.Drain.{of_submit}
 use Rattle.run_histories.specs.RunNumbers.{submitted, caused_within, greatest, caused, submitted_by, by_jobs, own, units_of_clients, events_of_clients, CausedIsWhole, NumbersAreOfThePlan}
 
 -- two sums whose terms agree at each element

@@ -5,7 +5,7 @@ use Rattle.job_bodies.specs.declared.action.Action.TheVariants.{Work}
 use Rattle.job_bodies.specs.Plan.{Plan, Class, Client, class_at}
 use Rattle.weights.specs.Row.{AllHold}
 use Rattle.weights.specs.Ranks.{Ranks, rank_rows}
-use Rattle.starvation_laws.specs.Drain.{of_submit}
+use Rattle.soundness.specs.Drain.{of_submit}
 use Rattle.run_histories.specs.declared.numbers.Measure.{Measure}
 use Rattle.run_histories.specs.declared.numbers.Measure.TheVariants.{Jobs, Units, Events}
 use Rattle.run_histories.specs.Complete.{rounds_of, events_of_client}

@@ -6,7 +6,7 @@ use Rattle.std.proofs.lemmas.List.{get_or_past}
 use Rattle.job_bodies.specs.Plan.{Pool, Plan, no_pool, pool_at}
 use Rattle.job_bodies.specs.WellFormed.{IsWellFormed}
 use Rattle.cert_text.specs.Cert.{Cert, pool_cert_at}
-use Rattle.headline.specs.Accepted.{accepted}
+use Rattle.soundness.specs.Accepted.{accepted}
 use Rattle.fitted_sizes.specs.Fitted.{core_needed, IsNoSmaller, IsLeastFit}
 use Rattle.fitted_sizes.specs.Widened.{outline, HasLeastCores, without_maxes, IsWider, IsLeastWide}
 use Rattle.fitted_sizes.proofs.Numbered.{map-twice}

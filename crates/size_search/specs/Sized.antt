@@ -4,7 +4,7 @@ use Rattle.job_bodies.specs.declared.limits.TheConstants.{MAX_SIZE}
 use Rattle.job_bodies.specs.Plan.{Plan, pool_at}
 use Rattle.weights.specs.Vector.{has_small_numbers}
 use Rattle.cert_text.specs.Cert.{Cert}
-use Rattle.headline.specs.Accepted.{accepted}
+use Rattle.soundness.specs.Accepted.{accepted}
 use Rattle.fitted_sizes.specs.Fitted.{IsResized, IsNoSmaller}
 use Rattle.fitted_sizes.specs.Widened.{IsWideFit, HasLeastCores}
 use Rattle.steady_certificates.specs.Steady.{steady_vector, steady_total}

@@ -1,7 +1,7 @@
 //! The search for sizes.
 
 ghost use Rattle.std.specs.Prelude.{◌≡◌, IfOk, IfSome, IsTrue};
-ghost use Rattle.headline.specs.Accepted.{accepted};
+ghost use Rattle.soundness.specs.Accepted.{accepted};
 ghost use Rattle.job_bodies.specs.WellFormed.{IsWellFormed};
 ghost use Rattle.steady_certificates.specs.Submitted.{IsWithoutCause};
 ghost use Rattle.size_search.specs.Sized.{IsSized, IsFound};

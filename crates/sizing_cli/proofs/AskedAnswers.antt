@@ -7,7 +7,7 @@ use Rattle.plan_text.specs.PlanOf.{plan_of}
 use Rattle.cert_text.specs.Cert.{Cert}
 use Rattle.cert_text.specs.CertOf.{cert_of}
 use Rattle.cert_text.specs.declared.fault.CertFault.{CertFault}
-use Rattle.headline.proofs.Promised.{promises}
+use Rattle.soundness.proofs.Promised.{promises}
 use Rattle.cert_check.proofs.Yes.{plans_read_are_well_formed}
 use Rattle.ask_answers.specs.declared.finding.PlanFinding.{PlanFinding}
 use Rattle.ask_answers.specs.declared.finding.PlanFinding.TheVariants.{Safe, NotSafe, NotDecided}

@@ -9,8 +9,8 @@ use Rattle.plan_text.specs.PlanOf.{plan_of}
 use Rattle.cert_text.specs.Cert.{Cert}
 use Rattle.job_bodies.specs.declared.limits.TheConstants.{MAX_CERT_BYTES, MAX_INPUT_BYTES}
 use Rattle.cert_text.specs.CertText.{cert_text}
-use Rattle.headline.specs.Accepted.{accepted}
-use Rattle.headline.proofs.Promised.{promises}
+use Rattle.soundness.specs.Accepted.{accepted}
+use Rattle.soundness.proofs.Promised.{promises}
 use Rattle.cert_check.proofs.Yes.{plans_read_are_well_formed}
 use Rattle.size_search.specs.declared.found.SizesFound.{SizesFound}
 use Rattle.size_search.specs.declared.found.SizesFound.TheVariants.{Found, NotFound}

@@ -6,7 +6,7 @@ use Rattle.command_line.specs.declared.command.Shown.{Shown}
 use Rattle.job_bodies.specs.Plan.{Plan}
 use Rattle.job_bodies.specs.declared.fault.PlanFault.{PlanFault}
 use Rattle.plan_text.specs.PlanOf.{plan_of}
-use Rattle.headline.proofs.Promised.{promises}
+use Rattle.soundness.proofs.Promised.{promises}
 use Rattle.cert_check.proofs.Yes.{plans_read_are_well_formed}
 use Rattle.command_line.specs.declared.command.Shown.TheVariants.{Story, Bundle}
 use Rattle.job_bodies.specs.declared.limits.TheConstants.{MAX_INPUT_BYTES}

@@ -7,7 +7,7 @@ use Rattle.locked_runner.specs.Faults.{IsFaultOf}
 use Rattle.sizing_cli.specs.ServeFault.{is_of_run}
 use Rattle.job_bodies.specs.Plan.{Plan}
 use Rattle.cert_text.specs.Cert.{Cert}
-use Rattle.headline.specs.Accepted.{accepted}
+use Rattle.soundness.specs.Accepted.{accepted}
 use Rattle.cert_check.specs.Certified.{Certified}
 use Rattle.sizing_cli.specs.declared.status.ServeFault.{ServeFault}
 use Rattle.sizing_cli.specs.Answer.{Answer}

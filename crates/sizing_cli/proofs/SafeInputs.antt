@@ -6,7 +6,7 @@ use Rattle.plan_text.specs.PlanOf.{plan_of}
 use Rattle.cert_text.specs.Cert.{Cert}
 use Rattle.cert_text.specs.declared.fault.CertFault.{CertFault}
 use Rattle.cert_text.specs.CertOf.{cert_of}
-use Rattle.headline.specs.Accepted.{accepted}
+use Rattle.soundness.specs.Accepted.{accepted}
 use Rattle.cert_check.specs.Check.{IsSafeWith, IsSafeToRun}
 use Rattle.cert_check.proofs.Yes.{plans_read_are_well_formed, safe_with}
 use Rattle.command_line.specs.declared.command.Review.TheVariants.{Check}

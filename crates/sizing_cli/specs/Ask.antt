@@ -6,7 +6,7 @@ use Rattle.job_bodies.specs.declared.fault.PlanFault.{PlanFault}
 use Rattle.plan_text.specs.PlanOf.{plan_of}
 use Rattle.cert_text.specs.Cert.{Cert}
 use Rattle.cert_text.specs.CertOf.{cert_of}
-use Rattle.headline.specs.Accepted.{accepted}
+use Rattle.soundness.specs.Accepted.{accepted}
 use Rattle.cert_text.specs.declared.fault.CertFault.{CertFault}
 use Rattle.plan_advice.specs.declared.advice.Faults.{Faults}
 use Rattle.plan_advice.specs.declared.oddity.Oddity.{Oddity}

@@ -8,7 +8,7 @@ use Rattle.plan_text.specs.PlanOf.{plan_of}
 use Rattle.cert_text.specs.Cert.{Cert}
 use Rattle.job_bodies.specs.declared.limits.TheConstants.{MAX_CERT_BYTES, MAX_INPUT_BYTES}
 use Rattle.cert_text.specs.CertText.{cert_text}
-use Rattle.headline.specs.Accepted.{accepted}
+use Rattle.soundness.specs.Accepted.{accepted}
 use Rattle.size_search.specs.declared.found.SizesFound.{SizesFound}
 use Rattle.ask_answers.specs.Finding.{IsOpen}
 use Rattle.cert_check.specs.Verdict.{Verdict}

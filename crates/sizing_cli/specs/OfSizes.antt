@@ -1,7 +1,7 @@
 -- The comparison of sizes that a search found with the declared ones.
 use Rattle.std.specs.Prelude.{IsTrue}
 use Rattle.job_bodies.specs.Plan.{Plan}
-use Rattle.headline.specs.Accepted.{accepted}
+use Rattle.soundness.specs.Accepted.{accepted}
 use Rattle.ask_answers.specs.Finding.{IsOpen}
 use Rattle.sizing_cli.specs.declared.certificate.Declared.{Declared}
 use Rattle.sizing_cli.specs.declared.certificate.Declared.TheVariants.{Accepted, Other}

@@ -6,7 +6,7 @@ use Rattle.job_bodies.specs.FaultText.{fault_line}
 use Rattle.job_bodies.specs.declared.fault.PlanFault.{PlanFault}
 use Rattle.plan_text.specs.PlanOf.{plan_of}
 use Rattle.cert_text.specs.Cert.{Cert}
-use Rattle.headline.specs.Accepted.{accepted}
+use Rattle.soundness.specs.Accepted.{accepted}
 use Rattle.event_lines.specs.LineText.{lines_text}
 use Rattle.plan_witnesses.specs.declared.witness.Witness.{Witness}
 use Rattle.plan_witnesses.specs.Witness.{IsWitness}

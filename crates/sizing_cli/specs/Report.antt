@@ -10,8 +10,8 @@ use Rattle.plan_text.specs.PlanOf.{plan_of}
 use Rattle.cert_text.specs.Cert.{Cert}
 use Rattle.cert_text.specs.declared.fault.CertFault.{CertFault}
 use Rattle.cert_text.specs.CertOf.{cert_of}
-use Rattle.headline.specs.Conditions.{failing}
-use Rattle.headline.specs.Accepted.{is_nil, accepted}
+use Rattle.soundness.specs.Conditions.{failing}
+use Rattle.soundness.specs.Accepted.{is_nil, accepted}
 use Rattle.cert_check.specs.Verdict.{Verdict, verdict}
 use Rattle.cert_check.specs.Text.{verdict_text}
 use Rattle.refusal_notes.specs.Explanation.{explanation}

@@ -3,7 +3,7 @@ use Rattle.std.specs.Prelude.{◌≡◌, ℕ, List, Some, Ok}
 use Rattle.job_bodies.specs.Plan.{Plan}
 use Rattle.plan_text.specs.PlanOf.{plan_of}
 use Rattle.cert_text.specs.Cert.{Cert}
-use Rattle.headline.specs.Headline.{Promises}
+use Rattle.soundness.specs.Headline.{Promises}
 use Rattle.command_line.specs.declared.command.Review.TheVariants.{Check}
 use Rattle.cert_check.specs.Check.{IsSafeToRun}
 use Rattle.sizing_cli.specs.declared.status.Status.TheVariants.{Done}

@@ -1,7 +1,7 @@
 //! The search for what `ask` reports about a plan with its declared sizes.
 
 ghost use Rattle.std.specs.Prelude.{◌≡◌, IfOk, IfErr, IsTrue, false, not};
-ghost use Rattle.headline.specs.Accepted.{accepted};
+ghost use Rattle.soundness.specs.Accepted.{accepted};
 ghost use Rattle.steady_certificates.specs.Steady.{steady_cert};
 ghost use Rattle.ask_answers.specs.Finding.{IsFinding, IsKnown};
 ghost use Rattle.ask_answers.specs.declared.finding.PlanFinding.TheVariants.{Safe};

@@ -1,7 +1,7 @@
 //! The `fit` command: searches for sizes, and writes them as lines or as a bundle.
 
 ghost use Rattle.std.specs.Prelude.{◌≡◌, IfOk, IfErr, IsTrue};
-ghost use Rattle.headline.specs.Accepted.{accepted};
+ghost use Rattle.soundness.specs.Accepted.{accepted};
 ghost use Rattle.steady_certificates.specs.Steady.{steady_cert};
 ghost use Rattle.size_search.specs.Sized.{IsFound};
 ghost use Rattle.size_search.specs.Decided.{IsDecided};

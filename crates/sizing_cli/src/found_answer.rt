@@ -1,7 +1,7 @@
 //! The answer of `ask` about a plan, written from a finding.
 
 ghost use Rattle.std.specs.Prelude.{◌≡◌, ◌++◌, IfOk, IsTrue, option_map, string_bytes};
-ghost use Rattle.headline.specs.Accepted.{accepted};
+ghost use Rattle.soundness.specs.Accepted.{accepted};
 ghost use Rattle.plan_advice.specs.Oddities.{warned_of};
 ghost use Rattle.job_bodies.specs.Plan.{Plan as PlanValue};
 ghost use Rattle.ask_answers.specs.Finding.{IsFinding};

@@ -21,19 +21,19 @@ use Rattle.weights.specs.Vector.{Vector, queued_weight, job_weight, total, has_s
 use Rattle.weights.specs.Rows.{rows, classes_of}
 use Rattle.weights.specs.Standing.{standing_rows}
 use Rattle.weights.specs.Bound.{bound_rows}
-use Rattle.weight_laws.proofs.BoundLaws.{BoundLaws}
+use Rattle.soundness.proofs.BoundLaws.{BoundLaws}
 use Rattle.weights.specs.Blocked.{is_get, counted_rows, blocked_rows}
 use Rattle.weights.specs.Ranks.{is_counted, rank_rows}
-use Rattle.starvation_laws.proofs.BlockedLaws.{BlockedLaws}
-use Rattle.starvation_laws.proofs.RankLaws.{RankLaws}
+use Rattle.soundness.proofs.BlockedLaws.{BlockedLaws}
+use Rattle.soundness.proofs.RankLaws.{RankLaws}
 use Rattle.cert_text.specs.Cert.{PoolCert, no_pool_cert, pool_cert_at}
-use Rattle.headline.specs.declared.note.Section.{Section}
-use Rattle.headline.specs.declared.note.Section.TheVariants as section
-use Rattle.headline.specs.declared.note.Note.{Note}
-use Rattle.headline.specs.Conditions.{note, in_section, bound_section, pool_conditions, conditions, failing}
-use Rattle.headline.specs.Accepted.{accepted}
-use Rattle.headline.proofs.CertLaws.{cert_laws}
-use Rattle.headline.proofs.Faults.{pool_numbers, accepted_from_parts}
+use Rattle.soundness.specs.declared.note.Section.{Section}
+use Rattle.soundness.specs.declared.note.Section.TheVariants as section
+use Rattle.soundness.specs.declared.note.Note.{Note}
+use Rattle.soundness.specs.Conditions.{note, in_section, bound_section, pool_conditions, conditions, failing}
+use Rattle.soundness.specs.Accepted.{accepted}
+use Rattle.soundness.proofs.CertLaws.{cert_laws}
+use Rattle.soundness.proofs.Faults.{pool_numbers, accepted_from_parts}
 use Rattle.steady_certificates.specs.Submitted.{IsWithoutCause}
 use Rattle.steady_certificates.specs.Steady.{steady_vector, steady_pool, steady_ranks, steady_cert}
 use Rattle.steady_certificates.specs.SteadyLaws.{AreEnough, SteadyCertificatesAccept}

@@ -6,7 +6,7 @@ use Rattle.job_bodies.specs.declared.action.Action.{Action}
 use Rattle.job_bodies.specs.declared.action.Action.TheVariants.{Work, Submit, Get}
 use Rattle.job_bodies.specs.Plan.{Class, Plan, no_class, class_at}
 use Rattle.job_bodies.proofs.Bodies.{IsOrdered}
-use Rattle.weight_laws.proofs.VectorLaws.{class_of_action}
+use Rattle.soundness.proofs.VectorLaws.{class_of_action}
 use Rattle.steady_certificates.specs.Submitted.{IsSubmitted, begins, follows, NoCircle}
 use Rattle.steady_certificates.specs.Steady.{sum_below, level_above, levels_within, steady_levels}
 use Rattle.steady_certificates.proofs.Sums.{sum_below_ones, sum_below-le-at}

@@ -15,9 +15,9 @@ use Rattle.weights.specs.declared.row.Rule.TheVariants.{V7}
 use Rattle.weights.specs.Row.{row, AllHold}
 use Rattle.weights.specs.Vector.{Vector, job_weight, client_weight}
 use Rattle.weights.specs.Rows.{action_row, body_rows, class_rows, client_rows, rows}
-use Rattle.weight_laws.proofs.VectorLaws.{BodyLaws, VectorLaws}
+use Rattle.soundness.proofs.VectorLaws.{BodyLaws, VectorLaws}
 use Rattle.weights.specs.Ranks.{Ranks, rank_rows_of_action, rank_rows_of_class, rank_rows}
-use Rattle.starvation_laws.proofs.RankLaws.{RankLaws}
+use Rattle.soundness.proofs.RankLaws.{RankLaws}
 
 -- an element of an enumerated list is the one at its index
 pub numbered : {X : Type 0} (n : ℕ) (xs : List X) (entry : ℕ × X) → In entry (enumerate_from n xs) → (i : ℕ) × (entry.0 ≡ n + i) × (slice_get xs i ≡ Some entry.1)

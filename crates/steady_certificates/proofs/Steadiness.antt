@@ -11,7 +11,7 @@ use Rattle.job_bodies.specs.Plan.{Pool, Class, Client, Plan, no_pool, no_class, 
 use Rattle.job_bodies.proofs.Bodies.{IsOrdered}
 use Rattle.weights.specs.declared.at_get.AtGet.TheVariants.{GivesBack}
 use Rattle.weights.specs.Vector.{Vector, workers_weight, queued_weight, job_weight, done_weight, client_weight}
-use Rattle.weight_laws.proofs.VectorLaws.{BodyLaws, VectorLaws}
+use Rattle.soundness.proofs.VectorLaws.{BodyLaws, VectorLaws}
 use Rattle.steady_certificates.specs.Submitted.{IsSubmitted, begins, follows, IsNeverGot, repeated_bodies, IsWithoutCause}
 use Rattle.steady_certificates.specs.Steady.{most, weight_before, weight_at, job_end, client_end, steady_vector, steady_levels}
 use Rattle.steady_certificates.proofs.Opened.{rest_at}

@@ -6,9 +6,9 @@ use Rattle.job_bodies.specs.WellFormed.{IsWellFormed}
 use Rattle.weights.specs.declared.row.Place.TheVariants.{Total}
 use Rattle.weights.specs.Vector.{has_small_numbers}
 use Rattle.cert_text.specs.Cert.{cert_fits}
-use Rattle.headline.specs.declared.note.Note.{Note}
-use Rattle.headline.specs.Conditions.{failing}
-use Rattle.headline.specs.Accepted.{accepted}
+use Rattle.soundness.specs.declared.note.Note.{Note}
+use Rattle.soundness.specs.Conditions.{failing}
+use Rattle.soundness.specs.Accepted.{accepted}
 use Rattle.steady_certificates.specs.Submitted.{IsWithoutCause}
 use Rattle.steady_certificates.specs.Steady.{steady_vector, steady_total, steady_cert}
 

@@ -5,9 +5,9 @@ use Rattle.weights.specs.declared.row.Row.{Row}
 use Rattle.weights.specs.Row.{first_failing}
 use Rattle.weights.specs.Ranks.{Ranks, rank_rows}
 use Rattle.cert_text.specs.Cert.{Cert, cert_fits}
-use Rattle.headline.specs.Conditions.{failing}
-use Rattle.headline.specs.Accepted.{is_nil}
-use Rattle.headline.proofs.Promised.{promises}
+use Rattle.soundness.specs.Conditions.{failing}
+use Rattle.soundness.specs.Accepted.{is_nil}
+use Rattle.soundness.proofs.Promised.{promises}
 use Rattle.cert_check.specs.declared.answer.PoolLine.{PoolLine}
 use Rattle.cert_check.specs.declared.on_threads.PoolCheck.{PoolCheck}
 use Rattle.cert_check.specs.Holding.{pool_holds}

@@ -1,8 +1,8 @@
 -- The lines so far, followed by those of the remaining pools, are all lines, and the result so far and the remaining pools
 -- decide together.
 use Rattle.std.proofs.Common.{◌≡◌, ◌++◌, ◌&&◌}
-use Rattle.headline.specs.Conditions.{failing}
-use Rattle.headline.specs.Accepted.{is_nil}
+use Rattle.soundness.specs.Conditions.{failing}
+use Rattle.soundness.specs.Accepted.{is_nil}
 use Rattle.cert_check.specs.Verdict.{pool_line}
 use Rattle.cert_check.specs.Holding.{pool_holds}
 use Rattle.cert_check.proofs.Pools.{rest_given, rest_passes}

@@ -1,7 +1,7 @@
 -- The result depends on the notes from this one.
 use Rattle.std.proofs.Common.{◌≡◌, not, drop}
 use Rattle.std.specs.List.{find}
-use Rattle.headline.specs.declared.note.Note.{Note}
+use Rattle.soundness.specs.declared.note.Note.{Note}
 use Rattle.fitted_sizes.specs.Fitted.{is_total}
 use Rattle.fitted_sizes.proofs.fit.first_elsewhere.Given as goal
 

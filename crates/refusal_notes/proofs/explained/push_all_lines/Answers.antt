@@ -1,5 +1,5 @@
 use Rattle.std.proofs.Common.{List, length, ap}
-use Rattle.headline.specs.declared.note.Note.{Note}
+use Rattle.soundness.specs.declared.note.Note.{Note}
 use Rattle.refusal_notes.proofs.Telling.{part_fits}
 use Rattle.refusal_notes.proofs.Explaining.{lines_begin, lines_go_on}
 use Rattle.refusal_notes.proofs.explained.push_all_lines.Goals as goal

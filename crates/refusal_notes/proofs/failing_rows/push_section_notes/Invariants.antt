@@ -1,6 +1,6 @@
 -- The rows before this one were written.
 use Rattle.std.proofs.Common.{◌≡◌, ◌++◌, take}
-use Rattle.headline.specs.Conditions.{in_section}
+use Rattle.soundness.specs.Conditions.{in_section}
 use Rattle.refusal_notes.proofs.failing_rows.push_section_notes.Given as goal
 
 abbrev pub invariant-loop-row : goal.invariant-loop-row

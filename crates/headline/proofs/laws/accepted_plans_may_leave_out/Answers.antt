@@ -1,5 +1,0 @@
-use Rattle.headline.proofs.LeavingOut.{accepted_plans_may_leave_out}
-use Rattle.headline.proofs.laws.accepted_plans_may_leave_out.Goals as goal
-
-pub returns : goal.returns
-returns c = accepted_plans_may_leave_out

@@ -1,5 +1,0 @@
-use Rattle.headline.proofs.JavaBounded.{bounded_plans_java_refuse_nothing}
-use Rattle.headline.proofs.laws.bounded_plans_java_refuse_nothing.Goals as goal
-
-pub returns : goal.returns
-returns c = bounded_plans_java_refuse_nothing

@@ -1,3 +1,0 @@
-pub mod Execute
-pub mod JavaSafe
-pub mod WithRoom

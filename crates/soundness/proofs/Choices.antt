@@ -1,0 +1,58 @@
+-- The effect of a choice to skip a submit, and the properties that lists of choices preserve.
+use Rattle.std.proofs.Common.{◌≡◌, ℕ, Bool, true, false, cond, List, [], ◌∷◌, Option, Some, None, refl, subst}
+use Rattle.std.proofs.lemmas.Bool.{or_parts}
+use Rattle.std.proofs.lemmas.Option.{none-some, same_Some}
+use Rattle.job_bodies.specs.declared.action.Action.{Action}
+use Rattle.job_bodies.specs.declared.action.Action.TheVariants as action
+use Rattle.job_bodies.specs.Plan.{Plan}
+use Rattle.written_machine.specs.declared.parent.Parent.{Parent}
+use Rattle.written_machine.specs.declared.event.Event.{Event}
+use Rattle.written_machine.specs.State.{pool_of}
+use Rattle.written_machine.proofs.Events.{StandsAt, event_of}
+use Rattle.soundness.specs.Execute.{JavaState, Submission, is_calling, submission}
+use Rattle.soundness.proofs.JavaEvents.{is_submission}
+use Rattle.soundness.specs.LeavingOut.{Choice, left_out, has_begun, leaves_out, choice_step, choices_replay}
+use Rattle.soundness.specs.LeavingOut.Choice.{LeavesOut}
+use Rattle.soundness.proofs.LeftOut.{left}
+
+-- ---- a skipped submit
+
+-- its actor is at it and has not begun it
+pub data IsLeftOut (plan : Plan) (s : JavaState) : Event → JavaState → Type 0 where
+  leaves : (a : Parent) (body : List Action) (i k : ℕ) → StandsAt plan s.machine a body i (Some (action.Submit k)) → is_calling s.offering a (pool_of plan k) ≡ false → is_calling s.asking a (pool_of plan k) ≡ false
+      → IsLeftOut plan s (event_of a) (record s { machine = left s.machine a i k })
+
+not_begun_left : (plan : Plan) (s : JavaState) (e : Event) (x : Submission) (begun : Bool) (s' : JavaState) → submission plan s.machine e ≡ Some x → has_begun plan s x ≡ begun → cond begun None (Some (record s { machine = left_out s.machine x })) ≡ Some s' → IsLeftOut plan s e s'
+not_begun_left plan s e x true s' is_found is_begun is_after = absurd (none-some s' is_after)
+not_begun_left plan s e x false s' is_found is_begun is_after =
+    let submitting = is_submission plan s.machine e x is_found in
+    let neither = or_parts (is_calling s.offering x.actor (pool_of plan x.class)) (is_calling s.asking x.actor (pool_of plan x.class)) is_begun in
+    let leaving : IsLeftOut plan s (event_of x.actor) (record s { machine = left s.machine x.actor x.position x.class }) = leaves x.actor submitting.body x.position x.class submitting.at neither.0 neither.1 in
+    subst (IsLeftOut plan s e) (same_Some (record s { machine = left_out s.machine x }) s' is_after) (subst (λ (event : Event). IsLeftOut plan s event (record s { machine = left_out s.machine x })) submitting.same leaving)
+
+found_left : (plan : Plan) (s : JavaState) (e : Event) (found : Option Submission) (s' : JavaState) → submission plan s.machine e ≡ found → leaves_out plan s found ≡ Some s' → IsLeftOut plan s e s'
+found_left plan s e None s' is_found is_after = absurd (none-some s' is_after)
+found_left plan s e (Some x) s' is_found is_after = not_begun_left plan s e x (has_begun plan s x) s' is_found refl is_after
+
+pub is_left_out : (plan : Plan) (s : JavaState) (e : Event) (s' : JavaState) → choice_step plan s (LeavesOut e) ≡ Some s' → IsLeftOut plan s e s'
+is_left_out plan s e s' is_after = found_left plan s e (submission plan s.machine e) s' refl is_after
+
+-- ---- lists of choices
+
+-- after an impossible choice there is no state
+pub choices_none : (plan : Plan) (choices : List Choice) → choices_replay plan None choices ≡ None
+choices_none plan [] = refl
+choices_none plan (x ∷ choices) = refl
+
+after_choice : (plan : Plan) (holds : JavaState → Type 0) → ((s : JavaState) (x : Choice) (s' : JavaState) → holds s → choice_step plan s x ≡ Some s' → holds s') → (s : JavaState) (x : Choice) (choices : List Choice) (s' : JavaState)
+    → ((next : JavaState) → holds next → choices_replay plan (Some next) choices ≡ Some s' → holds s') → holds s → (found : Option JavaState) → choice_step plan s x ≡ found → choices_replay plan found choices ≡ Some s' → holds s'
+after_choice plan holds stays s x choices s' onward held None is_step replayed =
+    let none = choices_none plan choices in
+    absurd cc
+after_choice plan holds stays s x choices s' onward held (Some next) is_step replayed = onward next (stays s x next held is_step) replayed
+
+-- a property that each choice preserves is preserved by every list of choices
+pub choices_keep : (plan : Plan) (holds : JavaState → Type 0) → ((s : JavaState) (x : Choice) (s' : JavaState) → holds s → choice_step plan s x ≡ Some s' → holds s') → (choices : List Choice) (s s' : JavaState) → holds s → choices_replay plan (Some s) choices ≡ Some s' → holds s'
+choices_keep plan holds stays [] s s' held replayed = subst holds (same_Some s s' replayed) held
+choices_keep plan holds stays (x ∷ choices) s s' held replayed =
+    after_choice plan holds stays s x choices s' (λ next held' rest. choices_keep plan holds stays choices next s' held' rest) held (choice_step plan s x) refl replayed

@@ -1,0 +1,47 @@
+-- Plans whose pools all have a bound that holds reject nothing, and no call requests a thread from a pool with a standing
+-- vector, if submits are the steps of Java's execute.
+use Rattle.std.proofs.Common.{◌≡◌, ℕ, List, Some, subst}
+use Rattle.std.proofs.lemmas.Bool.{false_from_ne_true}
+use Rattle.job_bodies.specs.Plan.{Plan}
+use Rattle.job_bodies.proofs.Bodies.{IsOrdered, ordered}
+use Rattle.written_machine.specs.declared.event.Event.{Event}
+use Rattle.written_machine.specs.Reach.{start}
+use Rattle.weights.specs.declared.bound.Bound.{Bound}
+use Rattle.soundness.proofs.BoundLaws.{bound_laws}
+use Rattle.soundness.specs.Execute.{JavaState, is_calling, java_step, between_calls}
+use Rattle.soundness.specs.JavaSafe.{JavaReaches}
+use Rattle.soundness.proofs.JavaEvents.{java_happens}
+use Rattle.soundness.proofs.JavaReplays.{java_replay_keeps}
+use Rattle.soundness.specs.Headline.{BoundedPlansJavaRefuseNothing, StandingPoolsAreNotAsked}
+use Rattle.soundness.proofs.Bounded.{Bounded, BoundsHold, bounded_start, bounded_step, keeps_sizes}
+use Rattle.soundness.proofs.Calls.{WasFull, CallsKept, calls_none, machine_keeps, calls_step}
+
+-- the invariants of reachable states
+record JavaBounded (plan : Plan) (bounds : ℕ → Bound) (s : JavaState) : Type 0 where
+  bounded : Bounded plan bounds s.machine
+  calls : CallsKept plan bounds s
+
+-- every event preserves them
+java_bounded_step : (plan : Plan) (bounds : ℕ → Bound) → IsOrdered plan → BoundsHold plan bounds → (s : JavaState) (e : Event) (s' : JavaState) → JavaBounded plan bounds s → java_step plan s e ≡ Some s' → JavaBounded plan bounds s'
+java_bounded_step plan bounds ordered laws s e s' held is_step =
+    let happened = java_happens plan s e s' ordered held.calls.offering is_step in
+    record {
+      bounded = machine_keeps plan bounds (Bounded plan bounds) s s' ordered laws held.bounded held.calls (λ e' after o. bounded_step plan bounds s.machine after o ordered laws held.bounded) held.bounded happened;
+      calls = calls_step plan bounds s s' ordered laws held.bounded held.calls happened;
+    }
+
+java_bounded : (plan : Plan) (bounds : ℕ → Bound) → IsOrdered plan → BoundsHold plan bounds → (events : List Event) (s : JavaState) → JavaReaches plan events s → JavaBounded plan bounds s
+java_bounded plan bounds ordered laws events s reached =
+    java_replay_keeps plan (JavaBounded plan bounds) (java_bounded_step plan bounds ordered laws) events (between_calls (start plan)) s
+    (record { bounded = bounded_start plan bounds ordered; calls = calls_none plan bounds (start plan) }) reached
+
+-- no submit was rejected, and each pool is within its limits
+pub bounded_plans_java_refuse_nothing : BoundedPlansJavaRefuseNothing
+bounded_plans_java_refuse_nothing plan bounds well_formed hold events s reached =
+    keeps_sizes plan bounds s.machine (java_bounded plan bounds (ordered plan well_formed) (λ p inside. bound_laws plan p (bounds p) (hold p inside).0 (hold p inside).1) events s reached).bounded
+
+-- no call requests a thread from a pool with a standing vector
+pub standing_pools_are_not_asked : StandingPoolsAreNotAsked
+standing_pools_are_not_asked plan bounds p v events s a well_formed hold inside is_standing reached =
+    let held = java_bounded plan bounds (ordered plan well_formed) (λ q within. bound_laws plan q (bounds q) (hold q within).0 (hold q within).1) events s reached in
+    false_from_ne_true (is_calling s.asking a p) (λ asks. subst (λ (bound : Bound). WasFull plan bound s.machine p) is_standing (held.calls.asking a p inside asks))

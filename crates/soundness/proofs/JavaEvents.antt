@@ -1,0 +1,158 @@
+-- The kinds of events, if submits are the steps of Java's execute.
+use Rattle.std.proofs.Common.{◌≡◌, ℕ, ◌<◌, ◌≤◌, ◌⊎◌, inl, inr, ⊎_elim, Bool, true, false, cond, not, ◌&&◌, eqb, ltb, List, ◌∷◌, length, slice_get, Option, Some, None, refl, ap, subst, ◌∙◌}
+use Rattle.std.proofs.lemmas.Bool.{and_parts, or_cases, not-true, ltb-true, ltb-false, eqb-true}
+use Rattle.std.proofs.lemmas.Option.{none-some, same_Some}
+use Rattle.support.proofs.Members.{In-filter_from, In-from_list_any, list_any_at_In}
+use Rattle.job_bodies.specs.declared.action.Action.{Action}
+use Rattle.job_bodies.specs.declared.action.Action.TheVariants as action
+use Rattle.job_bodies.specs.Plan.{Plan, pool_at}
+use Rattle.job_bodies.proofs.Bodies.{IsOrdered}
+use Rattle.pool_machine.specs.declared.offer.Offer.TheVariants as offer
+use Rattle.written_machine.specs.declared.parent.Parent.{Parent}
+use Rattle.written_machine.specs.declared.parent.Parent.TheVariants as parent
+use Rattle.written_machine.specs.declared.event.Event.{Event}
+use Rattle.written_machine.specs.declared.event.Event.TheVariants as event
+use Rattle.written_machine.specs.declared.event.Outcome.{Outcome}
+use Rattle.written_machine.specs.State.{State, same_parent, pool_part, pool_of, threads}
+use Rattle.written_machine.specs.Step.{Point, point, acted, submitted, stepped, step}
+use Rattle.written_machine.proofs.Events.{StandsAt, event_of, Happens, starts, queues, happens}
+use Rattle.written_machine.proofs.Children.{same_actor_true}
+use Rattle.written_machine.proofs.KeptSubmits.{class_exists}
+use Rattle.soundness.specs.Execute.{Call, JavaState, is_calling, of_others, answers, looks, offers, asks, executes, Submission, submission_at, submission_of, submission, as_written, java_stepped, java_step}
+
+-- ---- calls
+
+-- a call among those of others existed before and is not the actor's
+pub call_of_others : (a b : Parent) (p : ℕ) (calls : List Call) → is_calling (of_others a calls) b p ≡ true → (is_calling calls b p ≡ true) × (same_parent a b ≡ false)
+call_of_others a b p calls is_there =
+    let to_pool = λ (call : Call). same_parent b call.actor && eqb p call.pool in
+    let of_other = λ (call : Call). not (same_parent a call.actor) in
+    let found = In-from_list_any to_pool (of_others a calls) is_there in
+    let kept = In-filter_from of_other calls found.1 in
+    let actor : b ≡ found.0.actor = same_actor_true b found.0.actor (and_parts (same_parent b found.0.actor) (eqb p found.0.pool) found.2).0 in
+    (list_any_at_In to_pool kept.0 found.2, ap (same_parent a) actor ∙ not-true (same_parent a found.0.actor) kept.1)
+
+-- with one more call, a call is the new one or existed before
+pub one_more : (call : Call) (calls : List Call) (b : Parent) (p : ℕ) → is_calling (call ∷ calls) b p ≡ true → ((b ≡ call.actor) × (p ≡ call.pool)) ⊎ (is_calling calls b p ≡ true)
+one_more call calls b p is_there =
+    ⊎_elim
+    (λ here.
+    let parts = and_parts (same_parent b call.actor) (eqb p call.pool) here in
+    inl (same_actor_true b call.actor parts.0, eqb-true p call.pool parts.1))
+    inr (or_cases (same_parent b call.actor && eqb p call.pool) (is_calling calls b p) is_there)
+
+-- ---- the kinds of events
+
+pub data JavaHappens (plan : Plan) (s : JavaState) : Event → JavaState → Type 0 where
+  -- an event that is not part of a submit
+  is_written : (e : Event) (after : State) (o : Outcome) → submission plan s.machine e ≡ None → Happens plan s.machine e after o → JavaHappens plan s e (record s { machine = after })
+  -- the end of a submit
+  ends : (a : Parent) (body : List Action) (i k : ℕ) (after : State) (o : Outcome) → StandsAt plan s.machine a body i (Some (action.Submit k)) → Happens plan s.machine (event_of a) after o
+      → JavaHappens plan s (event_of a) (record { machine = after; offering = of_others a s.offering; asking = of_others a s.asking })
+  -- a submit finds core threads
+  finds_core : (a : Parent) (body : List Action) (i k : ℕ) → StandsAt plan s.machine a body i (Some (action.Submit k)) → is_calling s.asking a (pool_of plan k) ≡ false → is_calling s.offering a (pool_of plan k) ≡ false
+      → (pool_at plan (pool_of plan k)).core ≤ threads plan s.machine (pool_of plan k)
+      → JavaHappens plan s (event_of a) (record s { offering = record { actor = a; pool = pool_of plan k } ∷ s.offering })
+  -- it then finds a full queue
+  finds_full : (a : Parent) (body : List Action) (i k : ℕ) → StandsAt plan s.machine a body i (Some (action.Submit k)) → is_calling s.asking a (pool_of plan k) ≡ false
+      → (pool_at plan (pool_of plan k)).queue ≤ length (pool_part s.machine (pool_of plan k)).queue
+      → JavaHappens plan s (event_of a) (record s { offering = of_others a s.offering; asking = record { actor = a; pool = pool_of plan k } ∷ s.asking })
+  -- it then finds that all threads exist
+  finds_all : (a : Parent) (body : List Action) (i k : ℕ) → StandsAt plan s.machine a body i (Some (action.Submit k)) → is_calling s.asking a (pool_of plan k) ≡ true
+      → (pool_at plan (pool_of plan k)).max ≤ threads plan s.machine (pool_of plan k)
+      → JavaHappens plan s (event_of a) (answers plan s a i k offer.Refused)
+
+-- ---- the steps of a submit
+
+-- the pools of the calls that offer had core threads
+abbrev pub OfferAtCore : Plan → JavaState → Type 0
+OfferAtCore plan s = (a : Parent) (p : ℕ) → p < length plan.pools → is_calling s.offering a p ≡ true → (pool_at plan p).core ≤ threads plan s.machine p
+
+-- the check
+looks_happens : (plan : Plan) (s : JavaState) (a : Parent) (body : List Action) (i k : ℕ) → StandsAt plan s.machine a body i (Some (action.Submit k)) → is_calling s.asking a (pool_of plan k) ≡ false → is_calling s.offering a (pool_of plan k) ≡ false
+    → (below : Bool) → ltb (threads plan s.machine (pool_of plan k)) (pool_at plan (pool_of plan k)).core ≡ below
+    → JavaHappens plan s (event_of a) (cond below (answers plan s a i k offer.Started) (record s { offering = record { actor = a; pool = pool_of plan k } ∷ s.offering }))
+looks_happens plan s a body i k at not_asking not_offering true is_below =
+    ends a body i k _ _ at (starts a body i k at (inr (ltb-true (threads plan s.machine (pool_of plan k)) (pool_at plan (pool_of plan k)).core is_below)))
+looks_happens plan s a body i k at not_asking not_offering false is_below =
+    finds_core a body i k at not_asking not_offering (ltb-false (threads plan s.machine (pool_of plan k)) (pool_at plan (pool_of plan k)).core is_below)
+
+-- the offer
+offers_happens : (plan : Plan) (s : JavaState) (a : Parent) (body : List Action) (i k : ℕ) → StandsAt plan s.machine a body i (Some (action.Submit k)) → is_calling s.asking a (pool_of plan k) ≡ false → (pool_at plan (pool_of plan k)).core ≤ threads plan s.machine (pool_of plan k)
+    → (room : Bool) → ltb (length (pool_part s.machine (pool_of plan k)).queue) (pool_at plan (pool_of plan k)).queue ≡ room
+    → JavaHappens plan s (event_of a) (cond room (answers plan s a i k offer.Queued) (record s { offering = of_others a s.offering; asking = record { actor = a; pool = pool_of plan k } ∷ s.asking }))
+offers_happens plan s a body i k at not_asking at_core true has_room =
+    ends a body i k _ _ at (queues a body i k at at_core (ltb-true (length (pool_part s.machine (pool_of plan k)).queue) (pool_at plan (pool_of plan k)).queue has_room))
+offers_happens plan s a body i k at not_asking at_core false has_room =
+    finds_full a body i k at not_asking (ltb-false (length (pool_part s.machine (pool_of plan k)).queue) (pool_at plan (pool_of plan k)).queue has_room)
+
+-- the request for a thread
+asks_happens : (plan : Plan) (s : JavaState) (a : Parent) (body : List Action) (i k : ℕ) → StandsAt plan s.machine a body i (Some (action.Submit k)) → is_calling s.asking a (pool_of plan k) ≡ true
+    → (below : Bool) → ltb (threads plan s.machine (pool_of plan k)) (pool_at plan (pool_of plan k)).max ≡ below → JavaHappens plan s (event_of a) (answers plan s a i k (cond below offer.Started offer.Refused))
+asks_happens plan s a body i k at asking true is_below =
+    ends a body i k _ _ at (starts a body i k at (inl (ltb-true (threads plan s.machine (pool_of plan k)) (pool_at plan (pool_of plan k)).max is_below)))
+asks_happens plan s a body i k at asking false is_below =
+    finds_all a body i k at asking (ltb-false (threads plan s.machine (pool_of plan k)) (pool_at plan (pool_of plan k)).max is_below)
+
+-- the next of these steps
+executes_happens : (plan : Plan) (s : JavaState) (a : Parent) (body : List Action) (i k : ℕ) → IsOrdered plan → OfferAtCore plan s → StandsAt plan s.machine a body i (Some (action.Submit k))
+    → (asking offering : Bool) → is_calling s.asking a (pool_of plan k) ≡ asking → is_calling s.offering a (pool_of plan k) ≡ offering
+    → JavaHappens plan s (event_of a) (cond asking (asks plan s a i k) (cond offering (offers plan s a i k) (looks plan s a i k)))
+executes_happens plan s a body i k ordered at_core at true offering is_asking is_offering =
+    asks_happens plan s a body i k at is_asking (ltb (threads plan s.machine (pool_of plan k)) (pool_at plan (pool_of plan k)).max) refl
+executes_happens plan s a body i k ordered at_core at false true is_asking is_offering =
+    offers_happens plan s a body i k at is_asking (at_core a (pool_of plan k) (ordered.pools k (class_exists plan s.machine a body i k ordered at)) is_offering)
+    (ltb (length (pool_part s.machine (pool_of plan k)).queue) (pool_at plan (pool_of plan k)).queue) refl
+executes_happens plan s a body i k ordered at_core at false false is_asking is_offering =
+    looks_happens plan s a body i k at is_asking is_offering (ltb (threads plan s.machine (pool_of plan k)) (pool_at plan (pool_of plan k)).core) refl
+
+-- ---- the submitter
+
+-- the actor of the event is at this submit
+pub record IsSubmission (plan : Plan) (s : State) (e : Event) (x : Submission) : Type 0 where
+  pub body : List Action
+  pub at : StandsAt plan s x.actor body x.position (Some (action.Submit x.class))
+  pub same : event_of x.actor ≡ e
+  pub stepping : stepped plan s x.actor (point plan s x.actor) ≡ Some (submitted plan s x.actor x.position x.class)
+
+at_action : (plan : Plan) (s : State) (a : Parent) (at : Point) (there : Option Action) (x : Submission) → point plan s a ≡ Some at → slice_get at.body at.position ≡ there → submission_at a at.position there ≡ Some x → IsSubmission plan s (event_of a) x
+at_action plan s a at None x stands is_there is_one = absurd (none-some x is_one)
+at_action plan s a at (Some (action.Work u)) x stands is_there is_one = absurd (none-some x is_one)
+at_action plan s a at (Some (action.Submit k)) x stands is_there is_one =
+    subst (IsSubmission plan s (event_of a)) (same_Some (record { actor = a; position = at.position; class = k }) x is_one)
+    (record {
+      body = at.body;
+      at = record { stands = stands; is_there = is_there };
+      same = refl;
+      stepping = ap (stepped plan s a) stands ∙ ap (acted plan s a at.position) is_there;
+    })
+at_action plan s a at (Some (action.Get t)) x stands is_there is_one = absurd (none-some x is_one)
+
+of_actor : (plan : Plan) (s : State) (a : Parent) (found : Option Point) (x : Submission) → point plan s a ≡ found → submission_of a found ≡ Some x → IsSubmission plan s (event_of a) x
+of_actor plan s a None x stands is_one = absurd (none-some x is_one)
+of_actor plan s a (Some at) x stands is_one = at_action plan s a at (slice_get at.body at.position) x stands refl is_one
+
+pub is_submission : (plan : Plan) (s : State) (e : Event) (x : Submission) → submission plan s e ≡ Some x → IsSubmission plan s e x
+is_submission plan s (event.Client c) x is_one = of_actor plan s (parent.Client c) (point plan s (parent.Client c)) x refl is_one
+is_submission plan s (event.Job j) x is_one = of_actor plan s (parent.Job j) (point plan s (parent.Job j)) x refl is_one
+is_submission plan s (event.Take p) x is_one = absurd (none-some x is_one)
+is_submission plan s (event.Retire p) x is_one = absurd (none-some x is_one)
+
+-- ---- every event
+
+-- an event that is that of the machine
+written_happens : (plan : Plan) (s : JavaState) (e : Event) (found : Option (State × Outcome)) (s' : JavaState) → submission plan s.machine e ≡ None → step plan s.machine e ≡ found → as_written s found ≡ Some s' → JavaHappens plan s e s'
+written_happens plan s e None s' none is_step is_after = absurd (none-some s' is_after)
+written_happens plan s e (Some (after, o)) s' none is_step is_after =
+    subst (JavaHappens plan s e) (same_Some (record s { machine = after }) s' is_after) (is_written e after o none (happens plan s.machine e after o is_step))
+
+stepped_happens : (plan : Plan) (s : JavaState) (e : Event) (found : Option Submission) (s' : JavaState) → IsOrdered plan → OfferAtCore plan s → submission plan s.machine e ≡ found → java_stepped plan s e found ≡ Some s' → JavaHappens plan s e s'
+stepped_happens plan s e None s' ordered at_core is_found is_after = written_happens plan s e (step plan s.machine e) s' is_found refl is_after
+stepped_happens plan s e (Some x) s' ordered at_core is_found is_after =
+    let submitting = is_submission plan s.machine e x is_found in
+    let happened : JavaHappens plan s (event_of x.actor) (executes plan s x.actor x.position x.class) =
+    executes_happens plan s x.actor submitting.body x.position x.class ordered at_core submitting.at (is_calling s.asking x.actor (pool_of plan x.class)) (is_calling s.offering x.actor (pool_of plan x.class)) refl refl in
+    subst (JavaHappens plan s e) (same_Some (executes plan s x.actor x.position x.class) s' is_after) (subst (λ (event : Event). JavaHappens plan s event (executes plan s x.actor x.position x.class)) submitting.same happened)
+
+pub java_happens : (plan : Plan) (s : JavaState) (e : Event) (s' : JavaState) → IsOrdered plan → OfferAtCore plan s → java_step plan s e ≡ Some s' → JavaHappens plan s e s'
+java_happens plan s e s' ordered at_core is_after = stepped_happens plan s e (submission plan s.machine e) s' ordered at_core refl is_after

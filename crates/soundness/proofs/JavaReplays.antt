@@ -1,0 +1,50 @@
+-- Invariants of reachable states, by induction over events; and which events are possible.
+use Rattle.std.proofs.Common.{◌≡◌, true, List, [], ◌∷◌, ◌++◌, Option, Some, None, is_some, refl, sym, subst}
+use Rattle.std.proofs.lemmas.Option.{same_Some}
+use Rattle.job_bodies.specs.Plan.{Plan}
+use Rattle.written_machine.specs.declared.event.Event.{Event}
+use Rattle.written_machine.specs.declared.event.Outcome.{Outcome}
+use Rattle.written_machine.specs.State.{State}
+use Rattle.written_machine.specs.Step.{step}
+use Rattle.soundness.specs.Execute.{JavaState, Submission, as_written, java_stepped, java_step, java_replay}
+
+-- ---- induction over events
+
+-- after an impossible event there is no state
+pub java_replay_none : (plan : Plan) (events : List Event) → java_replay plan None events ≡ None
+java_replay_none plan [] = refl
+java_replay_none plan (e ∷ events) = refl
+
+-- two lists of events in order
+pub java_replay-append : (plan : Plan) (s : Option JavaState) (first second : List Event) → java_replay plan s (first ++ second) ≡ java_replay plan (java_replay plan s first) second
+java_replay-append plan s [] second = refl
+java_replay-append plan None (e ∷ first) second = sym (java_replay_none plan second)
+java_replay-append plan (Some s) (e ∷ first) second = java_replay-append plan (java_step plan s e) first second
+
+-- the property is preserved by every event
+abbrev JavaStays : Plan → (JavaState → Type 0) → Type 0
+JavaStays plan holds = (s : JavaState) (e : Event) (s' : JavaState) → holds s → java_step plan s e ≡ Some s' → holds s'
+
+after_event : (plan : Plan) (holds : JavaState → Type 0) → JavaStays plan holds → (s : JavaState) (e : Event) (events : List Event) (s' : JavaState) → ((next : JavaState) → holds next → java_replay plan (Some next) events ≡ Some s' → holds s')
+    → holds s → (found : Option JavaState) → java_step plan s e ≡ found → java_replay plan found events ≡ Some s' → holds s'
+after_event plan holds stays s e events s' onward held None is_step replayed =
+    let none : java_replay plan None events ≡ None = java_replay_none plan events in
+    absurd cc
+after_event plan holds stays s e events s' onward held (Some next) is_step replayed = onward next (stays s e next held is_step) replayed
+
+-- a property that each event preserves is preserved by every list of events
+pub java_replay_keeps : (plan : Plan) (holds : JavaState → Type 0) → ((s : JavaState) (e : Event) (s' : JavaState) → holds s → java_step plan s e ≡ Some s' → holds s') → (events : List Event) (s s' : JavaState) → holds s → java_replay plan (Some s) events ≡ Some s' → holds s'
+java_replay_keeps plan holds stays [] s s' held replayed = subst holds (same_Some s s' replayed) held
+java_replay_keeps plan holds stays (e ∷ events) s s' held replayed =
+    after_event plan holds stays s e events s' (λ next held' rest. java_replay_keeps plan holds stays events next s' held' rest) held (java_step plan s e) refl replayed
+
+-- ---- what is possible
+
+-- an event that the machine allows is possible
+written_possible : (s : JavaState) (found : Option (State × Outcome)) → is_some found ≡ true → is_some (as_written s found) ≡ true
+written_possible s None possible = absurd cc
+written_possible s (Some x) possible = refl
+
+pub java_possible : (plan : Plan) (s : JavaState) (e : Event) (found : Option Submission) → is_some (step plan s.machine e) ≡ true → is_some (java_stepped plan s e found) ≡ true
+java_possible plan s e None possible = written_possible s (step plan s.machine e) possible
+java_possible plan s e (Some x) possible = refl

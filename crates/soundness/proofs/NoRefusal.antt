@@ -1,0 +1,146 @@
+-- A pool whose bound holds rejects no submit.
+use Rattle.std.proofs.Common.{◌≡◌, ℕ, ◌+◌, ◌<◌, ◌≤◌, inl, inr, eqb, List, length, get_or, Some, refl, sym, ap, subst, ◌∙◌, arith}
+use Rattle.std.specs.List.{count_by}
+use Rattle.std.proofs.lemmas.Bool.{and_parts, eqb-true}
+use Rattle.std.proofs.lemmas.Option.{slice_get_within}
+use Rattle.support.proofs.PassingPlaces.{length-places}
+use Rattle.support.proofs.Sums.{count_by-le-sum_by}
+use Rattle.job_bodies.specs.declared.action.Action.{Action}
+use Rattle.job_bodies.specs.declared.action.Action.TheVariants as action
+use Rattle.job_bodies.specs.Plan.{Plan, pool_at, class_at, first_workers}
+use Rattle.job_bodies.proofs.Bodies.{IsOrdered}
+use Rattle.written_machine.specs.declared.parent.Parent.{Parent}
+use Rattle.written_machine.specs.declared.parent.Parent.TheVariants as parent
+use Rattle.written_machine.specs.declared.event.Event.{Event}
+use Rattle.written_machine.specs.declared.event.Outcome.TheVariants as outcome
+use Rattle.written_machine.specs.State.{Stage, State, Made, no_job, job_at, pool_part, pool_of, is_queued, is_queued_in, threads}
+use Rattle.written_machine.specs.Step.{point_of_job, with_position, new_job, moved_jobs}
+use Rattle.written_machine.specs.JobsMade.{is_of_pool, jobs_made}
+use Rattle.written_machine.proofs.Events.{StandsAt, Happens, is_refused}
+use Rattle.written_machine.proofs.Kept.{Kept}
+use Rattle.written_machine.proofs.Stages.{HaveClasses, classes_moved}
+use Rattle.written_machine.proofs.Queues.{queued_stage, places-moved}
+use Rattle.written_machine.proofs.Actors.{standing-moved}
+use Rattle.written_machine.proofs.KeptSubmits.{class_exists}
+use Rattle.written_machine.proofs.JobsMade.{made_jobs, made_jobs-moved, HaveJobs}
+use Rattle.weights.specs.declared.at_get.AtGet.{AtGet}
+use Rattle.weights.specs.declared.at_get.AtGet.TheVariants.{GivesBack, GivesNothing}
+use Rattle.weights.specs.declared.bound.Bound.{Bound}
+use Rattle.weights.specs.declared.bound.Bound.TheVariants.{Standing, Lifetime}
+use Rattle.weights.specs.Vector.{Vector, queued_weight, total}
+use Rattle.weights.specs.Bound.{bound_vector, bound_at_get}
+use Rattle.soundness.specs.WeightedSum.{stage_weight}
+use Rattle.soundness.proofs.VectorLaws.{VectorLaws}
+use Rattle.soundness.proofs.BoundLaws.{StandingLaws, LifetimeLaws, BoundLaws}
+use Rattle.soundness.proofs.NeverRises.{jobs_spent, IsBalanced, lent-with_position, spent-with_job, lent-with_job, never_rises_queued}
+use Rattle.soundness.proofs.WithinTotal.{lent-le, spent-le-total}
+
+-- the weight of the jobs, with the job of a submit as if it were queued, is at most the total
+submit_within_total : (at_get : AtGet) (plan : Plan) (v : Vector) (s : State) (a : Parent) (body : List Action) (i k : ℕ) → IsOrdered plan → VectorLaws at_get plan v → Kept plan s → IsBalanced at_get plan v s → StandsAt plan s a body i (Some (action.Submit k))
+    → jobs_spent at_get plan v (moved_jobs a (i + 1) s) + queued_weight v k ≤ total plan v
+submit_within_total at_get plan v s a body i k ordered laws kept balanced at =
+    let moved : State = with_position a (i + 1) s in
+    let job = new_job k a i Stage.Queued in
+    let no_heavier = never_rises_queued at_get plan v s a body i k laws at in
+    omega (arith, no_heavier, lent-le plan v s ordered kept, lent-with_position plan v s a body i (i + 1) at.stands, spent-with_job at_get plan v moved job, lent-with_job plan v moved job)
+
+-- ---- a standing vector
+
+-- each of the pool's queued jobs has at least weight 1
+queued-le-spent : (plan : Plan) (v : Vector) (p : ℕ) (jobs : List Made) → StandingLaws plan p v → HaveClasses (length plan.classes) jobs → count_by (is_queued_in plan p) jobs ≤ jobs_spent GivesBack plan v jobs
+queued-le-spent plan v p jobs laws classes =
+    count_by-le-sum_by (is_queued_in plan p) (λ (job : Made). stage_weight GivesBack plan v job.class job.stage) jobs no_job
+    (λ j inside passes.
+    let job = get_or jobs j no_job in
+    let parts = and_parts (is_queued job.stage) (eqb (pool_of plan job.class) p) passes in
+    subst (λ (stage : Stage). 1 ≤ stage_weight GivesBack plan v job.class stage) (sym (queued_stage job.stage parts.0)) (laws.queued job.class (classes j no_job inside) (eqb-true (pool_of plan job.class) p parts.1)))
+
+-- a full queue and one more job would exceed the total
+pub standing_refuses_nothing : (plan : Plan) (v : Vector) (s : State) (a : Parent) (body : List Action) (i k : ℕ) → IsOrdered plan → StandingLaws plan (pool_of plan k) v → Kept plan s → IsBalanced GivesBack plan v s → StandsAt plan s a body i (Some (action.Submit k))
+    → (pool_at plan (pool_of plan k)).queue ≤ length (pool_part s (pool_of plan k)).queue → ⊥
+standing_refuses_nothing plan v s a body i k ordered laws kept balanced at no_room =
+    let p = pool_of plan k in
+    let jobs = moved_jobs a (i + 1) s in
+    let exists = class_exists plan s a body i k ordered at in
+    let within = submit_within_total GivesBack plan v s a body i k ordered laws.laws kept balanced at in
+    let enough = queued-le-spent plan v p jobs laws (classes_moved (length plan.classes) s a (i + 1) kept.classes) in
+    let one = laws.queued k exists refl in
+    let limit = laws.within in
+    let queued : length (pool_part s p).queue ≡ count_by (is_queued_in plan p) jobs =
+    ap length ((kept.pools p (ordered.pools k exists)).queue ∙ sym (places-moved plan s a body i (i + 1) p at.stands)) ∙ length-places (is_queued_in plan p) jobs in
+    omega arith
+
+-- ---- a lifetime vector
+
+-- each job at a position is within its body
+abbrev AreInside : Plan → List Made → Type 0
+AreInside plan jobs = (j n : ℕ) → (get_or jobs j no_job).stage ≡ Stage.At n → n ≤ length (class_at plan (get_or jobs j no_job).class).body
+
+-- this holds in a state with the invariants of reachable states
+are_inside : (plan : Plan) (s : State) → Kept plan s → AreInside plan s.jobs
+are_inside plan s kept j n e = (kept.actors (parent.Job j) (class_at plan (job_at s j).class).body n (ap (point_of_job plan (job_at s j).class) e)).inside
+
+-- it still holds after an actor passed an action
+are_inside_moved : (plan : Plan) (s : State) (a : Parent) (body : List Action) (i : ℕ) (x : Action) → Kept plan s → StandsAt plan s a body i (Some x) → AreInside plan (moved_jobs a (i + 1) s)
+are_inside_moved plan s a body i x kept at j n e =
+    let job = get_or (moved_jobs a (i + 1) s) j no_job in
+    elim (standing-moved plan s a body i (i + 1) at.stands (parent.Job j) (class_at plan job.class).body n (ap (point_of_job plan job.class) e)) [
+      | inl same ↦
+          let there_is : i < length body = slice_get_within body i x at.is_there in
+          let long : length (class_at plan job.class).body ≡ length body = ap (λ (b : List Action). length b) same.1 in
+          let next : n ≡ i + 1 = same.2 in
+          omega arith
+      | inr other ↦ (kept.actors (parent.Job j) (class_at plan job.class).body n other.1).inside
+    ]
+
+-- a job of the pool has at least weight 1 at every stage
+job_weighs_one : (plan : Plan) (v : Vector) (p k : ℕ) (stage : Stage) → LifetimeLaws plan p v → k < length plan.classes → pool_of plan k ≡ p → ((n : ℕ) → stage ≡ Stage.At n → n ≤ length (class_at plan k).body) → 1 ≤ stage_weight GivesNothing plan v k stage
+job_weighs_one plan v p k Stage.Queued laws exists of_pool inside = laws.queued k exists of_pool
+job_weighs_one plan v p k (Stage.At n) laws exists of_pool inside = laws.position k n exists of_pool (inside n refl)
+job_weighs_one plan v p k Stage.Done laws exists of_pool inside = laws.done k exists of_pool
+job_weighs_one plan v p k Stage.Claimed laws exists of_pool inside = laws.done k exists of_pool
+
+-- each job submitted to the pool has at least weight 1
+made-le-spent : (plan : Plan) (v : Vector) (p : ℕ) (jobs : List Made) → LifetimeLaws plan p v → HaveClasses (length plan.classes) jobs → AreInside plan jobs → made_jobs plan jobs p ≤ jobs_spent GivesNothing plan v jobs
+made-le-spent plan v p jobs laws classes inside =
+    count_by-le-sum_by (is_of_pool plan p) (λ (job : Made). stage_weight GivesNothing plan v job.class job.stage) jobs no_job
+    (λ j made passes.
+    let job = get_or jobs j no_job in
+    job_weighs_one plan v p job.class job.stage laws (classes j no_job made) (eqb-true (pool_of plan job.class) p passes) (inside j))
+
+-- one job more than the queue and the threads have room for would exceed the total
+pub lifetime_leaves_room : (plan : Plan) (v : Vector) (s : State) (a : Parent) (body : List Action) (i k : ℕ) → IsOrdered plan → LifetimeLaws plan (pool_of plan k) v → Kept plan s → IsBalanced GivesNothing plan v s → StandsAt plan s a body i (Some (action.Submit k))
+    → (pool_at plan (pool_of plan k)).queue + (pool_at plan (pool_of plan k)).max ≤ jobs_made plan s (pool_of plan k) + first_workers (pool_at plan (pool_of plan k)) → ⊥
+lifetime_leaves_room plan v s a body i k ordered laws kept balanced at as_many =
+    let p = pool_of plan k in
+    let exists = class_exists plan s a body i k ordered at in
+    let within = submit_within_total GivesNothing plan v s a body i k ordered laws.laws kept balanced at in
+    let enough = made-le-spent plan v p (moved_jobs a (i + 1) s) laws (classes_moved (length plan.classes) s a (i + 1) kept.classes) (are_inside_moved plan s a body i (action.Submit k) kept at) in
+    let one = laws.queued k exists refl in
+    let limit = laws.within in
+    omega (arith, made_jobs-moved plan s a (i + 1) p)
+
+-- a full queue and all threads have that number of jobs
+lifetime_refuses_nothing : (plan : Plan) (v : Vector) (s : State) (a : Parent) (body : List Action) (i k : ℕ) → IsOrdered plan → LifetimeLaws plan (pool_of plan k) v → Kept plan s → HaveJobs plan s → IsBalanced GivesNothing plan v s → StandsAt plan s a body i (Some (action.Submit k))
+    → (pool_at plan (pool_of plan k)).queue ≤ length (pool_part s (pool_of plan k)).queue → (pool_at plan (pool_of plan k)).max ≤ threads plan s (pool_of plan k) → ⊥
+lifetime_refuses_nothing plan v s a body i k ordered laws kept have balanced at no_room all_started =
+    let made = have (pool_of plan k) (ordered.pools k (class_exists plan s a body i k ordered at)) in
+    lifetime_leaves_room plan v s a body i k ordered laws kept balanced at (omega arith)
+
+-- the number of jobs submitted to the pool is at most the total
+pub jobs-le-total : (plan : Plan) (v : Vector) (s : State) (p : ℕ) → IsOrdered plan → LifetimeLaws plan p v → Kept plan s → IsBalanced GivesNothing plan v s → jobs_made plan s p ≤ total plan v
+jobs-le-total plan v s p ordered laws kept balanced =
+    omega (arith, made-le-spent plan v p s.jobs laws kept.classes (are_inside plan s kept), spent-le-total GivesNothing plan v s ordered kept balanced)
+
+-- ---- either
+
+-- no job is submitted to a full pool
+pub not_refused : (plan : Plan) (bound : Bound) (s : State) (a : Parent) (body : List Action) (i k : ℕ) → IsOrdered plan → BoundLaws plan (pool_of plan k) bound → Kept plan s → HaveJobs plan s
+    → IsBalanced (bound_at_get bound) plan (bound_vector bound) s → StandsAt plan s a body i (Some (action.Submit k))
+    → (pool_at plan (pool_of plan k)).queue ≤ length (pool_part s (pool_of plan k)).queue → (pool_at plan (pool_of plan k)).max ≤ threads plan s (pool_of plan k) → ⊥
+not_refused plan (Standing v) s a body i k ordered laws kept have balanced at no_room all_started = standing_refuses_nothing plan v s a body i k ordered laws kept balanced at no_room
+not_refused plan (Lifetime v) s a body i k ordered laws kept have balanced at no_room all_started = lifetime_refuses_nothing plan v s a body i k ordered laws kept have balanced at no_room all_started
+
+-- no event is a rejection
+pub never_refused : (plan : Plan) (bound : Bound) (s s' : State) (p : ℕ) {e : Event} → IsOrdered plan → BoundLaws plan p bound → Kept plan s → HaveJobs plan s → IsBalanced (bound_at_get bound) plan (bound_vector bound) s → Happens plan s e s' (outcome.Refused p) → ⊥
+never_refused plan bound s s' p ordered laws kept have balanced (is_refused a body i k at no_room all_started) = not_refused plan bound s a body i k ordered laws kept have balanced at no_room all_started

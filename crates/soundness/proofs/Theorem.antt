@@ -1,0 +1,157 @@
+-- Accepted plans are safe, make progress, and drain.
+use Rattle.std.proofs.Common.{◌≡◌, ℕ, ◌+◌, ◌<◌, ◌≤◌, ⊎_elim, true, false, List, [], ◌∷◌, length, IsTrue, Option, Some, None, is_some, refl, ap, arith}
+use Rattle.std.specs.List.{list_all, count_by}
+use Rattle.std.proofs.lemmas.Bool.{and_parts, false_from_ne_true}
+use Rattle.std.proofs.lemmas.List.Sums.{sum_by-cons}
+use Rattle.job_bodies.specs.Plan.{Plan}
+use Rattle.job_bodies.specs.WellFormed.{IsWellFormed}
+use Rattle.job_bodies.proofs.Bodies.{IsOrdered, ordered}
+use Rattle.written_machine.specs.declared.event.Event.{Event}
+use Rattle.written_machine.specs.declared.event.Outcome.{Outcome}
+use Rattle.written_machine.specs.State.{State, job_at, is_unfinished}
+use Rattle.written_machine.specs.Step.{step}
+use Rattle.written_machine.specs.Reach.{start, state_after, replay, IsReached}
+use Rattle.written_machine.specs.Waiting.{IsWaitingSet}
+use Rattle.written_machine.specs.Safe.{IsSafe, Safe, is_of_job_or_pool, GoesOn}
+use Rattle.written_machine.proofs.Busy.{one_if}
+use Rattle.written_machine.proofs.Events.{Happens, happens}
+use Rattle.written_machine.proofs.Reached.{replay_none, replay_keeps, reached_keeps}
+use Rattle.written_machine.proofs.Progress.{goes_on}
+use Rattle.weights.specs.declared.bound.Bound.{Bound}
+use Rattle.weights.specs.declared.at_get.AtGet.TheVariants.{GivesBack}
+use Rattle.weights.specs.Ranks.{is_counted}
+use Rattle.cert_text.specs.Cert.{Cert, pool_cert_at}
+use Rattle.soundness.proofs.NeverRises.{IsBalanced, balanced_start, never_rises, balanced_step}
+use Rattle.soundness.specs.Drain.{todo, is_of_no_client, Drains}
+use Rattle.soundness.proofs.BlockedCounts.{blocked-below_core}
+use Rattle.soundness.proofs.Descent.{none_waits}
+use Rattle.soundness.proofs.Draining.{lowers, ends_thread, no_client_cases, not_counted, same_todo}
+use Rattle.soundness.specs.Accepted.{accepted}
+use Rattle.soundness.specs.Headline.{AcceptedPlansAreSafe, AcceptedPlansGoOn, AcceptedPlansDrain}
+use Rattle.soundness.proofs.CertLaws.{CertLaws, cert_laws}
+use Rattle.soundness.proofs.Bounded.{Bounded, bounded_start, bounded_step, keeps_sizes}
+
+-- ---- the invariants of the reachable states of an accepted plan
+
+-- the bounds of the certificate's pools
+abbrev pub bound_of : Cert → ℕ → Bound
+bound_of cert p = (pool_cert_at cert p).bound
+
+-- the invariants for the pools' bounds hold, and each blocked vector is balanced
+pub record Sound (plan : Plan) (cert : Cert) (s : State) : Type 0 where
+  pub bounded : Bounded plan (bound_of cert) s
+  pub blocked : (p : ℕ) → p < length plan.pools → IsBalanced GivesBack plan (pool_cert_at cert p).blocked s
+
+-- the initial state is sound
+pub sound_start : (plan : Plan) (cert : Cert) → IsOrdered plan → Sound plan cert (start plan)
+sound_start plan cert ordered = record {
+  bounded = bounded_start plan (bound_of cert) ordered;
+  blocked = λ p inside. balanced_start GivesBack plan (pool_cert_at cert p).blocked;
+}
+
+-- every event preserves that
+pub sound_step : (plan : Plan) (cert : Cert) (s s' : State) (o : Outcome) {e : Event} → IsOrdered plan → CertLaws plan cert → Sound plan cert s → Happens plan s e s' o → Sound plan cert s'
+sound_step plan cert s s' o ordered laws sound happened = record {
+  bounded = bounded_step plan (bound_of cert) s s' o ordered laws.bound sound.bounded happened;
+  blocked = λ p inside.
+      let v = (pool_cert_at cert p).blocked in
+      balanced_step GivesBack plan v s s' (never_rises GivesBack plan v s s' o ordered (laws.blocked p inside).laws sound.bounded.kept happened) (sound.blocked p inside);
+}
+
+-- every reachable state is sound
+sound : (plan : Plan) (cert : Cert) (s : State) → IsOrdered plan → CertLaws plan cert → IsReached plan s → Sound plan cert s
+sound plan cert s ordered laws reached = reached_keeps plan (Sound plan cert) (sound_start plan cert ordered) (λ s₁ e s₂ o held happened. sound_step plan cert s₁ s₂ o ordered laws held happened) s reached
+
+-- ---- safety and progress
+
+-- in a sound state no set of jobs waits only for its own members
+pub sound_waits : (plan : Plan) (cert : Cert) (s : State) → IsOrdered plan → CertLaws plan cert → Sound plan cert s → (members : List ℕ) → ¬ IsWaitingSet plan s members
+sound_waits plan cert s ordered laws held members =
+    none_waits plan cert.ranks s members ordered laws.ranks held.bounded.kept
+    (λ p inside. blocked-below_core plan (is_counted plan cert.ranks) (pool_cert_at cert p).blocked s p ordered inside (laws.blocked p inside) held.bounded.kept (held.blocked p inside))
+
+-- a sound state is safe
+pub sound_safe : (plan : Plan) (cert : Cert) (s : State) → IsOrdered plan → CertLaws plan cert → Sound plan cert s → IsSafe plan s
+sound_safe plan cert s ordered laws held =
+    let sizes = keeps_sizes plan (bound_of cert) s held.bounded in
+    record {
+      none_refused = sizes.none_refused;
+      within_max = sizes.within_max;
+      within_queue = sizes.within_queue;
+      none_waits = sound_waits plan cert s ordered laws held;
+    }
+
+-- safety: every reachable state is safe
+pub safe : (plan : Plan) (cert : Cert) → IsWellFormed plan → IsTrue (accepted plan cert) → Safe plan
+safe plan cert well_formed is_accepted events s reached =
+    let is_ordered = ordered plan well_formed in
+    let laws = cert_laws plan cert is_accepted in
+    sound_safe plan cert s is_ordered laws (sound plan cert s is_ordered laws (events, reached))
+
+-- progress: every reachable state with an unfinished job makes progress
+pub goes_on_everywhere : (plan : Plan) (cert : Cert) → IsWellFormed plan → IsTrue (accepted plan cert) → GoesOn plan
+goes_on_everywhere plan cert well_formed is_accepted events s reached j still =
+    let is_ordered = ordered plan well_formed in
+    let laws = cert_laws plan cert is_accepted in
+    let held = sound plan cert s is_ordered laws (events, reached) in
+    goes_on plan s j is_ordered held.bounded.kept (sound_waits plan cert s is_ordered laws held) still
+
+-- ---- draining
+
+-- a job event or a take reduces the remaining work, and the end of a thread leaves it unchanged
+lowers_or_leaves : (plan : Plan) (cert : Cert) (s s' : State) (o : Outcome) (e : Event) → CertLaws plan cert → Sound plan cert s → Sound plan cert s' → is_of_no_client e ≡ true → Happens plan s e s' o
+    → todo plan cert.ranks s' + one_if (is_of_job_or_pool e) ≤ todo plan cert.ranks s
+lowers_or_leaves plan cert s s' o e laws held held' of_no_client happened =
+    ⊎_elim
+    (λ (counted : is_of_job_or_pool e ≡ true).
+    omega (arith, ap one_if counted, lowers plan cert.ranks s s' o e laws.ranks held.bounded.kept held.bounded.none_refused held'.bounded.none_refused counted happened))
+    (λ (is_end : ends_thread e ≡ true). omega (arith, ap one_if (not_counted e is_end), same_todo plan cert.ranks s s' o is_end happened))
+    (no_client_cases e of_no_client)
+
+-- the events after the first one
+after_first : (plan : Plan) (cert : Cert) (s : State) (e : Event) (events : List Event) (s' : State) → IsOrdered plan → CertLaws plan cert → Sound plan cert s → is_of_no_client e ≡ true
+    → ((next : State) → Sound plan cert next → replay plan (Some next) events ≡ Some s' → count_by is_of_job_or_pool events ≤ todo plan cert.ranks next)
+    → (found : Option (State × Outcome)) → step plan s e ≡ found → replay plan (state_after found) events ≡ Some s' → count_by is_of_job_or_pool (e ∷ events) ≤ todo plan cert.ranks s
+after_first plan cert s e events s' ordered laws held of_no_client onward None is_step replayed =
+    let none : replay plan None events ≡ None = replay_none plan events in
+    absurd cc
+after_first plan cert s e events s' ordered laws held of_no_client onward (Some (next, o)) is_step replayed =
+    let happened = happens plan s e next o is_step in
+    let held' = sound_step plan cert s next o ordered laws held happened in
+    omega (arith, lowers_or_leaves plan cert s next o e laws held held' of_no_client happened, onward next held' replayed, sum_by-cons (λ (x : Event). one_if (is_of_job_or_pool x)) e events)
+
+-- the number of job events and takes is at most the remaining work
+no_more_events : (plan : Plan) (cert : Cert) (events : List Event) (s s' : State) → IsOrdered plan → CertLaws plan cert → Sound plan cert s → list_all is_of_no_client events ≡ true → replay plan (Some s) events ≡ Some s' → count_by is_of_job_or_pool events ≤ todo plan cert.ranks s
+no_more_events plan cert [] s s' ordered laws held each replayed = omega arith
+no_more_events plan cert (e ∷ events) s s' ordered laws held each replayed =
+    let parts = and_parts (is_of_no_client e) (list_all is_of_no_client events) each in
+    after_first plan cert s e events s' ordered laws held parts.0 (λ next held' rest. no_more_events plan cert events next s' ordered laws held' parts.1 rest) (step plan s e) refl replayed
+
+-- the number of job events and takes is bounded, and when none is possible, no job is unfinished
+pub drains : (plan : Plan) (cert : Cert) → IsWellFormed plan → IsTrue (accepted plan cert) → Drains plan cert.ranks
+drains plan cert well_formed is_accepted =
+    let is_ordered = ordered plan well_formed in
+    let laws = cert_laws plan cert is_accepted in
+    record {
+      bounded = λ s s' events leads. no_more_events plan cert events s s' is_ordered laws (sound plan cert s is_ordered laws leads.reached) leads.of_no_client leads.replayed;
+      drained = λ s s' events leads rests j.
+          let held : Sound plan cert s' = replay_keeps plan (Sound plan cert) (λ s₁ e s₂ o before happened. sound_step plan cert s₁ s₂ o is_ordered laws before happened) events s s' (sound plan cert s is_ordered laws leads.reached) leads.replayed in
+          false_from_ne_true (is_unfinished (job_at s' j).stage)
+          (λ still.
+          let goes = goes_on plan s' j is_ordered held.bounded.kept (sound_waits plan cert s' is_ordered laws held) still in
+          let rest : is_some (step plan s' goes.event) ≡ false = ap (λ (x : Option (State × Outcome)). is_some x) (rests goes.event goes.of_job_or_pool) in
+          let possible = goes.possible in
+          cc);
+    }
+
+-- the statements in specs/
+pub accepted_plans_are_safe : AcceptedPlansAreSafe
+accepted_plans_are_safe plan cert well_formed is_accepted = safe plan cert well_formed is_accepted
+
+-- progress
+pub accepted_plans_go_on : AcceptedPlansGoOn
+accepted_plans_go_on plan cert well_formed is_accepted = goes_on_everywhere plan cert well_formed is_accepted
+
+-- draining
+pub accepted_plans_drain : AcceptedPlansDrain
+accepted_plans_drain plan cert well_formed is_accepted = drains plan cert well_formed is_accepted

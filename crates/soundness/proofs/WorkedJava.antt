@@ -1,0 +1,110 @@
+-- Replays of small plans in the steps of Java's execute, computed from the definitions alone.
+use Rattle.std.proofs.Common.{◌≡◌, ℕ, List, [], ◌∷◌, ◌++◌, length, Option, Some, None, false, refl, arith}
+use Rattle.std.specs.Option.{option_map, unwrap_or}
+use Rattle.job_bodies.specs.declared.action.Action.TheVariants.{Work, Submit}
+use Rattle.job_bodies.specs.Plan.{Plan}
+use Rattle.job_bodies.specs.WellFormed.{IsWellFormed}
+use Rattle.written_machine.specs.declared.event.Event.{Event}
+use Rattle.written_machine.specs.declared.event.Event.TheVariants as event
+use Rattle.written_machine.specs.State.{pool_part, threads}
+use Rattle.written_machine.specs.Reach.{start}
+use Rattle.soundness.specs.Execute.{JavaState, java_replay, between_calls}
+use Rattle.soundness.specs.WithRoom.{WithRoom, RefusedWithRoom, StartedWithRoom}
+
+-- one pool with one core thread, a maximum of two and a queue of one, and clients that each submit one job
+abbrev one_pool : ℕ → Plan
+one_pool clients = record {
+  pools = record { name = 112 ∷ []; core = 1; max = 2; queue = 1; prestart = false } ∷ [];
+  classes = record { name = 97 ∷ []; pool = 0; body = Work 1 ∷ [] } ∷ [];
+  clients = record { name = 99 ∷ []; count = clients; repeat = false; body = Submit 0 ∷ [] } ∷ [];
+}
+
+-- the numbers of rejected submits, of threads of the pool, of idle threads, and of queued jobs
+abbrev seen : Plan → JavaState → ℕ × ℕ × ℕ × ℕ
+seen plan s = (s.machine.refusals, threads plan s.machine 0, (pool_part s.machine 0).idle, length (pool_part s.machine 0).queue)
+
+-- these numbers after the events, from the initial state
+abbrev seen_after : ℕ → List Event → Option (ℕ × ℕ × ℕ × ℕ)
+seen_after clients events = option_map (seen (one_pool clients)) (java_replay (one_pool clients) (Some (between_calls (start (one_pool clients)))) events)
+
+-- client 0 submits; client 1 checks and offers, and its job fills the queue; client 2 checks, and its offer fails
+abbrev offer_fails : List Event
+offer_fails = event.Client 0 ∷ event.Client 1 ∷ event.Client 1 ∷ event.Client 2 ∷ event.Client 2 ∷ []
+
+-- job 0 ends, and its thread takes job 1
+abbrev queue_empties : List Event
+queue_empties = event.Job 0 ∷ event.Job 0 ∷ event.Take 0 ∷ []
+
+-- the queue is empty then, but client 2 still gets a second thread
+one_job_at_work : seen_after 3 (offer_fails ++ queue_empties) ≡ Some (0, 1, 0, 0)
+one_job_at_work = refl
+
+second_thread_though_queue_has_room : seen_after 3 (offer_fails ++ queue_empties ++ event.Client 2 ∷ []) ≡ Some (0, 2, 0, 0)
+second_thread_though_queue_has_room = refl
+
+-- client 3 checks, its offer fails, and it gets the last thread
+abbrev last_thread_goes : List Event
+last_thread_goes = event.Client 3 ∷ event.Client 3 ∷ event.Client 3 ∷ []
+
+-- job 1 ends too: no job is queued and one thread is idle, but client 2 is still rejected
+one_thread_idle : seen_after 4 (offer_fails ++ last_thread_goes ++ queue_empties ++ event.Job 1 ∷ event.Job 1 ∷ []) ≡ Some (0, 2, 1, 0)
+one_thread_idle = refl
+
+refused_though_queue_has_room : seen_after 4 (offer_fails ++ last_thread_goes ++ queue_empties ++ event.Job 1 ∷ event.Job 1 ∷ event.Client 2 ∷ []) ≡ Some (1, 2, 1, 0)
+refused_though_queue_has_room = refl
+
+-- a client between two steps of its submit can pause while all others finish
+others_go_on : seen_after 4 (offer_fails ++ queue_empties ++ event.Job 1 ∷ event.Job 1 ∷ event.Client 3 ∷ event.Client 3 ∷ event.Take 0 ∷ event.Job 2 ∷ event.Job 2 ∷ []) ≡ Some (0, 1, 1, 0)
+others_go_on = refl
+
+-- a client at the end of its body has no step
+over : seen_after 3 (event.Client 0 ∷ event.Client 0 ∷ []) ≡ None
+over = refl
+
+-- ---- as laws
+
+-- the state after these events, with this number of clients
+abbrev after_events : ℕ → List Event → JavaState
+after_events clients events = unwrap_or (java_replay (one_pool clients) (Some (between_calls (start (one_pool clients)))) events) (between_calls (start (one_pool clients)))
+
+-- three clients make a well-formed plan
+three_well_formed : IsWellFormed (one_pool 3)
+three_well_formed = record { few_pools = omega arith; few_classes = omega arith; few_clients = omega arith; pool_names = refl; class_names = refl; client_names = refl; pools = refl; classes = refl; clients = refl }
+
+four_well_formed : IsWellFormed (one_pool 4)
+four_well_formed = record { few_pools = omega arith; few_classes = omega arith; few_clients = omega arith; pool_names = refl; class_names = refl; client_names = refl; pools = refl; classes = refl; clients = refl }
+
+-- jobs 0 and 1 are done
+abbrev both_done : List Event
+both_done = queue_empties ++ event.Job 1 ∷ event.Job 1 ∷ []
+
+-- client 2 requests a thread
+abbrev started_with_room : WithRoom (one_pool 3) 0
+started_with_room = record {
+  before = after_events 3 (offer_fails ++ both_done);
+  reached = (offer_fails ++ both_done, refl);
+  room = omega arith;
+  at_core = omega arith;
+  idle = omega arith;
+  event = event.Client 2;
+  after = after_events 3 (offer_fails ++ both_done ++ event.Client 2 ∷ []);
+  step = refl;
+}
+
+abbrev refused_with_room : WithRoom (one_pool 4) 0
+refused_with_room = record {
+  before = after_events 4 (offer_fails ++ last_thread_goes ++ both_done);
+  reached = (offer_fails ++ last_thread_goes ++ both_done, refl);
+  room = omega arith;
+  at_core = omega arith;
+  idle = omega arith;
+  event = event.Client 2;
+  after = after_events 4 (offer_fails ++ last_thread_goes ++ both_done ++ event.Client 2 ∷ []);
+  step = refl;
+}
+
+pub java_may_start_with_room : StartedWithRoom
+java_may_start_with_room = (one_pool 3, 0, started_with_room, three_well_formed, refl)
+
+pub java_may_refuse_with_room : RefusedWithRoom
+java_may_refuse_with_room = (one_pool 4, 0, refused_with_room, four_well_formed, refl)

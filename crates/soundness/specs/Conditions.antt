@@ -1,0 +1,43 @@
+-- All conditions of a certificate, in order.
+use Rattle.std.specs.Prelude.{ℕ, nat_lt, List, ◌++◌, map, filter}
+use Rattle.std.specs.List.{flat_map, enumerate_from}
+use Rattle.job_bodies.specs.Plan.{Plan}
+use Rattle.weights.specs.declared.bound.Bound.{Bound}
+use Rattle.weights.specs.declared.bound.Bound.TheVariants.{Standing, Lifetime}
+use Rattle.weights.specs.declared.row.Row.{Row}
+use Rattle.weights.specs.Bound.{bound_rows}
+use Rattle.weights.specs.Blocked.{blocked_rows}
+use Rattle.weights.specs.Ranks.{is_counted, rank_rows}
+use Rattle.cert_text.specs.Cert.{Cert, pool_cert_at}
+use Rattle.soundness.specs.declared.note.Section.{Section}
+use Rattle.soundness.specs.declared.note.Section.TheVariants as section
+use Rattle.soundness.specs.declared.note.Note.{Note}
+
+-- the row in this section of the certificate
+abbrev pub note : Section → Row → Note
+note section row = record { section = section; place = row.place; rule = row.rule; left = row.left; right = row.right }
+
+-- the rows, each in this section of the certificate
+abbrev pub in_section : Section → List Row → List Note
+in_section section rows = map (note section) rows
+
+-- the section with the bound of pool p
+abbrev pub bound_section : ℕ → Bound → Section
+bound_section p (Standing v) = section.Standing p
+bound_section p (Lifetime v) = section.Lifetime p
+
+-- the conditions of pool p: those of its bound, and then those of its blocked vector
+abbrev pub pool_conditions : Plan → Cert → ℕ → List Note
+pool_conditions plan cert p =
+    in_section (bound_section p (pool_cert_at cert p).bound) (bound_rows plan p (pool_cert_at cert p).bound)
+    ++ in_section (section.Blocked p) (blocked_rows plan p (is_counted plan cert.ranks) (pool_cert_at cert p).blocked)
+
+-- the conditions of the ranks, and then those of each pool
+abbrev pub conditions : Plan → Cert → List Note
+conditions plan cert =
+    in_section section.Ranks (rank_rows plan cert.ranks)
+    ++ flat_map (λ entry. pool_conditions plan cert entry.0) (enumerate_from 0 plan.pools)
+
+-- those whose left is greater than their right
+abbrev pub failing : Plan → Cert → List Note
+failing plan cert = filter (λ x. nat_lt x.right x.left) (conditions plan cert)

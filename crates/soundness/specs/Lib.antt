@@ -1,0 +1,12 @@
+pub mod WeightedSum
+pub mod WeightLaws
+pub mod BlockedJobs
+pub mod Descent
+pub mod Drain
+pub mod Execute
+pub mod JavaSafe
+pub mod WithRoom
+pub mod LeavingOut
+pub mod Conditions
+pub mod Accepted
+pub mod Headline

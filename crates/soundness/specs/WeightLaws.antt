@@ -1,0 +1,37 @@
+-- The guarantees of the rows of a vector for every reachable state.
+use Rattle.std.specs.Prelude.{◌≡◌, ◌≢◌, ◌≤◌, ℕ, IsTrue, Some}
+use Rattle.job_bodies.specs.Plan.{Plan}
+use Rattle.job_bodies.specs.WellFormed.{IsWellFormed}
+use Rattle.written_machine.specs.declared.event.Event.{Event}
+use Rattle.written_machine.specs.declared.event.Outcome.{Outcome}
+use Rattle.written_machine.specs.declared.event.Outcome.TheVariants.{Refused}
+use Rattle.written_machine.specs.State.{State}
+use Rattle.written_machine.specs.Step.{step}
+use Rattle.written_machine.specs.Reach.{IsReached}
+use Rattle.written_machine.specs.JobsMade.{jobs_made}
+use Rattle.weights.specs.declared.at_get.AtGet.{AtGet}
+use Rattle.weights.specs.declared.bound.Bound.{Bound}
+use Rattle.weights.specs.Row.{AllHold}
+use Rattle.weights.specs.Vector.{Vector, vector_fits, total}
+use Rattle.weights.specs.Rows.{rows}
+use Rattle.weights.specs.Lifetime.{lifetime_rows}
+use Rattle.weights.specs.Bound.{bound_vector, bound_rows}
+use Rattle.soundness.specs.WeightedSum.{sum_of}
+
+-- no event increases the weight of a reachable state
+abbrev pub SumNeverRises : Type 0
+SumNeverRises = (at_get : AtGet) (plan : Plan) (v : Vector) (s s' : State) (event : Event) (outcome : Outcome) → IsWellFormed plan → AllHold (rows at_get plan v) → IsReached plan s → step plan s event ≡ Some (s', outcome)
+    → sum_of at_get plan v s' ≤ sum_of at_get plan v s
+
+-- the weight of a reachable state is at most the total
+abbrev pub SumStaysWithinTotal : Type 0
+SumStaysWithinTotal = (at_get : AtGet) (plan : Plan) (v : Vector) (s : State) → IsWellFormed plan → AllHold (rows at_get plan v) → IsReached plan s → sum_of at_get plan v s ≤ total plan v
+
+-- a pool whose bound holds rejects no job, whatever the other pools do
+abbrev pub BoundsRefuseNothing : Type 0
+BoundsRefuseNothing = (plan : Plan) (p : ℕ) (bound : Bound) (s s' : State) (event : Event) → IsWellFormed plan → IsTrue (vector_fits plan (bound_vector bound)) → AllHold (bound_rows plan p bound) → IsReached plan s
+    → step plan s event ≢ Some (s', Refused p)
+
+-- if the rows of a pool's lifetime vector hold, the number of jobs ever submitted to the pool is at most the total
+abbrev pub JobsStayWithinTotal : Type 0
+JobsStayWithinTotal = (plan : Plan) (p : ℕ) (v : Vector) (s : State) → IsWellFormed plan → IsTrue (vector_fits plan v) → AllHold (lifetime_rows plan p v) → IsReached plan s → jobs_made plan s p ≤ total plan v

@@ -1,0 +1,32 @@
+//! What the conditions on a certificate promise of every state that a plan reaches.
+//!
+//! Each theorem is the contract of a function with nothing to do. The definitions are in `specs/`, and apart from [`Note`]
+//! nothing here runs. The theorems hold also if a submit takes several steps, as in Java's `execute`, and if a client skips a
+//! submit together with its get.
+#![tactic(auto)]
+
+mod acceptance_laws;
+mod java_laws;
+mod note;
+mod skipping_laws;
+mod starvation_laws;
+mod weight_laws;
+
+pub use acceptance_laws::{
+    accepted_plans_are_java_safe, accepted_plans_are_safe, accepted_plans_drain,
+    accepted_plans_go_on, accepted_plans_java_drain, accepted_plans_java_go_on,
+    accepted_plans_leaving_out_drain, accepted_plans_leaving_out_go_on,
+    accepted_plans_may_leave_out, bounded_plans_java_refuse_nothing, bounded_plans_refuse_nothing,
+    standing_pools_are_not_asked,
+};
+pub use java_laws::{
+    java_may_refuse_with_room, java_may_start_with_room, written_states_are_reached,
+};
+pub use note::{Note, Section};
+pub use skipping_laws::done_within_queued;
+pub use starvation_laws::{
+    fewer_than_core_are_blocked, full_is_of_the_plan, full_is_whole, ranks_descend,
+};
+pub use weight_laws::{
+    bounds_refuse_nothing, jobs_stay_within_total, sum_never_rises, sum_stays_within_total,
+};

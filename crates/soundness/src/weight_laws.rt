@@ -1,0 +1,26 @@
+//! Laws of weights, each as the contract of an empty function.
+
+ghost use Rattle.soundness.specs.WeightLaws.{SumNeverRises, SumStaysWithinTotal, BoundsRefuseNothing, JobsStayWithinTotal};
+
+/// Proves that no event increases the weight of a reachable state if the rows of the vector hold.
+pub fn sum_never_rises()
+    ensures { SumNeverRises }
+{}
+
+/// Proves that the weight of a reachable state is at most the vector's total if the rows of the
+/// vector hold.
+pub fn sum_stays_within_total()
+    ensures { SumStaysWithinTotal }
+{}
+
+/// Proves that a pool whose bound holds, by a standing or a lifetime vector, rejects no job in any
+/// reachable state. Nothing is assumed about the other pools.
+pub fn bounds_refuse_nothing()
+    ensures { BoundsRefuseNothing }
+{}
+
+/// Proves that the number of jobs ever submitted to a pool is at most the total of its lifetime
+/// vector if the rows of the vector hold.
+pub fn jobs_stay_within_total()
+    ensures { JobsStayWithinTotal }
+{}

@@ -1,3 +1,0 @@
-pub mod BlockedJobs
-pub mod Descent
-pub mod Drain

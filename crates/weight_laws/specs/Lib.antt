@@ -1,2 +1,0 @@
-pub mod WeightedSum
-pub mod WeightLaws
