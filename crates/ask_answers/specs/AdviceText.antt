@@ -1,7 +1,7 @@
 -- The advice for the sizes that were found, or for the cause why there are none.
 use Rattle.std.specs.Prelude.{ℕ, ◌-◌, ◌==◌, if◌then◌else◌, List, [], ◌∷◌, ◌++◌, flat_map, codes, decimal}
 use Rattle.job_bodies.specs.Plan.{Pool, Plan}
-use Rattle.size_causes.specs.declared.cause.Cause.TheVariants.{Circle, ClientNeverGets, ClassNeverGets}
+use Rattle.size_search.specs.declared.cause.Cause.TheVariants.{Circle, ClientNeverGets, ClassNeverGets}
 use Rattle.size_search.specs.declared.found.NoSizes.{NoSizes}
 use Rattle.size_search.specs.declared.found.NoSizes.TheVariants.{Cause, TooLarge}
 use Rattle.size_search.specs.declared.found.SizesFound.{SizesFound}

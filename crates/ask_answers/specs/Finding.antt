@@ -3,7 +3,7 @@ use Rattle.std.specs.Prelude.{◌≡◌, ◌≢◌, false, IsTrue}
 use Rattle.job_bodies.specs.Plan.{Plan}
 use Rattle.cert_text.specs.Cert.{Cert}
 use Rattle.soundness.specs.Accepted.{accepted}
-use Rattle.steady_certificates.specs.Steady.{steady_cert}
+use Rattle.size_search.specs.Steady.{steady_cert}
 use Rattle.plan_witnesses.specs.Witness.{IsWitness}
 use Rattle.size_search.specs.Sized.{IsFound}
 use Rattle.size_search.specs.Decided.{IsDecided}

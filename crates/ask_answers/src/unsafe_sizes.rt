@@ -4,8 +4,7 @@ ghost use Rattle.support.specs.Pushed.{Pushes};
 ghost use Rattle.ask_answers.specs.AdviceText as spec;
 
 use job_bodies::{Plan, Pool};
-use size_causes::Cause;
-use size_search::{NoSizes, SizesFound};
+use size_search::{Cause, NoSizes, SizesFound};
 use std::alloc::AllocError;
 
 /// Appends what the sizes that were found, or the cause why there are none, mean for the user.

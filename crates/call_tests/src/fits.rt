@@ -1,10 +1,9 @@
 //! Plans that are fitted to certificates, with sizes computed by hand.
 
 use cert_check::{Cert, read_cert};
-use fitted_sizes::{Unfit, fitted, smallest, widened};
 use job_bodies::Plan;
 use plan_text::read_plan;
-use size_search::{SizesFound, search_sizes};
+use size_search::{SizesFound, Unfit, fitted, search_sizes, smallest, widened};
 use std::alloc::{AllocError, Global};
 use std::process::Abort;
 use std::test::*;

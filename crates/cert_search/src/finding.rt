@@ -3,7 +3,7 @@
 ghost use Rattle.std.specs.Prelude.{◌≡◌, ◌≢◌, ◌<◌, ◌≤◌, false, IfErr, IfOk, IfSome, IfNone, IsTrue, length};
 ghost use Rattle.job_bodies.specs.declared.limits.TheConstants.{MAX_WORKERS};
 ghost use Rattle.soundness.specs.Accepted.{accepted};
-ghost use Rattle.steady_certificates.specs.Steady.{steady_cert};
+ghost use Rattle.size_search.specs.Steady.{steady_cert};
 ghost use Rattle.cert_search.specs.declared.finding.SearchFault.TheVariants.{Memory};
 
 use crate::draft::Draft;
@@ -42,7 +42,7 @@ impl From<AllocError> for SearchFault {
 /// Searches for a certificate of the plan with `workers` workers, 1 to 64. If the rounds find none,
 /// it returns the steady certificate if that accepts the plan as it is. So `None` means that the
 /// steady certificate does not accept the plan. With sizes that are large enough for it, a plan has
-/// a certificate exactly when it has none of the causes of [`size_causes`]. With smaller sizes, the
+/// a certificate exactly when it has none of the causes of [`size_search`]. With smaller sizes, the
 /// result can be `None` for a safe plan. Tests, and no proof, show that the number of workers does
 /// not change the certificate.
 ///

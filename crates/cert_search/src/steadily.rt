@@ -3,15 +3,14 @@
 ghost use Rattle.std.specs.Prelude.{◌≡◌, false, IfOk, IfSome, IfNone, IsTrue};
 ghost use Rattle.job_bodies.specs.WellFormed.{IsWellFormed};
 ghost use Rattle.soundness.specs.Accepted.{accepted};
-ghost use Rattle.steady_certificates.specs.Submitted.{NoCircle};
-ghost use Rattle.steady_certificates.specs.Steady.{steady_cert};
+ghost use Rattle.size_search.specs.Submitted.{NoCircle};
+ghost use Rattle.size_search.specs.Steady.{steady_cert};
 
 use cert_check::accepts;
 use cert_text::Cert;
 use job_bodies::Plan;
-use size_causes::cause_of;
+use size_search::{cause_of, steady};
 use std::alloc::{AllocError, Global};
-use steady_certificates::steady;
 
 /// Returns the steady certificate of the plan, if it accepts the plan as it is. If a cause against
 /// all sizes holds, no certificate does.

@@ -6,7 +6,7 @@ use Rattle.job_bodies.specs.declared.action.Action.TheVariants.{Work, Submit}
 use Rattle.job_bodies.specs.declared.fault.Part.{Part}
 use Rattle.job_bodies.specs.declared.fault.Part.TheVariants as part
 use Rattle.job_bodies.specs.Plan.{Pool, Class, Client, Plan, pool_at, class_at}
-use Rattle.size_causes.specs.ByClients.{MarksSubmitted}
+use Rattle.size_search.specs.ByClients.{MarksSubmitted}
 use Rattle.plan_advice.specs.declared.oddity.Oddity.{Oddity}
 use Rattle.plan_advice.specs.declared.oddity.Oddity.TheVariants.{NothingToAsk, NoClients, NothingSubmitted, PoolWithoutJobs, UselessMax, QueueFarAbove, ClassWithoutJobs, GoesOnce, Crowd, WorkLikeASize}
 use Rattle.plan_advice.specs.declared.warnings.Warning.{Warning}

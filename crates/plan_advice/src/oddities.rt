@@ -9,7 +9,7 @@ use crate::signs::{
     may_grow, most_at,
 };
 use job_bodies::{Action, Class, Client, Part, Plan, Pool};
-use size_causes::submitted_by_clients;
+use size_search::submitted_by_clients;
 use std::alloc::{AllocError, Global};
 
 /// Returns the lints of the plan. For each pool whose queue is bounded by a standing vector,

@@ -3,7 +3,7 @@ use Rattle.std.specs.Prelude.{List, ℕ, [], ◌∷◌, ◌++◌, codes, decimal
 use Rattle.job_bodies.specs.declared.limits.TheConstants.{MAX_SIZE}
 use Rattle.job_bodies.specs.Plan.{Plan, pool_at, class_at, client_at}
 use Rattle.size_search.specs.declared.found.NoSizes.{NoSizes}
-use Rattle.size_causes.specs.declared.cause.Cause.TheVariants.{Circle, ClientNeverGets, ClassNeverGets}
+use Rattle.size_search.specs.declared.cause.Cause.TheVariants.{Circle, ClientNeverGets, ClassNeverGets}
 use Rattle.size_search.specs.declared.found.NoSizes.TheVariants.{Cause, TooLarge}
 
 -- a class whose jobs submit jobs of the same class, directly or through other jobs

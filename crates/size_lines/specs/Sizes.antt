@@ -2,7 +2,7 @@
 use Rattle.std.specs.Prelude.{◌≡◌, ℕ, ◌+◌, ◌==◌, if◌then◌else◌, List, [], ◌∷◌, ◌++◌, codes, decimal}
 use Rattle.std.specs.List.{flat_map, sum_by, zip}
 use Rattle.job_bodies.specs.Plan.{Pool, Plan}
-use Rattle.fitted_sizes.specs.Widened.{outline}
+use Rattle.size_search.specs.Widened.{outline}
 
 -- a size, followed by the declared one if it differs
 abbrev pub size_text : ℕ → ℕ → List ℕ

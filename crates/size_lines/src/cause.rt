@@ -4,8 +4,7 @@ ghost use Rattle.support.specs.Pushed.{Pushes};
 ghost use Rattle.size_lines.specs.Cause as spec;
 
 use job_bodies::{MAX_SIZE, Plan};
-use size_causes::Cause;
-use size_search::NoSizes;
+use size_search::{Cause, NoSizes};
 use std::alloc::AllocError;
 
 /// Appends that no sizes were found for the plan, and why, such as `no fitting sizes found` and

@@ -7,14 +7,14 @@ use Rattle.job_bodies.specs.Plan.{Plan}
 use Rattle.job_bodies.specs.WellFormed.{IsWellFormed}
 use Rattle.weights.specs.Vector.{has_small_numbers}
 use Rattle.cert_text.specs.Cert.{Cert}
-use Rattle.fitted_sizes.specs.Fitted.{NoneFits}
-use Rattle.fitted_sizes.specs.Widened.{widened, NoneFitsWide}
-use Rattle.steady_certificates.specs.Submitted.{IsWithoutCause}
-use Rattle.steady_certificates.specs.Steady.{steady_vector, steady_total, steady_cert}
-use Rattle.beyond_sizes.specs.NoSizesHelp.{HasSizes}
-use Rattle.beyond_sizes.proofs.SizesExist.{free_where_sizes}
-use Rattle.beyond_sizes.proofs.SteadyRoom.{some_fit_wide, some_fit_widened}
-use Rattle.beyond_sizes.proofs.Caused.{beyond}
+use Rattle.size_search.specs.Fitted.{NoneFits}
+use Rattle.size_search.specs.Widened.{widened, NoneFitsWide}
+use Rattle.size_search.specs.Submitted.{IsWithoutCause}
+use Rattle.size_search.specs.Steady.{steady_vector, steady_total, steady_cert}
+use Rattle.size_search.specs.NoSizesHelp.{HasSizes}
+use Rattle.size_search.proofs.SizesExist.{free_where_sizes}
+use Rattle.size_search.proofs.SteadyRoom.{some_fit_wide, some_fit_widened}
+use Rattle.size_search.proofs.Caused.{beyond}
 use Rattle.size_search.specs.declared.found.SizesFound.{SizesFound}
 use Rattle.size_search.specs.declared.found.SizesFound.TheVariants.{Found, NotFound}
 use Rattle.size_search.specs.declared.found.NoSizes.TheVariants.{Cause, TooLarge}

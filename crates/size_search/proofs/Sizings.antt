@@ -7,14 +7,14 @@ use Rattle.job_bodies.specs.Plan.{Pool, Plan, no_pool, pool_at}
 use Rattle.job_bodies.specs.WellFormed.{IsWellFormed}
 use Rattle.cert_text.specs.Cert.{Cert, pool_cert_at}
 use Rattle.soundness.specs.Accepted.{accepted}
-use Rattle.fitted_sizes.specs.Fitted.{core_needed, IsNoSmaller, IsLeastFit}
-use Rattle.fitted_sizes.specs.Widened.{outline, HasLeastCores, without_maxes, IsWider, IsLeastWide}
-use Rattle.fitted_sizes.proofs.Numbered.{map-twice}
-use Rattle.fitted_sizes.proofs.Shapes.{get_or-changed}
-use Rattle.fitted_sizes.proofs.TotalRows.{totals_where_accepted}
-use Rattle.fitted_sizes.proofs.Changes.{nameplate, outline_of_shape, sizes_at}
-use Rattle.fitted_sizes.proofs.LeastSizes.{has_shape}
-use Rattle.fitted_sizes.proofs.LeastMaxes.{total-grows, maxless}
+use Rattle.size_search.specs.Fitted.{core_needed, IsNoSmaller, IsLeastFit}
+use Rattle.size_search.specs.Widened.{outline, HasLeastCores, without_maxes, IsWider, IsLeastWide}
+use Rattle.size_search.proofs.Numbered.{map-twice}
+use Rattle.size_search.proofs.Shapes.{get_or-changed}
+use Rattle.size_search.proofs.TotalRows.{totals_where_accepted}
+use Rattle.size_search.proofs.Changes.{nameplate, outline_of_shape, sizes_at}
+use Rattle.size_search.proofs.LeastSizes.{has_shape}
+use Rattle.size_search.proofs.LeastMaxes.{total-grows, maxless}
 use Rattle.size_search.specs.Sized.{IsSized}
 
 -- ---- wider plans

@@ -1,7 +1,7 @@
 -- The search for sizes is a decision: sizes exist exactly if no cause holds, unless the steady certificate is too large.
 use Rattle.job_bodies.specs.Plan.{Plan}
-use Rattle.steady_certificates.specs.Submitted.{IsWithoutCause}
-use Rattle.beyond_sizes.specs.NoSizesHelp.{IsBeyondSizes, HasSizes}
+use Rattle.size_search.specs.Submitted.{IsWithoutCause}
+use Rattle.size_search.specs.NoSizesHelp.{IsBeyondSizes, HasSizes}
 use Rattle.size_search.specs.declared.found.SizesFound.{SizesFound}
 use Rattle.size_search.specs.declared.found.SizesFound.TheVariants.{Found, NotFound}
 use Rattle.size_search.specs.declared.found.NoSizes.TheVariants.{Cause, TooLarge}

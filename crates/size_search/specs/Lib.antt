@@ -1,2 +1,14 @@
+pub mod Submitted
+pub mod Steady
+pub mod Small
+pub mod Settled
+pub mod SteadyLaws
+pub mod Reaching
+pub mod ByClients
+pub mod Causes
+pub mod Fitted
+pub mod Widened
+pub mod Unfit
+pub mod NoSizesHelp
 pub mod Sized
 pub mod Decided

@@ -5,10 +5,10 @@ use Rattle.job_bodies.specs.Plan.{Plan, pool_at}
 use Rattle.weights.specs.Vector.{has_small_numbers}
 use Rattle.cert_text.specs.Cert.{Cert}
 use Rattle.soundness.specs.Accepted.{accepted}
-use Rattle.fitted_sizes.specs.Fitted.{IsResized, IsNoSmaller}
-use Rattle.fitted_sizes.specs.Widened.{IsWideFit, HasLeastCores}
-use Rattle.steady_certificates.specs.Steady.{steady_vector, steady_total}
-use Rattle.size_causes.specs.Causes.{IsCause}
+use Rattle.size_search.specs.Fitted.{IsResized, IsNoSmaller}
+use Rattle.size_search.specs.Widened.{IsWideFit, HasLeastCores}
+use Rattle.size_search.specs.Steady.{steady_vector, steady_total}
+use Rattle.size_search.specs.Causes.{IsCause}
 use Rattle.size_search.specs.declared.found.NoSizes.TheVariants.{Cause, TooLarge}
 use Rattle.size_search.specs.declared.found.SizesFound.{SizesFound}
 use Rattle.size_search.specs.declared.found.SizesFound.TheVariants.{Found, NotFound}

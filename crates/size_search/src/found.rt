@@ -2,9 +2,9 @@
 
 ghost use Rattle.std.specs.Prelude.{◌≡◌, ◌<◌, length};
 
+use crate::Cause;
 use cert_text::Cert;
 use job_bodies::Plan;
-use size_causes::Cause;
 use std::alloc::AllocError;
 
 /// The result of a search for sizes.

@@ -1,7 +1,7 @@
 //! Sizes that the search itself does not change again.
 
 ghost use Rattle.std.specs.Prelude.{IfOk};
-ghost use Rattle.steady_certificates.specs.Submitted.{IsWithoutCause};
+ghost use Rattle.size_search.specs.Submitted.{IsWithoutCause};
 ghost use Rattle.job_bodies.specs.WellFormed.{IsWellFormed};
 ghost use Rattle.size_search.specs.Sized.{IsSized, IsFound};
 

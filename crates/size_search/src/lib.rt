@@ -1,25 +1,47 @@
-//! The search for sizes with which a certificate accepts a plan: which numbers to change, and how
-//! large they have to be.
+//! The search for pool sizes that make a plan safe, and the causes for which no sizes do.
 //!
-//! The result of the heuristic search is not trusted. What [`search_sizes`] returns went through
-//! [`fitted_sizes::fitted`], or through [`cert_check::accepts`] if the plan is unchanged. So the
-//! certificate accepts the plan with those sizes. Among sizes that are no smaller than declared,
-//! the certificate accepts no smaller maximum and no smaller core, nor a smaller queue with these
-//! maximums.
-
+//! Results are not trusted: sizes that [`search_sizes`] finds are accepted by [`fitted`] or [`cert_check::accepts`] before
+//! they are returned.
 #![tactic(auto)]
 
 mod attempt;
+mod body;
 mod bounds;
+mod cause;
+mod causes;
+mod certificate;
 mod certified;
+mod existence_laws;
+mod fit;
+mod fitted_laws;
 mod found;
 mod lasting;
+mod levels;
 mod pool_threads;
+mod reached;
 mod remembered;
 mod rounds;
+mod rows;
 mod search;
 mod settled;
 mod steadily;
+mod steady_laws;
+mod submitted;
+mod unfit;
+mod wide;
 
+pub use cause::Cause;
+pub use causes::cause_of;
+pub use certificate::steady;
+pub use existence_laws::{no_sizes_help, sizes_exist};
+pub use fit::{fitted, smallest};
+pub use fitted_laws::{
+    accepted_plans_fit, fitted_sizes_are_least, larger_sizes_are_accepted, smallest_fit_is_least,
+    told_cores_need_larger_maxes, widened_maxes_are_least,
+};
 pub use found::{NoSizes, SizesFound};
 pub use search::search_sizes;
+pub use steady_laws::steady_certificates_accept;
+pub use submitted::submitted_by_clients;
+pub use unfit::Unfit;
+pub use wide::widened;

@@ -3,12 +3,13 @@
 ghost use Rattle.std.specs.Prelude.{◌≡◌, IfOk, IfSome, IsTrue};
 ghost use Rattle.soundness.specs.Accepted.{accepted};
 ghost use Rattle.job_bodies.specs.WellFormed.{IsWellFormed};
-ghost use Rattle.steady_certificates.specs.Submitted.{IsWithoutCause};
+ghost use Rattle.size_search.specs.Submitted.{IsWithoutCause};
 ghost use Rattle.size_search.specs.Sized.{IsSized, IsFound};
 ghost use Rattle.size_search.specs.Decided.{IsDecided};
 ghost use Rattle.size_search.specs.declared.found.SizesFound.TheVariants.{Found};
 
 use crate::attempt::{Attempt, tried};
+use crate::cause_of;
 use crate::found::{Halt, NoSizes, Obstacle, SizesFound};
 use crate::lasting::lasting;
 use crate::pool_threads::{PoolThreads, declared_threads};
@@ -19,7 +20,6 @@ use cert_check::accepts;
 use cert_text::Cert;
 use job_bodies::{MAX_POOLS, Plan};
 use least_vectors::Levels;
-use size_causes::cause_of;
 use std::alloc::{AllocError, Global};
 
 /// The number of further pools that attempts start with, and the number of pools whose growth is

@@ -1,12 +1,12 @@
 //! The least sizes for a certificate.
 
 ghost use Rattle.std.specs.Prelude.{IfOk};
-ghost use Rattle.fitted_sizes.specs.Widened.{IsLeastWide};
+ghost use Rattle.size_search.specs.Widened.{IsLeastWide};
 ghost use Rattle.size_search.specs.Sized.{IsSized};
 
 use crate::found::Obstacle;
+use crate::{Unfit, fitted, widened};
 use cert_text::Cert;
-use fitted_sizes::{Unfit, fitted, widened};
 use job_bodies::Plan;
 use std::alloc::{AllocError, Global};
 

@@ -4,18 +4,17 @@ ghost use Rattle.std.specs.Prelude.{◌≡◌, ◌≤◌, IfOk, IfSome, IfNone, 
 ghost use Rattle.job_bodies.specs.WellFormed.{IsWellFormed};
 ghost use Rattle.job_bodies.specs.declared.limits.TheConstants.{MAX_SIZE};
 ghost use Rattle.weights.specs.Vector.{has_small_numbers};
-ghost use Rattle.fitted_sizes.specs.Widened.{IsLeastWide};
-ghost use Rattle.fitted_sizes.specs.Widened as spec;
-ghost use Rattle.steady_certificates.specs.Submitted.{IsWithoutCause};
-ghost use Rattle.steady_certificates.specs.Steady.{steady_vector, steady_total, steady_cert};
+ghost use Rattle.size_search.specs.Widened.{IsLeastWide};
+ghost use Rattle.size_search.specs.Widened as spec;
+ghost use Rattle.size_search.specs.Submitted.{IsWithoutCause};
+ghost use Rattle.size_search.specs.Steady.{steady_vector, steady_total, steady_cert};
 ghost use Rattle.size_search.specs.Sized.{IsSized, IsFound, IsTooLarge};
 
 use crate::found::{NoSizes, Obstacle, SizesFound};
+use crate::{fitted, steady, widened};
 use cert_text::Cert;
-use fitted_sizes::{fitted, widened};
 use job_bodies::Plan;
 use std::alloc::{AllocError, Global};
-use steady_certificates::steady;
 
 /// Returns the plan with the least sizes that its steady certificate needs. If those are too large,
 /// returns that, with the pool at which an attempt failed.

@@ -5,7 +5,7 @@ use Rattle.std.specs.Prelude.{IfNone}
 use Rattle.job_bodies.specs.Plan.{Plan}
 use Rattle.cert_text.specs.Cert.{Cert}
 use Rattle.soundness.specs.Accepted.{accepted}
-use Rattle.steady_certificates.specs.Steady.{steady_cert}
+use Rattle.size_search.specs.Steady.{steady_cert}
 use Rattle.size_search.specs.declared.found.SizesFound.{SizesFound}
 use Rattle.size_search.specs.declared.found.SizesFound.TheVariants.{Found}
 use Rattle.sizing_cli.specs.Fit.{IsAsDeclared}

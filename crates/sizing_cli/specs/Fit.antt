@@ -9,7 +9,7 @@ use Rattle.plan_text.specs.PlanDocument.{IsPlanText}
 use Rattle.cert_text.specs.Cert.{Cert}
 use Rattle.cert_text.specs.CertText.{cert_text}
 use Rattle.soundness.specs.Accepted.{accepted}
-use Rattle.steady_certificates.specs.Steady.{steady_cert}
+use Rattle.size_search.specs.Steady.{steady_cert}
 use Rattle.size_search.specs.declared.found.NoSizes.{NoSizes}
 use Rattle.size_search.specs.declared.found.SizesFound.{SizesFound}
 use Rattle.size_search.specs.declared.found.SizesFound.TheVariants.{Found, NotFound}

@@ -3,7 +3,7 @@
 ghost use Rattle.std.specs.Prelude.{◌≡◌, ◌≤◌, IfOk, IfErr, IfSome, IfNone, IsTrue, false};
 ghost use Rattle.job_bodies.specs.declared.limits.TheConstants.{MAX_WORKERS};
 ghost use Rattle.soundness.specs.Accepted.{accepted};
-ghost use Rattle.steady_certificates.specs.Steady.{steady_cert};
+ghost use Rattle.size_search.specs.Steady.{steady_cert};
 ghost use Rattle.ask_answers.specs.Finding.{IsKnown};
 ghost use Rattle.sizing_cli.specs.Certify.{IsUncertified};
 ghost use Rattle.sizing_cli.specs.OfSizes as spec;

@@ -2,7 +2,7 @@
 
 ghost use Rattle.std.specs.Prelude.{◌≡◌, IfOk, IfErr, IsTrue, false, not};
 ghost use Rattle.soundness.specs.Accepted.{accepted};
-ghost use Rattle.steady_certificates.specs.Steady.{steady_cert};
+ghost use Rattle.size_search.specs.Steady.{steady_cert};
 ghost use Rattle.ask_answers.specs.Finding.{IsFinding, IsKnown};
 ghost use Rattle.ask_answers.specs.declared.finding.PlanFinding.TheVariants.{Safe};
 ghost use Rattle.sizing_cli.specs.Ask as spec;

@@ -2,7 +2,7 @@
 
 ghost use Rattle.std.specs.Prelude.{◌≡◌, IfOk, IfErr, IsTrue};
 ghost use Rattle.soundness.specs.Accepted.{accepted};
-ghost use Rattle.steady_certificates.specs.Steady.{steady_cert};
+ghost use Rattle.size_search.specs.Steady.{steady_cert};
 ghost use Rattle.size_search.specs.Sized.{IsFound};
 ghost use Rattle.size_search.specs.Decided.{IsDecided};
 ghost use Rattle.sizing_cli.specs.Fit as spec;

@@ -1,7 +1,7 @@
 use Rattle.std.proofs.Common.{rules}
-use Rattle.steady_certificates.specs.Steady.{steady_cert}
-use Rattle.size_causes.specs.Causes.{IsCause}
-use Rattle.beyond_sizes.proofs.Caused.{refused_where_caused}
+use Rattle.size_search.specs.Steady.{steady_cert}
+use Rattle.size_search.specs.Causes.{IsCause}
+use Rattle.size_search.proofs.Caused.{refused_where_caused}
 use Rattle.cert_search.proofs.steadily.steady_where_accepted.Goals as goal
 
 pub returns-in-Some-clause-none : goal.returns-in-Some-clause-none

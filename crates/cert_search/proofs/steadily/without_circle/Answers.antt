@@ -2,8 +2,8 @@ use Rattle.std.proofs.Common.{◌≡◌, false, rules}
 use Rattle.std.proofs.lemmas.Bool.{false_from_ne_true, both_ways}
 use Rattle.weights.specs.Vector.{has_small_numbers}
 use Rattle.soundness.specs.Accepted.{accepted}
-use Rattle.steady_certificates.specs.Steady.{steady_vector, steady_cert}
-use Rattle.beyond_sizes.proofs.WithoutPools.{small_where_accepted}
+use Rattle.size_search.specs.Steady.{steady_vector, steady_cert}
+use Rattle.size_search.proofs.WithoutPools.{small_where_accepted}
 use Rattle.cert_search.proofs.steadily.without_circle.Goals as goal
 
 pub returns-in-None-clause-none : goal.returns-in-None-clause-none

@@ -1,7 +1,7 @@
 use Rattle.std.proofs.Common.{rules}
-use Rattle.steady_certificates.specs.Submitted.{IsWithoutCause}
-use Rattle.size_causes.specs.Causes.{IsCause}
-use Rattle.beyond_sizes.proofs.Caused.{beyond}
+use Rattle.size_search.specs.Submitted.{IsWithoutCause}
+use Rattle.size_search.specs.Causes.{IsCause}
+use Rattle.size_search.proofs.Caused.{beyond}
 use Rattle.size_search.specs.Sized.{IsFound}
 use Rattle.size_search.proofs.Deciding.{decided_without_cause}
 use Rattle.size_search.proofs.search.searched.Goals as goal

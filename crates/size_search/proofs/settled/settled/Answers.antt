@@ -1,6 +1,6 @@
 use Rattle.std.proofs.Common.{rules}
-use Rattle.fitted_sizes.specs.Fitted.{IsLeastFit}
-use Rattle.fitted_sizes.specs.Widened.{HasLeastCores, IsLeastWide}
+use Rattle.size_search.specs.Fitted.{IsLeastFit}
+use Rattle.size_search.specs.Widened.{HasLeastCores, IsLeastWide}
 use Rattle.size_search.proofs.Sizings.{sized_where_fitted}
 use Rattle.size_search.proofs.settled.settled.Goals as goal
 use Rattle.size_search.proofs.settled.settled.Goals.{in-Ok-2, in-Err-2}

@@ -1,5 +1,5 @@
 use Rattle.std.proofs.Common.{sym, subst, rules}
-use Rattle.fitted_sizes.specs.Widened.{IsLeastWide}
+use Rattle.size_search.specs.Widened.{IsLeastWide}
 use Rattle.size_search.proofs.Sizings.{widened_again}
 use Rattle.size_search.proofs.settled.widest.Goals as goal
 use Rattle.size_search.proofs.settled.widest.Goals.{else-loop-test, then-loop-test+in_ok-wider+in-Ok-2+then-is_widest}

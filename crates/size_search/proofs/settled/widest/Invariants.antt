@@ -1,5 +1,5 @@
 -- No max is larger than necessary so far.
-use Rattle.fitted_sizes.specs.Widened.{IsLeastWide}
+use Rattle.size_search.specs.Widened.{IsLeastWide}
 use Rattle.size_search.proofs.settled.widest.Given as goal
 
 abbrev pub invariant-loop : goal.invariant-loop

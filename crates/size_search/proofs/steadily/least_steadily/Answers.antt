@@ -1,5 +1,5 @@
 use Rattle.std.proofs.Common.{rules}
-use Rattle.fitted_sizes.specs.Widened.{NoneFitsWide}
+use Rattle.size_search.specs.Widened.{NoneFitsWide}
 use Rattle.size_search.proofs.Deciding.{too_high_where_not_wide}
 use Rattle.size_search.proofs.steadily.least_steadily.Goals as goal
 

@@ -1,6 +1,6 @@
 use Rattle.std.proofs.Common.{rules}
-use Rattle.fitted_sizes.specs.Fitted.{IsLeastFit, NoneFits}
-use Rattle.fitted_sizes.specs.Widened.{HasLeastCores}
+use Rattle.size_search.specs.Fitted.{IsLeastFit, NoneFits}
+use Rattle.size_search.specs.Widened.{HasLeastCores}
 use Rattle.size_search.proofs.Sizings.{sized_where_fitted}
 use Rattle.size_search.proofs.Deciding.{too_high_where_not_fitted}
 use Rattle.size_search.proofs.steadily.least_wide.Goals as goal

@@ -1,4 +1,4 @@
-use Rattle.beyond_sizes.proofs.WithoutPools.{too_large_for_a_pool}
+use Rattle.size_search.proofs.WithoutPools.{too_large_for_a_pool}
 use Rattle.size_search.proofs.steadily.too_large.Goals as goal
 
 pub pool-requires : goal.pool-requires

@@ -1,6 +1,0 @@
-use Rattle.std.proofs.Common.{arith}
-use Rattle.fitted_sizes.proofs.TotalBounds.{total_bounded}
-use Rattle.fitted_sizes.proofs.fit.core_needed.Goals as goal
-
-pub overflow_add-result : goal.overflow_add-result
-overflow_add-result c = omega (arith, c.total.ensures, total_bounded c.args.plan.now c.args.blocked.now c.requires.well_formed c.requires.fits)

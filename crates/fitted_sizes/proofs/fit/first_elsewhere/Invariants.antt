@@ -1,9 +1,0 @@
--- The result depends on the notes from this one.
-use Rattle.std.proofs.Common.{◌≡◌, not, drop}
-use Rattle.std.specs.List.{find}
-use Rattle.soundness.specs.declared.note.Note.{Note}
-use Rattle.fitted_sizes.specs.Fitted.{is_total}
-use Rattle.fitted_sizes.proofs.fit.first_elsewhere.Given as goal
-
-abbrev pub invariant-loop-note : goal.invariant-loop-note
-invariant-loop-note l = find (λ (note : Note). not (is_total note.place)) (drop l.note-index l.notes) ≡ find (λ (note : Note). not (is_total note.place)) l.notes

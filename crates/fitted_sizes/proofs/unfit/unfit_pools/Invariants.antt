@@ -1,7 +1,0 @@
--- The result depends on the pools from this one.
-use Rattle.std.proofs.Common.{◌≡◌}
-use Rattle.fitted_sizes.proofs.Loops.{rest_unfit}
-use Rattle.fitted_sizes.proofs.unfit.unfit_pools.Given as goal
-
-abbrev pub invariant-loop-number : goal.invariant-loop-number
-invariant-loop-number l = rest_unfit l.pools l.number ≡ rest_unfit l.pools 0

@@ -1,3 +1,0 @@
-pub mod Fitted
-pub mod Widened
-pub mod Unfit

@@ -1,4 +1,0 @@
-pub mod Growing
-pub mod Following
-pub mod Nothing
-pub mod AllClients

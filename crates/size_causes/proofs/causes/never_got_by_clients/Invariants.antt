@@ -1,7 +1,0 @@
--- No kind of clients before this one has such a submit.
-use Rattle.std.proofs.Common.{ℕ, ◌<◌}
-use Rattle.steady_certificates.specs.Submitted.{NeverGotByClients}
-use Rattle.size_causes.proofs.causes.never_got_by_clients.Given as goal
-
-abbrev pub invariant-loop-number : goal.invariant-loop-number
-invariant-loop-number l = (c i : ℕ) → c < l.number → ¬ NeverGotByClients l.plan c i

@@ -1,7 +1,0 @@
--- No class before this one has such a submit.
-use Rattle.std.proofs.Common.{ℕ, ◌<◌}
-use Rattle.steady_certificates.specs.Submitted.{NeverGotByJobs}
-use Rattle.size_causes.proofs.causes.never_got_by_jobs.Given as goal
-
-abbrev pub invariant-loop-number : goal.invariant-loop-number
-invariant-loop-number l = (k i : ℕ) → k < l.number → ¬ NeverGotByJobs l.plan k i

@@ -1,7 +1,0 @@
--- No position before this one has such a submit.
-use Rattle.std.proofs.Common.{ℕ, ◌<◌}
-use Rattle.steady_certificates.specs.Submitted.{IsNeverGot}
-use Rattle.size_causes.proofs.causes.submit_without_get.Given as goal
-
-abbrev pub invariant-loop-position : goal.invariant-loop-position
-invariant-loop-position l = (i : ℕ) → i < l.position → ¬ IsNeverGot l.body i

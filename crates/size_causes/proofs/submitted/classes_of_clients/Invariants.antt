@@ -1,6 +1,0 @@
--- The bodies of the clients before this one are added.
-use Rattle.size_causes.proofs.AllClients.{AreBegun}
-use Rattle.size_causes.proofs.submitted.classes_of_clients.Given as goal
-
-abbrev pub invariant-loop-number : goal.invariant-loop-number
-invariant-loop-number l = AreBegun l.plan l.reached l.number

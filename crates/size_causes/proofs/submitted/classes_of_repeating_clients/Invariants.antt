@@ -1,6 +1,0 @@
--- The bodies of the clients before this one that repeat are added.
-use Rattle.size_causes.proofs.Following.{AreAdded}
-use Rattle.size_causes.proofs.submitted.classes_of_repeating_clients.Given as goal
-
-abbrev pub invariant-loop-number : goal.invariant-loop-number
-invariant-loop-number l = AreAdded l.plan l.reached l.number

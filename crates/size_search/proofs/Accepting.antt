@@ -1,0 +1,175 @@
+-- The steady certificate is accepted if the sizes are enough.
+use Rattle.std.proofs.Common.{◌≡◌, ℕ, zero, ◌-◌, ◌<◌, ◌≤◌, ⊎_elim, Bool, true, false, ◌&&◌, ltb, List, [], ◌∷◌, ◌++◌, length, map, filter, flat_map, slice_get, Some, refl, sym, ap, subst, ◌∙◌, arith}
+use Rattle.std.specs.Prelude.{◌==◌}
+use Rattle.std.specs.List.{enumerate_from}
+use Rattle.std.proofs.lemmas.Bool.{le-ltb, false≢true}
+use Rattle.std.proofs.lemmas.List.{get_or-map}
+use Rattle.std.proofs.lemmas.Option.{slice_get_within, get_or_from_slice_get}
+use Rattle.support.specs.In.{In}
+use Rattle.support.proofs.Members.{In-append_cases, In-push_cases, In-map, In-map_from, In-flat_map_from, In-filter_from}
+use Rattle.job_bodies.specs.declared.action.Action.{Action}
+use Rattle.job_bodies.specs.declared.action.Action.TheVariants.{Submit}
+use Rattle.job_bodies.specs.Plan.{Pool, Class, Plan, no_pool, no_class, pool_at, class_at, class_got}
+use Rattle.job_bodies.specs.WellFormed.{IsWellFormed}
+use Rattle.job_bodies.proofs.Bodies.{IsOrdered, ordered}
+use Rattle.weights.specs.declared.at_get.AtGet.TheVariants.{GivesBack}
+use Rattle.weights.specs.declared.row.Place.TheVariants as place
+use Rattle.weights.specs.declared.row.Row.{Row}
+use Rattle.weights.specs.declared.row.Rule.TheVariants.{S1, S2, B1, B2}
+use Rattle.weights.specs.Row.{row, AllHold}
+use Rattle.weights.specs.Vector.{Vector, queued_weight, job_weight, total, has_small_numbers}
+use Rattle.weights.specs.Rows.{rows, classes_of}
+use Rattle.weights.specs.Standing.{standing_rows}
+use Rattle.weights.specs.Bound.{bound_rows}
+use Rattle.soundness.proofs.BoundLaws.{BoundLaws}
+use Rattle.weights.specs.Blocked.{is_get, counted_rows, blocked_rows}
+use Rattle.weights.specs.Ranks.{is_counted, rank_rows}
+use Rattle.soundness.proofs.BlockedLaws.{BlockedLaws}
+use Rattle.soundness.proofs.RankLaws.{RankLaws}
+use Rattle.cert_text.specs.Cert.{PoolCert, no_pool_cert, pool_cert_at}
+use Rattle.soundness.specs.declared.note.Section.{Section}
+use Rattle.soundness.specs.declared.note.Section.TheVariants as section
+use Rattle.soundness.specs.declared.note.Note.{Note}
+use Rattle.soundness.specs.Conditions.{note, in_section, bound_section, pool_conditions, conditions, failing}
+use Rattle.soundness.specs.Accepted.{accepted}
+use Rattle.soundness.proofs.CertLaws.{cert_laws}
+use Rattle.soundness.proofs.Faults.{pool_numbers, accepted_from_parts}
+use Rattle.size_search.specs.Submitted.{IsWithoutCause}
+use Rattle.size_search.specs.Steady.{steady_vector, steady_pool, steady_ranks, steady_cert}
+use Rattle.size_search.specs.SteadyLaws.{AreEnough, SteadyCertificatesAccept}
+use Rattle.size_search.proofs.Depths.{get_or-changed, levels_sink}
+use Rattle.size_search.proofs.Steadiness.{queued_weighs, job_weighs, steady_laws}
+use Rattle.size_search.proofs.Holding.{at_number, rows_hold, rank_rows_hold}
+use Rattle.size_search.proofs.Fitting.{cert_is_fit}
+use Rattle.support.proofs.Members.{In-slice_get}
+
+-- ---- the parts of the certificate
+
+pool_part : (plan : Plan) (p : ℕ) → p < length plan.pools → pool_cert_at (steady_cert plan) p ≡ steady_pool plan
+pool_part plan p inside = get_or-map (λ (pool : Pool). steady_pool plan) plan.pools p no_pool no_pool_cert inside
+
+steady_ranks_laws : (plan : Plan) → IsOrdered plan → IsWithoutCause plan → RankLaws plan (steady_ranks plan)
+steady_ranks_laws plan is_ordered free = record {
+  reaches = λ k inside. let none = get_or-changed (λ (pool : Pool). zero) plan.pools (class_at plan k).pool no_pool in omega (arith, none);
+  falls = λ k i t at. let none = get_or-changed (λ (class : Class). zero) plan.classes (class_got (class_at plan k).body t) no_class in omega (arith, none);
+  sinks = λ k i j at. levels_sink plan is_ordered free.no_circle k j (In-slice_get (class_at plan k).body i (Submit j) at);
+}
+
+-- ---- all rows except those of totals
+
+abbrev standing_body : Plan → ℕ → Vector → List Row
+standing_body plan p v = rows GivesBack plan v ++ map (λ (entry : ℕ × Class). row S1 (place.Class entry.0) 1 (queued_weight v entry.0)) (classes_of plan p)
+
+abbrev blocked_body : Plan → ℕ → (ℕ → ℕ → Bool) → Vector → List Row
+blocked_body plan p counted v = rows GivesBack plan v ++ flat_map (λ (entry : ℕ × Class). counted_rows counted v entry.0 entry.1) (classes_of plan p)
+
+-- a class of a pool, by its number
+in_pool : (plan : Plan) (p : ℕ) (entry : ℕ × Class) → In entry (classes_of plan p) → slice_get plan.classes entry.0 ≡ Some entry.1
+in_pool plan p entry at = at_number plan.classes entry (In-filter_from (λ (any : ℕ × Class). any.1.pool == p) (enumerate_from 0 plan.classes) at).0
+
+standing_holds : (plan : Plan) (p : ℕ) → IsOrdered plan → IsWithoutCause plan → AllHold (standing_body plan p (steady_vector plan))
+standing_holds plan p is_ordered free x at =
+    let v = steady_vector plan in
+    let of_class = λ (entry : ℕ × Class). row S1 (place.Class entry.0) 1 (queued_weight v entry.0) in
+    ⊎_elim
+    (λ first. rows_hold plan v (steady_laws plan is_ordered free) x first)
+    (λ second.
+    let found = In-map_from of_class (classes_of plan p) second in
+    let stands = in_pool plan p found.0 found.1 in
+    subst (λ (y : Row). y.left ≤ y.right) found.2 (queued_weighs plan is_ordered free found.0.0 (slice_get_within plan.classes found.0.0 found.0.1 stands)))
+    (In-append_cases (rows GivesBack plan v) (map of_class (classes_of plan p)) at)
+
+blocked_holds : (plan : Plan) (p : ℕ) (counted : ℕ → ℕ → Bool) → IsOrdered plan → IsWithoutCause plan → AllHold (blocked_body plan p counted (steady_vector plan))
+blocked_holds plan p counted is_ordered free x at =
+    let v = steady_vector plan in
+    let of_class = λ (entry : ℕ × Class). counted_rows counted v entry.0 entry.1 in
+    ⊎_elim
+    (λ first. rows_hold plan v (steady_laws plan is_ordered free) x first)
+    (λ second.
+    let found = In-flat_map_from of_class (classes_of plan p) second in
+    let k = found.0.0 in
+    let class = found.0.1 in
+    let stands = in_pool plan p found.0 found.1 in
+    let is : class_at plan k ≡ class = get_or_from_slice_get plan.classes k class no_class stands in
+    let gets = filter (λ (entry : ℕ × Action). is_get entry.1 && counted k entry.0) (enumerate_from 0 class.body) in
+    let at_get = In-map_from (λ (entry : ℕ × Action). row B1 (place.ClassAction k entry.0) 1 (job_weight v k entry.0)) gets found.2 in
+    let among = (In-filter_from (λ (entry : ℕ × Action). is_get entry.1 && counted k entry.0) (enumerate_from 0 class.body) at_get.1).0 in
+    let within = slice_get_within class.body at_get.0.0 at_get.0.1 (at_number class.body at_get.0 among) in
+    let long : length (class_at plan k).body ≡ length class.body = ap (λ (any : Class). length any.body) is in
+    subst (λ (y : Row). y.left ≤ y.right) at_get.2 (job_weighs plan is_ordered free k at_get.0.0 (slice_get_within plan.classes k class stands) (omega (arith, within, long))))
+    (In-append_cases (rows GivesBack plan v) (flat_map of_class (classes_of plan p)) at)
+
+-- ---- only totals fail
+
+fails_not : (part : Section) (rows : List Row) (n : Note) → AllHold rows → ltb n.right n.left ≡ true → In n (in_section part rows) → n.place ≡ place.Total
+fails_not part rows n hold wrong at =
+    let found = In-map_from (note part) rows at in
+    let right : ltb n.right n.left ≡ false = subst (λ (y : Note). ltb y.right y.left ≡ false) found.2 (le-ltb found.0.right found.0.left (hold found.0 found.1)) in
+    absurd (false≢true (sym right ∙ wrong))
+
+fails_at_total : (part : Section) (rows : List Row) (t : Row) (n : Note) → AllHold rows → t.place ≡ place.Total → ltb n.right n.left ≡ true → In n (in_section part (rows ++ t ∷ [])) → n.place ≡ place.Total
+fails_at_total part rows t n hold of_total wrong at =
+    let found = In-map_from (note part) (rows ++ t ∷ []) at in
+    ⊎_elim
+    (λ before. fails_not part rows n hold wrong (subst (λ (y : Note). In y (in_section part rows)) found.2 (In-map (note part) before)))
+    (λ (final : found.0 ≡ t). ap (λ (y : Note). y.place) (sym found.2) ∙ (ap (λ (x : Row). x.place) final ∙ of_total))
+    (In-push_cases rows t found.1)
+
+of_pool : (plan : Plan) (p : ℕ) (n : Note) → IsOrdered plan → IsWithoutCause plan → p < length plan.pools → ltb n.right n.left ≡ true → In n (pool_conditions plan (steady_cert plan) p) → n.place ≡ place.Total
+of_pool plan p n is_ordered free inside wrong at =
+    let v = steady_vector plan in
+    let counted = is_counted plan (steady_ranks plan) in
+    let here : In n (in_section (section.Standing p) (standing_rows plan p v) ++ in_section (section.Blocked p) (blocked_rows plan p counted v)) =
+    subst
+    (λ (pool : PoolCert). In n (in_section (bound_section p pool.bound) (bound_rows plan p pool.bound) ++ in_section (section.Blocked p) (blocked_rows plan p counted pool.blocked)))
+    (pool_part plan p inside) at in
+    ⊎_elim
+    (λ first. fails_at_total (section.Standing p) (standing_body plan p v) (row S2 place.Total (total plan v) (pool_at plan p).queue) n (standing_holds plan p is_ordered free) refl wrong first)
+    (λ second. fails_at_total (section.Blocked p) (blocked_body plan p counted v) (row B2 place.Total (total plan v) ((pool_at plan p).core - 1)) n (blocked_holds plan p counted is_ordered free) refl wrong second)
+    (In-append_cases (in_section (section.Standing p) (standing_rows plan p v)) (in_section (section.Blocked p) (blocked_rows plan p counted v)) here)
+
+only_totals : (plan : Plan) → IsOrdered plan → IsWithoutCause plan → (n : Note) → In n (failing plan (steady_cert plan)) → n.place ≡ place.Total
+only_totals plan is_ordered free n at =
+    let cert = steady_cert plan in
+    let found = In-filter_from (λ (y : Note). ltb y.right y.left) (conditions plan cert) at in
+    let conditions_of = λ (entry : ℕ × Pool). pool_conditions plan cert entry.0 in
+    ⊎_elim
+    (λ first. fails_not section.Ranks (rank_rows plan cert.ranks) n (rank_rows_hold plan (steady_ranks plan) (steady_ranks_laws plan is_ordered free)) found.1 first)
+    (λ later.
+    let of = In-flat_map_from conditions_of (enumerate_from 0 plan.pools) later in
+    let within = pool_numbers 0 plan.pools of.0 of.1 in
+    of_pool plan of.0.0 n is_ordered free (omega (arith, within.1)) found.1 of.2)
+    (In-append_cases (in_section section.Ranks (rank_rows plan cert.ranks)) (flat_map conditions_of (enumerate_from 0 plan.pools)) found.0)
+
+-- ---- accepted
+
+hold_with : (rows : List Row) (t : Row) → AllHold rows → t.left ≤ t.right → AllHold (rows ++ t ∷ [])
+hold_with rows t hold within x at = ⊎_elim (λ before. hold x before) (λ (final : x ≡ t). subst (λ (y : Row). y.left ≤ y.right) (sym final) within) (In-push_cases rows t at)
+
+accepted_where_enough : (plan : Plan) → IsWellFormed plan → IsWithoutCause plan → has_small_numbers (steady_vector plan) ≡ true → AreEnough plan → accepted plan (steady_cert plan) ≡ true
+accepted_where_enough plan well free small enough =
+    let v = steady_vector plan in
+    let is_ordered = ordered plan well in
+    let counted = is_counted plan (steady_ranks plan) in
+    accepted_from_parts plan (steady_cert plan) (cert_is_fit plan well free.no_circle small) (rank_rows_hold plan (steady_ranks plan) (steady_ranks_laws plan is_ordered free))
+    (λ p inside.
+    subst (λ (pool : PoolCert). AllHold (bound_rows plan p pool.bound)) (sym (pool_part plan p inside))
+    (hold_with (standing_body plan p v) (row S2 place.Total (total plan v) (pool_at plan p).queue) (standing_holds plan p is_ordered free) (enough p inside).0))
+    (λ p inside.
+    let of_core = (enough p inside).1 in
+    subst (λ (pool : PoolCert). AllHold (blocked_rows plan p counted pool.blocked)) (sym (pool_part plan p inside))
+    (hold_with (blocked_body plan p counted v) (row B2 place.Total (total plan v) ((pool_at plan p).core - 1)) (blocked_holds plan p counted is_ordered free) (omega (arith, of_core))))
+
+enough_where_accepted : (plan : Plan) → IsWellFormed plan → accepted plan (steady_cert plan) ≡ true → AreEnough plan
+enough_where_accepted plan well is_accepted p inside =
+    let laws = cert_laws plan (steady_cert plan) is_accepted in
+    let bound = subst (λ (pool : PoolCert). BoundLaws plan p pool.bound) (pool_part plan p inside) (laws.bound p inside) in
+    let blocked = subst (λ (pool : PoolCert). BlockedLaws plan (is_counted plan (steady_ranks plan)) p pool.blocked) (pool_part plan p inside) (laws.blocked p inside) in
+    (bound.within, omega (arith, blocked.within, (ordered plan well).core p inside))
+
+pub accepting : SteadyCertificatesAccept
+accepting plan well free small = record {
+  fits = cert_is_fit plan well free.no_circle small;
+  only_totals = only_totals plan (ordered plan well) free;
+  is_accepted = (enough_where_accepted plan well, accepted_where_enough plan well free small);
+}

@@ -1,0 +1,94 @@
+-- No sizes are enough: the conditions of a certificate contradict a cause, which does not depend on sizes.
+use Rattle.std.proofs.Common.{◌≡◌, ℕ, ◌<◌, ◌≤◌, true, List, [], ◌∷◌, length, map, filter, get_or, slice_get, IsTrue, subst, sym, ap, arith, refl}
+use Rattle.job_bodies.specs.declared.action.Action.{Action}
+use Rattle.job_bodies.specs.Plan.{Class, Client, Plan, no_class, no_client, class_at, client_at}
+use Rattle.job_bodies.specs.WellFormed.{IsWellFormed}
+use Rattle.job_bodies.proofs.Bodies.{ordered}
+use Rattle.weights.specs.declared.bound.Bound.{Bound}
+use Rattle.weights.specs.declared.bound.Bound.TheVariants.{Standing, Lifetime}
+use Rattle.weights.specs.Vector.{queued_weight}
+use Rattle.weights.specs.Bound.{bound_vector, bound_at_get}
+use Rattle.cert_text.specs.Cert.{Cert, pool_cert_at}
+use Rattle.soundness.proofs.BoundLaws.{BoundLaws, bound_vector_laws}
+use Rattle.soundness.specs.Accepted.{accepted}
+use Rattle.soundness.proofs.CertLaws.{cert_laws}
+use Rattle.size_search.specs.Submitted.{IsSubmitted, IsNeverGot, NeverGotByClients, NeverGotByJobs, repeated_bodies}
+use Rattle.size_search.specs.NoSizesHelp.{IsBeyondSizes, NoSizesHelp}
+use Rattle.size_search.proofs.Circles.{submitted_in, sinks_below}
+use Rattle.size_search.proofs.Losses.{class_submitted}
+use Rattle.size_search.proofs.Repeats.{IsWeighed, lighter_without_get, repeats_with_gets, none_is_lighter}
+
+circle : (plan : Plan) (k : ℕ) → IsSubmitted plan ((class_at plan k).body ∷ []) k → IsBeyondSizes plan
+circle plan k submitted other cert well same is_accepted =
+    let classes : other.classes ≡ plan.classes = ap (λ (any : Plan). any.classes) same in
+    let body : (class_at other k).body ≡ (class_at plan k).body = ap (λ (all : List Class). (get_or all k no_class).body) classes in
+    let there = subst (λ (first : List Action). IsSubmitted other (first ∷ []) k) (sym body) (submitted_in plan other ((class_at plan k).body ∷ []) classes submitted) in
+    let below = sinks_below other cert.ranks k (cert_laws other cert is_accepted).ranks there in
+    omega (arith, below)
+
+-- ---- the conditions of an accepted certificate on the jobs of a class
+
+queued_weighs : (plan : Plan) (p : ℕ) (bound : Bound) → BoundLaws plan p bound → (k : ℕ) → k < length plan.classes → (class_at plan k).pool ≡ p → 1 ≤ queued_weight (bound_vector bound) k
+queued_weighs plan p (Standing v) laws = laws.queued
+queued_weighs plan p (Lifetime v) laws = laws.queued
+
+-- the bound of their pool: no action makes an actor heavier, and such a job has weight in the queue
+record IsBounded (plan : Plan) (cert : Cert) (bound : Bound) (k : ℕ) : Type 0 where
+  weighed : IsWeighed (bound_at_get bound) plan (bound_vector bound) cert.ranks
+  weighs : 1 ≤ queued_weight (bound_vector bound) k
+
+bounded : (plan : Plan) (cert : Cert) (k : ℕ) → IsWellFormed plan → IsTrue (accepted plan cert) → k < length plan.classes → IsBounded plan cert (pool_cert_at cert (class_at plan k).pool).bound k
+bounded plan cert k well is_accepted inside =
+    let p = (class_at plan k).pool in
+    let bound = (pool_cert_at cert p).bound in
+    let is_ordered = ordered plan well in
+    let laws = cert_laws plan cert is_accepted in
+    let of_bound = laws.bound p (is_ordered.pools k inside) in
+    record {
+      weighed = record { ordered = is_ordered; vector = bound_vector_laws plan p bound of_bound; levels = laws.ranks };
+      weighs = queued_weighs plan p bound of_bound k inside refl;
+    }
+
+-- ---- clients with a submit that is never got
+
+no_client_does : (plan : Plan) (cert : Cert) (c i : ℕ) → IsWellFormed plan → IsTrue (accepted plan cert) → NeverGotByClients plan c i → ⊥
+no_client_does plan cert c i well is_accepted cause =
+    let submitted = class_submitted (slice_get (client_at plan c).body i) cause.never_got.is_submit in
+    let k = submitted.0 in
+    let bound = (pool_cert_at cert (class_at plan k).pool).bound in
+    let facts = bounded plan cert k well is_accepted (((ordered plan well).clients c).submit i k submitted.1) in
+    repeats_with_gets (bound_at_get bound) plan (bound_vector bound) cert.ranks c i k facts.weighed cause.repeats submitted.1 cause.never_got.not_got facts.weighs
+
+client_never_gets : (plan : Plan) (c i : ℕ) → NeverGotByClients plan c i → IsBeyondSizes plan
+client_never_gets plan c i cause other cert well same is_accepted =
+    let client : client_at plan c ≡ client_at other c = ap (λ (any : Plan). get_or any.clients c no_client) (sym same) in
+    no_client_does other cert c i well is_accepted
+    (record { repeats = subst (λ (any : Client). any.repeat ≡ true) client cause.repeats; never_got = subst (λ (any : Client). IsNeverGot any.body i) client cause.never_got })
+
+-- ---- jobs with a submit that is never got
+
+no_job_does : (plan : Plan) (cert : Cert) (k i : ℕ) → IsWellFormed plan → IsTrue (accepted plan cert) → NeverGotByJobs plan k i → ⊥
+no_job_does plan cert k i well is_accepted cause =
+    let submitted = class_submitted (slice_get (class_at plan k).body i) cause.never_got.is_submit in
+    let j = submitted.0 in
+    let bound = (pool_cert_at cert (class_at plan j).pool).bound in
+    let facts = bounded plan cert j well is_accepted (((ordered plan well).classes k).submit i j submitted.1) in
+    none_is_lighter (bound_at_get bound) plan (bound_vector bound) cert.ranks facts.weighed cause.submitted
+    (lighter_without_get (bound_at_get bound) plan (bound_vector bound) cert.ranks k i j facts.weighed submitted.1 cause.never_got.not_got facts.weighs)
+
+repeated_in : (plan other : Plan) → other.clients ≡ plan.clients → repeated_bodies plan ≡ repeated_bodies other
+repeated_in plan other same = ap (λ (clients : List Client). map (λ (client : Client). client.body) (filter (λ (client : Client). client.repeat) clients)) (sym same)
+
+class_never_gets : (plan : Plan) (k i : ℕ) → NeverGotByJobs plan k i → IsBeyondSizes plan
+class_never_gets plan k i cause other cert well same is_accepted =
+    let classes : other.classes ≡ plan.classes = ap (λ (any : Plan). any.classes) same in
+    let clients : other.clients ≡ plan.clients = ap (λ (any : Plan). any.clients) same in
+    let class : class_at plan k ≡ class_at other k = ap (λ (all : List Class). get_or all k no_class) (sym classes) in
+    no_job_does other cert k i well is_accepted
+    (record {
+      submitted = subst (λ (bodies : List (List Action)). IsSubmitted other bodies k) (repeated_in plan other clients) (submitted_in plan other (repeated_bodies plan) classes cause.submitted);
+      never_got = subst (λ (any : Class). IsNeverGot any.body i) class cause.never_got;
+    })
+
+pub no_sizes_help : NoSizesHelp
+no_sizes_help = record { circle = circle; client_never_gets = client_never_gets; class_never_gets = class_never_gets }

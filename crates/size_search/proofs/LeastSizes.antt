@@ -1,0 +1,354 @@
+-- Fitted plans have the least cores and queues with which the certificate accepts them.
+use Rattle.std.proofs.Common.{◌≡◌, ℕ, ◌+◌, ◌-◌, ◌<◌, ◌≤◌, max, inl, inr, Bool, true, false, cond, ◌&&◌, List, length, Some, None, refl, ap, ap₂, sym, subst, ◌∙◌, arith, zero-add}
+use Rattle.std.specs.List.{list_all}
+use Rattle.std.proofs.lemmas.Bool.{and_parts, and_from, cases_lt}
+use Rattle.std.proofs.lemmas.List.{get_or_past}
+use Rattle.std.proofs.lemmas.Option.{same_Some}
+use Rattle.job_bodies.specs.Plan.{Pool, Plan, no_pool, pool_at, first_workers}
+use Rattle.job_bodies.specs.WellFormed.{has_lawful_sizes, IsWellFormed}
+use Rattle.weights.specs.declared.bound.Bound.{Bound}
+use Rattle.weights.specs.declared.bound.Bound.TheVariants.{Standing, Lifetime}
+use Rattle.weights.specs.Vector.{Vector, total}
+use Rattle.weights.specs.Lifetime.{lifetime_limit}
+use Rattle.weights.specs.Bound.{bound_vector, bound_limit}
+use Rattle.cert_text.specs.Cert.{PoolCert, Cert, pool_cert_at}
+use Rattle.soundness.specs.Accepted.{accepted}
+use Rattle.size_search.specs.Fitted.{with_core, with_queue, raised_pool, raised, fails_only_at_totals, fitted, shape, IsNoSmaller, IsResized, IsFit, IsLeastFit, NoneFits, FittedSizesAreLeast, AcceptedPlansFit, LargerSizesAreAccepted, smallest, SmallestFitIsLeast}
+use Rattle.size_search.proofs.Shapes.{bare, length-changed, pool_at-shape, length-shape, total-shape}
+use Rattle.size_search.proofs.Numbered.{numbered_at, numbered_past, map-numbered, numbered_same, map-twice, changed_at}
+use Rattle.size_search.proofs.TotalRows.{TotalsHold, hold_but_totals, fails_only_at_totals_from, at_totals_where_accepted, totals_where_accepted, accepted_from_totals, same_in_shape, hold_in_shape}
+use Rattle.size_search.proofs.Changes.{well_formed_changed, outline_of_shape, HasSizes, sizes_at, sized_from_places}
+
+-- ---- plans of the same shape
+
+-- they have equally many pools, the same totals, and pools that differ only in core and queue
+pub record HasShape (plan other : Plan) : Type 0 where
+  pub as_many : length other.pools ≡ length plan.pools
+  pub total : (v : Vector) → total other v ≡ total plan v
+  pub max : (p : ℕ) → (pool_at other p).max ≡ (pool_at plan p).max
+  pub prestart : (p : ℕ) → (pool_at other p).prestart ≡ (pool_at plan p).prestart
+
+pub has_shape : (plan other : Plan) → shape other ≡ shape plan → HasShape plan other
+has_shape plan other same = record {
+  as_many = same_in_shape (λ (any : Plan). length any.pools) plan other length-shape same;
+  total = λ v. same_in_shape (λ (any : Plan). total any v) plan other (λ any. total-shape any v) same;
+  max = λ p. same_in_shape (λ (any : Plan). (pool_at any p).max) plan other (λ any. ap (λ (pool : Pool). pool.max) (pool_at-shape any p)) same;
+  prestart = λ p. same_in_shape (λ (any : Plan). (pool_at any p).prestart) plan other (λ any. ap (λ (pool : Pool). pool.prestart) (pool_at-shape any p)) same;
+}
+
+-- ---- the raised plan
+
+pub raised-shape : (plan : Plan) (cert : Cert) → shape (raised plan cert) ≡ shape plan
+raised-shape plan cert =
+    ap (λ (pools : List Pool). record plan { pools = pools }) (map-numbered bare (λ (entry : ℕ × Pool). raised_pool plan (pool_cert_at cert entry.0) entry.1) bare 0 plan.pools (λ i pool. refl))
+
+pub raised_at : (plan : Plan) (cert : Cert) (p : ℕ) → p < length plan.pools → pool_at (raised plan cert) p ≡ raised_pool plan (pool_cert_at cert p) (pool_at plan p)
+raised_at plan cert p inside =
+    numbered_at (λ (entry : ℕ × Pool). raised_pool plan (pool_cert_at cert entry.0) entry.1) 0 plan.pools p no_pool no_pool inside
+    ∙ ap (λ (j : ℕ). raised_pool plan (pool_cert_at cert j) (pool_at plan p)) (zero-add p)
+
+pub raised_past : (plan : Plan) (cert : Cert) (p : ℕ) → length plan.pools ≤ p → pool_at (raised plan cert) p ≡ pool_at plan p
+raised_past plan cert p past =
+    numbered_past (λ (entry : ℕ × Pool). raised_pool plan (pool_cert_at cert entry.0) entry.1) 0 plan.pools p no_pool past ∙ sym (get_or_past plan.pools p no_pool past)
+
+-- no size is smaller
+pub raised_no_smaller : (plan : Plan) (cert : Cert) → IsNoSmaller (raised plan cert) plan
+raised_no_smaller plan cert = record { core = λ p. (at_pool p).0; queue = λ p. (at_pool p).1 }
+  where
+    at_pool : (p : ℕ) → ((pool_at plan p).core ≤ (pool_at (raised plan cert) p).core) × ((pool_at plan p).queue ≤ (pool_at (raised plan cert) p).queue)
+    at_pool p = elim (cases_lt p (length plan.pools)) [
+      | inl inside ↦ let is = raised_at plan cert p inside in
+          let core = ap (λ (pool : Pool). pool.core) is in
+          let queue = ap (λ (pool : Pool). pool.queue) is in
+          (omega arith, omega arith)
+      | inr past ↦ let is = raised_past plan cert p past in
+          let core = ap (λ (pool : Pool). pool.core) is in
+          let queue = ap (λ (pool : Pool). pool.queue) is in
+          (omega arith, omega arith)
+    ]
+
+-- ---- the room that a pool has
+
+-- the limit of the bound's total
+abbrev pool_limit : Bound → Pool → ℕ
+pool_limit (Standing v) pool = pool.queue
+pool_limit (Lifetime v) pool = lifetime_limit pool
+
+bound_limit-pool : (plan : Plan) (p : ℕ) (bound : Bound) → bound_limit plan p bound ≡ pool_limit bound (pool_at plan p)
+bound_limit-pool plan p (Standing v) = refl
+bound_limit-pool plan p (Lifetime v) = refl
+
+-- a queue that makes room for a total t, next to m threads of which f are the first workers
+queue_makes_room : (t q m f : ℕ) → t ≤ max q (t + f - m) + m - f
+queue_makes_room t q m f = omega arith
+
+-- a raised pool has room for the totals
+bound_has_room : (plan : Plan) (bound : Bound) (pool : Pool) → total plan (bound_vector bound) ≤ pool_limit bound (with_queue plan bound pool)
+bound_has_room plan (Standing v) pool = omega arith
+bound_has_room plan (Lifetime v) pool = queue_makes_room (total plan v) pool.queue pool.max (first_workers pool)
+
+raised_totals : (plan : Plan) (cert : Cert) → TotalsHold (raised plan cert) cert
+raised_totals plan cert =
+    let alike = has_shape plan (raised plan cert) (raised-shape plan cert) in
+    record {
+      bounds = λ p inside.
+          let pool_cert = pool_cert_at cert p in
+          let is = raised_at plan cert p (omega (arith, alike.as_many)) in
+          let limit : bound_limit (raised plan cert) p pool_cert.bound ≡ pool_limit pool_cert.bound (raised_pool plan pool_cert (pool_at plan p)) = bound_limit-pool (raised plan cert) p pool_cert.bound ∙ ap (pool_limit pool_cert.bound) is in
+          omega (arith, limit, alike.total (bound_vector pool_cert.bound), bound_has_room plan pool_cert.bound (with_core plan pool_cert.blocked (pool_at plan p)));
+      blocked = λ p inside.
+          let pool_cert = pool_cert_at cert p in
+          let core = ap (λ (pool : Pool). pool.core) (raised_at plan cert p (omega (arith, alike.as_many))) in
+          omega (arith, alike.total pool_cert.blocked);
+    }
+
+-- ---- the least of the plans that fit
+
+-- a pool with no smaller core and queue, and with room for the totals
+record HasRoom (plan : Plan) (cert : PoolCert) (pool other : Pool) : Type 0 where
+  max : other.max ≡ pool.max
+  prestart : other.prestart ≡ pool.prestart
+  core : pool.core ≤ other.core
+  queue : pool.queue ≤ other.queue
+  sizes : HasSizes other
+  bound : total plan (bound_vector cert.bound) ≤ pool_limit cert.bound other
+  blocked : total plan cert.blocked ≤ other.core - 1
+
+-- the first workers grow with the core, and are at most the core
+cond-le : (a b : Bool) (m n : ℕ) → b ≡ a → m ≤ n → cond a m 0 ≤ cond b n 0
+cond-le true true m n same less = less
+cond-le true false m n same less = absurd cc
+cond-le false true m n same less = omega arith
+cond-le false false m n same less = omega arith
+
+pub cond-le-self : (b : Bool) (n : ℕ) → cond b n 0 ≤ n
+cond-le-self true n = omega arith
+cond-le-self false n = omega arith
+
+-- no smaller queue makes room
+no_smaller_queue : (t q m f q' f' : ℕ) → f ≤ f' → f' ≤ m → q ≤ q' → t ≤ q' + m - f' → max q (t + f - m) ≤ q'
+no_smaller_queue t q m f q' f' more within no_smaller room = omega arith
+
+least_queue : (plan : Plan) (bound : Bound) (pool other : Pool) → other.max ≡ pool.max → first_workers pool ≤ first_workers other → first_workers other ≤ other.max → pool.queue ≤ other.queue
+    → total plan (bound_vector bound) ≤ pool_limit bound other → (with_queue plan bound pool).queue ≤ other.queue
+least_queue plan (Standing v) pool other max more within no_smaller room = omega arith
+least_queue plan (Lifetime v) pool other max more within no_smaller room =
+    let same : other.queue + other.max - first_workers other ≡ other.queue + pool.max - first_workers other = ap (λ (m : ℕ). other.queue + m - first_workers other) max in
+    no_smaller_queue (total plan v) pool.queue pool.max (first_workers pool) other.queue (first_workers other) more (omega arith) no_smaller (omega arith)
+
+least_core : (plan : Plan) (cert : PoolCert) (pool other : Pool) → HasRoom plan cert pool other → (raised_pool plan cert pool).core ≤ other.core
+least_core plan cert pool other room = omega (arith, room.core, room.blocked, room.sizes.core)
+
+least_pool : (plan : Plan) (cert : PoolCert) (pool other : Pool) → HasRoom plan cert pool other → (raised_pool plan cert pool).queue ≤ other.queue
+least_pool plan cert pool other room =
+    let within = cond-le-self other.prestart other.core in
+    least_queue plan cert.bound (with_core plan cert.blocked pool) other room.max (cond-le pool.prestart other.prestart (with_core plan cert.blocked pool).core other.core room.prestart (least_core plan cert pool other room))
+    (omega (arith, within, room.sizes.max)) room.queue room.bound
+
+-- the pools of a plan that fits have room
+has_room : (plan other : Plan) (cert : Cert) (p : ℕ) → IsFit plan cert other → p < length plan.pools → HasRoom plan (pool_cert_at cert p) (pool_at plan p) (pool_at other p)
+has_room plan other cert p fits inside =
+    let alike = has_shape plan other fits.resized.same_shape in
+    let totals = totals_where_accepted other cert fits.accepts in
+    let there : p < length other.pools = omega (arith, alike.as_many) in
+    let pool_cert = pool_cert_at cert p in
+    record {
+      max = alike.max p;
+      prestart = alike.prestart p;
+      core = fits.no_smaller.core p;
+      queue = fits.no_smaller.queue p;
+      sizes = sizes_at other p fits.resized.well_formed there;
+      bound = omega (arith, totals.bounds p there, bound_limit-pool other p pool_cert.bound, alike.total (bound_vector pool_cert.bound));
+      blocked = omega (arith, totals.blocked p there, alike.total pool_cert.blocked);
+    }
+
+raised_least : (plan other : Plan) (cert : Cert) → IsFit plan cert other → IsNoSmaller other (raised plan cert)
+raised_least plan other cert fits = record { core = λ p. (at_pool p).0; queue = λ p. (at_pool p).1 }
+  where
+    at_pool : (p : ℕ) → ((pool_at (raised plan cert) p).core ≤ (pool_at other p).core) × ((pool_at (raised plan cert) p).queue ≤ (pool_at other p).queue)
+    at_pool p = elim (cases_lt p (length plan.pools)) [
+      | inl inside ↦ let is = raised_at plan cert p inside in
+          let core = ap (λ (pool : Pool). pool.core) is in
+          let queue = ap (λ (pool : Pool). pool.queue) is in
+          let room = has_room plan other cert p fits inside in
+          (omega (arith, least_core plan (pool_cert_at cert p) (pool_at plan p) (pool_at other p) room), omega (arith, least_pool plan (pool_cert_at cert p) (pool_at plan p) (pool_at other p) room))
+      | inr past ↦ let is = raised_past plan cert p past in
+          let core = ap (λ (pool : Pool). pool.core) is in
+          let queue = ap (λ (pool : Pool). pool.queue) is in
+          (omega (arith, fits.no_smaller.core p), omega (arith, fits.no_smaller.queue p))
+    ]
+
+-- if a plan fits, the raised one has valid sizes
+raised_sized : (plan other : Plan) (cert : Cert) → IsWellFormed plan → IsFit plan cert other → list_all has_lawful_sizes (raised plan cert).pools ≡ true
+raised_sized plan other cert well fits = sized_from_places (raised plan cert).pools each
+  where
+    each : (p : ℕ) → p < length (raised plan cert).pools → HasSizes (pool_at (raised plan cert) p)
+    each p there =
+        let alike = has_shape plan (raised plan cert) (raised-shape plan cert) in
+        let inside : p < length plan.pools = omega (arith, alike.as_many) in
+        let room = has_room plan other cert p fits inside in
+        let declared = sizes_at plan p well inside in
+        let smaller = raised_no_smaller plan cert in
+        let least = raised_least plan other cert fits in
+        record {
+          core = omega (arith, declared.core, smaller.core p);
+          max = omega (arith, least.core p, room.sizes.max, room.max, alike.max p);
+          most_max = omega (arith, declared.most_max, alike.max p);
+          queue = omega (arith, declared.queue, smaller.queue p);
+          most_queue = omega (arith, least.queue p, room.sizes.most_queue);
+        }
+
+-- ---- the fitted plan
+
+-- the fitted plan is the raised plan
+record IsRaised (plan : Plan) (cert : Cert) (fit : Plan) : Type 0 where
+  only_at_totals : fails_only_at_totals plan cert ≡ true
+  sized : list_all has_lawful_sizes (raised plan cert).pools ≡ true
+  is : raised plan cert ≡ fit
+
+cond_Some : {X : Type 0} (b : Bool) (x y : X) → cond b (Some x) None ≡ Some y → (b ≡ true) × (x ≡ y)
+cond_Some true x y e = (refl, same_Some x y e)
+cond_Some false x y e = absurd cc
+
+is_raised : (plan fit : Plan) (cert : Cert) → fitted plan cert ≡ Some fit → IsRaised plan cert fit
+is_raised plan fit cert e =
+    let only_at_totals = fails_only_at_totals plan cert in
+    let sized = list_all has_lawful_sizes (raised plan cert).pools in
+    let found = cond_Some (only_at_totals && sized) (raised plan cert) fit e in
+    let parts = and_parts only_at_totals sized found.0 in
+    record { only_at_totals = parts.0; sized = parts.1; is = found.1 }
+
+pub fitted_from : (plan : Plan) (cert : Cert) → fails_only_at_totals plan cert ≡ true → list_all has_lawful_sizes (raised plan cert).pools ≡ true → fitted plan cert ≡ Some (raised plan cert)
+fitted_from plan cert only_at_totals sized =
+    ap (λ (b : Bool). cond b (Some (raised plan cert)) None) (and_from (fails_only_at_totals plan cert) (list_all has_lawful_sizes (raised plan cert).pools) only_at_totals sized)
+
+-- a raised plan with valid sizes is well-formed
+pub raised_is_well_formed : (plan : Plan) (cert : Cert) → IsWellFormed plan → list_all has_lawful_sizes (raised plan cert).pools ≡ true → IsWellFormed (raised plan cert)
+raised_is_well_formed plan cert well sized = well_formed_changed plan (raised plan cert) well (outline_of_shape plan (raised plan cert) (raised-shape plan cert)) sized
+
+fits_raised : (plan : Plan) (cert : Cert) → IsWellFormed plan → IsRaised plan cert (raised plan cert) → IsFit plan cert (raised plan cert)
+fits_raised plan cert well of_plan = record {
+  resized = record { well_formed = raised_is_well_formed plan cert well of_plan.sized; same_shape = raised-shape plan cert };
+  no_smaller = raised_no_smaller plan cert;
+  accepts = accepted_from_totals (raised plan cert) cert (hold_in_shape plan (raised plan cert) cert (raised-shape plan cert) (hold_but_totals plan cert of_plan.only_at_totals)) (raised_totals plan cert);
+}
+
+-- if a plan fits, only totals fail
+only_at_totals_where_fit : (plan other : Plan) (cert : Cert) → shape other ≡ shape plan → accepted other cert ≡ true → fails_only_at_totals plan cert ≡ true
+only_at_totals_where_fit plan other cert same is_accepted =
+    fails_only_at_totals_from plan cert (hold_in_shape other plan cert (sym same) (hold_but_totals other cert (at_totals_where_accepted other cert is_accepted)))
+
+fitted_fits : (plan fit : Plan) (cert : Cert) → IsWellFormed plan → fitted plan cert ≡ Some fit → IsFit plan cert fit
+fitted_fits plan fit cert well e =
+    let found = is_raised plan fit cert e in
+    subst (IsFit plan cert) found.is (fits_raised plan cert well (record { only_at_totals = found.only_at_totals; sized = found.sized; is = refl }))
+
+fitted_is_least : (plan fit other : Plan) (cert : Cert) → fitted plan cert ≡ Some fit → IsFit plan cert other → IsNoSmaller other fit
+fitted_is_least plan fit other cert e fits = subst (IsNoSmaller other) (is_raised plan fit cert e).is (raised_least plan other cert fits)
+
+pub none_fits : (plan : Plan) (cert : Cert) → IsWellFormed plan → fitted plan cert ≡ None → NoneFits plan cert
+none_fits plan cert well none other fits =
+    let some = fitted_from plan cert (only_at_totals_where_fit plan other cert fits.resized.same_shape fits.accepts) (raised_sized plan other cert well fits) in
+    absurd cc
+
+pub fitted_sizes_are_least : FittedSizesAreLeast
+fitted_sizes_are_least = record {
+  fits = λ plan fit cert well e. fitted_fits plan fit cert well e;
+  least = λ plan fit other cert e fits. fitted_is_least plan fit other cert e fits;
+  none = λ plan cert well none. none_fits plan cert well none;
+}
+
+-- the postcondition of `fitted`
+pub least_fit : (plan fit : Plan) (cert : Cert) → IsWellFormed plan → fitted plan cert ≡ Some fit → IsLeastFit plan cert fit
+least_fit plan fit cert well e = record { fits = fitted_fits plan fit cert well e; least = λ other fits. fitted_is_least plan fit other cert e fits }
+
+-- ---- an accepted plan
+
+-- a pool that has room does not change
+stays : (plan : Plan) (cert : PoolCert) (pool : Pool) → HasRoom plan cert pool pool → raised_pool plan cert pool ≡ pool
+stays plan cert pool room =
+    let core : (raised_pool plan cert pool).core ≡ pool.core = omega (arith, least_core plan cert pool pool room) in
+    let queue : (raised_pool plan cert pool).queue ≡ pool.queue = omega (arith, least_pool plan cert pool pool room) in
+    ap₂ (λ (c q : ℕ). record pool { core = c; queue = q }) core queue
+
+pub accepted_plans_fit : AcceptedPlansFit
+accepted_plans_fit plan cert well is_accepted =
+    let itself : IsFit plan cert plan = record {
+      resized = record { well_formed = well; same_shape = refl };
+      no_smaller = record { core = λ p. omega arith; queue = λ p. omega arith };
+      accepts = is_accepted;
+    } in
+    let same : raised plan cert ≡ plan = ap (λ (pools : List Pool). record plan { pools = pools })
+    (numbered_same (λ (entry : ℕ × Pool). raised_pool plan (pool_cert_at cert entry.0) entry.1) 0 plan.pools no_pool
+    (λ p inside. ap (λ (j : ℕ). raised_pool plan (pool_cert_at cert j) (pool_at plan p)) (zero-add p) ∙ stays plan (pool_cert_at cert p) (pool_at plan p) (has_room plan plan cert p itself inside))) in
+    fitted_from plan cert (at_totals_where_accepted plan cert is_accepted) (raised_sized plan plan cert well itself) ∙ ap Some same
+
+pub larger_sizes_are_accepted : LargerSizesAreAccepted
+larger_sizes_are_accepted plan other cert same is_accepted cores limits =
+    let alike = has_shape plan other same in
+    let totals = totals_where_accepted plan cert is_accepted in
+    accepted_from_totals other cert (hold_in_shape plan other cert same (hold_but_totals plan cert (at_totals_where_accepted plan cert is_accepted)))
+    (record {
+      bounds = λ p there. omega (arith, totals.bounds p (omega (arith, alike.as_many)), limits p, alike.total (bound_vector (pool_cert_at cert p).bound));
+      blocked = λ p there. omega (arith, totals.blocked p (omega (arith, alike.as_many)), cores p, alike.total (pool_cert_at cert p).blocked);
+    })
+
+-- ---- the smallest plan
+
+abbrev sized_one : Pool → Pool
+sized_one pool = record pool { core = 1; queue = 1 }
+
+smallest-shape : (plan : Plan) → shape (smallest plan) ≡ shape plan
+smallest-shape plan = ap (λ (pools : List Pool). record plan { pools = pools }) (map-twice bare sized_one plan.pools)
+
+smallest_at : (plan : Plan) (p : ℕ) → p < length plan.pools → pool_at (smallest plan) p ≡ sized_one (pool_at plan p)
+smallest_at plan p inside = changed_at sized_one plan.pools p no_pool no_pool inside
+
+pub smallest_is_well_formed : (plan : Plan) → IsWellFormed plan → IsWellFormed (smallest plan)
+smallest_is_well_formed plan well = well_formed_changed plan (smallest plan) well (outline_of_shape plan (smallest plan) (smallest-shape plan)) (sized_from_places (smallest plan).pools each)
+  where
+    each : (p : ℕ) → p < length (smallest plan).pools → HasSizes (pool_at (smallest plan) p)
+    each p there =
+        let as_many = length-changed sized_one plan.pools in
+        let declared = sizes_at plan p well (omega arith) in
+        let is = smallest_at plan p (omega arith) in
+        let core = ap (λ (pool : Pool). pool.core) is in
+        let max = ap (λ (pool : Pool). pool.max) is in
+        let queue = ap (λ (pool : Pool). pool.queue) is in
+        record {
+          core = omega arith;
+          max = omega (arith, declared.core, declared.max);
+          most_max = omega (arith, declared.most_max);
+          queue = omega arith;
+          most_queue = omega (arith, declared.core, declared.max, declared.most_max);
+        }
+
+-- a plan that is accepted with any cores and queues fits the smallest one
+fits_smallest : (plan other : Plan) (cert : Cert) → IsResized plan other → accepted other cert ≡ true → IsFit (smallest plan) cert other
+fits_smallest plan other cert resized is_accepted = record {
+  resized = record { well_formed = resized.well_formed; same_shape = resized.same_shape ∙ sym (smallest-shape plan) };
+  no_smaller = record { core = λ p. (at_pool p).0; queue = λ p. (at_pool p).1 };
+  accepts = is_accepted;
+}
+  where
+    at_pool : (p : ℕ) → ((pool_at (smallest plan) p).core ≤ (pool_at other p).core) × ((pool_at (smallest plan) p).queue ≤ (pool_at other p).queue)
+    at_pool p = elim (cases_lt p (length plan.pools)) [
+      | inl inside ↦ let is = smallest_at plan p inside in
+          let core = ap (λ (pool : Pool). pool.core) is in
+          let queue = ap (λ (pool : Pool). pool.queue) is in
+          let sizes = sizes_at other p resized.well_formed (omega (arith, (has_shape plan other resized.same_shape).as_many)) in
+          (omega (arith, sizes.core), omega (arith, sizes.queue))
+      | inr past ↦ let is = get_or_past (smallest plan).pools p no_pool (omega (arith, length-changed sized_one plan.pools)) in
+          let core = ap (λ (pool : Pool). pool.core) is in
+          let queue = ap (λ (pool : Pool). pool.queue) is in
+          (omega arith, omega arith)
+    ]
+
+pub smallest_fit_is_least : SmallestFitIsLeast
+smallest_fit_is_least = record {
+  fits = λ plan fit cert well e.
+      let fits = fitted_fits (smallest plan) fit cert (smallest_is_well_formed plan well) e in
+      (record { well_formed = fits.resized.well_formed; same_shape = fits.resized.same_shape ∙ smallest-shape plan }, fits.accepts);
+  least = λ plan fit other cert e resized is_accepted. fitted_is_least (smallest plan) fit other cert e (fits_smallest plan other cert resized is_accepted);
+  none = λ plan other cert well none resized is_accepted. none_fits (smallest plan) cert (smallest_is_well_formed plan well) none other (fits_smallest plan other cert resized is_accepted);
+}

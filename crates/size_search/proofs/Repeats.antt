@@ -1,0 +1,124 @@
+-- A client that repeats loses no weight, so it causes no submit that is never got.
+use Rattle.std.proofs.Common.{◌≡◌, ℕ, zero, suc, ◌<◌, ◌≤◌, true, false, List, length, filter, slice_get, Some, refl, sym, subst, arith}
+use Rattle.std.proofs.lemmas.Option.{get_or_from_slice_get}
+use Rattle.support.specs.In.{In}
+use Rattle.support.proofs.Members.{In-map_from, In-filter_from}
+use Rattle.job_bodies.specs.declared.action.Action.{Action}
+use Rattle.job_bodies.specs.declared.action.Action.TheVariants.{Submit}
+use Rattle.job_bodies.specs.Plan.{Client, Plan, no_client, class_at, client_at, is_got}
+use Rattle.job_bodies.specs.Lawful.{IsLawful}
+use Rattle.job_bodies.proofs.Bodies.{IsOrdered}
+use Rattle.weights.specs.declared.at_get.AtGet.{AtGet}
+use Rattle.weights.specs.declared.at_get.AtGet.TheVariants.{GivesBack, GivesNothing}
+use Rattle.weights.specs.Vector.{Vector, queued_weight, job_weight, done_weight, client_weight}
+use Rattle.weights.specs.AtGet.{given_back}
+use Rattle.weights.specs.Ranks.{Ranks, level}
+use Rattle.soundness.proofs.VectorLaws.{VectorLaws, class_of_action}
+use Rattle.soundness.proofs.RankLaws.{RankLaws}
+use Rattle.size_search.specs.Submitted.{IsSubmitted, begins, follows, repeated_bodies}
+use Rattle.size_search.proofs.Circles.{position_of}
+use Rattle.size_search.proofs.Losses.{NoneGains, never_heavier, lost_without_get, lost_by_child}
+
+-- a vector of a plan, and the levels of its classes
+pub record IsWeighed (at_get : AtGet) (plan : Plan) (v : Vector) (ranks : Ranks) : Type 0 where
+  pub ordered : IsOrdered plan
+  pub vector : VectorLaws at_get plan v
+  pub levels : RankLaws plan ranks
+
+given_back-le : (at_get : AtGet) (plan : Plan) (v : Vector) (k : ℕ) → given_back at_get plan v k ≤ done_weight plan v k
+given_back-le GivesBack plan v k =
+    let all : given_back GivesBack plan v k ≡ done_weight plan v k = refl in
+    omega (arith, all)
+given_back-le GivesNothing plan v k =
+    let nothing : given_back GivesNothing plan v k ≡ 0 = refl in
+    omega (arith, nothing)
+
+-- ---- jobs
+
+-- a job is not heavier at its end than in the queue, level by level
+never_gains : (at_get : AtGet) (plan : Plan) (v : Vector) (ranks : Ranks) → IsWeighed at_get plan v ranks → (n k : ℕ) → k < length plan.classes → level ranks k < n → done_weight plan v k ≤ queued_weight v k
+never_gains at_get plan v ranks weighed zero k inside low = absurd (omega (arith, low))
+never_gains at_get plan v ranks weighed (suc n) k inside low =
+    let body = (class_at plan k).body in
+    let lawful = weighed.ordered.classes k in
+    let children : NoneGains at_get plan v body = λ i j is_submit.
+    let below : level ranks j < n = omega (arith, low, weighed.levels.sinks k i j is_submit) in
+    omega (arith, given_back-le at_get plan v j, never_gains at_get plan v ranks weighed n j (lawful.submit i j is_submit) below) in
+    omega (arith, never_heavier at_get plan v (job_weight v k) body lawful (weighed.vector.classes k) children, weighed.vector.begins k inside, weighed.vector.ends k inside)
+
+none_gains : (at_get : AtGet) (plan : Plan) (v : Vector) (ranks : Ranks) (body : List Action) → IsWeighed at_get plan v ranks → IsLawful plan body → NoneGains at_get plan v body
+none_gains at_get plan v ranks body weighed lawful i k is_submit =
+    omega (arith, given_back-le at_get plan v k, never_gains at_get plan v ranks weighed (suc (level ranks k)) k (lawful.submit i k is_submit) (omega arith))
+
+-- a job whose body loses weight is lighter at its end than in the queue
+lighter_at_end : (at_get : AtGet) (plan : Plan) (v : Vector) (ranks : Ranks) (k : ℕ) → IsWeighed at_get plan v ranks → k < length plan.classes → job_weight v k (length (class_at plan k).body) < job_weight v k 0
+    → done_weight plan v k < queued_weight v k
+lighter_at_end at_get plan v ranks k weighed inside lost = omega (arith, lost, weighed.vector.begins k inside, weighed.vector.ends k inside)
+
+-- so is one with a submit that is never got
+pub lighter_without_get : (at_get : AtGet) (plan : Plan) (v : Vector) (ranks : Ranks) (k i j : ℕ) → IsWeighed at_get plan v ranks → slice_get (class_at plan k).body i ≡ Some (Submit j) → is_got (class_at plan k).body i ≡ false
+    → 1 ≤ queued_weight v j → done_weight plan v k < queued_weight v k
+lighter_without_get at_get plan v ranks k i j weighed is_submit not_got weighs =
+    let body = (class_at plan k).body in
+    let lawful = weighed.ordered.classes k in
+    lighter_at_end at_get plan v ranks k weighed (class_of_action plan k i (Submit j) is_submit)
+    (lost_without_get at_get plan v (job_weight v k) body i j lawful (weighed.vector.classes k) (none_gains at_get plan v ranks body weighed lawful) is_submit not_got weighs)
+
+-- so is one that submits such a job
+lighter_by_child : (at_get : AtGet) (plan : Plan) (v : Vector) (ranks : Ranks) (k i j : ℕ) → IsWeighed at_get plan v ranks → slice_get (class_at plan k).body i ≡ Some (Submit j) → done_weight plan v j < queued_weight v j
+    → done_weight plan v k < queued_weight v k
+lighter_by_child at_get plan v ranks k i j weighed is_submit lighter =
+    let body = (class_at plan k).body in
+    let lawful = weighed.ordered.classes k in
+    lighter_at_end at_get plan v ranks k weighed (class_of_action plan k i (Submit j) is_submit)
+    (lost_by_child at_get plan v (job_weight v k) body i j lawful (weighed.vector.classes k) (none_gains at_get plan v ranks body weighed lawful) is_submit (omega (arith, lighter, given_back-le at_get plan v j)))
+
+-- ---- clients that repeat
+
+-- they make no submit that is never got
+pub repeats_with_gets : (at_get : AtGet) (plan : Plan) (v : Vector) (ranks : Ranks) (c i k : ℕ) → IsWeighed at_get plan v ranks → (client_at plan c).repeat ≡ true → slice_get (client_at plan c).body i ≡ Some (Submit k)
+    → is_got (client_at plan c).body i ≡ false → 1 ≤ queued_weight v k → ⊥
+repeats_with_gets at_get plan v ranks c i k weighed repeats is_submit not_got weighs =
+    let body = (client_at plan c).body in
+    let lawful = weighed.ordered.clients c in
+    let lost = lost_without_get at_get plan v (client_weight v c) body i k lawful (weighed.vector.clients c) (none_gains at_get plan v ranks body weighed lawful) is_submit not_got weighs in
+    omega (arith, lost, weighed.vector.loops c repeats)
+
+-- they submit no job that is lighter at its end than in the queue
+client_submits_none : (at_get : AtGet) (plan : Plan) (v : Vector) (ranks : Ranks) (c i k : ℕ) → IsWeighed at_get plan v ranks → (client_at plan c).repeat ≡ true → slice_get (client_at plan c).body i ≡ Some (Submit k)
+    → done_weight plan v k < queued_weight v k → ⊥
+client_submits_none at_get plan v ranks c i k weighed repeats is_submit lighter =
+    let body = (client_at plan c).body in
+    let lawful = weighed.ordered.clients c in
+    let lost = lost_by_child at_get plan v (client_weight v c) body i k lawful (weighed.vector.clients c) (none_gains at_get plan v ranks body weighed lawful) is_submit (omega (arith, lighter, given_back-le at_get plan v k)) in
+    omega (arith, lost, weighed.vector.loops c repeats)
+
+-- the client that has this body
+record IsRepeatedBy (plan : Plan) (body : List Action) : Type 0 where
+  client : ℕ
+  repeats : (client_at plan client).repeat ≡ true
+  same : (client_at plan client).body ≡ body
+
+repeated_by : (plan : Plan) (body : List Action) → In body (repeated_bodies plan) → IsRepeatedBy plan body
+repeated_by plan body from =
+    let repeat_of = λ (client : Client). client.repeat in
+    let of_client = In-map_from (λ (client : Client). client.body) (filter repeat_of plan.clients) from in
+    let client = of_client.0 in
+    let kept = In-filter_from repeat_of plan.clients of_client.1 in
+    let found = position_of kept.0 in
+    let is_client : client_at plan found.0 ≡ client = get_or_from_slice_get plan.clients found.0 client no_client found.1 in
+    record {
+      client = found.0;
+      repeats = subst (λ (any : Client). any.repeat ≡ true) (sym is_client) kept.1;
+      same = subst (λ (any : Client). any.body ≡ body) (sym is_client) of_client.2;
+    }
+
+-- nor do they cause such a job, directly or through other jobs
+pub none_is_lighter : (at_get : AtGet) (plan : Plan) (v : Vector) (ranks : Ranks) → IsWeighed at_get plan v ranks → {k : ℕ} → IsSubmitted plan (repeated_bodies plan) k → done_weight plan v k < queued_weight v k → ⊥
+none_is_lighter at_get plan v ranks weighed (begins {k = k} {body = body} from at) lighter =
+    let by = repeated_by plan body from in
+    let found = position_of (subst (In (Submit k)) (sym by.same) at) in
+    client_submits_none at_get plan v ranks by.client found.0 k weighed by.repeats found.1 lighter
+none_is_lighter at_get plan v ranks weighed (follows {j = j} {k = k} known at) lighter =
+    let found = position_of at in
+    none_is_lighter at_get plan v ranks weighed known (lighter_by_child at_get plan v ranks j found.0 k weighed found.1 lighter)

@@ -1,0 +1,120 @@
+-- The properties of a plan that do not depend on its cores and queues: its shape has the same ones.
+use Rattle.std.proofs.Common.{◌≡◌, ℕ, ◌+◌, ◌*◌, zero, suc, Bool, ◌&&◌, List, [], ◌∷◌, ◌++◌, length, get_or, map, flat_map, sum_by, refl, ap, ap₂, ◌∙◌}
+use Rattle.std.specs.Prelude.{◌==◌}
+use Rattle.std.specs.List.{enumerate_from, list_all}
+use Rattle.support.proofs.Sums.{sum_by-map}
+use Rattle.job_bodies.specs.Plan.{Pool, Plan, no_pool, pool_at}
+use Rattle.weights.specs.declared.at_get.AtGet.{AtGet}
+use Rattle.weights.specs.declared.at_get.AtGet.TheVariants.{GivesBack, GivesNothing}
+use Rattle.weights.specs.declared.bound.Bound.{Bound}
+use Rattle.weights.specs.declared.bound.Bound.TheVariants.{Standing, Lifetime}
+use Rattle.weights.specs.declared.row.Rule.TheVariants.{S1, L1, L2}
+use Rattle.weights.specs.declared.row.Place.TheVariants as place
+use Rattle.weights.specs.declared.row.Row.{Row}
+use Rattle.weights.specs.Row.{row}
+use Rattle.weights.specs.Vector.{Vector, workers_weight, class_weights, queued_weight, client_weight, vector_fits, total}
+use Rattle.weights.specs.Rows.{rows, classes_of}
+use Rattle.weights.specs.Bound.{bound_vector}
+use Rattle.weights.specs.Blocked.{counted_rows}
+use Rattle.weights.specs.Ranks.{Ranks, ranks_fit, is_counted}
+use Rattle.cert_text.specs.Cert.{PoolCert, Cert, pool_cert_fits, cert_fits}
+use Rattle.size_search.specs.Fitted.{shape}
+
+-- ---- lists
+
+-- equal functions give the same list
+pub map-agree : {X Y : Type 0} (f g : X → Y) (xs : List X) → ((x : X) → f x ≡ g x) → map f xs ≡ map g xs
+map-agree f g [] same = refl
+map-agree f g (x ∷ xs) same = ap₂ (λ y ys. y ∷ ys) (same x) (map-agree f g xs same)
+
+-- equal tests pass on the same lists
+pub list_all-agree : {X : Type 0} (f g : X → Bool) (xs : List X) → ((x : X) → f x ≡ g x) → list_all f xs ≡ list_all g xs
+list_all-agree f g [] same = refl
+list_all-agree f g (x ∷ xs) same = ap₂ (λ a b. a && b) (same x) (list_all-agree f g xs same)
+
+-- a map keeps the length
+pub length-changed : {X Y : Type 0} (f : X → Y) (xs : List X) → length (map f xs) ≡ length xs
+length-changed f [] = refl
+length-changed f (x ∷ xs) = ap suc (length-changed f xs)
+
+-- a map that uses only the indices
+numbers-map : {X Y Z : Type 0} (f : ℕ → Z) (g : X → Y) (n : ℕ) (xs : List X) → map (λ (entry : ℕ × Y). f entry.0) (enumerate_from n (map g xs)) ≡ map (λ (entry : ℕ × X). f entry.0) (enumerate_from n xs)
+numbers-map f g n [] = refl
+numbers-map f g n (x ∷ xs) = ap (λ ys. f n ∷ ys) (numbers-map f g (n + 1) xs)
+
+-- a sum over indexed elements of a mapped list
+pub sum_by-changed : {X Y : Type 0} (f : ℕ × Y → ℕ) (g : X → Y) (n : ℕ) (xs : List X) → sum_by f (enumerate_from n (map g xs)) ≡ sum_by (λ (entry : ℕ × X). f (entry.0, g entry.1)) (enumerate_from n xs)
+sum_by-changed f g n xs = ap (sum_by f) (enumerated-map g n xs) ∙ sum_by-map f (λ entry. (entry.0, g entry.1)) (enumerate_from n xs)
+  where
+    enumerated-map : {X Y : Type 0} (g : X → Y) (n : ℕ) (xs : List X) → enumerate_from n (map g xs) ≡ map (λ (entry : ℕ × X). (entry.0, g entry.1)) (enumerate_from n xs)
+    enumerated-map g n [] = refl
+    enumerated-map g n (x ∷ xs) = ap (λ ys. (n, g x) ∷ ys) (enumerated-map g (n + 1) xs)
+
+-- ---- pools
+
+-- the pool without its core and its queue
+abbrev pub bare : Pool → Pool
+bare pool = record pool { core = 0; queue = 0 }
+
+-- the element at an index of a mapped list
+pub get_or-changed : {X Y : Type 0} (f : X → Y) (xs : List X) (i : ℕ) (d : X) → get_or (map f xs) i (f d) ≡ f (get_or xs i d)
+get_or-changed f [] i d = refl
+get_or-changed f (x ∷ xs) zero d = refl
+get_or-changed f (x ∷ xs) (suc i) d = get_or-changed f xs i d
+
+pub pool_at-shape : (plan : Plan) (p : ℕ) → pool_at (shape plan) p ≡ bare (pool_at plan p)
+pool_at-shape plan p = get_or-changed bare plan.pools p no_pool
+
+pub length-shape : (plan : Plan) → length (shape plan).pools ≡ length plan.pools
+length-shape plan = length-changed bare plan.pools
+
+-- ---- totals
+
+pub total-shape : (plan : Plan) (v : Vector) → total (shape plan) v ≡ total plan v
+total-shape plan v = ap (λ n. sum_by (λ entry. entry.1.count * client_weight v entry.0 0) (enumerate_from 0 plan.clients) + n) (sum_by-changed (λ (entry : ℕ × Pool). workers_weight v entry.0 * entry.1.max) bare 0 plan.pools)
+
+-- ---- rows
+
+pub rows-shape : (at_get : AtGet) (plan : Plan) (v : Vector) → rows at_get (shape plan) v ≡ rows at_get plan v
+rows-shape GivesBack plan v = refl
+rows-shape GivesNothing plan v = refl
+
+-- ---- the bound of a pool, without the total
+
+abbrev pub bound_body : Plan → ℕ → Bound → List Row
+bound_body plan p (Standing v) = rows GivesBack plan v ++ map (λ entry. row S1 (place.Class entry.0) 1 (queued_weight v entry.0)) (classes_of plan p)
+bound_body plan p (Lifetime v) =
+    map (λ entry. row L1 (place.Worker entry.0) (workers_weight v entry.0) 0) (enumerate_from 0 plan.pools)
+    ++ rows GivesNothing plan v
+    ++ flat_map (λ entry. map (λ weight. row L2 (place.Class entry.0) 1 weight) (class_weights v entry.0)) (classes_of plan p)
+
+pub bound_body-shape : (plan : Plan) (p : ℕ) (bound : Bound) → bound_body (shape plan) p bound ≡ bound_body plan p bound
+bound_body-shape plan p (Standing v) = refl
+bound_body-shape plan p (Lifetime v) =
+    ap
+    (λ (workers : List Row). workers ++ rows GivesNothing plan v ++ flat_map (λ entry. map (λ weight. row L2 (place.Class entry.0) 1 weight) (class_weights v entry.0)) (classes_of plan p))
+    (numbers-map (λ q. row L1 (place.Worker q) (workers_weight v q) 0) bare 0 plan.pools)
+
+-- ---- the bound of a pool's blocked jobs, without the total
+
+abbrev pub blocked_body : Plan → Ranks → ℕ → Vector → List Row
+blocked_body plan ranks p v = rows GivesBack plan v ++ flat_map (λ entry. counted_rows (is_counted plan ranks) v entry.0 entry.1) (classes_of plan p)
+
+pub blocked_body-shape : (plan : Plan) (ranks : Ranks) (p : ℕ) (v : Vector) → blocked_body (shape plan) ranks p v ≡ blocked_body plan ranks p v
+blocked_body-shape plan ranks p v = refl
+
+-- ---- fitting a plan
+
+vector_fits-pools : (plan : Plan) (pools : List Pool) (v : Vector) → length pools ≡ length plan.pools → vector_fits (record plan { pools = pools }) v ≡ vector_fits plan v
+vector_fits-pools plan pools v as_many = rw as_many refl
+
+-- a certificate depends only on the number of pools
+pub cert_fits-pools : (plan : Plan) (pools : List Pool) (cert : Cert) → length pools ≡ length plan.pools → cert_fits (record plan { pools = pools }) cert ≡ cert_fits plan cert
+cert_fits-pools plan pools cert as_many =
+    let other = record plan { pools = pools } in
+    let pool_fits = λ (pool : PoolCert). ap₂ (λ (a b : Bool). a && b) (vector_fits-pools plan pools (bound_vector pool.bound) as_many) (vector_fits-pools plan pools pool.blocked as_many) in
+    ap (λ (all : Bool). length cert.pools == length pools && ranks_fit other cert.ranks && all) (list_all-agree (pool_cert_fits other) (pool_cert_fits plan) cert.pools pool_fits)
+    ∙ rw as_many refl
+
+pub cert_fits-shape : (plan : Plan) (cert : Cert) → cert_fits (shape plan) cert ≡ cert_fits plan cert
+cert_fits-shape plan cert = cert_fits-pools plan (shape plan).pools cert (length-shape plan)

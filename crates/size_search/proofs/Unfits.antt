@@ -1,0 +1,277 @@
+-- Either a plan is fitted, or there is a reason why not.
+use Rattle.std.proofs.Common.{◌≡◌, ◌≤◌, ◌<◌, ◌+◌, ◌⊎◌, ℕ, zero, suc, inl, inr, Bool, true, false, cond, not, ◌&&◌, ◌||◌, ltb, List, [], ◌∷◌, length, get_or, Option, Some, None, refl, sym, ap, ap₂, subst, ◌∙◌, arith}
+use Rattle.std.specs.List.{enumerate_from, find, list_all}
+use Rattle.std.specs.Option.{option_or, option_map}
+use Rattle.std.proofs.lemmas.Bool.{and_parts, and_from, ltb-true, ltb-false, le-ltb, false_from_ne_true}
+use Rattle.support.proofs.Members.{list_all_at_In, In-get_or}
+use Rattle.job_bodies.specs.declared.limits.TheConstants.{MAX_SIZE}
+use Rattle.job_bodies.specs.Plan.{Pool, Plan, no_pool, pool_at}
+use Rattle.job_bodies.specs.WellFormed.{has_lawful_sizes, IsWellFormed}
+use Rattle.cert_text.specs.Cert.{Cert, cert_fits}
+use Rattle.soundness.specs.declared.note.Note.{Note}
+use Rattle.soundness.specs.Conditions.{failing}
+use Rattle.size_search.specs.declared.unfit.Unfit.{Unfit}
+use Rattle.size_search.specs.declared.unfit.Unfit.TheVariants.{Shape, Condition, Core, Queue}
+use Rattle.size_search.specs.Fitted.{is_total, raised, fails_only_at_totals, fitted, IsLeastFit, NoneFits}
+use Rattle.size_search.specs.Widened.{widened, NoneFitsWide}
+use Rattle.size_search.specs.Unfit.{failing_elsewhere, first_unfit, unfit_pool, why_unfit, why_not_widened, ToldCoresNeedLargerMaxes}
+use Rattle.size_search.proofs.Changes.{HasSizes, has_sizes, lawful_from_sizes, sized_from_places, sizes_at, well_formed_changed}
+use Rattle.size_search.proofs.LeastSizes.{has_shape, raised-shape, raised_at, raised_no_smaller, raised_is_well_formed, fitted_from, least_fit, none_fits}
+use Rattle.size_search.proofs.LeastMaxes.{length-widened, widened-outline, widened_at, wide_fit_fits, wide_fit_has_room, widened_maxes_are_least}
+
+-- ---- the first reason
+
+-- if the result of two options is None, both are
+or_parts : {X : Type 0} (first second : Option X) → option_or first second ≡ None → (first ≡ None) × (second ≡ None)
+or_parts None second none = (refl, none)
+or_parts (Some x) second none = absurd cc
+
+-- if there is no reason, no pool is unfit
+each_not_unfit : (n : ℕ) (pools : List Pool) → first_unfit (enumerate_from n pools) ≡ None → (p : ℕ) → p < length pools → unfit_pool (n + p) (get_or pools p no_pool) ≡ None
+each_not_unfit n [] none p inside = absurd (omega arith)
+each_not_unfit n (pool ∷ pools) none zero inside =
+    let place : n ≡ n + 0 = omega arith in
+    subst (λ (j : ℕ). unfit_pool j pool ≡ None) place (or_parts (unfit_pool n pool) (first_unfit (enumerate_from (n + 1) pools)) none).0
+each_not_unfit n (pool ∷ pools) none (suc p) inside =
+    let place : n + 1 + p ≡ n + suc p = omega arith in
+    subst (λ (j : ℕ). unfit_pool j (get_or pools p no_pool) ≡ None) place
+    (each_not_unfit (n + 1) pools (or_parts (unfit_pool n pool) (first_unfit (enumerate_from (n + 1) pools)) none).1 p (omega arith))
+
+-- if no pool is unfit, there is no reason
+all_not_unfit : (n : ℕ) (pools : List Pool) → ((p q : ℕ) → p < length pools → unfit_pool q (get_or pools p no_pool) ≡ None) → first_unfit (enumerate_from n pools) ≡ None
+all_not_unfit n [] each = refl
+all_not_unfit n (pool ∷ pools) each = ap₂ option_or (each 0 n (omega arith)) (all_not_unfit (n + 1) pools (λ p q inside. each (suc p) q (omega arith)))
+
+-- the parts of a reason
+fit_parts : (fits : Bool) (reason : Option Unfit) → cond fits reason (Some Shape) ≡ None → (fits ≡ true) × (reason ≡ None)
+fit_parts true reason none = (refl, none)
+fit_parts false reason none = absurd cc
+
+no_condition : (found : Option Note) → option_map Condition found ≡ None → found ≡ None
+no_condition None none = refl
+no_condition (Some note) none = absurd cc
+
+-- ---- the first other condition that fails
+
+all_pass : {X : Type 0} (test : X → Bool) (xs : List X) → find (λ x. not (test x)) xs ≡ None → list_all test xs ≡ true
+all_pass test [] none = refl
+all_pass {X} test (x ∷ xs) none = at_first (test x) refl (λ later. all_pass test xs later) none
+  where
+    at_first : (b : Bool) → test x ≡ b → (find (λ (y : X). not (test y)) xs ≡ None → list_all test xs ≡ true) → cond (not b) (Some x) (find (λ (y : X). not (test y)) xs) ≡ None → list_all test (x ∷ xs) ≡ true
+    at_first true passes rest e = and_from (test x) (list_all test xs) passes (rest e)
+    at_first false fails rest e = absurd cc
+
+none_found : {X : Type 0} (test : X → Bool) (xs : List X) → list_all test xs ≡ true → find (λ x. not (test x)) xs ≡ None
+none_found test [] all = refl
+none_found {X} test (x ∷ xs) all =
+    let parts = and_parts (test x) (list_all test xs) all in
+    ap (λ (b : Bool). cond (not b) (Some x) (find (λ (y : X). not (test y)) xs)) parts.0 ∙ none_found test xs parts.1
+
+-- ---- sizes
+
+-- a pool that is not unfit has its core within its max, and its max and queue within the limit
+record IsWithin (pool : Pool) : Type 0 where
+  core : pool.core ≤ pool.max
+  max : pool.max ≤ MAX_SIZE
+  queue : pool.queue ≤ MAX_SIZE
+
+within : (p : ℕ) (pool : Pool) → unfit_pool p pool ≡ None → IsWithin pool
+within p pool none = at_tests (ltb pool.max pool.core) refl (ltb MAX_SIZE pool.max) refl (ltb MAX_SIZE pool.queue) refl none
+  where
+    at_tests : (a : Bool) → ltb pool.max pool.core ≡ a → (b : Bool) → ltb MAX_SIZE pool.max ≡ b → (d : Bool) → ltb MAX_SIZE pool.queue ≡ d
+        → cond (a || b) (Some (Core p)) (cond d (Some (Queue p)) None) ≡ None → IsWithin pool
+    at_tests true is b more d also e = absurd cc
+    at_tests false is true more d also e = absurd cc
+    at_tests false is false more true also e = absurd cc
+    at_tests false is false more false also e = record { core = ltb-false pool.max pool.core is; max = ltb-false MAX_SIZE pool.max more; queue = ltb-false MAX_SIZE pool.queue also }
+
+-- a pool with valid sizes is not unfit
+lawful_fits : (p : ℕ) (pool : Pool) → has_lawful_sizes pool ≡ true → unfit_pool p pool ≡ None
+lawful_fits p pool lawful =
+    let sizes = has_sizes pool lawful in
+    let room = ap₂ (λ (a b : Bool). a || b) (le-ltb pool.max pool.core sizes.max) (le-ltb MAX_SIZE pool.max sizes.most_max) in
+    ap₂ (λ (b d : Bool). cond b (Some (Core p)) (cond d (Some (Queue p)) None)) room (le-ltb MAX_SIZE pool.queue sizes.most_queue)
+
+-- ---- the fitted plan
+
+-- there is no reason
+record NotUnfit (plan : Plan) (cert : Cert) : Type 0 where
+  fits : cert_fits plan cert ≡ true
+  elsewhere : failing_elsewhere plan cert ≡ None
+  sizes : first_unfit (enumerate_from 0 (raised plan cert).pools) ≡ None
+
+not_unfit : (plan : Plan) (cert : Cert) → why_unfit plan cert ≡ None → NotUnfit plan cert
+not_unfit plan cert none =
+    let sizes = first_unfit (enumerate_from 0 (raised plan cert).pools) in
+    let whole = fit_parts (cert_fits plan cert) (option_or (option_map Condition (failing_elsewhere plan cert)) sizes) none in
+    let parts = or_parts (option_map Condition (failing_elsewhere plan cert)) sizes whole.1 in
+    record { fits = whole.0; elsewhere = no_condition (failing_elsewhere plan cert) parts.0; sizes = parts.1 }
+
+-- then the raised plan has valid sizes
+sized : (plan : Plan) (cert : Cert) → IsWellFormed plan → NotUnfit plan cert → list_all has_lawful_sizes (raised plan cert).pools ≡ true
+sized plan cert well found = sized_from_places (raised plan cert).pools each
+  where
+    each : (p : ℕ) → p < length (raised plan cert).pools → HasSizes (pool_at (raised plan cert) p)
+    each p there =
+        let alike = has_shape plan (raised plan cert) (raised-shape plan cert) in
+        let declared = sizes_at plan p well (omega (arith, alike.as_many)) in
+        let larger = raised_no_smaller plan cert in
+        let limits = within (0 + p) (pool_at (raised plan cert) p) (each_not_unfit 0 (raised plan cert).pools found.sizes p there) in
+        record {
+          core = omega (arith, declared.core, larger.core p);
+          max = limits.core;
+          most_max = omega (arith, declared.most_max, alike.max p);
+          queue = omega (arith, declared.queue, larger.queue p);
+          most_queue = limits.queue;
+        }
+
+-- and is the fitted one
+pub fitted_where_not_unfit : (plan : Plan) (cert : Cert) → IsWellFormed plan → why_unfit plan cert ≡ None → fitted plan cert ≡ Some (raised plan cert)
+fitted_where_not_unfit plan cert well none =
+    let found = not_unfit plan cert none in
+    fitted_from plan cert
+    (and_from (cert_fits plan cert) (list_all (λ note. is_total note.place) (failing plan cert)) found.fits (all_pass (λ (note : Note). is_total note.place) (failing plan cert) found.elsewhere))
+    (sized plan cert well found)
+
+pub well_formed_where_not_unfit : (plan : Plan) (cert : Cert) → IsWellFormed plan → why_unfit plan cert ≡ None → IsWellFormed (raised plan cert)
+well_formed_where_not_unfit plan cert well none = raised_is_well_formed plan cert well (sized plan cert well (not_unfit plan cert none))
+
+-- if there is a fitted plan, there is no reason
+not_unfit_where_fitted : (plan : Plan) (cert : Cert) → fails_only_at_totals plan cert ≡ true → list_all has_lawful_sizes (raised plan cert).pools ≡ true → why_unfit plan cert ≡ None
+not_unfit_where_fitted plan cert only_totals all_sized =
+    let parts = and_parts (cert_fits plan cert) (list_all (λ note. is_total note.place) (failing plan cert)) only_totals in
+    let pools = (raised plan cert).pools in
+    let none = all_not_unfit 0 pools (λ p q inside. lawful_fits q (get_or pools p no_pool) (list_all_at_In has_lawful_sizes all_sized (In-get_or pools p no_pool inside))) in
+    ap (λ (fits : Bool). cond fits (option_or (option_map Condition (failing_elsewhere plan cert)) (first_unfit (enumerate_from 0 pools))) (Some Shape)) parts.0
+    ∙ ap₂ (λ (found : Option Note) (sizes : Option Unfit). option_or (option_map Condition found) sizes) (none_found (λ (note : Note). is_total note.place) (failing plan cert) parts.1) none
+
+-- so if there is a reason, there is no fitted plan
+pub none_where_unfit : (plan : Plan) (cert : Cert) (unfit : Unfit) → why_unfit plan cert ≡ Some unfit → fitted plan cert ≡ None
+none_where_unfit plan cert unfit some =
+    let only_totals = fails_only_at_totals plan cert in
+    let all_sized = list_all has_lawful_sizes (raised plan cert).pools in
+    ap (λ (b : Bool). cond b (Some (raised plan cert)) None)
+    (false_from_ne_true (only_totals && all_sized) (λ both.
+    let parts = and_parts only_totals all_sized both in
+    let none = not_unfit_where_fitted plan cert parts.0 parts.1 in
+    absurd cc))
+
+-- the postcondition of `fitted`
+pub least_where_not_unfit : (plan : Plan) (cert : Cert) → IsWellFormed plan → why_unfit plan cert ≡ None → IsLeastFit plan cert (raised plan cert)
+least_where_not_unfit plan cert well none = least_fit plan (raised plan cert) cert well (fitted_where_not_unfit plan cert well none)
+
+pub none_fits_where_unfit : (plan : Plan) (cert : Cert) (unfit : Unfit) → IsWellFormed plan → why_unfit plan cert ≡ Some unfit → NoneFits plan cert
+none_fits_where_unfit plan cert unfit well some = none_fits plan cert well (none_where_unfit plan cert unfit some)
+
+-- ---- the widened plan
+
+-- the sizes of its pools are valid, except for a max above the limit
+widened_sizes : (plan : Plan) (cert : Cert) (p : ℕ) → IsWellFormed plan → p < length (widened plan cert).pools → (pool_at (widened plan cert) p).max ≤ MAX_SIZE → HasSizes (pool_at (widened plan cert) p)
+widened_sizes plan cert p well there small =
+    let inside : p < length plan.pools = subst (λ (n : ℕ). p < n) (length-widened plan cert) there in
+    let declared = sizes_at plan p well inside in
+    let is = widened_at plan cert p inside in
+    let core = ap (λ (pool : Pool). pool.core) is in
+    let max = ap (λ (pool : Pool). pool.max) is in
+    let queue = ap (λ (pool : Pool). pool.queue) is in
+    record {
+      core = omega (arith, declared.core);
+      max = omega (arith, declared.max);
+      most_max = small;
+      queue = omega (arith, declared.queue);
+      most_queue = omega (arith, declared.most_queue);
+    }
+
+-- the code's result, if the certificate fits
+pub why_not_widened_is : (plan : Plan) (cert : Cert) (pools : List Pool) (found : Option Unfit) → cert_fits plan cert ≡ true → pools ≡ (widened plan cert).pools → found ≡ first_unfit (enumerate_from 0 pools) → why_not_widened plan cert ≡ found
+why_not_widened_is plan cert pools found fits is e =
+    ap (λ (fit : Bool). cond fit (first_unfit (enumerate_from 0 (widened plan cert).pools)) (Some Shape)) fits
+    ∙ (ap (λ (ps : List Pool). first_unfit (enumerate_from 0 ps)) (sym is) ∙ sym e)
+
+-- if there is no reason, the widened plan is well-formed
+pub widened_is_well_formed : (plan : Plan) (cert : Cert) → IsWellFormed plan → why_not_widened plan cert ≡ None → IsWellFormed (widened plan cert)
+widened_is_well_formed plan cert well none =
+    well_formed_changed plan (widened plan cert) well (widened-outline plan cert) (sized_from_places (widened plan cert).pools each)
+  where
+    each : (p : ℕ) → p < length (widened plan cert).pools → HasSizes (pool_at (widened plan cert) p)
+    each p there =
+        let whole = fit_parts (cert_fits plan cert) (first_unfit (enumerate_from 0 (widened plan cert).pools)) none in
+        widened_sizes plan cert p well there (within (0 + p) (pool_at (widened plan cert) p) (each_not_unfit 0 (widened plan cert).pools whole.1 p there)).max
+
+-- if there is a reason, no sizes are enough
+pub none_fits_where_not_widened : (plan : Plan) (cert : Cert) (unfit : Unfit) → IsWellFormed plan → why_not_widened plan cert ≡ Some unfit → NoneFitsWide plan cert
+none_fits_where_not_widened plan cert unfit well some other fits =
+    let pools = (widened plan cert).pools in
+    let none = all_not_unfit 0 pools (λ p q inside. lawful_fits q (get_or pools p no_pool) (lawful_from_sizes (get_or pools p no_pool) (widened_sizes plan cert p well inside (wide_fit_has_room plan other cert p fits inside)))) in
+    let no_reason : why_not_widened plan cert ≡ None =
+    ap (λ (fit : Bool). cond fit (first_unfit (enumerate_from 0 pools)) (Some Shape)) (wide_fit_fits plan other cert fits) ∙ none in
+    absurd cc
+
+-- ---- a core as the reason
+
+-- the core of the pool is above its max, or its max is above the limit
+record IsAbove (p : ℕ) (pool : Pool) (told : ℕ) : Type 0 where
+  number : p ≡ told
+  above : (pool.max < pool.core) ⊎ (MAX_SIZE < pool.max)
+
+core_above : (p : ℕ) (pool : Pool) (told : ℕ) → unfit_pool p pool ≡ Some (Core told) → IsAbove p pool told
+core_above p pool told some = at_tests (ltb pool.max pool.core) refl (ltb MAX_SIZE pool.max) refl (ltb MAX_SIZE pool.queue) some
+  where
+    at_tests : (a : Bool) → ltb pool.max pool.core ≡ a → (b : Bool) → ltb MAX_SIZE pool.max ≡ b → (d : Bool)
+        → cond (a || b) (Some (Core p)) (cond d (Some (Queue p)) None) ≡ Some (Core told) → IsAbove p pool told
+    at_tests true is b more d e = record { number = cc; above = inl (ltb-true pool.max pool.core is) }
+    at_tests false is true more d e = record { number = cc; above = inr (ltb-true MAX_SIZE pool.max more) }
+    at_tests false is false more true e = absurd cc
+    at_tests false is false more false e = absurd cc
+
+-- the pool at this index of the list is the one with that core
+record IsToldAt (n : ℕ) (pools : List Pool) (told : ℕ) : Type 0 where
+  place : ℕ
+  inside : place < length pools
+  is_above : IsAbove (n + place) (get_or pools place no_pool) told
+
+told_at : (n : ℕ) (pools : List Pool) (told : ℕ) → first_unfit (enumerate_from n pools) ≡ Some (Core told) → IsToldAt n pools told
+told_at n [] told some = absurd cc
+told_at n (pool ∷ pools) told some = at_first (unfit_pool n pool) refl (λ rest. told_at (n + 1) pools told rest) some
+  where
+    first_place : n ≡ n + 0
+    first_place = omega arith
+
+    next_place : (i : ℕ) → n + 1 + i ≡ n + suc i
+    next_place i = omega arith
+
+    at_first : (found : Option Unfit) → unfit_pool n pool ≡ found → (first_unfit (enumerate_from (n + 1) pools) ≡ Some (Core told) → IsToldAt (n + 1) pools told)
+        → option_or found (first_unfit (enumerate_from (n + 1) pools)) ≡ Some (Core told) → IsToldAt n (pool ∷ pools) told
+    at_first None none rest e =
+        let later = rest e in
+        record {
+          place = suc later.place;
+          inside = omega (arith, later.inside);
+          is_above = subst (λ (j : ℕ). IsAbove j (get_or pools later.place no_pool) told) (next_place later.place) later.is_above;
+        }
+    at_first (Some unfit) is rest e =
+        record { place = 0; inside = omega arith; is_above = subst (λ (j : ℕ). IsAbove j pool told) first_place (core_above n pool told (is ∙ e)) }
+
+-- the reason comes from the sizes
+of_sizes : (fits : Bool) (found : Option Note) (sizes : Option Unfit) (told : ℕ) → cond fits (option_or (option_map Condition found) sizes) (Some Shape) ≡ Some (Core told) → sizes ≡ Some (Core told)
+of_sizes true None sizes told some = some
+of_sizes true (Some note) sizes told some = absurd cc
+of_sizes false found sizes told some = absurd cc
+
+-- so a core above the max is needed there
+pub told_cores_need_larger_maxes : ToldCoresNeedLargerMaxes
+told_cores_need_larger_maxes plan other cert p well some fits =
+    let pools = (raised plan cert).pools in
+    let told = told_at 0 pools p (of_sizes (cert_fits plan cert) (failing_elsewhere plan cert) (first_unfit (enumerate_from 0 pools)) p some) in
+    let at : told.place ≡ p = omega (arith, told.is_above.number) in
+    let inside : p < length plan.pools = omega (arith, told.inside, (has_shape plan (raised plan cert) (raised-shape plan cert)).as_many) in
+    let is = raised_at plan cert p inside in
+    let core = ap (λ (pool : Pool). pool.core) is in
+    let max = ap (λ (pool : Pool). pool.max) is in
+    let wide = ap (λ (pool : Pool). pool.max) (widened_at plan cert p inside) in
+    let declared = sizes_at plan p well inside in
+    let least = (widened_maxes_are_least.maxes plan other cert fits).no_smaller_max p in
+    elim (subst (λ (i : ℕ). ((get_or pools i no_pool).max < (get_or pools i no_pool).core) ⊎ (MAX_SIZE < (get_or pools i no_pool).max)) at told.is_above.above) [
+      | inl above ↦ omega (arith, above, declared.max)
+      | inr above ↦ absurd (omega (arith, above, declared.most_max))
+    ]

@@ -1,0 +1,10 @@
+-- The weight of open jobs here, and the largest so far.
+use Rattle.std.proofs.Common.{◌≡◌}
+use Rattle.size_search.specs.Steady.{greatest_upto, open_weight}
+use Rattle.size_search.proofs.body.most.Given as goal
+
+abbrev pub invariant-loop-position : goal.invariant-loop-position
+invariant-loop-position l = record {
+  here : l.so_far ≡ open_weight l.vector l.body l.position;
+  most : l.most ≡ greatest_upto (open_weight l.vector l.body) l.position;
+}

@@ -1,0 +1,7 @@
+-- No kind of clients before this one has such a submit.
+use Rattle.std.proofs.Common.{ℕ, ◌<◌}
+use Rattle.size_search.specs.Submitted.{NeverGotByClients}
+use Rattle.size_search.proofs.causes.never_got_by_clients.Given as goal
+
+abbrev pub invariant-loop-number : goal.invariant-loop-number
+invariant-loop-number l = (c i : ℕ) → c < l.number → ¬ NeverGotByClients l.plan c i

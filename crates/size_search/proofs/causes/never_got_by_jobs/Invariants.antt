@@ -1,0 +1,7 @@
+-- No class before this one has such a submit.
+use Rattle.std.proofs.Common.{ℕ, ◌<◌}
+use Rattle.size_search.specs.Submitted.{NeverGotByJobs}
+use Rattle.size_search.proofs.causes.never_got_by_jobs.Given as goal
+
+abbrev pub invariant-loop-number : goal.invariant-loop-number
+invariant-loop-number l = (k i : ℕ) → k < l.number → ¬ NeverGotByJobs l.plan k i

@@ -1,0 +1,7 @@
+-- No position before this one has such a submit.
+use Rattle.std.proofs.Common.{ℕ, ◌<◌}
+use Rattle.size_search.specs.Submitted.{IsNeverGot}
+use Rattle.size_search.proofs.causes.submit_without_get.Given as goal
+
+abbrev pub invariant-loop-position : goal.invariant-loop-position
+invariant-loop-position l = (i : ℕ) → i < l.position → ¬ IsNeverGot l.body i

@@ -1,0 +1,27 @@
+use Rattle.std.proofs.Common.{rules, ◌≡◌, false, length, map, replicate, ap, ◌∙◌, sym}
+use Rattle.job_bodies.specs.Plan.{Pool}
+use Rattle.job_bodies.specs.WellFormed.{IsWellFormed}
+use Rattle.job_bodies.proofs.Bodies.{ordered}
+use Rattle.weights.specs.Vector.{vector_fits}
+use Rattle.size_search.specs.Steady.{pool_of, steady_levels, steady_vector}
+use Rattle.size_search.proofs.Settling.{cert_from, heavy_unless_fit}
+use Rattle.size_search.proofs.certificate.steady.Goals as goal
+
+pub returns-then-not-fits-clause-heavy : goal.returns-then-not-fits-clause-heavy
+returns-then-not-fits-clause-heavy c =
+    let plan = c.args.plan.now in
+    let is : c.in-Some.vector ≡ steady_vector plan = search rules in
+    let unfit : vector_fits plan c.in-Some.vector ≡ false = search rules in
+    let well : IsWellFormed plan = c.steady_levels.ensures.well_formed in
+    heavy_unless_fit plan (ordered plan well) c.requires (sym (ap (vector_fits plan) is) ∙ unfit)
+
+pub returns-clause-cert : goal.returns-clause-cert
+returns-clause-cert c =
+    let plan = c.args.plan.now in
+    let v = c.in-Some.vector in
+    let is : v ≡ steady_vector plan = search rules in
+    let pools : c.in_ok-pools.pools.items ≡ map (λ (pool : Pool). pool_of v) plan.pools = search rules in
+    let ranks : c.in_ok-vec.field-0.items ≡ replicate (length plan.pools) 0 = search rules in
+    let reach : c.in_ok-vec-2.field-0.items ≡ replicate (length plan.classes) 0 = search rules in
+    let levels : c.in_ok-levels.levels.items ≡ steady_levels plan = search rules in
+    cert_from plan v c.in_ok-pools.pools.items c.in_ok-vec.field-0.items c.in_ok-vec-2.field-0.items c.in_ok-levels.levels.items is pools ranks reach levels

@@ -1,0 +1,7 @@
+-- The result depends on the pools from this one.
+use Rattle.std.proofs.Common.{◌≡◌}
+use Rattle.size_search.proofs.Loops.{rest_unfit}
+use Rattle.size_search.proofs.unfit.unfit_pools.Given as goal
+
+abbrev pub invariant-loop-number : goal.invariant-loop-number
+invariant-loop-number l = rest_unfit l.pools l.number ≡ rest_unfit l.pools 0

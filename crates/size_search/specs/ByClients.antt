@@ -1,0 +1,14 @@
+-- The classes that clients submit, directly or through other jobs.
+use Rattle.std.specs.Prelude.{◌≡◌, ◌↔◌, ℕ, Bool, true, false, List, map, length, slice_index_or}
+use Rattle.job_bodies.specs.declared.action.Action.{Action}
+use Rattle.job_bodies.specs.Plan.{Client, Plan}
+use Rattle.size_search.specs.Submitted.{IsSubmitted}
+
+-- the bodies of clients
+abbrev pub client_bodies : Plan → List (List Action)
+client_bodies plan = map (λ (client : Client). client.body) plan.clients
+
+-- a mark for each class, true exactly if a client submits it, or a job that a client causes
+pub record MarksSubmitted (plan : Plan) (marks : List Bool) : Type 0 where
+  pub as_many : length marks ≡ length plan.classes
+  pub submitted : (k : ℕ) → (slice_index_or marks k false ≡ true) ↔ IsSubmitted plan (client_bodies plan) k

@@ -1,0 +1,41 @@
+-- Plans for which no sizes are enough.
+use Rattle.std.specs.Prelude.{◌≡◌, ◌<◌, ◌↔◌, ℕ, IsTrue}
+use Rattle.job_bodies.specs.declared.limits.TheConstants.{MAX_SIZE}
+use Rattle.job_bodies.specs.Plan.{Plan}
+use Rattle.job_bodies.specs.WellFormed.{IsWellFormed}
+use Rattle.weights.specs.Vector.{has_small_numbers}
+use Rattle.cert_text.specs.Cert.{Cert}
+use Rattle.soundness.specs.Accepted.{accepted}
+use Rattle.size_search.specs.Widened.{outline}
+use Rattle.size_search.specs.Submitted.{IsWithoutCause}
+use Rattle.size_search.specs.Steady.{steady_vector, steady_total}
+use Rattle.size_search.specs.declared.cause.Cause.TheVariants.{Circle, ClientNeverGets, ClassNeverGets}
+use Rattle.size_search.specs.Causes.{IsCause}
+
+-- no certificate accepts the plan, nor any plan that differs from it only in its sizes
+abbrev pub IsBeyondSizes : Plan → Type 0
+IsBeyondSizes plan = (other : Plan) (cert : Cert) → IsWellFormed other → outline other ≡ outline plan → ¬ IsTrue (accepted other cert)
+
+-- this holds if the plan has one of these causes
+pub record NoSizesHelp : Type 0 where
+  -- a class submits itself, directly or through other classes
+  pub circle : (plan : Plan) (k : ℕ) → IsCause plan (Circle k) → IsBeyondSizes plan
+  -- clients that repeat never get a job that they submit
+  pub client_never_gets : (plan : Plan) (c i : ℕ) → IsCause plan (ClientNeverGets c i) → IsBeyondSizes plan
+  -- jobs that repeating clients cause never get a job that they submit
+  pub class_never_gets : (plan : Plan) (k i : ℕ) → IsCause plan (ClassNeverGets k i) → IsBeyondSizes plan
+
+-- ---- plans without a cause
+
+-- sizes with which some certificate accepts the plan
+pub record HasSizes (plan : Plan) : Type 0 where
+  pub other : Plan
+  pub cert : Cert
+  pub well_formed : IsWellFormed other
+  pub same_outline : outline other ≡ outline plan
+  pub accepts : IsTrue (accepted other cert)
+
+-- a plan has sizes exactly if it has no cause, provided that its steady weights are within their limit, and its steady total
+-- leaves room below the limit of sizes
+abbrev pub SizesExist : Type 0
+SizesExist = (plan : Plan) → IsWellFormed plan → IsTrue (has_small_numbers (steady_vector plan)) → steady_total plan < MAX_SIZE → HasSizes plan ↔ IsWithoutCause plan

@@ -1,0 +1,28 @@
+-- The acceptance of steady certificates.
+use Rattle.std.specs.Prelude.{◌≡◌, ◌≤◌, ◌<◌, ◌↔◌, ℕ, length, IsTrue}
+use Rattle.support.specs.In.{In}
+use Rattle.job_bodies.specs.Plan.{Plan, pool_at}
+use Rattle.job_bodies.specs.WellFormed.{IsWellFormed}
+use Rattle.weights.specs.declared.row.Place.TheVariants.{Total}
+use Rattle.weights.specs.Vector.{has_small_numbers}
+use Rattle.cert_text.specs.Cert.{cert_fits}
+use Rattle.soundness.specs.declared.note.Note.{Note}
+use Rattle.soundness.specs.Conditions.{failing}
+use Rattle.soundness.specs.Accepted.{accepted}
+use Rattle.size_search.specs.Submitted.{IsWithoutCause}
+use Rattle.size_search.specs.Steady.{steady_vector, steady_total, steady_cert}
+
+-- every queue has room for the total, and every core is larger
+abbrev pub AreEnough : Plan → Type 0
+AreEnough plan = (p : ℕ) → p < length plan.pools → (steady_total plan ≤ (pool_at plan p).queue) × (steady_total plan < (pool_at plan p).core)
+
+-- the steady certificate fits the plan, only conditions of its total can fail, and it is accepted exactly if the sizes are
+-- enough
+pub record IsSteadilyAccepted (plan : Plan) : Type 0 where
+  pub fits : IsTrue (cert_fits plan (steady_cert plan))
+  pub only_totals : (x : Note) → In x (failing plan (steady_cert plan)) → x.place ≡ Total
+  pub is_accepted : IsTrue (accepted plan (steady_cert plan)) ↔ AreEnough plan
+
+-- this holds if no cause holds, and the weights are within their limit
+abbrev pub SteadyCertificatesAccept : Type 0
+SteadyCertificatesAccept = (plan : Plan) → IsWellFormed plan → IsWithoutCause plan → IsTrue (has_small_numbers (steady_vector plan)) → IsSteadilyAccepted plan

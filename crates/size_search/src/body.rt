@@ -1,0 +1,169 @@
+//! The weights of an actor over its body, given the weights of the jobs that it submits.
+
+ghost use Rattle.std.specs.Prelude.{◌≡◌, ◌≤◌, ◌<◌, ◌+◌, ◌*◌, IfOk, length, slice_index};
+ghost use Rattle.job_bodies.specs.Lawful.{IsLawful};
+ghost use Rattle.job_bodies.specs.declared.limits.TheConstants.{MAX_ACTIONS, MAX_WEIGHT};
+ghost use Rattle.weights.specs.Vector as vector_spec;
+ghost use Rattle.size_search.specs.Small.{JobsAreSmall};
+ghost use Rattle.size_search.specs.Steady as spec;
+
+use crate::levels::number_at;
+use job_bodies::{Action, Client, Plan, is_got};
+use std::alloc::{AllocError, Global};
+use weights::{Vector, class_got};
+
+/// Returns the number at this index of the class's row, or 0 if there is none.
+fn number_of(vector: &Vector, class: usize, place: usize) -> u64
+    ensures { result ≡ slice_index (vector_spec.class_weights vector.now class) place }
+{
+    if class < vector.classes.len() {
+        number_at(vector.class_weights(class), place)
+    } else {
+        0
+    }
+}
+
+/// Returns the weight of a queued job of the class.
+fn queued(vector: &Vector, class: usize) -> u64
+    ensures { result ≡ vector_spec.queued_weight vector.now class }
+{
+    number_of(vector, class, 0)
+}
+
+/// Returns the weight of a done job of the class.
+fn done(plan: &Plan, vector: &Vector, class: usize) -> u64
+    ensures { result ≡ vector_spec.done_weight plan.now vector.now class }
+{
+    let actions = match plan.class_at(class) {
+        Some(class) => class.body.len(),
+        None => 0,
+    };
+    number_of(vector, class, actions + 2)
+}
+
+/// Returns the weight of the open jobs after the action at this position, given that before it.
+fn opened(plan: &Plan, vector: &Vector, body: &[Action], position: usize, so_far: u64) -> u64
+    requires lawful { IsLawful plan.now body.now }
+    requires small { JobsAreSmall vector.now }
+    requires inside { position < length body.now }
+    requires so_far { so_far ≡ spec.open_weight vector.now body.now position }
+    ensures { result ≡ spec.open_weight vector.now body.now (position + 1) }
+{
+    match body[position] {
+        Action::Work(_) => so_far,
+        Action::Submit(class) => {
+            if is_got(body, position) {
+                so_far + queued(vector, class)
+            } else {
+                so_far
+            }
+        }
+        Action::Get(submit) => so_far - queued(vector, class_got(body, submit)),
+    }
+}
+
+/// Returns the largest weight of open jobs at a position of the body.
+fn most(plan: &Plan, vector: &Vector, body: &[Action]) -> u64
+    requires lawful { IsLawful plan.now body.now }
+    requires small { JobsAreSmall vector.now }
+    ensures value { result ≡ spec.most vector.now body.now }
+    ensures bound { result ≤ MAX_ACTIONS * MAX_WEIGHT }
+{
+    let mut so_far = 0;
+    let mut most = 0;
+    for position in 0..body.len() {
+        so_far = opened(plan, vector, body, position, so_far);
+        most = most.max(so_far);
+    }
+    most
+}
+
+/// Returns the weight of the actor before the action, given its weight after it.
+fn before(
+    plan: &Plan,
+    vector: &Vector,
+    least: u64,
+    body: &[Action],
+    action: Action,
+    behind: u64,
+) -> u64
+    requires small { JobsAreSmall vector.now }
+    requires behind { behind ≤ 2 + (MAX_ACTIONS + MAX_ACTIONS) * MAX_WEIGHT }
+    ensures { result ≡ spec.weight_before plan.now vector.now least body.now action behind }
+{
+    match action {
+        Action::Work(_) => behind,
+        Action::Submit(class) => behind + queued(vector, class),
+        Action::Get(submit) => {
+            let given_back = done(plan, vector, class_got(body, submit));
+            least.max(behind.saturating_sub(given_back))
+        }
+    }
+}
+
+/// Returns the weight of the actor at each position of its body, computed from its end.
+fn weights(
+    alloc: Global,
+    plan: &Plan,
+    vector: &Vector,
+    least: u64,
+    body: &[Action],
+    last: u64,
+) -> Result<Vec<u64>, AllocError>
+    requires lawful { IsLawful plan.now body.now }
+    requires small { JobsAreSmall vector.now }
+    requires least { least ≤ 1 }
+    requires last { last ≤ 1 + MAX_ACTIONS * MAX_WEIGHT }
+    ensures { IfOk result (λ weights.
+        weights.items ≡ spec.weights_from plan.now vector.now least body.now last body.now) }
+{
+    let mut weights = Vec::with_capacity(alloc, body.len() + 1)?;
+    let mut weight = last;
+    weights.push(weight)?;
+    for behind in 0..body.len() {
+        let position = body.len() - 1 - behind;
+        weight = before(plan, vector, least, body, body[position], weight);
+        weights.push(weight)?;
+    }
+    weights.reverse();
+    Ok(weights)
+}
+
+/// Returns the weights of a job with this body when queued, at each position, and when done.
+pub(crate) fn class_row(
+    alloc: Global,
+    plan: &Plan,
+    vector: &Vector,
+    body: &[Action],
+) -> Result<Vec<u64>, AllocError>
+    requires lawful { IsLawful plan.now body.now }
+    requires small { JobsAreSmall vector.now }
+    ensures { IfOk result (λ row. row.items ≡ spec.class_row plan.now vector.now body.now) }
+{
+    let last = most(plan, vector, body) + 1;
+    let mut positions = weights(alloc, plan, vector, 1, body, last)?;
+    let mut row = Vec::with_capacity(alloc, body.len() + 3)?;
+    row.push(number_at(&positions, 0))?;
+    row.append(&mut positions)?;
+    row.push(last)?;
+    Ok(row)
+}
+
+/// Returns the weight of a client at each position of its body.
+pub(crate) fn client_row(
+    alloc: Global,
+    plan: &Plan,
+    vector: &Vector,
+    client: &Client,
+) -> Result<Vec<u64>, AllocError>
+    requires lawful { IsLawful plan.now client.now.body }
+    requires small { JobsAreSmall vector.now }
+    ensures { IfOk result (λ row. row.items ≡ spec.client_row plan.now vector.now client.now) }
+{
+    let last = if client.repeat {
+        most(plan, vector, &client.body)
+    } else {
+        0
+    };
+    weights(alloc, plan, vector, 0, &client.body, last)
+}

@@ -1,0 +1,107 @@
+//! The causes that a plan has.
+
+ghost use Rattle.std.specs.Prelude.{◌≡◌, ◌<◌, ◌↔◌, ℕ, [], ◌∷◌, true, IfOk, IfSome, IfNone, length};
+ghost use Rattle.job_bodies.specs.Plan.{class_at};
+ghost use Rattle.job_bodies.specs.WellFormed.{IsWellFormed};
+ghost use Rattle.size_search.specs.Submitted.{IsSubmitted, IsNeverGot, NoCircle, NeverGotByClients, NeverGotByJobs, IsWithoutCause, repeated_bodies};
+ghost use Rattle.size_search.specs.Reaching.{Has};
+ghost use Rattle.size_search.specs.Causes.{IsCause};
+
+use crate::cause::Cause;
+use crate::reached::Reached;
+use crate::submitted::submitted_for_ever;
+use job_bodies::{Action, Plan, is_got};
+use std::alloc::{AllocError, Global};
+
+/// Returns a cause for which no sizes are enough, or `None` exactly if the plan has none.
+///
+/// # Errors
+///
+/// [`AllocError`] if memory runs out.
+pub fn cause_of(alloc: Global, plan: &Plan) -> Result<Option<Cause>, AllocError>
+    ensures cause { IfOk result (λ found. IfSome found (IsCause plan.now)) }
+    ensures none { IfOk result (λ found. IfNone found (IsWithoutCause plan.now)) }
+    ensures well_formed { IsWellFormed plan.now }
+{
+    if let Some(cause) = circle(alloc, plan)? {
+        return Ok(Some(cause));
+    }
+    if let Some(cause) = never_got_by_clients(plan) {
+        return Ok(Some(cause));
+    }
+    let reached = submitted_for_ever(alloc, plan)?;
+    Ok(never_got_by_jobs(plan, &reached))
+}
+
+/// Returns the first class that submits itself, directly or through other classes.
+fn circle(alloc: Global, plan: &Plan) -> Result<Option<Cause>, AllocError>
+    ensures cause { IfOk result (λ found. IfSome found (IsCause plan.now)) }
+    ensures none { IfOk result (λ found. IfNone found (NoCircle plan.now)) }
+    ensures well_formed { IsWellFormed plan.now }
+{
+    for number in 0..plan.classes().len() {
+        if submits_itself(alloc, plan, number)? {
+            return Ok(Some(Cause::Circle(number)));
+        }
+    }
+    Ok(None)
+}
+
+/// Returns whether the class submits itself, directly or through other classes.
+fn submits_itself(alloc: Global, plan: &Plan, number: usize) -> Result<bool, AllocError>
+    requires { number < length plan.now.classes }
+    ensures { IfOk result
+        (λ yes. (yes ≡ true) ↔ IsSubmitted plan.now ((class_at plan.now number).body ∷ []) number) }
+{
+    let class = &plan.classes()[number];
+    let mut reached = Reached::nothing(alloc, plan)?;
+    reached.add_body(&class.body)?;
+    reached.add_all(plan)?;
+    Ok(reached.has(number))
+}
+
+/// Returns the first submit of repeating clients that they never get.
+fn never_got_by_clients(plan: &Plan) -> Option<Cause>
+    ensures cause { IfSome result (IsCause plan.now) }
+    ensures none { IfNone result ((c i : ℕ) → ¬ NeverGotByClients plan.now c i) }
+{
+    for number in 0..plan.clients().len() {
+        let client = &plan.clients()[number];
+        if client.repeat {
+            if let Some(action) = submit_without_get(&client.body) {
+                return Some(Cause::ClientNeverGets(number, action));
+            }
+        }
+    }
+    None
+}
+
+/// Returns the first submit that jobs of the reached classes never get.
+fn never_got_by_jobs(plan: &Plan, reached: &Reached) -> Option<Cause>
+    requires { (k : ℕ) → Has reached.now k ↔ IsSubmitted plan.now (repeated_bodies plan.now) k }
+    ensures cause { IfSome result (IsCause plan.now) }
+    ensures none { IfNone result ((k i : ℕ) → ¬ NeverGotByJobs plan.now k i) }
+{
+    for number in 0..plan.classes().len() {
+        let class = &plan.classes()[number];
+        if reached.has(number) {
+            if let Some(action) = submit_without_get(&class.body) {
+                return Some(Cause::ClassNeverGets(number, action));
+            }
+        }
+    }
+    None
+}
+
+/// Returns the position of the first submit that no get of the body names.
+fn submit_without_get(body: &[Action]) -> Option<usize>
+    ensures found { IfSome result (IsNeverGot body.now) }
+    ensures none { IfNone result ((i : ℕ) → ¬ IsNeverGot body.now i) }
+{
+    for position in 0..body.len() {
+        if matches!(body[position], Action::Submit(_)) && !is_got(body, position) {
+            return Some(position);
+        }
+    }
+    None
+}

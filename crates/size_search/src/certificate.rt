@@ -1,0 +1,116 @@
+//! The steady certificate of a plan.
+
+ghost use Rattle.std.specs.Prelude.{◌≡◌, IfOk, IfSome, IfNone, true, false, map};
+ghost use Rattle.job_bodies.specs.Plan as plan_spec;
+ghost use Rattle.weights.specs.Vector.{has_small_numbers};
+ghost use Rattle.size_search.specs.Submitted.{NoCircle};
+ghost use Rattle.size_search.specs.Steady as spec;
+
+use crate::levels::steady_levels;
+use crate::rows::{clients_of, jobs_of};
+use cert_text::{Cert, PoolCert};
+use job_bodies::Plan;
+use std::alloc::{AllocError, Global};
+use weights::{Bound, Ranks, Vector};
+
+fn copied_rows(alloc: Global, rows: &[Vec<u64>]) -> Result<Vec<Vec<u64>>, AllocError>
+    ensures { IfOk result
+        (λ copies. map (λ row. row.items) copies.items ≡ map (λ row. row.items) rows.now) }
+{
+    let mut copies = Vec::with_capacity(alloc, rows.len())?;
+    for row in rows {
+        copies.push(Vec::from_slice(alloc, row)?)?;
+    }
+    Ok(copies)
+}
+
+fn copied(alloc: Global, vector: &Vector) -> Result<Vector, AllocError>
+    ensures { IfOk result (λ copy. copy ≡ vector.now) }
+{
+    let workers = Vec::from_slice(alloc, &vector.workers)?;
+    let classes = copied_rows(alloc, &vector.classes)?;
+    let clients = copied_rows(alloc, &vector.clients)?;
+    Ok(Vector {
+        workers,
+        classes,
+        clients,
+    })
+}
+
+/// Returns the vector, or `None` if a number in it is above the limit.
+fn steady_vector(alloc: Global, plan: &Plan, levels: &[u64]) -> Result<Option<Vector>, AllocError>
+    requires free { NoCircle plan.now }
+    requires levels { levels.now ≡ spec.steady_levels plan.now }
+    ensures vector { IfOk result
+        (λ found. IfSome found (λ vector. vector ≡ spec.steady_vector plan.now)) }
+    ensures heavy { IfOk result
+        (λ found. IfNone found (has_small_numbers (spec.steady_vector plan.now) ≡ false)) }
+{
+    let Some(jobs) = jobs_of(alloc, plan, levels)? else {
+        return Ok(None);
+    };
+    let clients = clients_of(alloc, plan, &jobs)?;
+    let workers = vec![in alloc; 0; plan.pools().len()]?;
+    let Vector {
+        workers: _,
+        classes,
+        clients: _,
+    } = jobs;
+    Ok(Some(Vector {
+        workers,
+        classes,
+        clients,
+    }))
+}
+
+/// Returns the certificate's part for one pool.
+fn pool_of(alloc: Global, vector: &Vector) -> Result<PoolCert, AllocError>
+    ensures { IfOk result (λ pool. pool ≡ spec.pool_of vector.now) }
+{
+    let bound = Bound::Standing(copied(alloc, vector)?);
+    let blocked = copied(alloc, vector)?;
+    Ok(PoolCert { bound, blocked })
+}
+
+/// Returns the certificate's part for each pool.
+fn pools_of(alloc: Global, plan: &Plan, vector: &Vector) -> Result<Vec<PoolCert>, AllocError>
+    ensures { IfOk result (λ pools.
+        pools.items ≡ map (λ (pool : plan_spec.Pool). spec.pool_of vector.now) plan.now.pools) }
+{
+    let mut pools = Vec::with_capacity(alloc, plan.pools().len())?;
+    for _pool in plan.pools() {
+        pools.push(pool_of(alloc, vector)?)?;
+    }
+    Ok(pools)
+}
+
+/// Returns the steady certificate of the plan, or `None` exactly if a number of its vector is above
+/// [`MAX_WEIGHT`](job_bodies::MAX_WEIGHT).
+///
+/// # Errors
+///
+/// [`AllocError`] if memory runs out.
+pub fn steady(alloc: Global, plan: &Plan) -> Result<Option<Cert>, AllocError>
+    // A class that submits itself has no level.
+    requires { NoCircle plan.now }
+    ensures cert { IfOk result (λ found. IfSome found (λ cert. cert ≡ spec.steady_cert plan.now)) }
+    ensures small { IfOk result
+        (λ found. IfSome found (λ _. has_small_numbers (spec.steady_vector plan.now) ≡ true)) }
+    ensures heavy { IfOk result
+        (λ found. IfNone found (has_small_numbers (spec.steady_vector plan.now) ≡ false)) }
+{
+    let levels = steady_levels(alloc, plan)?;
+    let Some(vector) = steady_vector(alloc, plan, &levels)? else {
+        return Ok(None);
+    };
+    if !vector.fits(plan) {
+        return Ok(None);
+    }
+    let pools = pools_of(alloc, plan, &vector)?;
+    let ranks = Ranks {
+        pools: vec![in alloc; 0; plan.pools().len()]?,
+        reach: vec![in alloc; 0; plan.classes().len()]?,
+        levels,
+    };
+    Ok(Some(Cert { pools, ranks }))
+}

@@ -1,0 +1,189 @@
+//! The plan with the least cores and queues with which a certificate accepts it.
+
+ghost use Rattle.std.specs.Prelude.{◌≡◌, ◌<◌, ◌^◌, IfOk, IfErr, IsTrue, None, Some, length, not};
+ghost use Rattle.std.specs.List.{find};
+ghost use Rattle.job_bodies.specs.Plan.{pool_at};
+ghost use Rattle.job_bodies.specs.WellFormed.{IsWellFormed};
+ghost use Rattle.weights.specs.Vector.{vector_fits};
+ghost use Rattle.weights.specs.Bound.{bound_vector};
+ghost use Rattle.cert_text.specs.Cert.{cert_fits, pool_cert_at};
+ghost use Rattle.size_search.specs.Fitted as spec;
+ghost use Rattle.size_search.specs.Widened.{HasLeastCores};
+ghost use Rattle.size_search.specs.Unfit.{failing_elsewhere, why_unfit};
+
+use crate::Unfit;
+use crate::unfit::unfit_pools;
+use cert_text::Cert;
+use job_bodies::{Plan, Pool};
+use refusal_notes::notes;
+use soundness::Note;
+use std::alloc::{AllocError, Global};
+use weights::{Bound, Place, Vector};
+
+/// Returns the core that a pool with this blocked vector needs: one more than the jobs that can be
+/// blocked.
+pub(crate) fn core_needed(plan: &Plan, blocked: &Vector) -> u64
+    requires well_formed { IsWellFormed plan.now }
+    requires fits { IsTrue (vector_fits plan.now blocked.now) }
+    ensures { result ≡ spec.core_needed plan.now blocked.now }
+{
+    blocked.total(plan) + 1
+}
+
+/// Returns the queue that a pool with these sizes needs. For a lifetime bound, the threads beyond
+/// the first workers take jobs too.
+fn queue_needed(plan: &Plan, bound: &Bound, pool: &Pool) -> u64
+    requires well_formed { IsWellFormed plan.now }
+    requires fits { IsTrue (vector_fits plan.now (bound_vector bound.now)) }
+    // No core that a certificate needs is larger.
+    requires core { pool.now.core < 2 ^ 63 }
+    ensures { result ≡ spec.queue_needed plan.now bound.now pool.now }
+{
+    match bound {
+        Bound::Standing(vector) => vector.total(plan),
+        Bound::Lifetime(vector) => {
+            (vector.total(plan) + pool.first_workers()).saturating_sub(pool.max)
+        }
+    }
+}
+
+/// Returns the pool of this number with its core raised to what the certificate needs, and then its
+/// queue: a prestarted pool with a larger core can need a larger queue.
+fn raised_pool(alloc: Global, plan: &Plan, cert: &Cert, number: usize) -> Result<Pool, AllocError>
+    requires fits { IsTrue (cert_fits plan.now cert.now) }
+    requires number { number < length plan.now.pools }
+    ensures { IfOk result (λ raised.
+        raised
+        ≡ spec.raised_pool plan.now (pool_cert_at cert.now number) (pool_at plan.now number)) }
+{
+    let needs = cert.pool_at(number);
+    let mut raised = plan.pools()[number].copied(alloc)?;
+    raised.core = raised.core.max(core_needed(plan, &needs.blocked));
+    raised.queue = raised.queue.max(queue_needed(plan, &needs.bound, &raised));
+    Ok(raised)
+}
+
+fn raised_pools(alloc: Global, plan: &Plan, cert: &Cert) -> Result<Vec<Pool>, AllocError>
+    requires { IsTrue (cert_fits plan.now cert.now) }
+    ensures pools { IfOk result (λ pools. pools.items ≡ (spec.raised plan.now cert.now).pools) }
+    ensures well_formed { IsWellFormed plan.now }
+{
+    let mut pools = Vec::with_capacity(alloc, plan.pools().len())?;
+    for number in 0..plan.pools().len() {
+        pools.push(raised_pool(alloc, plan, cert, number)?)?;
+    }
+    Ok(pools)
+}
+
+/// Returns whether the place is a total, which is compared with a pool's sizes.
+fn is_total(place: Place) -> bool
+    ensures { result ≡ spec.is_total place }
+{
+    matches!(place, Place::Total)
+}
+
+/// Returns the first note that is not about a total.
+fn first_elsewhere(notes: &[Note]) -> Option<Note>
+    ensures { result ≡ find (λ note. not (spec.is_total note.place)) notes.now }
+{
+    for note in notes {
+        if !is_total(note.place) {
+            return Some(*note);
+        }
+    }
+    None
+}
+
+/// Returns the first failing condition that does not depend on cores and queues.
+fn failing_elsewhere(alloc: Global, plan: &Plan, cert: &Cert) -> Result<Option<Note>, AllocError>
+    requires { IsTrue (cert_fits plan.now cert.now) }
+    ensures { IfOk result (λ found. found ≡ failing_elsewhere plan.now cert.now) }
+{
+    let failing = notes(alloc, plan, cert)?;
+    Ok(first_elsewhere(&failing))
+}
+
+/// Returns why the plan has no fitted plan, given its raised pools.
+fn unfit(
+    alloc: Global,
+    plan: &Plan,
+    cert: &Cert,
+    raised: &[Pool],
+) -> Result<Option<Unfit>, AllocError>
+    requires fits { IsTrue (cert_fits plan.now cert.now) }
+    requires raised { raised.now ≡ (spec.raised plan.now cert.now).pools }
+    ensures { IfOk result (λ found. found ≡ why_unfit plan.now cert.now) }
+{
+    match failing_elsewhere(alloc, plan, cert)? {
+        Some(note) => Ok(Some(Unfit::Condition(note))),
+        None => Ok(unfit_pools(raised)),
+    }
+}
+
+/// Returns the plan with each core and each queue raised to what the certificate needs: the least
+/// cores and queues, among those no smaller than the plan's, with which the certificate accepts the
+/// plan. A plan that is already accepted is returned unchanged. Larger maximums would not allow a
+/// smaller core. If there are no such cores and queues, returns the plan and the reason.
+///
+/// # Errors
+///
+/// [`AllocError`] if memory runs out.
+pub fn fitted(
+    alloc: Global,
+    plan: Plan,
+    cert: &Cert,
+) -> Result<Result<Plan, (Plan, Unfit)>, AllocError>
+    ensures fitted { IfOk result
+        (λ answer. IfOk answer (λ fit. spec.fitted plan cert.now ≡ Some fit)) }
+    ensures least { IfOk result (λ answer. IfOk answer (spec.IsLeastFit plan cert.now)) }
+    ensures least_cores { IfOk result (λ answer. IfOk answer (HasLeastCores plan cert.now)) }
+
+    ensures not_fitted { IfOk result
+        (λ answer. IfErr answer (λ _. spec.fitted plan cert.now ≡ None)) }
+    ensures none { IfOk result (λ answer. IfErr answer (λ _. spec.NoneFits plan cert.now)) }
+    ensures why { IfOk result
+        (λ answer. IfErr answer (λ back. why_unfit plan cert.now ≡ Some back.1)) }
+    ensures back { IfOk result (λ answer. IfErr answer (λ back. back.0 ≡ plan)) }
+{
+    if !cert.fits(&plan) {
+        return Ok(Err((plan, Unfit::Shape)));
+    }
+    let pools = raised_pools(alloc, &plan, cert)?;
+    match unfit(alloc, &plan, cert, &pools)? {
+        Some(unfit) => Ok(Err((plan, unfit))),
+        None => Ok(Ok(plan.with_pools(pools))),
+    }
+}
+
+fn smallest_pool(alloc: Global, pool: &Pool) -> Result<Pool, AllocError>
+    ensures { IfOk result (λ small. small ≡ record pool.now { core = 1; queue = 1 }) }
+{
+    let mut small = pool.copied(alloc)?;
+    small.core = 1;
+    small.queue = 1;
+    Ok(small)
+}
+
+fn smallest_pools(alloc: Global, plan: &Plan) -> Result<Vec<Pool>, AllocError>
+    ensures pools { IfOk result (λ small. small.items ≡ (spec.smallest plan.now).pools) }
+    ensures well_formed { IsWellFormed plan.now }
+{
+    let mut small = Vec::with_capacity(alloc, plan.pools().len())?;
+    for pool in plan.pools() {
+        small.push(smallest_pool(alloc, pool)?)?;
+    }
+    Ok(small)
+}
+
+/// Returns the plan with each core and each queue set to 1. Fitting that plan gives the least cores
+/// and queues of all with which the certificate accepts the plan, whatever sizes the plan declares.
+///
+/// # Errors
+///
+/// [`AllocError`] if memory runs out.
+pub fn smallest(alloc: Global, plan: &Plan) -> Result<Plan, AllocError>
+    ensures { IfOk result (λ small. small ≡ spec.smallest plan.now) }
+{
+    let pools = smallest_pools(alloc, plan)?;
+    Ok(plan.copied(alloc)?.with_pools(pools))
+}

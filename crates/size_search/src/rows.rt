@@ -1,0 +1,159 @@
+//! The rows of a plan's steady vector.
+
+ghost use Rattle.std.specs.Prelude.{◌≡◌, ◌≤◌, ◌<◌, ◌+◌, [], IfOk, IfSome, IfNone, false, length, map, slice_set, slice_index};
+ghost use Rattle.std.specs.Bool.{OnTrue, OnFalse};
+ghost use Rattle.job_bodies.specs.Plan.{class_at};
+ghost use Rattle.weights.specs.Vector.{has_small_numbers, is_small};
+ghost use Rattle.size_search.specs.Small.{JobsAreSmall};
+ghost use Rattle.size_search.specs.Settled.{IsSettled};
+ghost use Rattle.size_search.specs.Submitted.{NoCircle};
+ghost use Rattle.size_search.specs.Steady as spec;
+
+use crate::body::{class_row, client_row};
+use crate::levels::number_at;
+use job_bodies::Plan;
+use std::alloc::{AllocError, Global};
+use weights::{Vector, are_small};
+
+/// Replaces the row of the class.
+fn put_row(jobs: &mut Vector, number: usize, row: Vec<u64>)
+    requires { number < length jobs.old.classes }
+    ensures { jobs.new ≡ record jobs.old { classes = slice_set jobs.old.classes number row.items } }
+{
+    jobs.classes[number] = row;
+}
+
+/// Sets the row of the class of this number, which has this level. Returns `false`, and sets no
+/// row, if a number in it is above the limit.
+fn settle_class(
+    alloc: Global,
+    plan: &Plan,
+    jobs: &mut Vector,
+    level: u64,
+    number: usize,
+) -> Result<bool, AllocError>
+    requires free { NoCircle plan.now }
+    requires number { number < length plan.now.classes }
+    requires level { slice_index (spec.steady_levels plan.now) number ≡ level }
+    requires settled { IsSettled plan.now jobs.old level number }
+    ensures settled { IfOk result
+        (λ small. OnTrue small (IsSettled plan.now jobs.new level (number + 1))) }
+    ensures heavy { IfOk result
+        (λ small. OnFalse small (has_small_numbers (spec.steady_vector plan.now) ≡ false)) }
+{
+    let class = &plan.classes()[number];
+    let row = class_row(alloc, plan, jobs, &class.body)?;
+    if !are_small(&row) {
+        return Ok(false);
+    }
+    put_row(jobs, number, row);
+    Ok(true)
+}
+
+/// Sets the row of the class, if it has this level.
+fn settle(
+    alloc: Global,
+    plan: &Plan,
+    levels: &[u64],
+    jobs: &mut Vector,
+    level: u64,
+    number: usize,
+) -> Result<bool, AllocError>
+    requires free { NoCircle plan.now }
+    requires levels { levels.now ≡ spec.steady_levels plan.now }
+    requires number { number < length plan.now.classes }
+    requires settled { IsSettled plan.now jobs.old level number }
+    ensures settled { IfOk result
+        (λ small. OnTrue small (IsSettled plan.now jobs.new level (number + 1))) }
+    ensures heavy { IfOk result
+        (λ small. OnFalse small (has_small_numbers (spec.steady_vector plan.now) ≡ false)) }
+{
+    let own_level = number_at(levels, number);
+    if own_level == level {
+        settle_class(alloc, plan, jobs, level, number)
+    } else {
+        Ok(true)
+    }
+}
+
+/// Sets the rows of the classes of this level. Returns `false` if a number is above the limit.
+fn settle_level(
+    alloc: Global,
+    plan: &Plan,
+    levels: &[u64],
+    jobs: &mut Vector,
+    level: u64,
+) -> Result<bool, AllocError>
+    requires free { NoCircle plan.now }
+    requires levels { levels.now ≡ spec.steady_levels plan.now }
+    requires settled { IsSettled plan.now jobs.old level 0 }
+    ensures settled { IfOk result
+        (λ small. OnTrue small (IsSettled plan.now jobs.new (level + 1) 0)) }
+    ensures heavy { IfOk result
+        (λ small. OnFalse small (has_small_numbers (spec.steady_vector plan.now) ≡ false)) }
+{
+    for number in 0..plan.classes().len() {
+        let is_small = settle(alloc, plan, levels, jobs, level, number)?;
+        if !is_small {
+            return Ok(false);
+        }
+    }
+    Ok(true)
+}
+
+/// Creates a vector with an empty row for each class.
+fn no_jobs(alloc: Global, plan: &Plan) -> Result<Vector, AllocError>
+    ensures { IfOk result (λ jobs. IsSettled plan.now jobs 0 0) }
+{
+    let mut classes = Vec::with_capacity(alloc, plan.classes().len())?;
+    for _class in plan.classes() {
+        classes.push(Vec::new(alloc))?;
+    }
+    Ok(Vector {
+        workers: Vec::new(alloc),
+        classes,
+        clients: Vec::new(alloc),
+    })
+}
+
+/// Returns the rows of all classes, computed from the lowest level to the highest, or `None` if a
+/// number is above the limit.
+pub(crate) fn jobs_of(
+    alloc: Global,
+    plan: &Plan,
+    levels: &[u64],
+) -> Result<Option<Vector>, AllocError>
+    requires free { NoCircle plan.now }
+    requires levels { levels.now ≡ spec.steady_levels plan.now }
+    ensures settled { IfOk result
+        (λ found. IfSome found (λ jobs. IsSettled plan.now jobs (length plan.now.classes) 0)) }
+    ensures heavy { IfOk result
+        (λ found. IfNone found (has_small_numbers (spec.steady_vector plan.now) ≡ false)) }
+{
+    let mut jobs = no_jobs(alloc, plan)?;
+    for level in 0..plan.classes().len() {
+        let is_small = settle_level(alloc, plan, levels, &mut jobs, level as u64)?;
+        if !is_small {
+            return Ok(None);
+        }
+    }
+    Ok(Some(jobs))
+}
+
+/// Returns the rows of all kinds of clients.
+pub(crate) fn clients_of(
+    alloc: Global,
+    plan: &Plan,
+    jobs: &Vector,
+) -> Result<Vec<Vec<u64>>, AllocError>
+    requires small { JobsAreSmall jobs.now }
+    ensures { IfOk result (λ rows.
+        map (λ row. row.items) rows.items
+        ≡ map (spec.client_row plan.now jobs.now) plan.now.clients) }
+{
+    let mut rows = Vec::with_capacity(alloc, plan.clients().len())?;
+    for client in plan.clients() {
+        rows.push(client_row(alloc, plan, jobs, client)?)?;
+    }
+    Ok(rows)
+}

@@ -1,0 +1,11 @@
+//! The law of steady certificates, the contract of a function with an empty body.
+
+ghost use Rattle.size_search.specs.SteadyLaws.{SteadyCertificatesAccept};
+
+/// States when the steady certificate is accepted. If no class submits itself, no repeating client
+/// causes a submit that is never got, and the weights are within their limit, then every condition
+/// of the certificate holds except those of its total. So it is accepted exactly if no queue is
+/// smaller than the total, and every core is larger.
+pub fn steady_certificates_accept()
+    ensures { SteadyCertificatesAccept }
+{}

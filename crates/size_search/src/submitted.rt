@@ -1,0 +1,65 @@
+//! The classes that clients submit, directly or through other jobs.
+
+ghost use Rattle.std.specs.Prelude.{◌↔◌, ℕ, List, IfOk};
+ghost use Rattle.support.specs.In.{In};
+ghost use Rattle.job_bodies.specs.declared.action.Action.{Action};
+ghost use Rattle.size_search.specs.Submitted.{IsSubmitted, repeated_bodies};
+ghost use Rattle.size_search.specs.ByClients.{MarksSubmitted, client_bodies};
+ghost use Rattle.size_search.specs.Reaching.{Has, Covers, IsReaching};
+
+use crate::reached::Reached;
+use job_bodies::Plan;
+use std::alloc::{AllocError, Global};
+
+/// Returns for each class whether it is submitted by a client, or by a job that a client causes.
+///
+/// # Errors
+///
+/// [`AllocError`] if memory runs out.
+pub fn submitted_by_clients(alloc: Global, plan: &Plan) -> Result<Vec<bool>, AllocError>
+    ensures { IfOk result (λ marks. MarksSubmitted plan.now marks.items) }
+{
+    let mut reached = classes_of_clients(alloc, plan)?;
+    reached.add_all(plan)?;
+    Ok(reached.into_marks())
+}
+
+/// Returns the classes that repeating clients submit, directly or through other jobs.
+pub(crate) fn submitted_for_ever(alloc: Global, plan: &Plan) -> Result<Reached, AllocError>
+    ensures { IfOk result
+        (λ reached. (k : ℕ) → Has reached k ↔ IsSubmitted plan.now (repeated_bodies plan.now) k) }
+{
+    let mut reached = classes_of_repeating_clients(alloc, plan)?;
+    reached.add_all(plan)?;
+    Ok(reached)
+}
+
+/// Returns the classes that clients submit directly.
+fn classes_of_clients(alloc: Global, plan: &Plan) -> Result<Reached, AllocError>
+    ensures reaching { IfOk result (IsReaching plan.now (client_bodies plan.now)) }
+    ensures covers { IfOk result
+        (λ reached. (body : List Action) → In body (client_bodies plan.now) → Covers reached body) }
+{
+    let mut reached = Reached::nothing(alloc, plan)?;
+    for number in 0..plan.clients().len() {
+        let client = &plan.clients()[number];
+        reached.add_body(&client.body)?;
+    }
+    Ok(reached)
+}
+
+/// Returns the classes that repeating clients submit directly.
+fn classes_of_repeating_clients(alloc: Global, plan: &Plan) -> Result<Reached, AllocError>
+    ensures reaching { IfOk result (IsReaching plan.now (repeated_bodies plan.now)) }
+    ensures covers { IfOk result (λ reached.
+        (body : List Action) → In body (repeated_bodies plan.now) → Covers reached body) }
+{
+    let mut reached = Reached::nothing(alloc, plan)?;
+    for number in 0..plan.clients().len() {
+        let client = &plan.clients()[number];
+        if client.repeat {
+            reached.add_body(&client.body)?;
+        }
+    }
+    Ok(reached)
+}

@@ -1,0 +1,72 @@
+//! The plan with maximums that leave room for the cores that a certificate needs.
+
+ghost use Rattle.std.specs.Prelude.{◌≡◌, ◌<◌, IfOk, IfErr, IsTrue, Some, length};
+ghost use Rattle.job_bodies.specs.Plan.{pool_at};
+ghost use Rattle.job_bodies.specs.WellFormed.{IsWellFormed};
+ghost use Rattle.cert_text.specs.Cert.{cert_fits, pool_cert_at};
+ghost use Rattle.size_search.specs.Widened as spec;
+ghost use Rattle.size_search.specs.Unfit.{why_not_widened};
+
+use crate::Unfit;
+use crate::fit::core_needed;
+use crate::unfit::unfit_pools;
+use cert_text::Cert;
+use job_bodies::{Plan, Pool};
+use std::alloc::{AllocError, Global};
+
+/// Returns the pool of this number with its maximum raised to the core that the certificate needs.
+fn widened_pool(alloc: Global, plan: &Plan, cert: &Cert, number: usize) -> Result<Pool, AllocError>
+    requires fits { IsTrue (cert_fits plan.now cert.now) }
+    requires number { number < length plan.now.pools }
+    ensures { IfOk result (λ wide.
+        wide
+        ≡ spec.with_max plan.now (pool_cert_at cert.now number).blocked (pool_at plan.now number)) }
+{
+    let needs = cert.pool_at(number);
+    let mut wide = plan.pools()[number].copied(alloc)?;
+    wide.max = wide.max.max(core_needed(plan, &needs.blocked));
+    Ok(wide)
+}
+
+fn widened_pools(alloc: Global, plan: &Plan, cert: &Cert) -> Result<Vec<Pool>, AllocError>
+    requires { IsTrue (cert_fits plan.now cert.now) }
+    ensures pools { IfOk result (λ pools. pools.items ≡ (spec.widened plan.now cert.now).pools) }
+    ensures well_formed { IsWellFormed plan.now }
+{
+    let mut pools = Vec::with_capacity(alloc, plan.pools().len())?;
+    for number in 0..plan.pools().len() {
+        pools.push(widened_pool(alloc, plan, cert, number)?)?;
+    }
+    Ok(pools)
+}
+
+/// Returns the plan with each maximum raised to the core that the certificate needs. Each raise is
+/// necessary: all sizes with which the certificate accepts the plan, and whose maximums are no
+/// smaller than the plan's, have at least these maximums. If the raises increase totals, the
+/// certificate can need more.
+///
+/// If the certificate has another shape than the plan, or needs a core above 1,000,000, there are
+/// no such sizes, and the reason is returned.
+///
+/// # Errors
+///
+/// [`AllocError`] if memory runs out.
+pub fn widened(alloc: Global, plan: &Plan, cert: &Cert) -> Result<Result<Plan, Unfit>, AllocError>
+    ensures widened { IfOk result
+        (λ answer. IfOk answer (λ wide. wide ≡ spec.widened plan.now cert.now)) }
+    ensures room { IfOk result (λ answer. IfOk answer (spec.LeavesRoom plan.now cert.now)) }
+    ensures least { IfOk result (λ answer. IfOk answer (spec.IsLeastWide plan.now cert.now)) }
+
+    ensures none { IfOk result (λ answer. IfErr answer (λ _. spec.NoneFitsWide plan.now cert.now)) }
+    ensures why { IfOk result
+        (λ answer. IfErr answer (λ unfit. why_not_widened plan.now cert.now ≡ Some unfit)) }
+{
+    if !cert.fits(plan) {
+        return Ok(Err(Unfit::Shape));
+    }
+    let pools = widened_pools(alloc, plan, cert)?;
+    match unfit_pools(&pools) {
+        Some(unfit) => Ok(Err(unfit)),
+        None => Ok(Ok(plan.copied(alloc)?.with_pools(pools))),
+    }
+}

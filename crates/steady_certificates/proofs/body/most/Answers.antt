@@ -1,7 +1,0 @@
-use Rattle.std.proofs.Common.{arith}
-use Rattle.steady_certificates.proofs.Reckoning.{greatest-open-bound}
-use Rattle.steady_certificates.proofs.body.most.Goals as goal
-
-pub returns-clause-bound : goal.returns-clause-bound
-returns-clause-bound c =
-    omega (arith, c.loop-position.invariant.most, greatest-open-bound c.args.plan.now c.args.vector.now c.args.body.now c.loop-position.position c.requires.lawful c.requires.small c.loop-position.auto.position-end)

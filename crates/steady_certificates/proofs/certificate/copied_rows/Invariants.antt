@@ -1,6 +1,0 @@
--- The rows before this one are copied.
-use Rattle.std.proofs.Common.{◌≡◌, map, take}
-use Rattle.steady_certificates.proofs.certificate.copied_rows.Given as goal
-
-abbrev pub invariant-loop-row : goal.invariant-loop-row
-invariant-loop-row l = map (λ row. row.items) l.copies.items ≡ map (λ row. row.items) (take l.row-index l.rows)

@@ -1,8 +1,0 @@
--- One part for each pool so far.
-use Rattle.std.proofs.Common.{◌≡◌, map, take}
-use Rattle.job_bodies.specs.Plan.{Pool}
-use Rattle.steady_certificates.specs.Steady.{pool_of}
-use Rattle.steady_certificates.proofs.certificate.pools_of.Given as goal
-
-abbrev pub invariant-loop-pool : goal.invariant-loop-pool
-invariant-loop-pool l = l.pools.items ≡ map (λ (pool : Pool). pool_of l.vector) (take l._pool-index l.plan.pools)

@@ -1,6 +1,0 @@
--- The levels below this one have their rows.
-use Rattle.steady_certificates.specs.Settled.{IsSettled}
-use Rattle.steady_certificates.proofs.rows.jobs_of.Given as goal
-
-abbrev pub invariant-loop-level : goal.invariant-loop-level
-invariant-loop-level l = IsSettled l.plan l.jobs l.level 0
